@@ -1,0 +1,3 @@
+pub mod Signature
+pub mod SpelledNumber
+pub mod Trap
