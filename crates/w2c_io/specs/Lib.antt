@@ -1,0 +1,5 @@
+pub mod Causes
+pub mod Contents
+pub mod InMemory
+pub mod Planned
+pub mod Stored

@@ -1,0 +1,114 @@
+// Files in memory that never fail.
+ghost use Rattle.std.specs.Prelude.{◌≡◌, ◌≤◌, IsTrue, Some, None, OnOk, OnErr, MatchOption, IfOk, IsErrOf, length};
+ghost use Rattle.std.specs.FinMap as map;
+ghost use Rattle.w2c_io.specs.Contents.{HasFile, HasNoFile, HasLongFile};
+ghost use Rattle.w2c_io.specs.declared.answers.ReadAnswer.TheVariants as reading;
+ghost use Rattle.w2c_io.specs.Stored.{stored};
+
+use crate::store::{Entry, add, find, grow};
+use crate::{Files, ReadAnswer, WriteAnswer};
+use std::alloc::Global;
+use w2c_base::{Bytes, Memory};
+
+/// Files in memory. No call on them ever answers Failed.
+#[derive(Drop)]
+pub struct SureFiles {
+    alloc: Global,
+    entries: Vec<Entry>,
+    is_open: bool,
+}
+
+impl SureFiles {
+    ghost use Rattle.w2c_io.specs.InMemory.{sure_contents};
+
+    /// No files.
+    pub fn new(alloc: Global) -> Self
+        ensures { sure_contents result ≡ map.empty }
+    {
+        SureFiles {
+            alloc,
+            entries: Vec::new(alloc),
+            is_open: false,
+        }
+    }
+
+    /// Adds a file, or replaces the one of this name.
+    pub fn add(&mut self, name: &str, bytes: &[u8]) -> Result<(), Memory>
+        ensures ok { OnOk result (sure_contents self.new ≡ map.insert (sure_contents self.old) name.now bytes.now) }
+        ensures err { OnErr result (sure_contents self.new ≡ sure_contents self.old) }
+    {
+        let name = String::from_str(self.alloc, name)?;
+        let bytes = bytes.to_vec(self.alloc)?;
+        self.is_open = false;
+        add(&mut self.entries, name, bytes)?;
+        Ok(())
+    }
+
+    /// The bytes of a file, None where no file has the name.
+    pub fn get(&self, name: &str) -> Option<&[u8]>
+        ensures { MatchOption result (map.get (sure_contents self.now) name.now ≡ None)
+            (λ bytes. map.get (sure_contents self.now) name.now ≡ Some bytes.now) }
+    {
+        find(self.entries.as_slice(), name)
+    }
+}
+
+impl Files for SureFiles {
+    ghost use Rattle.w2c_io.specs.InMemory.{sure_contents, sure_current};
+
+    ghost told = { λ s. Some (sure_contents s) };
+
+    ghost current = { sure_current };
+
+    ghost read_faults = { λ s. 0 };
+
+    ghost write_faults = { λ s. 0 };
+
+    ghost fault_name = { λ s. None };
+
+    fn read(&mut self, alloc: Global, name: &str, limit: usize) -> Result<Bytes, ReadAnswer> {
+        read_stored(alloc, self.entries.as_slice(), name, limit)
+    }
+
+    fn begin(&mut self, name: &str) -> Result<(), WriteAnswer> {
+        self.is_open = false;
+        let name = String::from_str(self.alloc, name)?;
+        add(&mut self.entries, name, Vec::new(self.alloc))?;
+        self.is_open = true;
+        Ok(())
+    }
+
+    fn put(&mut self, piece: &[u8]) -> Result<(), WriteAnswer> {
+        grow(&mut self.entries, piece)?;
+        Ok(())
+    }
+
+    fn finish(&mut self) -> Result<(), WriteAnswer> {
+        self.is_open = false;
+        Ok(())
+    }
+}
+
+/// Reads a file among entries. It never answers Failed.
+pub fn read_stored(
+    alloc: Global,
+    entries: &[Entry],
+    name: &str,
+    limit: usize,
+) -> Result<Bytes, ReadAnswer>
+    ensures whole { IfOk result (λ bytes. HasFile (Some (stored entries.now)) name.now bytes) }
+    ensures fits { IfOk result (λ bytes. length bytes ≤ limit) }
+    ensures absent { IsErrOf result reading.Absent → HasNoFile (Some (stored entries.now)) name.now }
+    ensures too_long { IsErrOf result reading.TooLong → HasLongFile (Some (stored entries.now)) name.now limit }
+    ensures sure { IsErrOf result reading.Failed → ⊥ }
+{
+    match find(entries, name) {
+        None => Err(ReadAnswer::Absent),
+        Some(bytes) => {
+            if bytes.len() > limit {
+                return Err(ReadAnswer::TooLong);
+            }
+            Ok(Bytes::from_vec(bytes.to_vec(alloc)?))
+        }
+    }
+}
