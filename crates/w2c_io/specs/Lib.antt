@@ -3,3 +3,4 @@ pub mod Contents
 pub mod InMemory
 pub mod Planned
 pub mod Stored
+pub mod Telling

@@ -1,0 +1,5 @@
+pub mod Proper
+pub mod Laid
+pub mod TextIsProper
+pub mod TreeIsProper
+pub mod Formed

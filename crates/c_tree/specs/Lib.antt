@@ -1,0 +1,10 @@
+pub mod Tokens
+pub mod Text
+pub mod Tree
+pub mod View
+pub mod Trees
+pub mod Layout
+pub mod Grammar
+pub mod Spelled
+pub mod WellFormed
+pub mod ConstantUnit

@@ -1,0 +1,14 @@
+//! Units of the C subset as trees, and which texts spell them: tokens, grammar, and the first
+//! fault of a text that spells none.
+#![tactic(auto)]
+
+mod token;
+mod tree;
+mod unit;
+
+pub use token::{CReadFault, Kind, Part, Suffix, Tok, Wanted};
+pub use tree::{
+    Arg, Args, Body, CFuncType, COp, CType, CTypes, Callee, Cases, Expr, Func, Header, HeaderLines,
+    Item, Locals, Name, Num, Params, Stmt, Stmts,
+};
+pub use unit::{Unit, well_formed_units_are_spelled};

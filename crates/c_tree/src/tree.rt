@@ -1,0 +1,157 @@
+// The tree of a unit, from its items down to expressions, and the content of a header.
+use std::boxed::Box;
+use w2c_base::{Bytes, Sequence};
+
+/// The bytes of a name.
+pub type Name = Bytes;
+
+/// A type. `Mem` and `Tab` are a linear memory and a table, `FnPtr` is an element of a table.
+#[derive(Clone, Copy, Debug, PartialEq, Eq)]
+pub enum CType {
+    Void,
+    U32,
+    U64,
+    PtrU32,
+    PtrU64,
+    Mem,
+    PtrMem,
+    Tab,
+    PtrTab,
+    FnPtr,
+}
+
+/// Types, as of a function's parameters.
+pub type CTypes = Sequence<CType>;
+
+/// The type of a function that is called through a name. The list `Void` stands for no
+/// parameters.
+#[derive(Drop)]
+pub struct CFuncType {
+    pub params: CTypes,
+    pub result: CType,
+}
+
+/// A number, by its suffix: `u`, `ull` or none.
+#[derive(Clone, Copy, Debug, PartialEq, Eq)]
+pub enum Num {
+    N32(u32),
+    N64(u64),
+    Plain(u64),
+}
+
+/// A binary operator.
+#[derive(Clone, Copy, Debug, PartialEq, Eq)]
+pub enum COp {
+    Add,
+    Sub,
+    Mul,
+    Div,
+    Rem,
+    And,
+    Or,
+    Xor,
+    Shl,
+    Shr,
+    Eq,
+    Ne,
+    Lt,
+    Le,
+    Gt,
+    Ge,
+}
+
+/// An expression. `At` is an element of an array, `To32` and `To64` are casts, `Star` is what a
+/// pointer points to.
+#[derive(Drop)]
+pub enum Expr {
+    Name(Name),
+    At(Name, Box<Expr>),
+    Num(Num),
+    To32(Box<Expr>),
+    To64(Box<Expr>),
+    Star(Name),
+    Op(COp, Box<Expr>, Box<Expr>),
+}
+
+/// An argument, or a right side that is no call: a value, the address of a variable, or a function
+/// as an element of a table.
+#[derive(Drop)]
+pub enum Arg {
+    Value(Expr),
+    Address(Name),
+    Function(Name),
+}
+
+/// Arguments in order.
+pub type Args = Sequence<Arg>;
+
+/// What is called: a function by its name, or one through a name that holds it.
+#[derive(Drop)]
+pub enum Callee {
+    Named(Name),
+    Through(CFuncType, Name),
+}
+
+/// The cases of a switch, each with the label that it goes to.
+pub type Cases = Sequence<(Num, Name)>;
+
+/// A statement. `SetStar` assigns to what a pointer points to; a call may assign its value to a
+/// name; `Switch` has its default label last.
+#[derive(Drop)]
+pub enum Stmt {
+    Label(Name),
+    Null,
+    Set(Name, Arg),
+    SetStar(Name, Expr),
+    Call(Option<Name>, Callee, Args),
+    Goto(Name),
+    If(COp, Expr, Expr, Name),
+    Switch(Expr, Cases, Name),
+    ReturnNone,
+    Return(Arg),
+}
+
+/// Statements in order.
+pub type Stmts = Sequence<Stmt>;
+
+/// Local variables in order, each with its type, its name and its first value.
+pub type Locals = Sequence<(CType, Name, Num)>;
+
+/// Parameters in order. One of type `Void` without a name stands for none.
+pub type Params = Sequence<(CType, Option<Name>)>;
+
+/// The local variables and the statements of a function.
+#[derive(Drop)]
+pub struct Body {
+    pub locals: Locals,
+    pub stmts: Stmts,
+}
+
+/// A function's declaration, or its definition where it has a body.
+#[derive(Drop)]
+pub struct Func {
+    pub is_static: bool,
+    pub result: CType,
+    pub name: Name,
+    pub params: Params,
+    pub body: Option<Body>,
+}
+
+/// A thing of file scope. An array has its count and its constant bytes. Arrays and variables are
+/// static.
+#[derive(Drop)]
+pub enum Item {
+    Array(Name, u64, Bytes),
+    Var(CType, Name, Option<Num>),
+    Func(Func),
+}
+
+/// The functions that a header declares, each with its result, its name and its parameters' types.
+pub type HeaderLines = Sequence<(CType, Name, CTypes)>;
+
+/// What a header says: the module's name, and its functions in order.
+#[derive(Drop)]
+pub struct Header {
+    pub module: Bytes,
+    pub lines: HeaderLines,
+}

@@ -1,0 +1,96 @@
+// A unit as the list of its items.
+ghost use Rattle.std.specs.Prelude.{◌≡◌, ◌<◌, List, [], ◌∷◌, ◌++◌, length, slice_index_or, OnOk, OnErr};
+ghost use Rattle.c_tree.specs.Tree as tree;
+ghost use Rattle.c_tree.specs.Spelled.{Formed};
+ghost use Rattle.c_tree.specs.WellFormed.{IsWellFormed};
+
+use crate::tree::Item;
+use std::alloc::Global;
+use std::marker::Model;
+use w2c_base::{Memory, Sequence};
+
+/// A unit: its items in order, without the include line in front of them.
+#[derive(Drop)]
+pub struct Unit {
+    items: Sequence<Item>,
+}
+
+impl Model for Unit {
+    ghost use Rattle.std.specs.Prelude.{List};
+    ghost use Rattle.std.specs.Coded.{codes};
+    ghost use Rattle.c_tree.specs.declared.tree.Item.{Item};
+    ghost use Rattle.c_tree.specs.contracts.tree.Expr as expr;
+
+    ghost Value = { List Item };
+
+    ghost coded = { Prim.hlevel (codes, expr.the_row.coded) };
+
+    ghost view = { λ unit. unit.items };
+}
+
+impl Unit {
+    /// No items. It takes no memory.
+    pub fn new(alloc: Global) -> Self
+        ensures { result ≡ [] }
+    {
+        Unit {
+            items: Sequence::new(alloc),
+        }
+    }
+
+    /// Puts an item at the end.
+    pub fn push(&mut self, item: Item) -> Result<(), Memory>
+        ensures ok { OnOk result (self.new ≡ self.old ++ item ∷ []) }
+        ensures err { OnErr result (self.new ≡ self.old) }
+    {
+        self.items.push(item)
+    }
+
+    /// The number of items.
+    pub fn len(&self) -> usize
+        ensures { result ≡ length self.now }
+    {
+        self.items.len()
+    }
+
+    /// The item at a place, counted from 0.
+    pub fn at(&self, i: usize) -> &Item
+        requires { i < length self.now }
+        ensures { result.now ≡ slice_index_or self.now i result.now }
+    {
+        self.items.at(i)
+    }
+
+    /// The items, to read.
+    pub fn as_slice(&self) -> &[Item]
+        ensures { result.now ≡ self.now }
+    {
+        self.items.as_slice()
+    }
+}
+
+/// The law that some text spells a unit exactly where it is well formed.
+pub fn well_formed_units_are_spelled()
+    ensures formed { (unit : List tree.Item) → IsWellFormed unit → Formed unit }
+    ensures well_formed { (unit : List tree.Item) → Formed unit → IsWellFormed unit }
+{}
+
+#[cfg(test)]
+mod tests {
+    use crate::{CType, Item, Name, Num, Unit};
+    use std::test::Fail;
+
+    #[test]
+    fn a_unit_holds_its_items_in_order(rt: HostRuntime) -> Result<(), Fail> {
+        let alloc = rt.alloc();
+        let mut unit = Unit::new(alloc);
+        let first = Name::from_vec(b"g0".to_vec(alloc)?);
+        unit.push(Item::Var(CType::U32, first, Some(Num::N32(5))))?;
+        let second = Name::from_vec(b"m0".to_vec(alloc)?);
+        unit.push(Item::Var(CType::Mem, second, None))?;
+        assert!(rt; unit.len() == 2);
+        assert!(rt; matches!(unit.at(1), Item::Var(CType::Mem, _, None)));
+        assert!(rt; matches!(unit.as_slice()[0], Item::Var(CType::U32, _, Some(_))));
+        Ok(())
+    }
+}

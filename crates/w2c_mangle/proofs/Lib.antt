@@ -1,0 +1,2 @@
+pub mod EscapedNames
+pub mod SymbolNames
