@@ -2,4 +2,6 @@ pub mod Proper
 pub mod Laid
 pub mod TextIsProper
 pub mod TreeIsProper
-pub mod Formed
+pub mod WellFormedUnits
+pub mod Tested
+pub mod TestsTell

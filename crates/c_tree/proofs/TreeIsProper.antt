@@ -35,7 +35,7 @@ split : (xs ys : List Token) → AllProper (xs ++ ys) → AllProper xs × AllPro
 split [] ys all = (tt, all)
 split (x ∷ xs) ys all = let h = split xs ys all.1 in ((all.0, h.0), h.1)
 
-both : {A : Type 0} (P Q : A → Type 0) (xs : List A) → AllByRecursion P xs → AllByRecursion Q xs → AllByRecursion (λ x. P x × Q x) xs
+pub both : {A : Type 0} (P Q : A → Type 0) (xs : List A) → AllByRecursion P xs → AllByRecursion Q xs → AllByRecursion (λ x. P x × Q x) xs
 both P Q [] a b = tt
 both P Q (x ∷ xs) a b = ((a.0, b.0), both P Q xs a.1 b.1)
 

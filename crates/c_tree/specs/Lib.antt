@@ -7,4 +7,5 @@ pub mod Layout
 pub mod Grammar
 pub mod Spelled
 pub mod WellFormed
+pub mod Tests
 pub mod ConstantUnit

@@ -2,6 +2,8 @@
 //! fault of a text that spells none.
 #![tactic(auto)]
 
+mod formed;
+mod name;
 mod token;
 mod tree;
 mod unit;

@@ -1,13 +1,17 @@
 // A unit as the list of its items.
-ghost use Rattle.std.specs.Prelude.{◌≡◌, ◌<◌, List, [], ◌∷◌, ◌++◌, length, slice_index_or, OnOk, OnErr};
+ghost use Rattle.std.specs.Prelude.{◌≡◌, ◌<◌, ◌↔◌, List, [], ◌∷◌, ◌++◌, length, slice_index_or, OnOk, OnErr, IsTrue};
 ghost use Rattle.c_tree.specs.Tree as tree;
 ghost use Rattle.c_tree.specs.Spelled.{Formed};
 ghost use Rattle.c_tree.specs.WellFormed.{IsWellFormed};
 
+use crate::formed::all_formed;
 use crate::tree::Item;
 use std::alloc::Global;
 use std::marker::Model;
 use w2c_base::{Memory, Sequence};
+
+/// How many expressions may stand inside one another.
+const DEPTH: usize = 100;
 
 /// A unit: its items in order, without the include line in front of them.
 #[derive(Drop)]
@@ -29,6 +33,8 @@ impl Model for Unit {
 }
 
 impl Unit {
+    ghost use Rattle.c_tree.specs.View.{unit_of};
+
     /// No items. It takes no memory.
     pub fn new(alloc: Global) -> Self
         ensures { result ≡ [] }
@@ -66,6 +72,14 @@ impl Unit {
         ensures { result.now ≡ self.now }
     {
         self.items.as_slice()
+    }
+
+    /// Whether some text spells the unit.
+    #[tactic(auto, using(crate::proofs::Tested::list_all_map))]
+    pub fn formed(&self) -> bool
+        ensures { IsTrue result ↔ Formed (unit_of self.now) }
+    {
+        all_formed(self.items.as_slice(), DEPTH)
     }
 }
 

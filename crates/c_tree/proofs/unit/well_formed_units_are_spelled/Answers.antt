@@ -1,4 +1,4 @@
-use Rattle.c_tree.proofs.Formed.{formed, well_formed}
+use Rattle.c_tree.proofs.WellFormedUnits.{formed, well_formed}
 use Rattle.c_tree.proofs.unit.well_formed_units_are_spelled.Goals as goal
 
 pub returns-clause-formed : goal.returns-clause-formed

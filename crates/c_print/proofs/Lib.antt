@@ -1,0 +1,3 @@
+pub mod Onto
+pub mod PageText
+pub mod Spells

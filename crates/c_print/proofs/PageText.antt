@@ -1,0 +1,31 @@
+-- The text of a page on which tokens and items were put.
+use Rattle.std.proofs.Common.{◌≡◌, ℕ, List, [], ◌∷◌, ◌++◌, refl, sym, ap, ◌∙◌, append_assoc}
+use Rattle.std.proofs.lemmas.List.{append-nil}
+use Rattle.c_tree.specs.declared.token.Tok.TheVariants as tok
+use Rattle.c_tree.specs.declared.token.Kind.TheVariants as kind
+use Rattle.c_tree.specs.Tree.{Item}
+use Rattle.c_tree.specs.Tokens.{Token, Fixed, token_text, kind_of}
+use Rattle.c_tree.specs.Layout.{laid}
+use Rattle.c_tree.specs.Trees.{each, item_tokens}
+use Rattle.c_print.specs.declared.page.Page.{Page}
+use Rattle.c_print.specs.Print.{gap, gap_between, print_item_of}
+use Rattle.c_print.specs.Page.{printed, printed_onto, ended, items_onto}
+
+pub onto_text : (page : Page) (t : Token) (ts : List Token) → page.last ≡ kind_of t → (printed_onto page ts).text ≡ page.text ++ laid gap_between t ts
+unfolding printed
+onto_text page t [] e = sym (append-nil page.text)
+onto_text page t (u ∷ us) e =
+    onto_text (printed page u) u us refl
+    ∙ append_assoc (page.text ++ gap page.last (kind_of u)) (token_text u) (laid gap_between u us)
+    ∙ append_assoc page.text (gap page.last (kind_of u)) (token_text u ++ laid gap_between u us)
+    ∙ ap (λ last. page.text ++ (gap last (kind_of u) ++ (token_text u ++ laid gap_between u us))) e
+
+pub items_text : (page : Page) (items : List Item) → page.last ≡ kind.Fixed tok.Include → (items_onto page items).text ≡ page.text ++ each print_item_of items
+unfolding ended
+items_text page [] e = sym (append-nil page.text)
+items_text page (i ∷ is) e =
+    let line : List ℕ = laid gap_between (Fixed tok.Include) (item_tokens i) in
+    items_text (ended (printed_onto page (item_tokens i))) is refl
+    ∙ ap (λ text. (text ++ 10 ∷ []) ++ each print_item_of is) (onto_text page (Fixed tok.Include) (item_tokens i) e)
+    ∙ ap (λ text. text ++ each print_item_of is) (append_assoc page.text line (10 ∷ []))
+    ∙ append_assoc page.text (line ++ 10 ∷ []) (each print_item_of is)

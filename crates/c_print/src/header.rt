@@ -1,0 +1,140 @@
+// A header: the declarations of the functions that other units may call.
+ghost use Rattle.std.specs.Prelude.{◌≡◌, ◌++◌, OnOk, IfOk};
+ghost use Rattle.c_tree.specs.Trees.{each};
+ghost use Rattle.c_print.specs.Header.{type_text, space_behind, next_type_text, params_text, line_text, guard_of, head_text, header_text};
+
+use c_tree::{CType, CTypes, Header, Name};
+use std::alloc::Global;
+use w2c_base::{Bytes, Memory};
+use w2c_mangle::escape;
+
+/// The text of a header: a comment, a guard made of the module's name, the include line and a
+/// line for each function in order. The first line is that of the init function.
+pub fn print_header(alloc: Global, h: &Header) -> Result<Bytes, Memory>
+    ensures { IfOk result (λ text. text ≡ header_text h.now) }
+{
+    let mut text = Bytes::new(alloc);
+    let guard = guard(alloc, h.module.as_slice())?;
+    put_head(&mut text, guard.as_slice())?;
+    put_lines(&mut text, h.lines.as_slice())?;
+    text.extend(b"#endif\n")?;
+    Ok(text)
+}
+
+fn guard(alloc: Global, module: &[u8]) -> Result<Bytes, Memory>
+    ensures { IfOk result (λ guard. guard ≡ guard_of «module».now) }
+{
+    let mut guard = Bytes::new(alloc);
+    guard.extend(b"W2CZ_")?;
+    guard.extend(escape(alloc, module)?.as_slice())?;
+    guard.extend(b"Z_H")?;
+    Ok(guard)
+}
+
+fn put_head(text: &mut Bytes, guard: &[u8]) -> Result<(), Memory>
+    ensures { OnOk result (text.new ≡ text.old ++ head_text guard.now) }
+{
+    text.extend(b"/* made by wasm2c; int has 32 bits and every character of a name counts */\n")?;
+    text.extend(b"#ifndef ")?;
+    text.extend(guard)?;
+    text.extend(b"\n#define ")?;
+    text.extend(guard)?;
+    text.extend(b"\n#include \"w2c_rt.h\"\n")
+}
+
+fn put_lines(text: &mut Bytes, lines: &[(CType, Name, CTypes)]) -> Result<(), Memory>
+    ensures { OnOk result (text.new ≡ text.old ++ each line_text lines.now) }
+{
+    for line in lines {
+        put_line(text, line)?;
+    }
+    Ok(())
+}
+
+fn put_line(text: &mut Bytes, line: &(CType, Name, CTypes)) -> Result<(), Memory>
+    ensures { OnOk result (text.new ≡ text.old ++ line_text line.now) }
+{
+    text.extend(type_text(line.0))?;
+    text.extend(space_behind(line.0))?;
+    text.extend(line.1.as_slice())?;
+    text.extend(b"(")?;
+    put_params(text, line.2.as_slice())?;
+    text.extend(b");\n")
+}
+
+fn put_params(text: &mut Bytes, params: &[CType]) -> Result<(), Memory>
+    ensures { OnOk result (text.new ≡ text.old ++ params_text params.now) }
+{
+    if params.is_empty() {
+        return text.extend(b"void");
+    }
+    text.extend(type_text(params[0]))?;
+    put_more_params(text, &params[1..])
+}
+
+fn put_more_params(text: &mut Bytes, params: &[CType]) -> Result<(), Memory>
+    ensures { OnOk result (text.new ≡ text.old ++ each next_type_text params.now) }
+{
+    for param in params {
+        put_next_type(text, *param)?;
+    }
+    Ok(())
+}
+
+fn put_next_type(text: &mut Bytes, t: CType) -> Result<(), Memory>
+    ensures { OnOk result (text.new ≡ text.old ++ next_type_text t) }
+{
+    text.extend(b", ")?;
+    text.extend(type_text(t))
+}
+
+fn type_text(t: CType) -> &'static [u8]
+    ensures { result.now ≡ type_text t }
+{
+    match t {
+        CType::Void => b"void",
+        CType::U32 => b"u32",
+        CType::U64 => b"u64",
+        CType::PtrU32 => b"u32 *",
+        CType::PtrU64 => b"u64 *",
+        CType::Mem => b"w2c_mem",
+        CType::PtrMem => b"w2c_mem *",
+        CType::Tab => b"w2c_tab",
+        CType::PtrTab => b"w2c_tab *",
+        CType::FnPtr => b"w2c_fn",
+    }
+}
+
+fn space_behind(t: CType) -> &'static [u8]
+    ensures { result.now ≡ space_behind t }
+{
+    match t {
+        CType::PtrU32 | CType::PtrU64 | CType::PtrMem | CType::PtrTab => b"",
+        _ => b" ",
+    }
+}
+
+#[cfg(test)]
+mod tests {
+    use crate::print_header;
+    use c_tree::{CType, CTypes, Header, HeaderLines, Name};
+    use std::test::Fail;
+    use w2c_base::Bytes;
+
+    #[test]
+    fn header_of_add_two_numbers(rt: HostRuntime) -> Result<(), Fail> {
+        let alloc = rt.alloc();
+        let mut lines = HeaderLines::new(alloc);
+        let init = Name::from_vec(b"w2cZ_addZ_i".to_vec(alloc)?);
+        lines.push((CType::Void, init, CTypes::new(alloc)))?;
+        let add = Name::from_vec(b"w2cZ_addZ_fZ_add".to_vec(alloc)?);
+        let params = CTypes::from_vec([CType::U32, CType::U32].to_vec(alloc)?);
+        lines.push((CType::U32, add, params))?;
+        let module = Bytes::from_vec(b"add".to_vec(alloc)?);
+        let text = print_header(alloc, &Header { module, lines })?;
+        let wanted =
+            "/* made by wasm2c; int has 32 bits and every character of a name counts */\n#ifndef W2CZ_addZ_H\n#define W2CZ_addZ_H\n#include \"w2c_rt.h\"\nvoid w2cZ_addZ_i(void);\nu32 w2cZ_addZ_fZ_add(u32, u32);\n#endif\n";
+        assert_eq!(rt; text.as_slice(), wanted.as_bytes());
+        Ok(())
+    }
+}

@@ -1,0 +1,212 @@
+// The text so far, and the tokens that are put at its end.
+ghost use Rattle.std.specs.Prelude.{◌≡◌, [], ◌∷◌, ◌++◌, OnOk, IfOk};
+ghost use Rattle.std.specs.Fmt.{decimal};
+ghost use Rattle.c_tree.specs.declared.token.Tok.TheVariants as tok;
+ghost use Rattle.c_tree.specs.declared.token.Kind.TheVariants as kind;
+ghost use Rattle.c_tree.specs.Tokens.{Fixed, Named, fixed_text};
+ghost use Rattle.c_tree.specs.Trees.{num_token};
+ghost use Rattle.c_print.specs.Print.{opens, ends_line, closes, ends_block, is_named, begins_list, gap};
+
+use c_tree::{Kind, Name, Num, Suffix, Tok};
+use itoa::Buffer;
+use std::alloc::Global;
+use w2c_base::{Bytes, Memory};
+
+/// A text with the kind of its last token, on which the gap in front of the next one hangs.
+#[derive(Drop)]
+pub struct Page {
+    pub text: Bytes,
+    pub last: Kind,
+}
+
+impl Page {
+    ghost use Rattle.c_print.specs.Page.{printed, ended};
+
+    /// The include line.
+    #[tactic(auto, unfolding(crate::specs::Page::printed))]
+    pub fn new(alloc: Global) -> Result<Page, Memory>
+        ensures { IfOk result (λ page. page ≡ record { text = fixed_text tok.Include; last = kind.Fixed tok.Include }) }
+    {
+        let mut text = Bytes::new(alloc);
+        text.extend(fixed_text(Tok::Include))?;
+        Ok(Page {
+            text,
+            last: Kind::Fixed(Tok::Include),
+        })
+    }
+
+    fn put(&mut self, next: Kind, text: &[u8]) -> Result<(), Memory>
+        ensures { OnOk result (self.new ≡ record { text = (self.old.text ++ gap self.old.last next) ++ text.now; last = next }) }
+    {
+        self.text.extend(gap(self.last, next))?;
+        self.text.extend(text)?;
+        self.last = next;
+        Ok(())
+    }
+
+    /// A key word, a sign or the include line.
+    #[tactic(auto, unfolding(crate::specs::Page::printed))]
+    pub fn fixed(&mut self, t: Tok) -> Result<(), Memory>
+        ensures { OnOk result (self.new ≡ printed self.old (Fixed t)) }
+    {
+        self.put(Kind::Fixed(t), fixed_text(t))
+    }
+
+    #[tactic(auto, unfolding(crate::specs::Page::printed))]
+    pub fn name(&mut self, name: &Name) -> Result<(), Memory>
+        ensures { OnOk result (self.new ≡ printed self.old (Named name.now)) }
+    {
+        self.put(Kind::Name, name.as_slice())
+    }
+
+    #[tactic(auto, unfolding(crate::specs::Page::printed))]
+    pub fn number(&mut self, n: Num) -> Result<(), Memory>
+        ensures { OnOk result (self.new ≡ printed self.old (num_token n)) }
+    {
+        match n {
+            Num::N32(n) => self.digits(n as u64, Suffix::Of32, b"u"),
+            Num::N64(n) => self.digits(n, Suffix::Of64, b"ull"),
+            Num::Plain(n) => self.digits(n, Suffix::OfPlain, b""),
+        }
+    }
+
+    fn digits(&mut self, n: u64, suffix: Suffix, text: &[u8]) -> Result<(), Memory>
+        ensures { OnOk result (self.new ≡ record { text = (self.old.text ++ gap self.old.last (Kind.Number suffix)) ++ (decimal n ++ text.now); last = Kind.Number suffix }) }
+    {
+        let mut buffer = Buffer::new();
+        self.put(Kind::Number(suffix), buffer.format(n).as_bytes())?;
+        self.text.extend(text)
+    }
+
+    /// A newline behind an item.
+    #[tactic(auto, unfolding(crate::specs::Page::ended))]
+    pub fn end(&mut self) -> Result<(), Memory>
+        ensures { OnOk result (self.new ≡ ended self.old) }
+    {
+        self.text.push(b'\n')?;
+        self.last = Kind::Fixed(Tok::Include);
+        Ok(())
+    }
+}
+
+fn gap(last: Kind, next: Kind) -> &'static [u8]
+    ensures { result.now ≡ gap last next }
+{
+    if opens(last) {
+        b""
+    } else if ends_line(last) {
+        b"\n"
+    } else if ends_block(last, next) {
+        b"\n"
+    } else if closes(next) {
+        b""
+    } else if is_named(last) && begins_list(next) {
+        b""
+    } else {
+        b" "
+    }
+}
+
+fn opens(kind: Kind) -> bool
+    ensures { result ≡ opens kind }
+{
+    matches!(
+        kind,
+        Kind::Fixed(Tok::Include | Tok::LeftParen | Tok::LeftBracket)
+    )
+}
+
+fn ends_line(kind: Kind) -> bool
+    ensures { result ≡ ends_line kind }
+{
+    matches!(kind, Kind::Fixed(Tok::Semicolon | Tok::LeftBrace))
+}
+
+fn closes(kind: Kind) -> bool
+    ensures { result ≡ closes kind }
+{
+    matches!(
+        kind,
+        Kind::Fixed(
+            Tok::RightParen
+                | Tok::RightBracket
+                | Tok::RightBrace
+                | Tok::Semicolon
+                | Tok::Comma
+                | Tok::Colon
+        )
+    )
+}
+
+fn ends_block(last: Kind, next: Kind) -> bool
+    ensures { result ≡ ends_block last next }
+{
+    match (last, next) {
+        (Kind::Fixed(Tok::RightBrace), Kind::Fixed(Tok::Semicolon)) => false,
+        (Kind::Fixed(Tok::RightBrace), _) => true,
+        _ => false,
+    }
+}
+
+fn is_named(kind: Kind) -> bool
+    ensures { result ≡ is_named kind }
+{
+    matches!(kind, Kind::Name)
+}
+
+fn begins_list(kind: Kind) -> bool
+    ensures { result ≡ begins_list kind }
+{
+    matches!(kind, Kind::Fixed(Tok::LeftParen | Tok::LeftBracket))
+}
+
+/// The text of a key word, of a sign and of the include line.
+fn fixed_text(t: Tok) -> &'static [u8]
+    ensures { result.now ≡ fixed_text t }
+{
+    match t {
+        Tok::Include => b"#include \"w2c_rt.h\"\n",
+        Tok::End | Tok::Name | Tok::Plain => b"",
+        Tok::WordStatic => b"static",
+        Tok::WordConst => b"const",
+        Tok::WordVoid => b"void",
+        Tok::WordU8 => b"u8",
+        Tok::WordU32 => b"u32",
+        Tok::WordU64 => b"u64",
+        Tok::WordW2cMem => b"w2c_mem",
+        Tok::WordW2cTab => b"w2c_tab",
+        Tok::WordW2cFn => b"w2c_fn",
+        Tok::WordGoto => b"goto",
+        Tok::WordIf => b"if",
+        Tok::WordSwitch => b"switch",
+        Tok::WordCase => b"case",
+        Tok::WordDefault => b"default",
+        Tok::WordReturn => b"return",
+        Tok::LeftParen => b"(",
+        Tok::RightParen => b")",
+        Tok::LeftBrace => b"{",
+        Tok::RightBrace => b"}",
+        Tok::LeftBracket => b"[",
+        Tok::RightBracket => b"]",
+        Tok::Semicolon => b";",
+        Tok::Comma => b",",
+        Tok::Colon => b":",
+        Tok::Assign => b"=",
+        Tok::Star => b"*",
+        Tok::Amp => b"&",
+        Tok::Plus => b"+",
+        Tok::Minus => b"-",
+        Tok::Slash => b"/",
+        Tok::Percent => b"%",
+        Tok::Bar => b"|",
+        Tok::Caret => b"^",
+        Tok::ShiftLeft => b"<<",
+        Tok::ShiftRight => b">>",
+        Tok::Equal => b"==",
+        Tok::NotEqual => b"!=",
+        Tok::Less => b"<",
+        Tok::LessEqual => b"<=",
+        Tok::Greater => b">",
+        Tok::GreaterEqual => b">=",
+    }
+}

@@ -1,0 +1,156 @@
+// Calls and statements.
+ghost use Rattle.std.specs.Prelude.{◌≡◌, [], ◌∷◌, ◌++◌, OnOk, map};
+ghost use Rattle.c_tree.specs.declared.token.Tok.TheVariants as tok;
+ghost use Rattle.c_tree.specs.Tokens.{Fixed};
+ghost use Rattle.c_tree.specs.Trees.{each, callee_tokens, call_tokens, goto_tokens, case_tokens, stmt_tokens, through_tokens, expr_tokens, op_token};
+ghost use Rattle.c_tree.specs.View.{expr_of, arg_of, callee_of, func_type_of, stmt_of};
+ghost use Rattle.c_print.specs.Page.{printed_onto};
+
+use crate::expression::{put_expression, put_operator};
+use crate::page::Page;
+use crate::parts::{Part, put_each, put_separated};
+use c_tree::{Args, CFuncType, COp, Callee, Cases, Expr, Name, Num, Stmt, Tok};
+use w2c_base::Memory;
+
+#[tactic(auto, using(crate::proofs::Onto::onto_append))]
+fn put_through(page: &mut Page, ty: &CFuncType, name: &Name) -> Result<(), Memory>
+    ensures { OnOk result (page.new ≡ printed_onto page.old (through_tokens (func_type_of ty.now) name.now)) }
+{
+    page.fixed(Tok::LeftParen)?;
+    page.fixed(Tok::Star)?;
+    page.fixed(Tok::LeftParen)?;
+    ty.result.put(page)?;
+    page.fixed(Tok::LeftParen)?;
+    page.fixed(Tok::Star)?;
+    page.fixed(Tok::RightParen)?;
+    page.fixed(Tok::LeftParen)?;
+    put_separated(page, ty.params.as_slice())?;
+    page.fixed(Tok::RightParen)?;
+    page.fixed(Tok::RightParen)?;
+    page.name(name)?;
+    page.fixed(Tok::RightParen)
+}
+
+fn put_callee(page: &mut Page, callee: &Callee) -> Result<(), Memory>
+    ensures { OnOk result (page.new ≡ printed_onto page.old (callee_tokens (callee_of callee.now))) }
+{
+    match callee {
+        Callee::Named(name) => page.name(name),
+        Callee::Through(ty, name) => put_through(page, ty, name),
+    }
+}
+
+#[tactic(auto, using(crate::proofs::Onto::onto_append, crate::proofs::Onto::separated_map))]
+fn put_call(page: &mut Page, callee: &Callee, args: &Args) -> Result<(), Memory>
+    ensures { OnOk result (page.new ≡ printed_onto page.old (call_tokens (callee_of callee.now) (map arg_of args.now))) }
+{
+    put_callee(page, callee)?;
+    page.fixed(Tok::LeftParen)?;
+    put_separated(page, args.as_slice())?;
+    page.fixed(Tok::RightParen)?;
+    page.fixed(Tok::Semicolon)
+}
+
+fn put_goto(page: &mut Page, label: &Name) -> Result<(), Memory>
+    ensures { OnOk result (page.new ≡ printed_onto page.old (goto_tokens label.now)) }
+{
+    page.fixed(Tok::WordGoto)?;
+    page.name(label)?;
+    page.fixed(Tok::Semicolon)
+}
+
+impl Part for (Num, Name) {
+    ghost tokens = { case_tokens };
+
+    #[tactic(auto, using(crate::proofs::Onto::onto_append))]
+    fn put(&self, page: &mut Page) -> Result<(), Memory> {
+        page.fixed(Tok::WordCase)?;
+        page.number(self.0)?;
+        page.fixed(Tok::Colon)?;
+        put_goto(page, &self.1)
+    }
+}
+
+#[tactic(auto, using(crate::proofs::Onto::onto_append))]
+fn put_if(
+    page: &mut Page,
+    operator: COp,
+    left: &Expr,
+    right: &Expr,
+    label: &Name,
+) -> Result<(), Memory>
+    ensures { OnOk result (page.new ≡ printed_onto page.old (Fixed tok.WordIf ∷ Fixed tok.LeftParen ∷ (expr_tokens (expr_of left.now)
+        ++ (op_token operator ∷ (expr_tokens (expr_of right.now) ++ Fixed tok.RightParen ∷ goto_tokens label.now))))) }
+{
+    page.fixed(Tok::WordIf)?;
+    page.fixed(Tok::LeftParen)?;
+    put_expression(page, left)?;
+    put_operator(page, operator)?;
+    put_expression(page, right)?;
+    page.fixed(Tok::RightParen)?;
+    put_goto(page, label)
+}
+
+#[tactic(auto, using(crate::proofs::Onto::onto_append))]
+fn put_switch(page: &mut Page, on: &Expr, cases: &Cases, label: &Name) -> Result<(), Memory>
+    ensures { OnOk result (page.new ≡ printed_onto page.old (Fixed tok.WordSwitch ∷ Fixed tok.LeftParen ∷ (expr_tokens (expr_of on.now)
+        ++ (Fixed tok.RightParen ∷ Fixed tok.LeftBrace ∷ (each case_tokens cases.now
+        ++ (Fixed tok.WordDefault ∷ Fixed tok.Colon ∷ (goto_tokens label.now ++ Fixed tok.RightBrace ∷ []))))))) }
+{
+    page.fixed(Tok::WordSwitch)?;
+    page.fixed(Tok::LeftParen)?;
+    put_expression(page, on)?;
+    page.fixed(Tok::RightParen)?;
+    page.fixed(Tok::LeftBrace)?;
+    put_each(page, cases.as_slice())?;
+    page.fixed(Tok::WordDefault)?;
+    page.fixed(Tok::Colon)?;
+    put_goto(page, label)?;
+    page.fixed(Tok::RightBrace)
+}
+
+impl Part for Stmt {
+    ghost tokens = { λ stmt. stmt_tokens (stmt_of stmt) };
+
+    #[tactic(auto, using(crate::proofs::Onto::onto_append))]
+    fn put(&self, page: &mut Page) -> Result<(), Memory> {
+        match self {
+            Stmt::Label(name) => {
+                page.name(name)?;
+                page.fixed(Tok::Colon)
+            }
+            Stmt::Null => page.fixed(Tok::Semicolon),
+            Stmt::Set(name, arg) => {
+                page.name(name)?;
+                page.fixed(Tok::Assign)?;
+                arg.put(page)?;
+                page.fixed(Tok::Semicolon)
+            }
+            Stmt::SetStar(name, e) => {
+                page.fixed(Tok::Star)?;
+                page.name(name)?;
+                page.fixed(Tok::Assign)?;
+                put_expression(page, e)?;
+                page.fixed(Tok::Semicolon)
+            }
+            Stmt::Call(None, callee, args) => put_call(page, callee, args),
+            Stmt::Call(Some(name), callee, args) => {
+                page.name(name)?;
+                page.fixed(Tok::Assign)?;
+                put_call(page, callee, args)
+            }
+            Stmt::Goto(label) => put_goto(page, label),
+            Stmt::If(operator, left, right, label) => put_if(page, *operator, left, right, label),
+            Stmt::Switch(on, cases, label) => put_switch(page, on, cases, label),
+            Stmt::ReturnNone => {
+                page.fixed(Tok::WordReturn)?;
+                page.fixed(Tok::Semicolon)
+            }
+            Stmt::Return(arg) => {
+                page.fixed(Tok::WordReturn)?;
+                arg.put(page)?;
+                page.fixed(Tok::Semicolon)
+            }
+        }
+    }
+}

@@ -1,0 +1,42 @@
+-- What the tests of well formed units tell.
+use Rattle.std.proofs.Common.{◌≡◌, ℕ, suc, ◌+◌, ◌<◌, Bool, true, false, ◌&&◌, ◌||◌, List, [], ◌∷◌, length, get_or, drop, drop-cons, map, refl, sym, ap, ◌∙◌, add-one}
+use Rattle.std.specs.List.{list_all, list_any}
+use Rattle.c_tree.specs.Tree as tree
+use Rattle.c_tree.specs.Tests.{expr_formed}
+
+pub list_all_map : {A B : Type 0} (p : B → Bool) (view : A → B) (xs : List A) → list_all p (map view xs) ≡ list_all (λ x. p (view x)) xs
+list_all_map p view [] = refl
+list_all_map p view (x ∷ xs) = ap (λ b. p (view x) && b) (list_all_map p view xs)
+
+-- ---- loops that test each element in turn
+
+at_front : {A : Type 0} (xs : List A) (i : ℕ) (x : A) → i < length xs → x ≡ get_or xs i x → drop i xs ≡ x ∷ drop (i + 1) xs
+at_front xs i x lt is = rw add-one (drop-cons xs i x lt ∙ ap (λ y. y ∷ drop (suc i) xs) (sym is))
+
+pub all_more : {A : Type 0} (p : A → Bool) (xs : List A) (i : ℕ) (x : A) (whole : Bool) → i < length xs → x ≡ get_or xs i x → p x ≡ true
+    → list_all p (drop i xs) ≡ whole → list_all p (drop (i + 1) xs) ≡ whole
+all_more p xs i x whole lt is passes so_far = sym (ap (list_all p) (at_front xs i x lt is) ∙ ap (λ b. b && list_all p (drop (i + 1) xs)) passes) ∙ so_far
+
+pub all_stops : {A : Type 0} (p : A → Bool) (xs : List A) (i : ℕ) (x : A) (whole : Bool) → i < length xs → x ≡ get_or xs i x → p x ≡ false
+    → list_all p (drop i xs) ≡ whole → false ≡ whole
+all_stops p xs i x whole lt is fails so_far = sym (ap (list_all p) (at_front xs i x lt is) ∙ ap (λ b. b && list_all p (drop (i + 1) xs)) fails) ∙ so_far
+
+pub any_more : {A : Type 0} (p : A → Bool) (xs : List A) (i : ℕ) (x : A) (whole : Bool) → i < length xs → x ≡ get_or xs i x → p x ≡ false
+    → list_any p (drop i xs) ≡ whole → list_any p (drop (i + 1) xs) ≡ whole
+any_more p xs i x whole lt is fails so_far = sym (ap (list_any p) (at_front xs i x lt is) ∙ ap (λ b. b || list_any p (drop (i + 1) xs)) fails) ∙ so_far
+
+pub any_stops : {A : Type 0} (p : A → Bool) (xs : List A) (i : ℕ) (x : A) (whole : Bool) → i < length xs → x ≡ get_or xs i x → p x ≡ true
+    → list_any p (drop i xs) ≡ whole → true ≡ whole
+any_stops p xs i x whole lt is passes so_far = sym (ap (list_any p) (at_front xs i x lt is) ∙ ap (λ b. b || list_any p (drop (i + 1) xs)) passes) ∙ so_far
+
+-- ---- expressions
+
+-- no expression stands inside too many
+pub no_room : (e : tree.Expr) → expr_formed 0 e ≡ false
+no_room (tree.Name n) = refl
+no_room (tree.At n i) = refl
+no_room (tree.Number n) = refl
+no_room (tree.To32 e) = refl
+no_room (tree.To64 e) = refl
+no_room (tree.Star n) = refl
+no_room (tree.Op o a b) = refl

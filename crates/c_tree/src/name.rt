@@ -1,0 +1,110 @@
+// Which words are names.
+ghost use Rattle.std.specs.Prelude.{◌≡◌};
+ghost use Rattle.std.specs.List.{list_all, list_any};
+ghost use Rattle.std.specs.Str.{bytes_eq};
+ghost use Rattle.c_tree.specs.Text.{is_letter, is_word_byte};
+ghost use Rattle.c_tree.specs.WellFormed.{is_key_word, is_name};
+
+/// The key words of the subset, then the other ones of C11.
+const KEY_WORDS: [&[u8]; 50] = [
+    b"static",
+    b"const",
+    b"void",
+    b"u8",
+    b"u32",
+    b"u64",
+    b"w2c_mem",
+    b"w2c_tab",
+    b"w2c_fn",
+    b"goto",
+    b"if",
+    b"switch",
+    b"case",
+    b"default",
+    b"return",
+    b"auto",
+    b"break",
+    b"char",
+    b"continue",
+    b"do",
+    b"double",
+    b"else",
+    b"enum",
+    b"extern",
+    b"float",
+    b"for",
+    b"inline",
+    b"int",
+    b"long",
+    b"register",
+    b"restrict",
+    b"short",
+    b"signed",
+    b"sizeof",
+    b"struct",
+    b"typedef",
+    b"union",
+    b"unsigned",
+    b"volatile",
+    b"while",
+    b"_Alignas",
+    b"_Alignof",
+    b"_Atomic",
+    b"_Bool",
+    b"_Complex",
+    b"_Generic",
+    b"_Imaginary",
+    b"_Noreturn",
+    b"_Static_assert",
+    b"_Thread_local",
+];
+
+/// Letters, digits and `_`, not beginning with a digit, and no key word.
+pub fn is_name(name: &[u8]) -> bool
+    ensures { result ≡ is_name name.now }
+{
+    match name {
+        [] => false,
+        [first, rest @ ..] => is_letter(*first) && are_word_bytes(rest) && !is_key_word(name),
+    }
+}
+
+fn is_key_word(word: &[u8]) -> bool
+    ensures { result ≡ is_key_word word.now }
+{
+    is_among(word, &KEY_WORDS)
+}
+
+fn is_among(word: &[u8], words: &[&[u8]]) -> bool
+    ensures { result ≡ list_any (λ other. bytes_eq word.now other.now) words.now }
+{
+    for other in words {
+        if word == *other {
+            return true;
+        }
+    }
+    false
+}
+
+fn are_word_bytes(bytes: &[u8]) -> bool
+    ensures { result ≡ list_all is_word_byte bytes.now }
+{
+    for byte in bytes {
+        if !is_word_byte(*byte) {
+            return false;
+        }
+    }
+    true
+}
+
+fn is_word_byte(byte: u8) -> bool
+    ensures { result ≡ is_word_byte byte }
+{
+    is_letter(byte) || (48 <= byte && byte <= 57)
+}
+
+fn is_letter(byte: u8) -> bool
+    ensures { result ≡ is_letter byte }
+{
+    (97 <= byte && byte <= 122) || (65 <= byte && byte <= 90) || byte == 95
+}

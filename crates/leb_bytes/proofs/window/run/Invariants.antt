@@ -1,0 +1,11 @@
+use Rattle.std.proofs.Common.{◌≡◌, ◌≤◌, length, take}
+use Rattle.w2c_base.specs.SpelledNumber.{seven_bit_sum}
+use Rattle.leb_bytes.specs.Reading.{GoOn}
+use Rattle.leb_bytes.proofs.window.run.Given as goal
+
+abbrev pub invariant-loop-i : goal.invariant-loop-i
+invariant-loop-i l = record {
+  so_far : l.sum ≡ seven_bit_sum (take l.i l.window);
+  go_on : GoOn (take l.i l.window);
+  within : l.i ≤ length l.window;
+}

@@ -1,0 +1,19 @@
+use Rattle.std.proofs.Common.{◌≡◌, ◌*◌, of_z, to_z, sym, subst, ◌∙◌, arith, w64}
+use Rattle.std.proofs.lemmas.Int.{ints}
+use Rattle.leb_bytes.specs.Run.{InRange}
+use Rattle.leb_bytes.proofs.ShortestLemmas.{signed_shortest}
+use Rattle.leb_bytes.proofs.write.write_s32.Goals as goal
+
+pub returns-clause-length : goal.returns-clause-length
+returns-clause-length c =
+    let same : to_z w64 (of_z w64 c.from.result) ≡ c.args.n = omega (arith, ints) in
+    c.write_signed.ensures.least 5 (omega arith) (record { low = omega (arith, ints, same); high = omega (arith, ints, same) })
+
+pub returns-clause-shortest : goal.returns-clause-shortest
+returns-clause-shortest c =
+    let e = c.write_signed.ensures in
+    let same : to_z w64 (of_z w64 c.from.result) ≡ c.args.n = omega (arith, ints) in
+    signed_shortest 32 c.write_signed.result c.args.n _ e.run e.length (sym same ∙ e.value)
+    (record { low = omega (arith, ints); high = omega (arith, ints) })
+    (e.least 5 (omega arith) (record { low = omega (arith, ints, same); high = omega (arith, ints, same) }))
+    (λ k some range. e.least k some (subst (InRange (7 * k)) (sym same) range))

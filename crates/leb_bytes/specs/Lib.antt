@@ -1,0 +1,4 @@
+pub mod Computed
+pub mod Reading
+pub mod Run
+pub mod Shortest

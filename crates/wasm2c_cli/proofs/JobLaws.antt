@@ -1,0 +1,55 @@
+-- Words ask for at most one job.
+use Rattle.std.proofs.Common.{◌≡◌, ℕ, List, [], ◌∷◌, refl, sym, ◌∙◌, ap, subst, Option, Some, None, MatchOption}
+use Rattle.std.specs.FinMap.{get}
+use Rattle.w2c_io.specs.Contents.{Name, Contents}
+use Rattle.wasm_tree.specs.ConstantModule.{IsConstantModule}
+use Rattle.wasm_tree.specs.declared.constant_module.ConstantInstr.{ConstantInstr}
+use Rattle.wasm_tree.proofs.OneSpelling.{one_spelling}
+use Rattle.wasm2c_cli.specs.declared.stop.Cause.TheVariants.{NotBuilt}
+use Rattle.wasm2c_cli.specs.CommandLine.{Line, line_of, module_name_of}
+use Rattle.wasm2c_cli.specs.Translation.{text_of}
+use Rattle.wasm2c_cli.specs.Job.{Job, Usage, Missing, Refused, Write, IsBuilt, IsJobOf, IsJob, Translates}
+
+-- a file is not there and there, or has two contents
+absent : (contents : Contents) (file other : Name) (bytes : List ℕ) → get contents file ≡ None → get contents other ≡ Some bytes → file ≡ other → ⊥
+absent contents file other bytes none some same =
+    let apart : ◌≡◌ {A = Option (List ℕ)} None (Some bytes) = sym none ∙ ap (get contents) same ∙ some in
+    cc
+
+same_bytes : (contents : Contents) (file other : Name) (bytes others : List ℕ) → get contents file ≡ Some bytes → get contents other ≡ Some others → file ≡ other → bytes ≡ others
+same_bytes contents file other bytes others held held' same =
+    let both : ◌≡◌ {A = Option (List ℕ)} (Some bytes) (Some others) = sym held ∙ ap (get contents) same ∙ held' in
+    cc
+
+-- a module is translated, and is none
+refused_translated : (line : Line) (contents : Contents) (file : Name) (bytes : List ℕ) (files : List (Name × List ℕ)) → file ≡ line.input → get contents file ≡ Some bytes → (IsBuilt bytes → ⊥) → Translates line contents files → ⊥
+refused_translated line contents file bytes files of_input held none t =
+    none (t.name, t.code, subst (λ (b : List ℕ). IsConstantModule b t.name t.code) (same_bytes contents line.input file t.bytes bytes t.held held (sym of_input)) t.built)
+
+same_files : (line : Line) (contents : Contents) (files others : List (Name × List ℕ)) → Translates line contents files → Translates line contents others → files ≡ others
+same_files line contents files others t u =
+    let bytes = same_bytes contents line.input line.input t.bytes u.bytes t.held u.held refl in
+    let parts = one_spelling t.bytes t.name u.name t.code u.code t.built (subst (λ (b : List ℕ). IsConstantModule b u.name u.code) (sym bytes) u.built) in
+    t.written ∙ (λ i. (line.output, text_of (module_name_of line.input) (parts.0 i) (parts.1 i)) ∷ []) ∙ sym u.written
+
+one_of_line : (line : Line) (contents : Contents) (job other : Job) → IsJobOf line contents job → IsJobOf line contents other → job ≡ other
+one_of_line line contents Usage other p q = absurd p
+one_of_line line contents (Missing file) Usage p q = absurd q
+one_of_line line contents (Missing file) (Missing other) p q = λ i. Missing ((p.0 ∙ sym q.0) i)
+one_of_line line contents (Missing file) (Refused other NotBuilt) p q = absurd (absent contents file other q.1.0 p.1 q.1.1 (p.0 ∙ sym q.0))
+one_of_line line contents (Missing file) (Write files) p q = absurd (absent contents file line.input q.bytes p.1 q.held p.0)
+one_of_line line contents (Refused file NotBuilt) Usage p q = absurd q
+one_of_line line contents (Refused file NotBuilt) (Missing other) p q = absurd (absent contents other file p.1.0 q.1 p.1.1 (q.0 ∙ sym p.0))
+one_of_line line contents (Refused file NotBuilt) (Refused other NotBuilt) p q = λ i. Refused ((p.0 ∙ sym q.0) i) NotBuilt
+one_of_line line contents (Refused file NotBuilt) (Write files) p q = absurd (refused_translated line contents file p.1.0 files p.0 p.1.1 p.1.2 q)
+one_of_line line contents (Write files) Usage p q = absurd q
+one_of_line line contents (Write files) (Missing other) p q = absurd (absent contents other line.input p.bytes q.1 p.held q.0)
+one_of_line line contents (Write files) (Refused other NotBuilt) p q = absurd (refused_translated line contents other q.1.0 files q.0 q.1.1 q.1.2 p)
+one_of_line line contents (Write files) (Write others) p q = λ i. Write (same_files line contents files others p q i)
+
+by_line : (line : Option Line) (contents : Contents) (job other : Job) → MatchOption line (job ≡ Usage) (λ l. IsJobOf l contents job) → MatchOption line (other ≡ Usage) (λ l. IsJobOf l contents other) → job ≡ other
+by_line None contents job other p q = p ∙ sym q
+by_line (Some line) contents job other p q = one_of_line line contents job other p q
+
+pub one_job : (words : List Name) (contents : Contents) (job other : Job) → IsJob words contents job → IsJob words contents other → job ≡ other
+one_job words contents job other p q = by_line (line_of words) contents job other p q

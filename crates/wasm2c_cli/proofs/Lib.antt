@@ -1,0 +1,9 @@
+pub mod Decoding
+pub mod ModuleName
+pub mod Names
+pub mod Units
+pub mod WriteLaws
+pub mod WorkLaws
+pub mod JobLaws
+pub mod WrittenLaws
+pub mod TopLaws

@@ -1,0 +1,44 @@
+-- What the stop of the work says of the status, and of what stands.
+use Rattle.std.proofs.Common.{◌≡◌, ◌⊎◌, ℕ, List, refl, sym, ◌∙◌, subst, Option, Some, None, MatchOption, string_bytes, inl, inr}
+use Rattle.w2c_io.specs.Contents.{Name, Contents, Told}
+use Rattle.w2c_io.specs.Causes.{Rose}
+use Rattle.wasm2c_cli.specs.declared.stop.Stop.{Stop}
+use Rattle.wasm2c_cli.specs.declared.stop.Stop.TheVariants as stops
+use Rattle.wasm2c_cli.specs.CommandLine.{Line, line_of}
+use Rattle.wasm2c_cli.specs.Job.{Job, Usage, Missing, Refused, Write, IsJobOf, IsJob}
+use Rattle.wasm2c_cli.specs.Lines.{status_of}
+use Rattle.wasm2c_cli.specs.Stops.{StandsOfJob, StopsWork}
+use Rattle.wasm2c_cli.specs.Top.{Answers}
+
+usage_job : (words : List Name) (contents : Contents) → line_of words ≡ None → IsJob words contents Usage
+usage_job words contents none = subst (λ (o : Option Line). MatchOption o (Usage ≡ Usage) (λ l. IsJobOf l contents Usage)) (sym none) refl
+
+same_contents : (m n : Contents) → ◌≡◌ {A = Told} (Some m) (Some n) → m ≡ n
+same_contents m n e = cc
+
+-- where no count rose, the stop's status is the job's answer, or want of memory
+stop_answers : (words : List Name) (old new : Told) (r r' w w' : ℕ) (named : Option Name) (status : ℕ) (stop : Stop) → StopsWork words old new r r' w w' named stop → status ≡ status_of stop
+    → (contents : Contents) → old ≡ Some contents → (Rose r r' → ⊥) → (Rose w w' → ⊥) → (status ≡ 5) ⊎ ((job : Job) × IsJob words contents job × Answers job status)
+stop_answers words old new r r' w w' named status stops.Usage why is contents told no_reads no_writes = inr (Usage, usage_job words contents why.0, is)
+stop_answers words old new r r' w w' named status (stops.Refused file cause) why is contents told no_reads no_writes = inr (Refused (string_bytes file) cause, why.0 contents told, is)
+stop_answers words old new r r' w w' named status (stops.Unread file) why is contents told no_reads no_writes = elim why.1 [
+  | inl faulted ↦ absurd (no_reads faulted.rose)
+  | inr missing ↦ inr (Missing (string_bytes file), subst (λ (m : Contents). IsJob words m (Missing (string_bytes file))) (same_contents missing.0 contents (sym missing.1 ∙ told)) missing.2, is)
+]
+stop_answers words old new r r' w w' named status (stops.Unwritten file) why is contents told no_reads no_writes = absurd (no_writes why.1.rose)
+stop_answers words old new r r' w w' named status stops.Memory why is contents told no_reads no_writes = inl is
+
+pub stop_complete : (words : List Name) (old new : Told) (r r' w w' : ℕ) (named : Option Name) (status : ℕ) (stop : Stop) → StopsWork words old new r r' w w' named stop → (status ≡ status_of stop) ⊎ (status ≡ 5)
+    → (contents : Contents) → old ≡ Some contents → (Rose r r' → ⊥) → (Rose w w' → ⊥) → (status ≡ 5) ⊎ ((job : Job) × IsJob words contents job × Answers job status)
+stop_complete words old new r r' w w' named status stop why (inl is) = stop_answers words old new r r' w w' named status stop why is
+stop_complete words old new r r' w w' named status stop why (inr five) = λ contents told no_reads no_writes. inl five
+
+-- nothing has changed, or some of the job's files stand
+pub stop_stands : (words : List Name) (old new : Told) (r r' w w' : ℕ) (named : Option Name) (stop : Stop) → StopsWork words old new r r' w w' named stop → (contents : Contents) → old ≡ Some contents → StandsOfJob words contents old new
+stop_stands words old new r r' w w' named stops.Usage why contents told = inl why.1
+stop_stands words old new r r' w w' named (stops.Refused file cause) why contents told = inl why.1
+stop_stands words old new r r' w w' named (stops.Unread file) why contents told = inl why.2
+stop_stands words old new r r' w w' named (stops.Unwritten file) why contents told =
+    let files = why.2 contents told in
+    inr (files.0, files.1, inr (string_bytes file, files.2))
+stop_stands words old new r r' w w' named stops.Memory why contents told = why contents told

@@ -1,0 +1,13 @@
+use Rattle.wasm2c_cli.specs.CommandLine.{texts}
+use Rattle.wasm2c_cli.proofs.TopLaws.{stop_complete, stop_stands}
+use Rattle.wasm2c_cli.proofs.top.wasm2c_top.Goals as goal
+
+pub returns-in-Err-clause-complete : goal.returns-in-Err-clause-complete
+returns-in-Err-clause-complete g c =
+    let files = g.F.Files in
+    stop_complete (texts c.args.words.now) (files.told c.args.files.now) (files.told c.work.new.files) (files.read_faults c.args.files.now) (files.read_faults c.work.new.files) (files.write_faults c.args.files.now) (files.write_faults c.work.new.files) (files.fault_name c.work.new.files) c.report.result c.in-Err.stop c.in-Err.ensures.stop c.report.ensures.status
+
+pub returns-in-Err-clause-stands : goal.returns-in-Err-clause-stands
+returns-in-Err-clause-stands g c = λ five.
+    let files = g.F.Files in
+    stop_stands (texts c.args.words.now) (files.told c.args.files.now) (files.told c.work.new.files) (files.read_faults c.args.files.now) (files.read_faults c.work.new.files) (files.write_faults c.args.files.now) (files.write_faults c.work.new.files) (files.fault_name c.work.new.files) c.in-Err.stop c.in-Err.ensures.stop

@@ -1,0 +1,45 @@
+-- What a command line asks for, over what the files hold.
+use Rattle.std.specs.Prelude.{◌≡◌, ℕ, List, [], ◌∷◌, Option, Some, None, MatchOption}
+use Rattle.std.specs.FinMap.{get}
+use Rattle.w2c_io.specs.Contents.{Name, Contents}
+use Rattle.wasm_tree.specs.ConstantModule.{IsConstantModule}
+use Rattle.wasm_tree.specs.declared.constant_module.ConstantInstr.{ConstantInstr}
+use Rattle.wasm2c_cli.specs.declared.stop.Cause.{Cause}
+use Rattle.wasm2c_cli.specs.declared.stop.Cause.TheVariants.{NotBuilt}
+use Rattle.wasm2c_cli.specs.CommandLine.{Line, line_of, module_name_of}
+use Rattle.wasm2c_cli.specs.Translation.{text_of}
+
+pub data Job : Type 0 where
+  Usage : Job
+  Missing : (file : Name) → Job
+  Refused : (file : Name) (cause : Cause) → Job
+  Write : (files : List (Name × List ℕ)) → Job
+
+-- a file's bytes are a module that is translated
+abbrev pub IsBuilt : List ℕ → Type 0
+IsBuilt bytes = (name : List ℕ) × (code : List ConstantInstr) × IsConstantModule bytes name code
+
+-- the file that a line names holds a module, and these are the files to write: its C text
+pub record Translates (line : Line) (contents : Contents) (files : List (Name × List ℕ)) : Type 0 where
+  pub bytes : List ℕ
+  pub name : List ℕ
+  pub code : List ConstantInstr
+  pub held : get contents line.input ≡ Some bytes
+  pub built : IsConstantModule bytes name code
+  pub written : files ≡ (line.output, text_of (module_name_of line.input) name code) ∷ []
+
+-- what is made of a line and a module: the output's name, and the C text
+pub record Makes (line : Line) (name : List ℕ) (code : List ConstantInstr) (out text : List ℕ) : Type 0 where
+  pub to_output : out ≡ line.output
+  pub is_text : text ≡ text_of (module_name_of line.input) name code
+
+-- what a line asks for
+abbrev pub IsJobOf : Line → Contents → Job → Type 0
+IsJobOf line contents Usage = ⊥
+IsJobOf line contents (Missing file) = (file ≡ line.input) × (get contents file ≡ None)
+IsJobOf line contents (Refused file NotBuilt) = (file ≡ line.input) × ((bytes : List ℕ) × (get contents file ≡ Some bytes) × (IsBuilt bytes → ⊥))
+IsJobOf line contents (Write files) = Translates line contents files
+
+-- usage where the words have no reading, else what their line asks for
+abbrev pub IsJob : List Name → Contents → Job → Type 0
+IsJob words contents job = MatchOption (line_of words) (job ≡ Usage) (λ line. IsJobOf line contents job)

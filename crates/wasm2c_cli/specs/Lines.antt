@@ -1,0 +1,39 @@
+-- The one line on the error stream, and the status that goes with it.
+use Rattle.std.specs.Prelude.{ℕ, List, ◌++◌, codes, string_bytes}
+use Rattle.w2c_io.specs.Contents.{Name}
+use Rattle.wasm2c_cli.specs.declared.stop.Cause.{Cause}
+use Rattle.wasm2c_cli.specs.declared.stop.Cause.TheVariants as causes
+use Rattle.wasm2c_cli.specs.declared.stop.Stop.{Stop}
+use Rattle.wasm2c_cli.specs.declared.stop.Stop.TheVariants as stops
+
+abbrev pub cause_text : Cause → List ℕ
+cause_text causes.NotBuilt = codes "not built"
+
+abbrev pub usage_line : List ℕ
+usage_line = codes "wasm2c: bad command line\n"
+
+abbrev pub refused_line : Name → Cause → List ℕ
+refused_line name cause = codes "wasm2c: " ++ name ++ codes ": " ++ cause_text cause ++ codes "\n"
+
+abbrev pub read_line : Name → List ℕ
+read_line name = codes "wasm2c: " ++ name ++ codes ": read fault\n"
+
+abbrev pub write_line : Name → List ℕ
+write_line name = codes "wasm2c: " ++ name ++ codes ": write fault\n"
+
+abbrev pub memory_line : List ℕ
+memory_line = codes "wasm2c: want of memory\n"
+
+abbrev pub line_for : Stop → List ℕ
+line_for stops.Usage = usage_line
+line_for (stops.Refused name cause) = refused_line (string_bytes name) cause
+line_for (stops.Unread name) = read_line (string_bytes name)
+line_for (stops.Unwritten name) = write_line (string_bytes name)
+line_for stops.Memory = memory_line
+
+abbrev pub status_of : Stop → ℕ
+status_of stops.Usage = 2
+status_of (stops.Refused name cause) = 1
+status_of (stops.Unread name) = 3
+status_of (stops.Unwritten name) = 4
+status_of stops.Memory = 5

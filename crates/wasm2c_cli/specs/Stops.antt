@@ -1,0 +1,88 @@
+-- Why a step of the work stopped, and what stands then.
+use Rattle.std.specs.Prelude.{◌≡◌, ◌⊎◌, ℕ, List, Option, Some, None, string_bytes}
+use Rattle.std.specs.FinMap.{get}
+use Rattle.w2c_io.specs.Contents.{Name, Contents, Told, HasFile}
+use Rattle.w2c_io.specs.Causes.{Rose}
+use Rattle.w2c_io.specs.Telling.{Tells}
+use Rattle.c_tree.specs.ConstantUnit.{IsConstantText}
+use Rattle.w2c_mangle.specs.Symbols.{export_symbol_of, init_symbol_of}
+use Rattle.w2c_mangle.specs.declared.symbol.SymbolKind.TheVariants.{Func}
+use Rattle.wasm_tree.specs.ConstantModule.{IsConstantModule}
+use Rattle.wasm_tree.specs.declared.constant_module.ConstantInstr.{ConstantInstr}
+use Rattle.wasm2c_cli.specs.declared.stop.Cause.TheVariants.{NotBuilt}
+use Rattle.wasm2c_cli.specs.declared.stop.Stop.{Stop}
+use Rattle.wasm2c_cli.specs.declared.stop.Stop.TheVariants as stops
+use Rattle.wasm2c_cli.specs.CommandLine.{Line, line_of, module_name_of}
+use Rattle.wasm2c_cli.specs.Job.{Job, Missing, Refused, Write, IsBuilt, IsJob}
+use Rattle.wasm2c_cli.specs.Standing.{IsOneOf, file_names, written, Stands, StandsAt}
+
+-- a call on the file failed, and the count says so
+pub record Faulted (name : Name) (before after : ℕ) (fault_name : Option Name) : Type 0 where
+  pub rose : Rose before after
+  pub named : fault_name ≡ Some name
+
+-- why no bytes were read; a file that is too long is no module
+abbrev pub StopsReading : Told → Name → ℕ → ℕ → Option Name → Stop → Type 0
+StopsReading told file before after named (stops.Unread name) = (string_bytes name ≡ file) × (Faulted file before after named ⊎ ((contents : Contents) × (told ≡ Some contents) × (get contents file ≡ None)))
+StopsReading told file before after named (stops.Refused name NotBuilt) = (string_bytes name ≡ file) × Tells told (λ contents. (bytes : List ℕ) × (get contents file ≡ Some bytes) × (IsBuilt bytes → ⊥))
+StopsReading told file before after named stops.Memory = Unit {0}
+StopsReading told file before after named stops.Usage = ⊥
+StopsReading told file before after named (stops.Unwritten name) = ⊥
+
+-- why writing stopped
+abbrev pub StopsWriting : Told → Told → List (Name × List ℕ) → ℕ → ℕ → Option Name → Stop → Type 0
+StopsWriting old new files before after named (stops.Unwritten name) = IsOneOf (string_bytes name) (file_names files) × Faulted (string_bytes name) before after named × StandsAt old new files (string_bytes name)
+StopsWriting old new files before after named stops.Memory = Stands old new files
+StopsWriting old new files before after named (stops.Unread name) = ⊥
+StopsWriting old new files before after named (stops.Refused name cause) = ⊥
+StopsWriting old new files before after named stops.Usage = ⊥
+
+-- the file that the words say is to be read
+abbrev pub IsInput : Name → Option Line → Type 0
+IsInput name None = ⊥
+IsInput name (Some line) = name ≡ line.input
+
+-- the file that the words say is to be written
+abbrev pub IsOutput : Name → Option Line → Type 0
+IsOutput name None = ⊥
+IsOutput name (Some line) = name ≡ line.output
+
+-- where nothing was written, the same file is current
+abbrev pub KeepsCurrent : Option Name → Option Name → Stop → Type 0
+KeepsCurrent old new stops.Usage = new ≡ old
+KeepsCurrent old new (stops.Refused name cause) = new ≡ old
+KeepsCurrent old new (stops.Unread name) = new ≡ old
+KeepsCurrent old new (stops.Unwritten name) = Unit {0}
+KeepsCurrent old new stops.Memory = Unit {0}
+
+-- the files are written as the job says
+abbrev pub Done : List Name → Told → Told → Type 0
+Done words old new = Tells old (λ contents. (files : List (Name × List ℕ)) × IsJob words contents (Write files) × (new ≡ written old files))
+
+-- the output holds the text of a constant unit with the symbols of the module's name and the export's
+pub record HoldsUnit (line : Line) (contents : Contents) (new : Told) : Type 0 where
+  pub bytes : List ℕ
+  pub name : List ℕ
+  pub code : List ConstantInstr
+  pub text : List ℕ
+  pub held : get contents line.input ≡ Some bytes
+  pub built : IsConstantModule bytes name code
+  pub stands : HasFile new line.output text
+  pub spells : IsConstantText (init_symbol_of (module_name_of line.input)) (export_symbol_of (module_name_of line.input) Func name) text
+
+abbrev pub WritesUnit : List Name → Told → Told → Type 0
+WritesUnit words old new = Tells old (λ contents. (line : Line) × (line_of words ≡ Some line) × HoldsUnit line contents new)
+
+-- nothing has changed, or some of the job's files stand
+abbrev pub StandsOfJob : List Name → Contents → Told → Told → Type 0
+StandsOfJob words contents old new = (new ≡ old) ⊎ ((files : List (Name × List ℕ)) × IsJob words contents (Write files) × Stands old new files)
+
+-- why the work stopped
+abbrev pub StopsWork : List Name → Told → Told → ℕ → ℕ → ℕ → ℕ → Option Name → Stop → Type 0
+StopsWork words old new reads reads' writes writes' named stops.Usage = (line_of words ≡ None) × (new ≡ old)
+StopsWork words old new reads reads' writes writes' named (stops.Refused name cause) = Tells old (λ contents. IsJob words contents (Refused (string_bytes name) cause)) × (new ≡ old) × (line_of words ≡ None → ⊥)
+StopsWork words old new reads reads' writes writes' named (stops.Unread name) =
+    IsInput (string_bytes name) (line_of words) × (Faulted (string_bytes name) reads reads' named ⊎ ((contents : Contents) × (old ≡ Some contents) × IsJob words contents (Missing (string_bytes name)))) × (new ≡ old)
+StopsWork words old new reads reads' writes writes' named (stops.Unwritten name) =
+    IsOutput (string_bytes name) (line_of words) × Faulted (string_bytes name) writes writes' named × Tells old (λ contents. (files : List (Name × List ℕ)) × IsJob words contents (Write files) × StandsAt old new files (string_bytes name)) × (line_of words ≡ None → ⊥)
+StopsWork words old new reads reads' writes writes' named stops.Memory = Tells old (λ contents. StandsOfJob words contents old new)

@@ -1,0 +1,9 @@
+-- The status that a job is answered by, where nothing fails outside and memory is found.
+use Rattle.std.specs.Prelude.{◌≡◌, ℕ}
+use Rattle.wasm2c_cli.specs.Job.{Job, Usage, Missing, Refused, Write}
+
+abbrev pub Answers : Job → ℕ → Type 0
+Answers Usage status = status ≡ 2
+Answers (Missing file) status = status ≡ 3
+Answers (Refused file cause) status = status ≡ 1
+Answers (Write files) status = status ≡ 0

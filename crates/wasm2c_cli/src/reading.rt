@@ -1,0 +1,59 @@
+// Reads the file that a line names, and the module that it spells.
+ghost use Rattle.std.specs.Prelude.{◌≡◌, ◌≤◌, ℕ, List, Some, IfOk, IfErr, string_bytes};
+ghost use Rattle.std.specs.FinMap.{get};
+ghost use Rattle.w2c_io.specs.Telling.{Tells};
+ghost use Rattle.wasm_tree.specs.ConstantModule.{IsConstantModule};
+ghost use Rattle.wasm2c_cli.specs.Stops.{StopsReading};
+ghost use Rattle.wasm2c_cli.specs.Translation.{IsSpelledModule};
+
+use crate::constant_reader::{ReadRefusal, read_constant_module};
+use crate::stop::{Cause, Stop};
+use std::alloc::Global;
+use w2c_base::{Bytes, MODULE_BYTES};
+use w2c_io::{Files, ReadAnswer};
+use wasm_tree::ConstantModule;
+
+/// The module that a file spells.
+pub fn read_module<F: Files>(
+    alloc: Global,
+    name: &String,
+    files: &mut F,
+) -> Result<ConstantModule, Stop>
+    ensures told { F.told files.new ≡ F.told files.old }
+    ensures current { F.current files.new ≡ F.current files.old }
+    ensures writes { F.write_faults files.new ≡ F.write_faults files.old }
+    ensures later { F.read_faults files.old ≤ F.read_faults files.new }
+    ensures spelled { IfOk result (λ m. IsSpelledModule m.name m.code) }
+    ensures found { IfOk result (λ m. Tells (F.told files.old) (λ contents. (bytes : List ℕ)
+        × (get contents (string_bytes name.now) ≡ Some bytes) × IsConstantModule bytes m.name m.code)) }
+    ensures stop { IfErr result (StopsReading (F.told files.old) (string_bytes name.now)
+        (F.read_faults files.old) (F.read_faults files.new) (F.fault_name files.new)) }
+{
+    let bytes = match read_file(alloc, name, files) {
+        Ok(bytes) => bytes,
+        Err(stop) => return Err(stop),
+    };
+    match read_constant_module(alloc, bytes.as_slice()) {
+        Ok(module) => Ok(module),
+        Err(ReadRefusal::NotBuilt) => Err(Stop::Refused(name.clone()?, Cause::NotBuilt)),
+        Err(ReadRefusal::Memory) => Err(Stop::Memory),
+    }
+}
+
+fn read_file<F: Files>(alloc: Global, name: &String, files: &mut F) -> Result<Bytes, Stop>
+    ensures told { F.told files.new ≡ F.told files.old }
+    ensures current { F.current files.new ≡ F.current files.old }
+    ensures writes { F.write_faults files.new ≡ F.write_faults files.old }
+    ensures later { F.read_faults files.old ≤ F.read_faults files.new }
+    ensures bytes { IfOk result (λ bytes. Tells (F.told files.old) (λ contents. get contents (string_bytes name.now) ≡ Some bytes)) }
+    ensures stop { IfErr result (StopsReading (F.told files.old) (string_bytes name.now)
+        (F.read_faults files.old) (F.read_faults files.new) (F.fault_name files.new)) }
+{
+    match files.read(alloc, name.as_str(), MODULE_BYTES) {
+        Ok(bytes) => Ok(bytes),
+        Err(ReadAnswer::Absent) => Err(Stop::Unread(name.clone()?)),
+        Err(ReadAnswer::Failed) => Err(Stop::Unread(name.clone()?)),
+        Err(ReadAnswer::TooLong) => Err(Stop::Refused(name.clone()?, Cause::NotBuilt)),
+        Err(ReadAnswer::Memory) => Err(Stop::Memory),
+    }
+}

@@ -1,0 +1,73 @@
+// The line on the error stream, and the status.
+ghost use Rattle.std.specs.Prelude.{◌≡◌, ◌⊎◌, ◌++◌, codes, IfOk, string_bytes};
+ghost use Rattle.w2c_io.specs.Telling.{Says, SaysPart};
+ghost use Rattle.wasm2c_cli.specs.Lines.{cause_text, line_for, status_of};
+
+use crate::stop::{Cause, Stop};
+use std::alloc::{AllocError, Global};
+use w2c_io::{Sink, WriteAnswer};
+
+/// Says why the work stopped, and gives the status.
+pub fn report<E: Sink>(alloc: Global, stop: &Stop, err: &mut E) -> u8
+    ensures status { (result ≡ status_of stop.now) ⊎ (result ≡ 5) }
+    ensures says { (result ≡ status_of stop.now) → Says (E.told err.old) (E.told err.new) (E.faults err.old) (E.faults err.new) (line_for stop.now) ⊎ (result ≡ 5) }
+    ensures part { SaysPart (E.told err.old) (E.told err.new) (line_for stop.now) }
+{
+    let Ok(line) = line_text(alloc, stop) else {
+        return 5;
+    };
+    match err.put(line.as_bytes()) {
+        Ok(()) | Err(WriteAnswer::Failed) => status(stop),
+        Err(WriteAnswer::Memory) => 5,
+    }
+}
+
+fn status(stop: &Stop) -> u8
+    ensures { result ≡ status_of stop.now }
+{
+    match stop {
+        Stop::Usage => 2,
+        Stop::Refused(_, _) => 1,
+        Stop::Unread(_) => 3,
+        Stop::Unwritten(_) => 4,
+        Stop::Memory => 5,
+    }
+}
+
+fn line_text(alloc: Global, stop: &Stop) -> Result<String, AllocError>
+    ensures { IfOk result (λ line. string_bytes line ≡ line_for stop.now) }
+{
+    match stop {
+        Stop::Usage => String::from_str(alloc, "wasm2c: bad command line\n"),
+        Stop::Refused(name, cause) => refused_text(alloc, name, *cause),
+        Stop::Unread(name) => named_text(alloc, name, ": read fault\n"),
+        Stop::Unwritten(name) => named_text(alloc, name, ": write fault\n"),
+        Stop::Memory => String::from_str(alloc, "wasm2c: want of memory\n"),
+    }
+}
+
+fn refused_text(alloc: Global, name: &String, cause: Cause) -> Result<String, AllocError>
+    ensures { IfOk result (λ line. string_bytes line ≡ codes "wasm2c: " ++ string_bytes name.now ++ codes ": " ++ cause_text cause ++ codes "\n") }
+{
+    let mut line = named_text(alloc, name, ": ")?;
+    line.push_str(text_of(cause))?;
+    line.push_str("\n")?;
+    Ok(line)
+}
+
+fn named_text(alloc: Global, name: &String, end: &str) -> Result<String, AllocError>
+    ensures { IfOk result (λ line. string_bytes line ≡ codes "wasm2c: " ++ string_bytes name.now ++ end.now) }
+{
+    let mut line = String::from_str(alloc, "wasm2c: ")?;
+    line.push_str(name.as_str())?;
+    line.push_str(end)?;
+    Ok(line)
+}
+
+fn text_of(cause: Cause) -> &'static str
+    ensures { result.now ≡ cause_text cause }
+{
+    match cause {
+        Cause::NotBuilt => "not built",
+    }
+}

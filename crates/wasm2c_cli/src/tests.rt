@@ -1,0 +1,165 @@
+// The program over files in memory: what it accepts, each refusal, and faults of the outside.
+use crate::module_name::module_name;
+use crate::top::{sure_top, wasm2c_top};
+use std::alloc::Global;
+use std::test::Fail;
+use w2c_io::{FileCall, MemFiles, MemSink, SureFiles, SureSink};
+
+// Form, export `f`, and `i32.const 40, i32.const 2, i32.add`.
+const TWO: [u8; 37] = [
+    0x00, 0x61, 0x73, 0x6D, 0x01, 0x00, 0x00, 0x00, 0x01, 0x05, 0x01, 0x60, 0x00, 0x01, 0x7F, 0x03,
+    0x02, 0x01, 0x00, 0x07, 0x05, 0x01, 0x01, 0x66, 0x00, 0x00, 0x0A, 0x09, 0x01, 0x07, 0x00, 0x41,
+    0x28, 0x41, 0x02, 0x6A, 0x0B,
+];
+
+const TWO_C: &str = "#include \"w2c_rt.h\"
+static u32 f0(void);
+void w2cZ_twoZ_i(void) {
+;
+return;
+}
+u32 w2cZ_twoZ_fZ_f(void) {
+u32 r = 0u;
+r = f0();
+return r;
+}
+static u32 f0(void) {
+u32 i0 = 0u;
+u32 i1 = 0u;
+i0 = 40u;
+i1 = 2u;
+i0 = (i0 + i1);
+return i0;
+}
+";
+
+// The first 26 bytes of TWO, and another code section.
+fn with_code(alloc: Global, code: &[u8]) -> Result<Vec<u8>, Fail> {
+    let mut bytes = TWO[..26].to_vec(alloc)?;
+    bytes.extend_from_slice(code)?;
+    Ok(bytes)
+}
+
+fn words(alloc: Global, texts: &[&str]) -> Result<Vec<String>, Fail> {
+    let mut words = Vec::new(alloc);
+    for text in texts {
+        words.push(String::from_str(alloc, text)?)?;
+    }
+    Ok(words)
+}
+
+// The status of `two.wasm -o two.c`, where two.wasm holds these bytes.
+fn status_of(alloc: Global, bytes: &[u8], err: &mut MemSink) -> Result<u8, Fail> {
+    let words = words(alloc, &["two.wasm", "-o", "two.c"])?;
+    let mut files = MemFiles::new(alloc);
+    files.add("two.wasm", bytes)?;
+    Ok(wasm2c_top(alloc, words.as_slice(), &mut files, err))
+}
+
+#[test]
+fn two_constants(rt: HostRuntime) -> Result<(), Fail> {
+    let alloc = rt.alloc();
+    let words = words(alloc, &["in/two.wasm", "-o", "two.c"])?;
+    let mut files = SureFiles::new(alloc);
+    let mut err = SureSink::new(alloc);
+    files.add("in/two.wasm", &TWO)?;
+    assert_eq!(rt; sure_top(alloc, words.as_slice(), &mut files, &mut err), 0);
+    assert_eq!(rt; files.get("two.c"), Some(TWO_C.as_bytes()));
+    assert!(rt; files.get("two.h").is_none());
+    assert_eq!(rt; err.bytes(), b"".as_slice());
+    Ok(())
+}
+
+#[test]
+fn a_negative_constant(rt: HostRuntime) -> Result<(), Fail> {
+    let alloc = rt.alloc();
+    let words = words(alloc, &["n.wasm", "-o", "n.c"])?;
+    let bytes = with_code(alloc, b"\x0A\x06\x01\x04\x00\x41\x7F\x0B")?;
+    let mut files = SureFiles::new(alloc);
+    let mut err = SureSink::new(alloc);
+    files.add("n.wasm", bytes.as_slice())?;
+    assert_eq!(rt; sure_top(alloc, words.as_slice(), &mut files, &mut err), 0);
+    let end = b"i0 = 4294967295u;\nreturn i0;\n}\n".as_slice();
+    assert!(rt; files.get("n.c").is_some_and(|text| text.ends_with(end)));
+    Ok(())
+}
+
+#[test]
+fn other_modules_are_not_built(rt: HostRuntime) -> Result<(), Fail> {
+    let alloc = rt.alloc();
+    let mut err = MemSink::new(alloc);
+    let add =
+        b"\0asm\x01\0\0\0\x01\x07\x01\x60\x02\x7F\x7F\x01\x7F\x03\x02\x01\0\x07\x07\x01\x03add\0\0\x0A\x09\x01\x07\0\x20\0\x20\x01\x6A\x0B";
+    assert_eq!(rt; status_of(alloc, add, &mut err)?, 1);
+    assert_eq!(rt; err.bytes(), b"wasm2c: two.wasm: not built\n".as_slice());
+    assert_eq!(rt; status_of(alloc, &TWO[..7], &mut err)?, 1);
+    let one_operand = with_code(alloc, b"\x0A\x07\x01\x05\0\x41\x28\x6A\x0B")?;
+    assert_eq!(rt; status_of(alloc, one_operand.as_slice(), &mut err)?, 1);
+    let two_operands = with_code(alloc, b"\x0A\x08\x01\x06\0\x41\x28\x41\x02\x0B")?;
+    assert_eq!(rt; status_of(alloc, two_operands.as_slice(), &mut err)?, 1);
+    Ok(())
+}
+
+#[test]
+fn bad_command_lines(rt: HostRuntime) -> Result<(), Fail> {
+    let alloc = rt.alloc();
+    let mut files = MemFiles::new(alloc);
+    let mut err = MemSink::new(alloc);
+    let one = words(alloc, &["a.wasm"])?;
+    let other_end = words(alloc, &["a.wasm", "-o", "a.h"])?;
+    let no_name = words(alloc, &["in/", "-o", "a.c"])?;
+    assert_eq!(rt; wasm2c_top(alloc, one.as_slice(), &mut files, &mut err), 2);
+    assert_eq!(rt; err.bytes(), b"wasm2c: bad command line\n".as_slice());
+    assert_eq!(rt;
+        wasm2c_top(alloc, other_end.as_slice(), &mut files, &mut err),
+        2
+    );
+    assert_eq!(rt;
+        wasm2c_top(alloc, no_name.as_slice(), &mut files, &mut err),
+        2
+    );
+    let mut absent = MemSink::new(alloc);
+    let line = words(alloc, &["a.wasm", "-o", "a.c"])?;
+    assert_eq!(rt;
+        wasm2c_top(alloc, line.as_slice(), &mut files, &mut absent),
+        3
+    );
+    assert_eq!(rt; absent.bytes(), b"wasm2c: a.wasm: read fault\n".as_slice());
+    Ok(())
+}
+
+// The status where one call fails; two.c holds a text before.
+fn status_with_fault(alloc: Global, call: FileCall, files: &mut MemFiles) -> Result<u8, Fail> {
+    let words = words(alloc, &["two.wasm", "-o", "two.c"])?;
+    let mut err = MemSink::new(alloc);
+    files.add("two.wasm", &TWO)?;
+    files.add("two.c", b"before")?;
+    files.fail(call, 1)?;
+    Ok(wasm2c_top(alloc, words.as_slice(), files, &mut err))
+}
+
+#[test]
+fn faults_of_the_outside(rt: HostRuntime) -> Result<(), Fail> {
+    let alloc = rt.alloc();
+    let mut files = MemFiles::new(alloc);
+    assert_eq!(rt; status_with_fault(alloc, FileCall::Read, &mut files)?, 3);
+    assert_eq!(rt; files.get("two.c"), Some(b"before".as_slice()));
+    let mut files = MemFiles::new(alloc);
+    assert_eq!(rt; status_with_fault(alloc, FileCall::Begin, &mut files)?, 4);
+    assert_eq!(rt; files.get("two.c"), Some(b"before".as_slice()));
+    let mut files = MemFiles::new(alloc);
+    assert_eq!(rt; status_with_fault(alloc, FileCall::Put, &mut files)?, 4);
+    assert!(rt;
+        files.get("two.c").is_some_and(|text| TWO_C.as_bytes().starts_with(text)
+            && !text.is_empty())
+    );
+    Ok(())
+}
+
+#[test]
+fn names_of_modules(rt: HostRuntime) -> Result<(), Fail> {
+    assert_eq!(rt; module_name(b"a/b.c/two.tar.wasm"), b"two.tar".as_slice());
+    assert_eq!(rt; module_name(b"a/.wasm"), b".wasm".as_slice());
+    assert_eq!(rt; module_name(b"two"), b"two".as_slice());
+    Ok(())
+}

@@ -1,0 +1,75 @@
+// The top call: all that the program does.
+ghost use Rattle.std.specs.Prelude.{◌≡◌, ◌⊎◌, ◌≤◌, List, ℕ, Some, None};
+ghost use Rattle.w2c_io.specs.Contents.{Name, Contents};
+ghost use Rattle.w2c_io.specs.Causes.{Rose};
+ghost use Rattle.w2c_io.specs.Telling.{Tells, Says, SaysPart};
+ghost use Rattle.wasm2c_cli.specs.declared.stop.Cause.{Cause};
+ghost use Rattle.wasm2c_cli.specs.declared.stop.Stop.{Stop as AnyStop};
+ghost use Rattle.wasm2c_cli.specs.CommandLine.{line_of, texts};
+ghost use Rattle.wasm2c_cli.specs.Job.{IsJob, Job, Missing, Refused, Write};
+ghost use Rattle.wasm2c_cli.specs.Lines.{line_for, read_line, refused_line, usage_line, write_line};
+ghost use Rattle.wasm2c_cli.specs.Standing.{StandsAt};
+ghost use Rattle.wasm2c_cli.specs.Stops.{Done, Faulted, IsInput, IsOutput, StandsOfJob, WritesUnit};
+ghost use Rattle.wasm2c_cli.specs.Top.{Answers};
+
+use crate::report::report;
+use crate::work::work;
+use std::alloc::Global;
+use w2c_io::{Files, Sink, SureFiles, SureSink};
+
+/// Does what the words ask for, and gives the exit status: 0 where the text stands, 1 for a file
+/// that is refused, 2 for words without a reading, 3 and 4 for a file that cannot be read or
+/// written, 5 for want of memory. `words` leaves out the program's name.
+pub fn wasm2c_top<F: Files, E: Sink>(
+    alloc: Global,
+    words: &[String],
+    files: &mut F,
+    err: &mut E,
+) -> u8
+    // Where the files tell and no count of theirs rises, the job decides, unless memory was wanting.
+    ensures complete { Tells (F.told files.old) (λ m. (Rose (F.read_faults files.old) (F.read_faults files.new) → ⊥)
+        → (Rose (F.write_faults files.old) (F.write_faults files.new) → ⊥)
+        → (result ≡ 5) ⊎ ((job : Job) × IsJob (texts words.now) m job × Answers job result)) }
+
+    // Status 0: the output stands whole and holds such a unit, and nothing else has changed.
+    ensures done { result ≡ 0 → Done (texts words.now) (F.told files.old) (F.told files.new) }
+    ensures unit { result ≡ 0 → WritesUnit (texts words.now) (F.told files.old) (F.told files.new) }
+    ensures silent { result ≡ 0 → E.told err.new ≡ E.told err.old }
+
+    // Status 1 to 4: when each comes, and the line on the error stream.
+    ensures refused { result ≡ 1 → (file : Name) × (cause : Cause)
+        × Tells (F.told files.old) (λ m. IsJob (texts words.now) m (Refused file cause))
+        × Says (E.told err.old) (E.told err.new) (E.faults err.old) (E.faults err.new) (refused_line file cause) }
+    ensures usage { result ≡ 2 → (line_of (texts words.now) ≡ None)
+        × Says (E.told err.old) (E.told err.new) (E.faults err.old) (E.faults err.new) usage_line }
+    ensures usage_always { line_of (texts words.now) ≡ None → (result ≡ 2) ⊎ (result ≡ 5) }
+    ensures read_fault { result ≡ 3 → (file : Name) × IsInput file (line_of (texts words.now))
+        × (Faulted file (F.read_faults files.old) (F.read_faults files.new) (F.fault_name files.new)
+        ⊎ ((m : Contents) × (F.told files.old ≡ Some m) × IsJob (texts words.now) m (Missing file)))
+        × Says (E.told err.old) (E.told err.new) (E.faults err.old) (E.faults err.new) (read_line file) }
+    ensures write_fault { result ≡ 4 → (file : Name) × IsOutput file (line_of (texts words.now))
+        × Faulted file (F.write_faults files.old) (F.write_faults files.new) (F.fault_name files.new)
+        × Tells (F.told files.old) (λ m. (all : List (Name × List ℕ)) × IsJob (texts words.now) m (Write all)
+        × StandsAt (F.told files.old) (F.told files.new) all file)
+        × Says (E.told err.old) (E.told err.new) (E.faults err.old) (E.faults err.new) (write_line file) }
+
+    // What stands after each.
+    ensures untouched { (result ≡ 1) ⊎ (result ≡ 2) ⊎ (result ≡ 3) → F.told files.new ≡ F.told files.old }
+    ensures current { (result ≡ 1) ⊎ (result ≡ 2) ⊎ (result ≡ 3) → F.current files.new ≡ F.current files.old }
+    ensures stands { result ≡ 5 → Tells (F.told files.old) (λ m. StandsOfJob (texts words.now) m (F.told files.old) (F.told files.new)) }
+    ensures part { result ≡ 5 → (stop : AnyStop) × SaysPart (E.told err.old) (E.told err.new) (line_for stop) }
+    ensures status { result ≤ 5 }
+{
+    match work(alloc, words, files) {
+        Ok(()) => 0,
+        Err(stop) => report(alloc, &stop, err),
+    }
+}
+
+/// The same over files and a stream that never fail: the job decides, unless memory was wanting.
+pub fn sure_top(alloc: Global, words: &[String], files: &mut SureFiles, err: &mut SureSink) -> u8
+    ensures { Tells (⟦<SureFiles as Files>⟧.told files.old) (λ m. (result ≡ 5)
+        ⊎ ((job : Job) × IsJob (texts words.now) m job × Answers job result)) }
+{
+    wasm2c_top(alloc, words, files, err)
+}

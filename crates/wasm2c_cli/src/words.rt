@@ -1,0 +1,49 @@
+// The words of a command line.
+ghost use Rattle.std.specs.Prelude.{◌≡◌, string_bytes};
+ghost use Rattle.wasm2c_cli.specs.CommandLine.{is_c_file as is_c_file_name, is_line as is_line_of, is_module_name as is_module_name_of, line_of, texts};
+ghost use Rattle.wasm2c_cli.specs.Seen.{seen_line};
+
+use crate::module_name::module_name;
+
+/// The file to read, and the file to write.
+#[derive(Clone, Copy)]
+pub struct Line<'a> {
+    pub input: &'a String,
+    pub output: &'a String,
+}
+
+/// The reading of the words `FILE -o OUT.c`, None where they have none.
+pub fn read_words(words: &[String]) -> Option<Line<'_>>
+    ensures { seen_line result ≡ line_of (texts words.now) }
+{
+    let (input, words) = words.split_first()?;
+    let (flag, words) = words.split_first()?;
+    let (output, words) = words.split_first()?;
+    let None = words.split_first() else {
+        return None;
+    };
+    if is_line(input, flag, output) {
+        return Some(Line { input, output });
+    }
+    None
+}
+
+fn is_line(input: &String, flag: &String, output: &String) -> bool
+    ensures { result ≡ is_line_of (string_bytes input.now) (string_bytes flag.now) (string_bytes output.now) }
+{
+    flag.as_str() == "-o"
+        && is_c_file(output.as_bytes())
+        && is_module_name(module_name(input.as_bytes()))
+}
+
+fn is_c_file(name: &[u8]) -> bool
+    ensures { result ≡ is_c_file_name name.now }
+{
+    name.len() >= 3 && &name[name.len() - 2..] == b".c".as_slice()
+}
+
+fn is_module_name(name: &[u8]) -> bool
+    ensures { result ≡ is_module_name_of name.now }
+{
+    !name.is_empty() && name.len() <= 1024
+}

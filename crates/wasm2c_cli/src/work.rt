@@ -1,0 +1,59 @@
+// The work that a command line asks for.
+ghost use Rattle.std.specs.Prelude.{◌≡◌, ◌≤◌, OnOk, IfOk, IfErr, None, string_bytes};
+ghost use Rattle.c_tree.specs.ConstantUnit.{IsConstantText};
+ghost use Rattle.w2c_mangle.specs.Symbols.{export_symbol_of, init_symbol_of};
+ghost use Rattle.w2c_mangle.specs.declared.symbol.SymbolKind.TheVariants as kinds;
+ghost use Rattle.wasm2c_cli.specs.CommandLine.{line_of, module_name_of, texts};
+ghost use Rattle.wasm2c_cli.specs.Job.{Makes};
+ghost use Rattle.wasm2c_cli.specs.Seen.{names_of_line};
+ghost use Rattle.wasm2c_cli.specs.Stops.{Done, KeepsCurrent, StopsWork, WritesUnit};
+ghost use Rattle.wasm2c_cli.specs.Translation.{IsSpelledModule};
+
+use crate::module_name::module_name;
+use crate::reading::read_module;
+use crate::stop::Stop;
+use crate::text::unit_text;
+use crate::words::{Line, read_words};
+use crate::writing::{Output, write_all};
+use std::alloc::Global;
+use w2c_base::Memory;
+use w2c_io::Files;
+use wasm_tree::ConstantModule;
+
+/// Reads the words, then the file, translates it, and writes the text.
+pub fn work<F: Files>(alloc: Global, words: &[String], files: &mut F) -> Result<(), Stop>
+    ensures done { OnOk result (Done (texts words.now) (F.told files.old) (F.told files.new)) }
+    ensures unit { OnOk result (WritesUnit (texts words.now) (F.told files.old) (F.told files.new)) }
+    ensures line { OnOk result (line_of (texts words.now) ≡ None → ⊥) }
+    ensures current { IfErr result (KeepsCurrent (F.current files.old) (F.current files.new)) }
+    ensures reads { F.read_faults files.old ≤ F.read_faults files.new }
+    ensures writes { F.write_faults files.old ≤ F.write_faults files.new }
+    ensures stop { IfErr result (StopsWork (texts words.now) (F.told files.old) (F.told files.new)
+        (F.read_faults files.old) (F.read_faults files.new) (F.write_faults files.old) (F.write_faults files.new) (F.fault_name files.new)) }
+{
+    let Some(line) = read_words(words) else {
+        return Err(Stop::Usage);
+    };
+    let module = match read_module(alloc, line.input, files) {
+        Ok(module) => module,
+        Err(stop) => return Err(stop),
+    };
+    let output = make_output(alloc, &line, &module)?;
+    match write_all(&[output], files) {
+        Ok(()) => Ok(()),
+        Err(stop) => Err(stop),
+    }
+}
+
+// The file to write, with the C text of a module.
+fn make_output(alloc: Global, line: &Line<'_>, module: &ConstantModule) -> Result<Output, Memory>
+    requires { IsSpelledModule «module».now.name «module».now.code }
+    ensures made { IfOk result (λ output. Makes (names_of_line line.now) «module».now.name «module».now.code
+        (string_bytes output.name) output.text) }
+    ensures spells { IfOk result (λ output. IsConstantText (init_symbol_of (module_name_of (string_bytes line.now.input.now)))
+        (export_symbol_of (module_name_of (string_bytes line.now.input.now)) kinds.Func «module».now.name) output.text) }
+{
+    let text = unit_text(alloc, module_name(line.input.as_bytes()), module)?;
+    let name = line.output.clone()?;
+    Ok(Output { name, text })
+}
