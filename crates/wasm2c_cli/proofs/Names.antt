@@ -1,9 +1,9 @@
 -- Symbols and the variables of heights are names of the C subset.
-use Rattle.std.proofs.Common.{◌≡◌, ℕ, ◌+◌, ◌<◌, ◌≤◌, ◌^◌, ◌==◌, ◌&&◌, ◌||◌, not, Bool, true, false, List, [], ◌∷◌, ◌++◌, All, IsTrue, codes, map, refl, sym, ◌∙◌, ap, subst, arith, bytes_eq, decimal}
-use Rattle.std.specs.List.{list_all, list_any, AllPass}
+use Rattle.std.proofs.Common.{◌≡◌, ℕ, ◌<◌, ◌^◌, ◌==◌, ◌&&◌, not, true, false, List, [], ◌∷◌, ◌++◌, All, codes, refl, sym, subst, arith, decimal}
+use Rattle.std.specs.List.{list_all, AllPass}
 use Rattle.std.proofs.lemmas.Bool.Decides.{nat_tests}
-use Rattle.c_tree.specs.Text.{is_digit, is_letter, is_word_byte}
-use Rattle.c_tree.specs.WellFormed.{is_name, is_key_word, IsName}
+use Rattle.c_tree.specs.Text.{is_digit, is_word_byte}
+use Rattle.c_tree.specs.WellFormed.{is_key_word, IsName}
 use Rattle.c_tree.proofs.Proper.{both_true}
 use Rattle.c_tree.proofs.TreeIsProper.{decimal_digits}
 use Rattle.c_tree.specs.Text.{are_digits}

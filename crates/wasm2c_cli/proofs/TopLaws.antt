@@ -5,7 +5,7 @@ use Rattle.w2c_io.specs.Causes.{Rose}
 use Rattle.wasm2c_cli.specs.declared.stop.Stop.{Stop}
 use Rattle.wasm2c_cli.specs.declared.stop.Stop.TheVariants as stops
 use Rattle.wasm2c_cli.specs.CommandLine.{Line, line_of}
-use Rattle.wasm2c_cli.specs.Job.{Job, Usage, Missing, Refused, Write, IsJobOf, IsJob}
+use Rattle.wasm2c_cli.specs.Job.{Job, Usage, Missing, Refused, IsJobOf, IsJob}
 use Rattle.wasm2c_cli.specs.Lines.{status_of}
 use Rattle.wasm2c_cli.specs.Stops.{StandsOfJob, StopsWork}
 use Rattle.wasm2c_cli.specs.Top.{Answers}

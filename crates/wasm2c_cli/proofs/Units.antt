@@ -1,16 +1,14 @@
 -- The unit of a module is a constant unit, and is well formed.
-use Rattle.std.proofs.Common.{◌≡◌, ℕ, zero, suc, ◌+◌, ◌-◌, ◌<◌, ◌≤◌, ◌^◌, ◌⊎◌, inl, inr, max, Bool, true, false, List, [], ◌∷◌, ◌++◌, All, IsTrue, Option, Some, None, codes, map, length, refl, sym, ◌∙◌, ap, subst, arith, decimal, add-one, nat_eq, lit<, get_or, Fits, w8}
+use Rattle.std.proofs.Common.{◌≡◌, ℕ, zero, suc, ◌+◌, ◌<◌, ◌≤◌, ◌^◌, ◌⊎◌, inl, inr, List, [], ◌∷◌, ◌++◌, All, Some, map, length, refl, sym, subst, arith, add-one, lit<, get_or, Fits, w8}
 use Rattle.std.proofs.lemmas.Grind.{get_or_default_zero}
 use Rattle.std.proofs.lemmas.List.{map-append}
-use Rattle.std.specs.List.{AllByRecursion, starts_with}
+use Rattle.std.specs.List.{AllByRecursion}
 use Rattle.std.proofs.lemmas.Fmt.{decimal_injective}
 use Rattle.c_tree.specs.Tree as tree
-use Rattle.c_tree.specs.declared.tree.CType.TheVariants as type
-use Rattle.c_tree.specs.declared.tree.Num.TheVariants.{N32}
-use Rattle.c_tree.specs.Spelled.{CSpells, FitsItem, FitsStmt, FitsNum, depth_limit, Formed}
-use Rattle.c_tree.specs.WellFormed.{IsName, NamedStmt, NamedItem, IsWellFormed}
-use Rattle.c_tree.specs.ConstantUnit.{ConstantSet, SetsNumber, SetsSum, set_stmt, u32_local, constant_unit, names_of, IsAmong, AreDistinct, IsVariableName, IsDeclared, IsConstantUnit, IsConstantText, body_name}
-use Rattle.c_tree.proofs.Formed.{formed}
+use Rattle.c_tree.specs.Spelled.{CSpells, FitsStmt, FitsNum, depth_limit, Formed}
+use Rattle.c_tree.specs.WellFormed.{IsName, NamedStmt}
+use Rattle.c_tree.specs.ConstantUnit.{set_stmt, u32_local, names_of, IsAmong, AreDistinct, IsVariableName, IsDeclared, IsConstantUnit, IsConstantText}
+use Rattle.c_tree.proofs.WellFormedUnits.{formed}
 use Rattle.wasm_tree.specs.declared.constant_module.ConstantInstr.{ConstantInstr}
 use Rattle.wasm_tree.specs.declared.constant_module.ConstantInstr.TheVariants.{I32Const, I32Add}
 use Rattle.wasm_tree.specs.ConstantModule.{code_bytes, height_after, IsShort, HasShortNumber, IsConstantModule, IsPrintable}

@@ -1,5 +1,5 @@
 -- What a step says of the whole work.
-use Rattle.std.proofs.Common.{◌≡◌, ℕ, List, [], ◌∷◌, refl, sym, ◌∙◌, ap, subst, Option, Some, None, MatchOption, string_bytes, inl, inr}
+use Rattle.std.proofs.Common.{◌≡◌, ℕ, List, [], ◌∷◌, sym, ◌∙◌, ap, subst, Option, Some, None, MatchOption, string_bytes, inl, inr}
 use Rattle.std.specs.FinMap.{get}
 use Rattle.w2c_io.specs.Contents.{Name, Contents, Told, HasFile, holding}
 use Rattle.w2c_io.specs.Causes.{Rose}
@@ -15,7 +15,7 @@ use Rattle.wasm2c_cli.specs.declared.stop.Stop.{Stop}
 use Rattle.wasm2c_cli.specs.declared.stop.Stop.TheVariants as stops
 use Rattle.wasm2c_cli.specs.CommandLine.{Line, line_of, module_name_of}
 use Rattle.wasm2c_cli.specs.Job.{Job, Makes, Usage, Missing, Refused, Write, IsJobOf, IsJob}
-use Rattle.wasm2c_cli.specs.Standing.{IsOneOf, written, Stands, StandsAt}
+use Rattle.wasm2c_cli.specs.Standing.{written, Stands, StandsAt}
 use Rattle.wasm2c_cli.specs.Stops.{Faulted, IsInput, IsOutput, StopsReading, StopsWriting, StopsWork, Done, HoldsUnit, WritesUnit}
 
 no_usage : (words : List Name) (line : Line) → line_of words ≡ Some line → line_of words ≡ None → ⊥

@@ -13,7 +13,7 @@ use Rattle.wasm2c_cli.specs.declared.stop.Cause.TheVariants.{NotBuilt}
 use Rattle.wasm2c_cli.specs.declared.stop.Stop.{Stop}
 use Rattle.wasm2c_cli.specs.declared.stop.Stop.TheVariants as stops
 use Rattle.wasm2c_cli.specs.CommandLine.{Line, line_of, module_name_of}
-use Rattle.wasm2c_cli.specs.Job.{Job, Missing, Refused, Write, IsBuilt, IsJob}
+use Rattle.wasm2c_cli.specs.Job.{Missing, Refused, Write, IsBuilt, IsJob}
 use Rattle.wasm2c_cli.specs.Standing.{IsOneOf, file_names, written, Stands, StandsAt}
 
 -- a call on the file failed, and the count says so

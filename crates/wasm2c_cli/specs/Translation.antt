@@ -1,6 +1,6 @@
 -- The unit that a module of one constant function is translated to: a u32 variable `i<h>` for the
 -- operand at height h, and one assignment for each instruction.
-use Rattle.std.specs.Prelude.{ℕ, zero, suc, ◌+◌, max, List, [], ◌∷◌, ◌++◌, map}
+use Rattle.std.specs.Prelude.{ℕ, zero, suc, ◌+◌, max, List, [], ◌∷◌, ◌++◌}
 use Rattle.std.specs.Fmt.{decimal}
 use Rattle.c_tree.specs.Tree as tree
 use Rattle.c_tree.specs.ConstantUnit.{ConstantSet, SetsNumber, SetsSum, constant_unit}
