@@ -1,5 +1,5 @@
 -- What one call says of contents that are told.
-use Rattle.std.proofs.Common.{◌≡◌, ℕ, ◌<◌, ◌≤◌, List, length, refl, subst, arith, Option, Some, None}
+use Rattle.std.proofs.Common.{◌≡◌, ℕ, ◌<◌, ◌≤◌, List, length, refl, subst, arith, Some, None}
 use Rattle.std.specs.FinMap.{get}
 use Rattle.w2c_io.specs.Contents.{Name, Contents, Told, HasFile, HasNoFile, HasLongFile}
 use Rattle.w2c_io.specs.Causes.{Rose}
