@@ -1,1 +1,3 @@
 pub mod ConstantModule
+pub mod Instructions
+pub mod Modules
