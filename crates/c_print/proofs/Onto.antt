@@ -1,10 +1,11 @@
 -- Tokens that are put at the end of a page, one list after another.
-use Rattle.std.proofs.Common.{◌≡◌, ℕ, suc, ◌+◌, ◌<◌, List, [], ◌∷◌, ◌++◌, length, get_or, take, drop, drop-cons, map, append_assoc, refl, sym, ap, ◌∙◌, add-one}
+use Rattle.std.proofs.Common.{◌≡◌, ℕ, ◌+◌, ◌<◌, List, [], ◌∷◌, ◌++◌, length, get_or, take, drop, drop-cons, map, append_assoc, refl, sym, ap, ◌∙◌, add-one}
 use Rattle.std.proofs.lemmas.List.{append-nil}
 use Rattle.c_tree.specs.declared.token.Tok.TheVariants as tok
 use Rattle.c_tree.specs.Tokens.{Token, Fixed}
 use Rattle.c_tree.specs.Tree.{Item}
 use Rattle.c_tree.specs.Trees.{each, separated, item_tokens}
+use Rattle.c_tree.proofs.Tested.{at_front}
 use Rattle.c_print.specs.declared.page.Page.{Page}
 use Rattle.c_print.specs.Page.{printed, printed_onto, ended, items_onto}
 
@@ -29,7 +30,7 @@ separated_at f (x ∷ xs) = ap (λ ts. ts ++ each (λ y. Fixed tok.Comma ∷ f y
 pub each_more : {A : Type 0} (f : A → List Token) (start page next : Page) (xs : List A) (i : ℕ) (x : A) → i < length xs → x ≡ get_or xs i x → next ≡ printed_onto page (f x)
     → printed_onto page (each f (drop i xs)) ≡ printed_onto start (each f xs) → printed_onto next (each f (drop (i + 1) xs)) ≡ printed_onto start (each f xs)
 each_more f start page next xs i x lt is step so_far =
-    let e : drop i xs ≡ x ∷ drop (i + 1) xs = rw add-one (drop-cons xs i x lt ∙ ap (λ y. y ∷ drop (suc i) xs) (sym is)) in
+    let e : drop i xs ≡ x ∷ drop (i + 1) xs = at_front xs i x lt is in
     let one : printed_onto page (each f (drop i xs)) ≡ printed_onto next (each f (drop (i + 1) xs)) = rw (e, step) (onto_append page (f x) (each f (drop (i + 1) xs))) in
     sym one ∙ so_far
 
@@ -37,7 +38,7 @@ each_more f start page next xs i x lt is step so_far =
 pub items_more : {A : Type 0} (view : A → Item) (start page next : Page) (xs : List A) (i : ℕ) (x : A) → i < length xs → x ≡ get_or xs i x → next ≡ ended (printed_onto page (item_tokens (view x)))
     → items_onto page (map view (drop i xs)) ≡ items_onto start (map view xs) → items_onto next (map view (drop (i + 1) xs)) ≡ items_onto start (map view xs)
 items_more view start page next xs i x lt is step so_far =
-    let e : drop i xs ≡ x ∷ drop (i + 1) xs = rw add-one (drop-cons xs i x lt ∙ ap (λ y. y ∷ drop (suc i) xs) (sym is)) in
+    let e : drop i xs ≡ x ∷ drop (i + 1) xs = at_front xs i x lt is in
     let one : items_onto page (map view (drop i xs)) ≡ items_onto next (map view (drop (i + 1) xs)) = rw (e, step) refl in
     sym one ∙ so_far
 

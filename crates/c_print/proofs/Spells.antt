@@ -8,16 +8,11 @@ use Rattle.c_tree.specs.Text.{lexeme, lexemes}
 use Rattle.c_tree.specs.Layout.{laid}
 use Rattle.c_tree.specs.Trees.{each, item_tokens, unit_tokens}
 use Rattle.c_tree.specs.Spelled.{CSpells, Formed}
-use Rattle.c_tree.proofs.Proper.{IsProper, EndsToken, IsReadAnywhere, reads, include_read, left_paren_read, left_bracket_read}
+use Rattle.c_tree.proofs.Proper.{both_true, IsProper, EndsToken, IsReadAnywhere, reads, include_read, left_paren_read, left_bracket_read}
 use Rattle.c_tree.proofs.Laid.{tokens_from, KeepsApart, laid_tokens}
 use Rattle.c_tree.proofs.TextIsProper.{tokens_proper}
 use Rattle.c_tree.proofs.TreeIsProper.{AllProper, each_of}
 use Rattle.c_print.specs.Print.{opens, ends_line, closes, ends_block, is_named, begins_list, gap_between, print_item_of, print_of}
-
-both_true : (a b : Bool) → a && b ≡ true → (a ≡ true) × (b ≡ true)
-both_true true true e = (refl, refl)
-both_true true false e = absurd cc
-both_true false b e = absurd cc
 
 -- ---- what stands between two tokens keeps them apart
 

@@ -7,11 +7,11 @@ ghost use Rattle.c_tree.specs.View.{expr_of, arg_of};
 ghost use Rattle.c_print.specs.Page.{printed, printed_onto};
 
 use crate::page::Page;
-use crate::parts::Part;
+use crate::pieces::Piece;
 use c_tree::{Arg, COp, CType, Expr, Tok};
 use w2c_base::Memory;
 
-impl Part for CType {
+impl Piece for CType {
     ghost tokens = { type_tokens };
 
     fn put(&self, page: &mut Page) -> Result<(), Memory> {
@@ -105,7 +105,7 @@ fn put_cast(page: &mut Page, to: Tok) -> Result<(), Memory>
     page.fixed(Tok::RightParen)
 }
 
-impl Part for Arg {
+impl Piece for Arg {
     ghost tokens = { λ arg. arg_tokens (arg_of arg) };
 
     fn put(&self, page: &mut Page) -> Result<(), Memory> {

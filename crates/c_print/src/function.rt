@@ -5,11 +5,11 @@ ghost use Rattle.c_tree.specs.View.{stmt_of, maybe_body_of, func_of};
 ghost use Rattle.c_print.specs.Page.{printed_onto};
 
 use crate::page::Page;
-use crate::parts::{Part, put_each, put_separated};
+use crate::pieces::{Piece, put_each, put_separated};
 use c_tree::{Body, CType, Func, Name, Num, Tok};
 use w2c_base::Memory;
 
-impl Part for (CType, Option<Name>) {
+impl Piece for (CType, Option<Name>) {
     ghost tokens = { param_tokens };
 
     #[tactic(auto, using(crate::proofs::Onto::onto_append))]
@@ -22,7 +22,7 @@ impl Part for (CType, Option<Name>) {
     }
 }
 
-impl Part for (CType, Name, Num) {
+impl Piece for (CType, Name, Num) {
     ghost tokens = { local_tokens };
 
     #[tactic(auto, using(crate::proofs::Onto::onto_append))]

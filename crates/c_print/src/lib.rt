@@ -5,7 +5,7 @@ mod expression;
 mod function;
 mod header;
 mod page;
-mod parts;
+mod pieces;
 mod statement;
 mod unit;
 

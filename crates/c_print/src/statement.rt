@@ -8,7 +8,7 @@ ghost use Rattle.c_print.specs.Page.{printed_onto};
 
 use crate::expression::{put_expression, put_operator};
 use crate::page::Page;
-use crate::parts::{Part, put_each, put_separated};
+use crate::pieces::{Piece, put_each, put_separated};
 use c_tree::{Args, CFuncType, COp, Callee, Cases, Expr, Name, Num, Stmt, Tok};
 use w2c_base::Memory;
 
@@ -59,7 +59,7 @@ fn put_goto(page: &mut Page, label: &Name) -> Result<(), Memory>
     page.fixed(Tok::Semicolon)
 }
 
-impl Part for (Num, Name) {
+impl Piece for (Num, Name) {
     ghost tokens = { case_tokens };
 
     #[tactic(auto, using(crate::proofs::Onto::onto_append))]
@@ -109,7 +109,7 @@ fn put_switch(page: &mut Page, on: &Expr, cases: &Cases, label: &Name) -> Result
     page.fixed(Tok::RightBrace)
 }
 
-impl Part for Stmt {
+impl Piece for Stmt {
     ghost tokens = { λ stmt. stmt_tokens (stmt_of stmt) };
 
     #[tactic(auto, using(crate::proofs::Onto::onto_append))]

@@ -11,12 +11,12 @@ ghost use Rattle.c_print.specs.Print.{print_of};
 
 use crate::function::put_function;
 use crate::page::Page;
-use crate::parts::{Part, put_separated};
+use crate::pieces::{Piece, put_separated};
 use c_tree::{Item, Name, Num, Tok, Unit};
 use std::alloc::Global;
 use w2c_base::{Bytes, Memory};
 
-impl Part for u8 {
+impl Piece for u8 {
     ghost tokens = { λ byte. num_token (Plain byte) ∷ [] };
 
     fn put(&self, page: &mut Page) -> Result<(), Memory> {

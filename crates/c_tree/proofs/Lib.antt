@@ -3,5 +3,7 @@ pub mod Laid
 pub mod TextIsProper
 pub mod TreeIsProper
 pub mod WellFormedUnits
+pub mod Names
+pub mod Rows
 pub mod Tested
 pub mod TestsTell

@@ -133,11 +133,11 @@ all_append p (x ∷ xs) ys a b = let h = both_true (p x) (list_all p xs) a in rw
 digit_word : (b : ℕ) → is_digit b ≡ true → is_word_byte b ≡ true
 digit_word b h = grind (arith, nat_tests)
 
-digits_words : (ds : List ℕ) → list_all is_digit ds ≡ true → list_all is_word_byte ds ≡ true
+pub digits_words : (ds : List ℕ) → list_all is_digit ds ≡ true → list_all is_word_byte ds ≡ true
 digits_words [] all = refl
 digits_words (d ∷ ds) all = let h = both_true (is_digit d) (list_all is_digit ds) all in rw (digit_word d h.0, digits_words ds h.1) refl
 
-all_digits : (ds : List ℕ) → are_digits ds ≡ true → list_all is_digit ds ≡ true
+pub all_digits : (ds : List ℕ) → are_digits ds ≡ true → list_all is_digit ds ≡ true
 all_digits [] e = absurd cc
 all_digits (d ∷ []) e = rw e refl
 all_digits (d ∷ x ∷ ds) e = let h = both_true (is_digit d && not (d == 48)) (list_all is_digit (x ∷ ds)) e in let g = both_true (is_digit d) (not (d == 48)) h.0 in rw g.0 h.1

@@ -8,11 +8,11 @@ use Rattle.c_tree.specs.declared.tree.Num.{Num}
 use Rattle.c_tree.specs.declared.tree.Num.TheVariants.{N32, N64, Plain}
 use Rattle.c_tree.specs.Tree as tree
 use Rattle.c_tree.specs.Spelled.{FitsNum, FitsExpr, FitsArg, FitsCallee, FitsStmt, FitsBody, FitsValue, FitsItem, depth_limit}
-use Rattle.c_tree.specs.WellFormed.{is_name, IsName, IsNamedIfAny, NamedExpr, NamedArg, NamedCallee, NamedStmt, NamedBody, NamedItem, IsWellFormed}
+use Rattle.c_tree.specs.WellFormed.{is_name, IsNamedIfAny, NamedExpr, NamedArg, NamedCallee, NamedStmt, NamedBody, NamedItem, IsWellFormed}
 use Rattle.c_tree.specs.Tests.{number_fits, expr_formed, arg_formed, callee_formed, named_if_any, case_formed, call_formed, stmt_formed, local_formed, param_formed, body_formed, value_formed, is_byte, bytes_formed, item_formed}
 use Rattle.c_tree.proofs.Proper.{both_true}
 use Rattle.c_tree.proofs.Tested.{no_room}
-use Rattle.c_tree.proofs.TreeIsProper.{both}
+use Rattle.c_tree.proofs.TreeIsProper.{both, NamedCase, FitsCase, NamedLocal, FitsLocal, NamedParam}
 
 -- ---- tests and lists
 
@@ -163,12 +163,6 @@ call_passes d f args is =
 
 -- ---- statements
 
-abbrev NamedCase : tree.Case → Type 0
-NamedCase c = IsName c.1
-
-abbrev FitsCase : tree.Case → Type 0
-FitsCase c = FitsNum c.0
-
 case_tells : (c : tree.Case) → case_formed c ≡ true → NamedCase c × FitsCase c
 case_tells c t = let h = both_true (number_fits c.0) (is_name c.1) t in (h.1, number_tells c.0 h.0)
 
@@ -218,15 +212,6 @@ stmt_passes d tree.ReturnNone is = refl
 stmt_passes d (tree.Return a) is = arg_passes d a is
 
 -- ---- functions and items
-
-abbrev NamedLocal : tree.Local → Type 0
-NamedLocal l = IsName l.1
-
-abbrev FitsLocal : tree.Local → Type 0
-FitsLocal l = FitsNum l.2
-
-abbrev NamedParam : tree.Param → Type 0
-NamedParam p = IsNamedIfAny p.1
 
 local_tells : (l : tree.Local) → local_formed l ≡ true → NamedLocal l × FitsLocal l
 local_tells l t = let h = both_true (is_name l.1) (number_fits l.2) t in (h.0, number_tells l.2 h.1)

@@ -158,10 +158,10 @@ call_proper d f args named all fits =
 goto_proper : (n : List ℕ) → IsName n → AllProper (goto_tokens n)
 goto_proper n named = (refl, (named, (refl, tt)))
 
-abbrev NamedCase : tree.Case → Type 0
+abbrev pub NamedCase : tree.Case → Type 0
 NamedCase c = IsName c.1
 
-abbrev FitsCase : tree.Case → Type 0
+abbrev pub FitsCase : tree.Case → Type 0
 FitsCase c = FitsNum c.0
 
 case_proper : (c : tree.Case) → NamedCase c × FitsCase c → AllProper (case_tokens c)
@@ -194,10 +194,10 @@ stmt_proper d (tree.Switch e cases n) is = (
 stmt_proper d tree.ReturnNone is = (refl, (refl, tt))
 stmt_proper d (tree.Return a) is = (refl, join (arg_tokens a) _ (arg_proper d a is) (refl, tt))
 
-abbrev NamedLocal : tree.Local → Type 0
+abbrev pub NamedLocal : tree.Local → Type 0
 NamedLocal l = IsName l.1
 
-abbrev FitsLocal : tree.Local → Type 0
+abbrev pub FitsLocal : tree.Local → Type 0
 FitsLocal l = FitsNum l.2
 
 local_proper : (l : tree.Local) → NamedLocal l × FitsLocal l → AllProper (local_tokens l)
@@ -211,7 +211,7 @@ close_proper d (Some b) named fits = (
       (join (each stmt_tokens b.stmts) _ (each_proper stmt_tokens (λ s. NamedStmt s × FitsStmt d s) (stmt_proper d) b.stmts (both NamedStmt (FitsStmt d) b.stmts named.1 fits.1)) (refl, tt)),
 )
 
-abbrev NamedParam : tree.Param → Type 0
+abbrev pub NamedParam : tree.Param → Type 0
 NamedParam p = IsNamedIfAny p.1
 
 maybe_name_proper : (n : Option (List ℕ)) → IsNamedIfAny n → AllProper (maybe_name n)

@@ -22,7 +22,7 @@ FitsNum (N32 n) = n < 2 ^ 32
 FitsNum (N64 n) = n < 2 ^ 64
 FitsNum (Plain n) = n < 2 ^ 32
 
--- numbers are within their types, and at most d exprs stand inside one another
+-- numbers are within their types, and no expression stands inside d others
 abbrev pub FitsExpr : ℕ → tree.Expr → Type 0
 FitsExpr zero e = ⊥
 FitsExpr (suc d) (tree.Name n) = Unit {0}

@@ -1,4 +1,5 @@
--- Where the tokens of a text stand.
+-- Where the tokens of a text stand. Between them stand blanks and comments, and each is as long as
+-- possible (C11, 6.4).
 use Rattle.std.specs.Prelude.{ℕ, zero, suc, ◌+◌, ◌==◌, Bool, false, ◌&&◌, ◌||◌, not, nat_le, List, [], ◌∷◌, length, map, take, Option, Some, None, codes, option_map, if◌then◌else◌}
 use Rattle.std.specs.Str.{bytes_eq}
 use Rattle.std.specs.List.{list_any, list_all}
@@ -7,7 +8,7 @@ use Rattle.c_tree.specs.declared.token.Tok.TheVariants as tok
 use Rattle.c_tree.specs.declared.token.Suffix.TheVariants.{OfPlain, Of32, Of64}
 use Rattle.c_tree.specs.Tokens.{Token, Fixed, Named, Number, Wrong, fixed_text}
 
--- the elements from the front on that pass, and what follows them
+-- the elements from the front on that pass the test, and what follows them
 abbrev pub run : (ℕ → Bool) → List ℕ → List ℕ
 run p [] = []
 run p (x ∷ xs) = if p x then x ∷ run p xs else []
@@ -29,7 +30,7 @@ is_word_byte b = is_letter b || is_digit b
 abbrev pub is_blank : ℕ → Bool
 is_blank b = b == 32 || (nat_le 9 b && nat_le b 13)
 
--- newline and 32 to 126 without \ and ?
+-- what may stand in a comment (C11, 6.4.9): newline and 32 to 126 without \ and ?
 abbrev pub is_comment_byte : ℕ → Bool
 is_comment_byte b = b == 10 || ((nat_le 32 b && nat_le b 126) && not (b == 92 || b == 63))
 
@@ -37,7 +38,7 @@ is_comment_byte b = b == 10 || ((nat_le 32 b && nat_le b 126) && not (b == 92 ||
 abbrev pub key_words : List Tok
 key_words = tok.WordStatic ∷ tok.WordConst ∷ tok.WordVoid ∷ tok.WordU8 ∷ tok.WordU32 ∷ tok.WordU64 ∷ tok.WordW2cMem ∷ tok.WordW2cTab ∷ tok.WordW2cFn ∷ tok.WordGoto ∷ tok.WordIf ∷ tok.WordSwitch ∷ tok.WordCase ∷ tok.WordDefault ∷ tok.WordReturn ∷ []
 
--- the other key words of C11, which fit nowhere
+-- the other key words of C11 (6.4.1), which fit nowhere
 abbrev pub other_words : List (List ℕ)
 other_words = codes "auto" ∷ codes "break" ∷ codes "char" ∷ codes "continue" ∷ codes "do" ∷ codes "double" ∷ codes "else" ∷ codes "enum" ∷ codes "extern" ∷ codes "float" ∷ codes "for" ∷ codes "inline" ∷ codes "int" ∷ codes "long" ∷ codes "register" ∷ codes "restrict" ∷ codes "short" ∷ codes "signed" ∷ codes "sizeof" ∷ codes "struct" ∷ codes "typedef" ∷ codes "union" ∷ codes "unsigned" ∷ codes "volatile" ∷ codes "while" ∷ codes "_Alignas" ∷ codes "_Alignof" ∷ codes "_Atomic" ∷ codes "_Bool" ∷ codes "_Complex" ∷ codes "_Generic" ∷ codes "_Imaginary" ∷ codes "_Noreturn" ∷ codes "_Static_assert" ∷ codes "_Thread_local" ∷ []
 
@@ -49,7 +50,7 @@ key_word_among (t ∷ ts) word = if bytes_eq word (fixed_text t) then Fixed t el
 abbrev pub word_token : List ℕ → Token
 word_token word = key_word_among key_words word
 
--- decimal digits, with no leading zero but in 0
+-- decimal digits (C11, 6.4.4.1), with no leading zero but in 0
 abbrev pub are_digits : List ℕ → Bool
 are_digits [] = false
 are_digits (d ∷ []) = is_digit d

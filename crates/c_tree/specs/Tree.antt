@@ -1,4 +1,4 @@
--- Trees without where they lie in memory.
+-- Units as trees of plain data, without where their parts lie in memory.
 use Rattle.std.specs.Prelude.{ℕ, Bool, List, Option}
 use Rattle.c_tree.specs.declared.tree.CType.{CType}
 use Rattle.c_tree.specs.declared.tree.Num.{Num}

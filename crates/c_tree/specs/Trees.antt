@@ -1,4 +1,4 @@
--- The tokens of a tree.
+-- The tokens of a tree, in order.
 use Rattle.std.specs.Prelude.{ℕ, Bool, true, false, List, [], ◌∷◌, ◌++◌, Option, Some, None}
 use Rattle.std.specs.Fmt.{decimal}
 use Rattle.c_tree.specs.declared.token.Tok.TheVariants as tok

@@ -1,4 +1,4 @@
-// Whether a unit is well formed, part by part.
+// Whether a unit is well formed, piece by piece.
 ghost use Rattle.std.specs.Prelude.{◌≡◌, ◌^◌, ◌&&◌, nat_lt, length, map};
 ghost use Rattle.std.specs.List.{list_all};
 ghost use Rattle.c_tree.specs.Tests.{number_fits, expr_formed, arg_formed, callee_formed, named_if_any, case_formed, call_room, call_formed, stmt_formed, local_formed, param_formed, body_formed, value_formed, bytes_formed, item_formed};
@@ -7,8 +7,8 @@ ghost use Rattle.c_tree.specs.View.{expr_of, arg_of, callee_of, stmt_of, maybe_b
 use crate::name::is_name;
 use crate::tree::{Arg, Args, Body, CType, Callee, Cases, Expr, Func, Item, Name, Num, Stmt};
 
-/// A part of a tree that stands in a list.
-pub trait Part {
+/// A piece of a tree that stands in a list.
+pub trait Piece {
     ghost use Rattle.std.specs.Prelude.{ℕ, Bool};
 
     ghost test: { ℕ → Self → Bool };
@@ -18,12 +18,12 @@ pub trait Part {
         ensures { result ≡ test room self.now };
 }
 
-/// Whether each part is well formed.
-pub fn all_formed<T: Part>(parts: &[T], room: usize) -> bool
-    ensures { result ≡ list_all (T.test room) parts.now }
+/// Whether each piece is well formed.
+pub fn all_formed<T: Piece>(pieces: &[T], room: usize) -> bool
+    ensures { result ≡ list_all (T.test room) pieces.now }
 {
-    for part in parts {
-        if !part.is_formed(room) {
+    for piece in pieces {
+        if !piece.is_formed(room) {
             return false;
         }
     }
@@ -65,7 +65,7 @@ fn is_expression_formed(e: &Expr, room: usize) -> bool
     }
 }
 
-impl Part for Arg {
+impl Piece for Arg {
     ghost test = { λ room arg. arg_formed room (arg_of arg) };
 
     fn is_formed(&self, room: usize) -> bool {
@@ -102,7 +102,7 @@ fn call_room(target: &Option<Name>, room: usize) -> usize
     }
 }
 
-impl Part for (Num, Name) {
+impl Piece for (Num, Name) {
     ghost test = { λ room case. case_formed case };
 
     fn is_formed(&self, room: usize) -> bool {
@@ -116,7 +116,7 @@ fn is_switch_formed(on: &Expr, cases: &Cases, room: usize) -> bool
     is_expression_formed(on, room) && all_formed(cases.as_slice(), room)
 }
 
-impl Part for Stmt {
+impl Piece for Stmt {
     ghost test = { λ room stmt. stmt_formed room (stmt_of stmt) };
 
     fn is_formed(&self, room: usize) -> bool {
@@ -141,7 +141,7 @@ impl Part for Stmt {
     }
 }
 
-impl Part for (CType, Name, Num) {
+impl Piece for (CType, Name, Num) {
     ghost test = { λ room local. local_formed local };
 
     fn is_formed(&self, room: usize) -> bool {
@@ -149,7 +149,7 @@ impl Part for (CType, Name, Num) {
     }
 }
 
-impl Part for (CType, Option<Name>) {
+impl Piece for (CType, Option<Name>) {
     ghost test = { λ room param. param_formed param };
 
     fn is_formed(&self, room: usize) -> bool {
@@ -169,7 +169,7 @@ fn is_body_formed(body: &Option<Body>, room: usize) -> bool
     }
 }
 
-impl Part for Item {
+impl Piece for Item {
     ghost test = { λ room item. item_formed room (item_of item) };
 
     fn is_formed(&self, room: usize) -> bool {

@@ -8,6 +8,7 @@ mod token;
 mod tree;
 mod unit;
 
+pub use name::words_that_are_names;
 pub use token::{CReadFault, Kind, Part, Suffix, Tok, Wanted};
 pub use tree::{
     Arg, Args, Body, CFuncType, COp, CType, CTypes, Callee, Cases, Expr, Func, Header, HeaderLines,

@@ -1,9 +1,10 @@
 // Which words are names.
-ghost use Rattle.std.specs.Prelude.{◌≡◌};
+ghost use Rattle.std.specs.Prelude.{◌≡◌, ◌≢◌, ◌^◌, ◌<◌, ℕ, true, List, ◌∷◌, ◌++◌, codes};
+ghost use Rattle.std.specs.Fmt.{decimal};
 ghost use Rattle.std.specs.List.{list_all, list_any};
 ghost use Rattle.std.specs.Str.{bytes_eq};
 ghost use Rattle.c_tree.specs.Text.{is_letter, is_word_byte};
-ghost use Rattle.c_tree.specs.WellFormed.{is_key_word, is_name};
+ghost use Rattle.c_tree.specs.WellFormed.{is_key_word, is_name, IsName};
 
 /// The key words of the subset, then the other ones of C11.
 const KEY_WORDS: [&[u8]; 50] = [
@@ -108,3 +109,11 @@ fn is_letter(byte: u8) -> bool
 {
     (97 <= byte && byte <= 122) || (65 <= byte && byte <= 90) || byte == 95
 }
+
+/// The law that two kinds of words are names: a letter other than `u` and `w` with a number behind
+/// it, and `w2cZ_` with letters, digits and `_` behind it.
+pub fn words_that_are_names()
+    ensures numbered { (letter number : ℕ) → is_letter letter ≡ true → letter ≢ 117 → letter ≢ 119
+        → number < 2 ^ 64 → IsName (letter ∷ decimal number) }
+    ensures external { (rest : List ℕ) → list_all is_word_byte rest ≡ true → IsName (codes "w2cZ_" ++ rest) }
+{}

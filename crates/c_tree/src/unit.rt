@@ -102,6 +102,7 @@ mod tests {
         unit.push(Item::Var(CType::U32, first, Some(Num::N32(5))))?;
         let second = Name::from_vec(b"m0".to_vec(alloc)?);
         unit.push(Item::Var(CType::Mem, second, None))?;
+        assert!(rt; unit.formed());
         assert!(rt; unit.len() == 2);
         assert!(rt; matches!(unit.at(1), Item::Var(CType::Mem, _, None)));
         assert!(rt; matches!(unit.as_slice()[0], Item::Var(CType::U32, _, Some(_))));

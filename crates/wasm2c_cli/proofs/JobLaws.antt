@@ -6,7 +6,7 @@ use Rattle.wasm_tree.specs.ConstantModule.{IsConstantModule}
 use Rattle.wasm_tree.proofs.OneSpelling.{one_spelling}
 use Rattle.wasm2c_cli.specs.declared.stop.Cause.TheVariants.{NotBuilt}
 use Rattle.wasm2c_cli.specs.CommandLine.{Line, line_of, module_name_of}
-use Rattle.wasm2c_cli.specs.Translation.{text_of}
+use Rattle.w2c_sim.specs.Translation.{text_of}
 use Rattle.wasm2c_cli.specs.Job.{Job, Usage, Missing, Refused, Write, IsBuilt, IsJobOf, IsJob, Translates}
 
 -- a file is not there and there, or has two contents

@@ -1,7 +1,5 @@
 pub mod Decoding
 pub mod ModuleName
-pub mod Names
-pub mod Units
 pub mod WriteLaws
 pub mod WorkLaws
 pub mod JobLaws

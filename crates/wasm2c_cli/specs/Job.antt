@@ -7,7 +7,7 @@ use Rattle.wasm_tree.specs.declared.constant_module.ConstantInstr.{ConstantInstr
 use Rattle.wasm2c_cli.specs.declared.stop.Cause.{Cause}
 use Rattle.wasm2c_cli.specs.declared.stop.Cause.TheVariants.{NotBuilt}
 use Rattle.wasm2c_cli.specs.CommandLine.{Line, line_of, module_name_of}
-use Rattle.wasm2c_cli.specs.Translation.{text_of}
+use Rattle.w2c_sim.specs.Translation.{text_of}
 
 pub data Job : Type 0 where
   Usage : Job

@@ -6,4 +6,3 @@ pub mod SeenOutputs
 pub mod Standing
 pub mod Stops
 pub mod Top
-pub mod Translation

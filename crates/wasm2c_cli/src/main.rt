@@ -9,9 +9,7 @@ mod report;
 mod stop;
 #[cfg(test)]
 mod tests;
-mod text;
 mod top;
-mod translation;
 mod words;
 mod work;
 mod writing;

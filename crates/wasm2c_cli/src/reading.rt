@@ -4,7 +4,7 @@ ghost use Rattle.std.specs.FinMap.{get};
 ghost use Rattle.w2c_io.specs.Telling.{Tells};
 ghost use Rattle.wasm_tree.specs.ConstantModule.{IsConstantModule};
 ghost use Rattle.wasm2c_cli.specs.Stops.{StopsReading};
-ghost use Rattle.wasm2c_cli.specs.Translation.{IsSpelledModule};
+ghost use Rattle.w2c_sim.specs.Translation.{IsSpelledModule};
 
 use crate::constant_reader::{ReadRefusal, read_constant_module};
 use crate::stop::{Cause, Stop};

@@ -7,17 +7,17 @@ ghost use Rattle.wasm2c_cli.specs.CommandLine.{line_of, module_name_of, texts};
 ghost use Rattle.wasm2c_cli.specs.Job.{Makes};
 ghost use Rattle.wasm2c_cli.specs.Seen.{names_of_line};
 ghost use Rattle.wasm2c_cli.specs.Stops.{Done, KeepsCurrent, StopsWork, WritesUnit};
-ghost use Rattle.wasm2c_cli.specs.Translation.{IsSpelledModule};
+ghost use Rattle.w2c_sim.specs.Translation.{IsSpelledModule};
 
 use crate::module_name::module_name;
 use crate::reading::read_module;
 use crate::stop::Stop;
-use crate::text::unit_text;
 use crate::words::{Line, read_words};
 use crate::writing::{Output, write_all};
 use std::alloc::Global;
 use w2c_base::Memory;
 use w2c_io::Files;
+use w2c_sim::unit_text;
 use wasm_tree::ConstantModule;
 
 /// Reads the words, then the file, translates it, and writes the text.

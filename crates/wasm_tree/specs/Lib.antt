@@ -1,3 +1,4 @@
 pub mod ConstantModule
+pub mod ConstantTree
 pub mod Instructions
 pub mod Modules

@@ -1,0 +1,3 @@
+pub mod InitSymbols
+pub mod Longer
+pub mod OnTheWay

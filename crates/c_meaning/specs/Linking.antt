@@ -1,0 +1,218 @@
+-- Units that link with hosts, and what each name of a unit stands for (C11, 6.2.2 linkages of
+-- identifiers, 6.9 external definitions).
+use Rattle.std.specs.Prelude.{ℕ, ◌+◌, ◌-◌, ◌*◌, ◌==◌, ◌&&◌, ◌||◌, not, nat_lt, Bool, true, false, if◌then◌else◌, List, [], ◌∷◌, ◌++◌, length, map, filter, flat_map, filter_map, take, drop, bytes_eq, slice_get, is_some, Option, Some, None, option_map}
+use Rattle.std.specs.List.{list_any, position_from}
+use Rattle.std.specs.Option.{option_or}
+use Rattle.w2c_base.specs.declared.value.ValType.{ValType}
+use Rattle.w2c_base.specs.declared.value.ValType.TheVariants.{I32, I64}
+use Rattle.w2c_base.specs.declared.value.Value.{Value}
+use Rattle.w2c_base.specs.Values.{types_of}
+use Rattle.w2c_base.specs.Lookup.{if_found, numbered}
+use Rattle.w2c_base.specs.Run.{Host}
+use Rattle.w2c_mangle.specs.declared.symbol.SymbolKind.TheVariants as symbol
+use Rattle.w2c_mangle.specs.Symbols.{export_symbol_of, init_symbol_of}
+use Rattle.c_tree.specs.declared.tree.CType.{CType}
+use Rattle.c_tree.specs.declared.tree.CType.TheVariants.{Void, U32, U64, PtrU32, PtrU64, Mem, PtrMem, Tab, PtrTab, FnPtr}
+use Rattle.c_tree.specs.Tree as tree
+use Rattle.c_meaning.specs.State.{Name, FuncAddress, UnitFunc, HostFunc}
+
+-- units in order, and the hosts that they are linked with
+pub record Program : Type 0 where
+  pub units : List (List tree.Item)
+  pub hosts : List Host
+
+-- the definition of a function: its item's number in the unit, the function, and its body
+pub record Definition : Type 0 where
+  pub item : ℕ
+  pub func : tree.Func
+  pub body : tree.Body
+
+abbrev pub definition_of : ℕ × tree.Item → Option Definition
+definition_of entry = elim entry.1 [
+  | tree.Array name count bytes ↦ None
+  | tree.Var ty name number ↦ None
+  | tree.Function f ↦ option_map (λ body. record { item = entry.0; func = f; body = body }) f.body
+]
+
+-- a unit's definitions in their order
+abbrev pub definitions : List tree.Item → List Definition
+definitions items = filter_map definition_of (numbered items)
+
+abbrev pub is_external : Definition → Bool
+is_external d = not d.func.is_static
+
+abbrev first : {A : Type 0} → List A → Option A
+first items = slice_get items 0
+
+-- the definition of a name in a unit, and of a name that other units see
+abbrev pub defined : List tree.Item → Name → Option Definition
+defined items name = first (filter (λ d. bytes_eq d.func.name name) (definitions items))
+
+abbrev pub defined_for_all : List tree.Item → Name → Option Definition
+defined_for_all items name = first (filter (λ d. is_external d && bytes_eq d.func.name name) (definitions items))
+
+-- the C type of a host's function; the list `void` stands for no parameters
+abbrev pub c_type_of : ValType → CType
+c_type_of I32 = U32
+c_type_of I64 = U64
+
+abbrev pub c_result_of : Option ValType → CType
+c_result_of None = Void
+c_result_of (Some t) = c_type_of t
+
+abbrev pub c_params_of : List ValType → List CType
+c_params_of [] = Void ∷ []
+c_params_of (t ∷ types) = map c_type_of (t ∷ types)
+
+-- a host's function: its symbol and its type
+pub record HostSymbol : Type 0 where
+  pub symbol : Name
+  pub address : FuncAddress
+  pub ty : tree.FuncType
+
+abbrev pub host_symbols : List Host → List HostSymbol
+host_symbols hosts = flat_map (λ h. map (λ f. record {
+  symbol = export_symbol_of h.1.name symbol.Func f.1.name;
+  address = HostFunc h.0 f.0;
+  ty = record { params = c_params_of f.1.ty.params; result = c_result_of f.1.ty.result };
+}) (numbered h.1.functions)) (numbered hosts)
+
+abbrev pub host_symbol : Program → Name → Option HostSymbol
+host_symbol p name = first (filter (λ s. bytes_eq s.symbol name) (host_symbols p.hosts))
+
+-- the function of external linkage with this name: a unit's, else a host's
+abbrev pub external_func : Program → Name → Option FuncAddress
+external_func p name =
+    option_or
+    (option_map (λ u. UnitFunc u name) (position_from (λ items. is_some (defined_for_all items name)) 0 p.units))
+    (option_map (λ s. s.address) (host_symbol p name))
+
+-- the function that a name stands for in the unit with number u
+abbrev pub func_named : Program → ℕ → Name → Option FuncAddress
+func_named p u name =
+    if_found (slice_get p.units u) (λ items.
+    option_or (option_map (λ d. UnitFunc u name) (defined items name)) (external_func p name))
+
+-- the bytes of the constant array that a name stands for
+abbrev pub array_bytes : Name → tree.Item → Option (List ℕ)
+array_bytes name (tree.Array x count bytes) = if bytes_eq x name then Some bytes else None
+array_bytes name (tree.Var ty x number) = None
+array_bytes name (tree.Function f) = None
+
+abbrev pub array_named : Program → ℕ → Name → Option (List ℕ)
+array_named p u name = if_found (slice_get p.units u) (λ items. first (filter_map (array_bytes name) items))
+
+abbrev pub definition_at : Program → ℕ → Name → Option Definition
+definition_at p u name = if_found (slice_get p.units u) (λ items. defined items name)
+
+-- types
+abbrev pub type_of_func : tree.Func → tree.FuncType
+type_of_func f = record { params = map (λ p. p.0) f.params; result = f.result }
+
+abbrev host_type : Program → ℕ → ℕ → Option tree.FuncType
+host_type p h f = if_found (slice_get p.hosts h) (λ host.
+    option_map
+    (λ f. record { params = c_params_of f.ty.params; result = c_result_of f.ty.result })
+    (slice_get host.functions f))
+
+abbrev pub func_type : Program → FuncAddress → Option tree.FuncType
+func_type p (UnitFunc u name) = option_map (λ d. type_of_func d.func) (definition_at p u name)
+func_type p (HostFunc h f) = host_type p h f
+
+abbrev type_number : CType → ℕ
+type_number Void = 0
+type_number U32 = 1
+type_number U64 = 2
+type_number PtrU32 = 3
+type_number PtrU64 = 4
+type_number Mem = 5
+type_number PtrMem = 6
+type_number Tab = 7
+type_number PtrTab = 8
+type_number FnPtr = 9
+
+abbrev pub equal_c_type : CType → CType → Bool
+equal_c_type t u = type_number t == type_number u
+
+abbrev pub equal_c_types : List CType → List CType → Bool
+equal_c_types [] [] = true
+equal_c_types (t ∷ types) (u ∷ others) = equal_c_type t u && equal_c_types types others
+equal_c_types _ _ = false
+
+abbrev pub equal_c_func_types : tree.FuncType → tree.FuncType → Bool
+equal_c_func_types f g = equal_c_types f.params g.params && equal_c_type f.result g.result
+
+-- why units do not link, with the unit's number and the symbol
+pub data LinkRefusal : Type 0 where
+  NotDefined Twice TypeDiffers : (unit : ℕ) → (symbol : Name) → LinkRefusal
+
+-- declarations and definitions of external linkage
+abbrev pub external_functions : List tree.Item → List tree.Func
+external_functions items = filter_map (λ item. elim item [
+  | tree.Array name count bytes ↦ None
+  | tree.Var ty name number ↦ None
+  | tree.Function f ↦ if f.is_static then None else Some f
+]) items
+
+-- a host or an earlier unit defines the symbol already
+abbrev pub twice : Program → ℕ → tree.Func → List LinkRefusal
+twice p u f =
+    if is_some f.body
+    && (is_some (host_symbol p f.name)
+    || list_any (λ items. is_some (defined_for_all items f.name)) (take u p.units))
+    then Twice u f.name ∷ []
+    else []
+
+-- nothing defines the symbol, or with another type
+abbrev pub unresolved : Program → ℕ → tree.Func → List LinkRefusal
+unresolved p u f = elim (if_found (external_func p f.name) (func_type p)) [
+  | None ↦ NotDefined u f.name ∷ []
+  | Some ty ↦ if equal_c_func_types ty (type_of_func f) then [] else TypeDiffers u f.name ∷ []
+]
+
+-- the first refusal: unit by unit, what is defined twice before all else
+abbrev pub link_refusal : Program → Option LinkRefusal
+link_refusal p = first (
+    flat_map (λ u. flat_map (twice p u.0) (external_functions u.1)) (numbered p.units)
+    ++ flat_map (λ u. flat_map (unresolved p u.0) (external_functions u.1)) (numbered p.units)
+    )
+
+-- the name whose escape a text is, where it is one: Z and two hexadecimal digits are a byte
+abbrev pub hexadecimal_value : ℕ → ℕ
+hexadecimal_value c = if nat_lt c 65 then c - 48 else c - 55
+
+abbrev pub unescaped : List ℕ → List ℕ
+unescaped [] = []
+unescaped (b ∷ []) = b ∷ []
+unescaped (b ∷ c ∷ []) = b ∷ c ∷ []
+unescaped (b ∷ c ∷ d ∷ text) =
+    if b == 90 then (16 * hexadecimal_value c + hexadecimal_value d) ∷ unescaped text
+    else b ∷ unescaped (c ∷ d ∷ text)
+
+-- the symbol is that of the init function of some module, whose name stands between 5 bytes and 3
+abbrev pub is_init_symbol : Name → Bool
+is_init_symbol name = bytes_eq name (init_symbol_of (unescaped (take (length name - 8) (drop 5 name))))
+
+-- functions that are run first: those of init symbols, of type void without parameters
+abbrev pub is_init : Definition → Bool
+is_init d = is_external d && is_init_symbol d.func.name
+    && equal_c_func_types (type_of_func d.func) (record { params = Void ∷ []; result = Void })
+
+abbrev pub init_functions : Program → List FuncAddress
+init_functions p = flat_map (λ u. map (λ d. UnitFunc u.0 d.func.name) (filter is_init (definitions u.1))) (numbered p.units)
+
+-- a call of a function of external linkage that a unit defines
+pub record SymbolCall : Type 0 where
+  pub symbol : Name
+  pub args : List Value
+
+abbrev pub called_func : Program → SymbolCall → Option FuncAddress
+called_func p c = option_map (λ u. UnitFunc u c.symbol) (position_from (λ items. is_some (defined_for_all items c.symbol)) 0 p.units)
+
+-- its result is void, u32 or u64, and its parameters have the types of the arguments
+abbrev pub fits : Program → SymbolCall → Bool
+fits p c = elim (if_found (called_func p c) (func_type p)) [
+  | None ↦ false
+  | Some ty ↦ equal_c_types ty.params (c_params_of (types_of c.args))
+      && list_any (equal_c_type ty.result) (Void ∷ U32 ∷ U64 ∷ [])
+]

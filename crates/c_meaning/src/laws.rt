@@ -1,0 +1,40 @@
+// The laws of runs.
+ghost use Rattle.std.specs.Prelude.{◌≡◌, ◌≢◌, ◌+◌, ◌<◌, ◌≤◌, ℕ, List, All, true};
+ghost use Rattle.w2c_base.specs.Run.{Reply};
+ghost use Rattle.w2c_mangle.specs.Symbols.{init_symbol_of};
+ghost use Rattle.c_meaning.specs.Linking.{Program, SymbolCall, is_init_symbol};
+ghost use Rattle.c_meaning.specs.Run.{IsGoing, OutOfSteps, Progress, after, c_run, c_start};
+
+/// The law that a run of m + k statements goes on from where it stands after m.
+#[tactic(auto, using(crate::proofs::Longer::after_sum))]
+pub fn runs_split()
+    ensures { (p : Program) (m k : ℕ) (progress : Progress) → after p (m + k) progress ≡ after p k (after p m progress) }
+{}
+
+/// The laws that a run which is not out of steps is the same with more statements, and that one
+/// which is out of steps is so with fewer.
+#[tactic(auto, using(crate::proofs::Longer::run_longer, crate::proofs::Longer::run_shorter))]
+pub fn larger_budgets_give_the_same_run()
+    ensures longer { (p : Program) (calls : List SymbolCall) (replies : List Reply) (n m : ℕ) → n ≤ m
+        → (c_run p calls n replies).outcome ≢ OutOfSteps
+        → c_run p calls m replies ≡ c_run p calls n replies }
+    ensures shorter { (p : Program) (calls : List SymbolCall) (replies : List Reply) (n m : ℕ) → n ≤ m
+        → (c_run p calls m replies).outcome ≡ OutOfSteps
+        → (c_run p calls n replies).outcome ≡ OutOfSteps }
+{}
+
+/// The law that a run is out of steps exactly where it is still on its way after its statements.
+#[tactic(auto, using(crate::proofs::OnTheWay::out_is_going, crate::proofs::OnTheWay::going_is_out))]
+pub fn out_of_steps_exactly_on_the_way()
+    ensures only { (p : Program) (calls : List SymbolCall) (replies : List Reply) (m : ℕ)
+        → (c_run p calls m replies).outcome ≡ OutOfSteps → IsGoing (after p m (c_start p calls replies)) }
+    ensures always { (p : Program) (calls : List SymbolCall) (replies : List Reply) (m : ℕ)
+        → IsGoing (after p m (c_start p calls replies)) → (c_run p calls m replies).outcome ≡ OutOfSteps }
+{}
+
+/// The law that the test for symbols of init functions finds exactly these.
+#[tactic(auto, using(crate::proofs::InitSymbols::init_symbols_found, crate::proofs::InitSymbols::found_are_init_symbols))]
+pub fn init_symbols_are_found()
+    ensures found { (name : List ℕ) → All (λ b. b < 256) name → is_init_symbol (init_symbol_of name) ≡ true }
+    ensures right { (symbol : List ℕ) → is_init_symbol symbol ≡ true → (name : List ℕ) × (symbol ≡ init_symbol_of name) }
+{}

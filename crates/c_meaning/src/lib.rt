@@ -1,0 +1,12 @@
+//! What units of the C subset mean: operators, primitives of the runtime, linking, one statement,
+//! and the run of linked units, as definitions, with their laws.
+#![tactic(auto)]
+
+mod cases;
+mod laws;
+
+pub use cases::{link_cases, operator_cases, primitive_cases, run_cases};
+pub use laws::{
+    init_symbols_are_found, larger_budgets_give_the_same_run, out_of_steps_exactly_on_the_way,
+    runs_split,
+};

@@ -1,0 +1,97 @@
+// Closed cases of the definitions, chosen by hand from the standard's text, by computation.
+ghost use Rattle.std.specs.Prelude.{◌≡◌, true, false, pos, [], ◌∷◌, codes, Some, None};
+ghost use Rattle.w2c_base.specs.declared.trap.TrapKind.TheVariants as trap;
+ghost use Rattle.w2c_base.specs.declared.value.ValType.TheVariants as type;
+ghost use Rattle.w2c_base.specs.declared.value.Value.TheVariants.{I32, I64};
+ghost use Rattle.w2c_base.specs.Run.{Gave, HostTrapped, Init, Call};
+ghost use Rattle.wasm_tree.specs.Instructions.{Add, Sub, DivS, DivU, RemS, Shl, ShrS, Rotl, Rotr, Clz, Ctz, Popcnt, LtS, LtU, I32Load, I32Load8S, I64Load32S, I64Store16, Unreachable, Drop, Nop, Block, Loop, Br, I32Const, Binary};
+ghost use Rattle.wasm_meaning.specs.Operators.{Gives, Traps, unary, binary, compare, extend_s};
+ghost use Rattle.wasm_meaning.specs.LinkedSet.{IsLinked};
+ghost use Rattle.wasm_meaning.specs.Memories.{load_number, store_number};
+ghost use Rattle.wasm_meaning.specs.Execution.{Normal, Stops, Trapped, Asks, OutOfSteps};
+ghost use Rattle.wasm_meaning.specs.Run.{Ended, Stopped, wasm_run};
+ghost use Rattle.wasm_meaning.specs.Samples as sample;
+
+/// Operators at their edges.
+pub fn operator_cases()
+    ensures sum_wraps { binary Add 32 4294967295 1 ≡ Gives 0 }
+    ensures difference_wraps { binary Sub 32 0 1 ≡ Gives 4294967295 }
+    ensures quotient_is_rounded_toward_zero { binary DivS 32 4294967289 2 ≡ Gives 4294967293 }
+    ensures quotient_of_the_least_by_minus_1 { binary DivS 64 9223372036854775808 18446744073709551615 ≡ Traps trap.IntOverflow }
+    ensures quotient_by_0 { binary DivS 32 1 0 ≡ Traps trap.DivByZero }
+    ensures remainder_has_the_dividends_sign { binary RemS 32 4294967289 2 ≡ Gives 4294967295 }
+    ensures remainder_of_the_least_by_minus_1 { binary RemS 32 2147483648 4294967295 ≡ Gives 0 }
+    ensures shift_by_the_width { binary Shl 32 1 32 ≡ Gives 1 }
+    ensures signed_shift_past_the_width { binary ShrS 32 4294967288 33 ≡ Gives 4294967292 }
+    ensures rotation_past_the_width { binary Rotl 32 2147483649 33 ≡ Gives 3 }
+    ensures rotation_by_the_width { binary Rotr 32 5 32 ≡ Gives 5 }
+    ensures minus_1_is_less_than_0 { compare LtS 64 18446744073709551615 0 ≡ true }
+    ensures greatest_is_not_less_than_0 { compare LtU 64 18446744073709551615 0 ≡ false }
+    ensures sign_of_a_byte { extend_s 8 32 128 ≡ 4294967168 }
+{}
+
+/// Counts of bits.
+pub fn count_cases()
+    ensures leading_zeros_of_0 { unary Clz 32 0 ≡ 32 }
+    ensures trailing_zeros_of_0 { unary Ctz 64 0 ≡ 64 }
+    ensures ones_of_0 { unary Popcnt 32 0 ≡ 0 }
+    ensures ones_of_a_byte { unary Popcnt 64 255 ≡ 8 }
+    ensures ones_of_the_greatest { unary Popcnt 64 18446744073709551615 ≡ 64 }
+{}
+
+/// Loads and stores at the ends of a memory.
+pub fn memory_cases()
+    ensures load_at_the_beginning { load_number I32Load (1 ∷ 2 ∷ 3 ∷ 4 ∷ 5 ∷ []) 0 ≡ Gives 67305985 }
+    ensures load_at_the_end { load_number I32Load (1 ∷ 2 ∷ 3 ∷ 4 ∷ 5 ∷ []) 1 ≡ Gives 84148994 }
+    ensures load_past_the_end { load_number I32Load (1 ∷ 2 ∷ 3 ∷ 4 ∷ 5 ∷ []) 2 ≡ Traps trap.MemoryOut }
+    ensures address_past_32_bits { load_number I32Load8S (1 ∷ 2 ∷ 3 ∷ 4 ∷ 5 ∷ []) 4294967296 ≡ Traps trap.MemoryOut }
+    ensures sign_of_a_loaded_byte { load_number I32Load8S (255 ∷ []) 0 ≡ Gives 4294967295 }
+    ensures sign_of_32_loaded_bits { load_number I64Load32S (0 ∷ 0 ∷ 0 ∷ 128 ∷ []) 0 ≡ Gives 18446744071562067968 }
+    ensures store_keeps_the_low_bytes { store_number I64Store16 (1 ∷ 2 ∷ 3 ∷ 4 ∷ []) 1 65538 ≡ Some (1 ∷ 2 ∷ 0 ∷ 4 ∷ []) }
+    ensures store_past_the_end { store_number I64Store16 (1 ∷ 2 ∷ []) 1 7 ≡ None }
+{}
+
+/// Runs of small modules.
+pub fn run_cases()
+    ensures empty_module { (wasm_run (record { modules = record { name = []; tree = sample.no_module } ∷ []; hosts = [] }) [] 1 []).outcome ≡ Ended }
+    ensures empty_module_costs_a_step { (wasm_run (record { modules = record { name = []; tree = sample.no_module } ∷ []; hosts = [] }) [] 0 []).outcome ≡ Stopped OutOfSteps }
+    ensures two_constants { (sample.run_alone sample.two_constants (codes "f") [] 5 []).values ≡ Some (I32 42) ∷ [] }
+    ensures two_constants_in_too_few_steps { (sample.run_alone sample.two_constants (codes "f") [] 4 []).outcome ≡ Stopped OutOfSteps }
+    ensures call_through_the_table { (sample.run_alone sample.indirect_calls (codes "c") (I32 0 ∷ []) 20 []).values ≡ Some (I32 4) ∷ [] }
+    ensures empty_element { (sample.run_alone sample.indirect_calls (codes "c") (I32 1 ∷ []) 20 []).outcome ≡ Stopped (Trapped trap.Empty) }
+    ensures element_of_another_type { (sample.run_alone sample.indirect_calls (codes "c") (I32 2 ∷ []) 20 []).outcome ≡ Stopped (Trapped trap.Signature) }
+    ensures past_the_table { (sample.run_alone sample.indirect_calls (codes "c") (I32 3 ∷ []) 20 []).outcome ≡ Stopped (Trapped trap.TableOut) }
+    ensures host_ticks { (sample.run_alone sample.host_ticks (codes "r") [] 9 (Gave (Some (I64 1)) ∷ Gave (Some (I64 2)) ∷ [])).values ≡ Some (I64 3) ∷ [] }
+    ensures reply_of_another_type { (sample.run_alone sample.host_ticks (codes "r") [] 9 (Gave (Some (I32 1)) ∷ [])).outcome ≡ Stopped Asks }
+    ensures host_trap { (sample.run_alone sample.host_ticks (codes "r") [] 9 (HostTrapped ∷ [])).outcome ≡ Stopped (Trapped trap.HostTrap) }
+    ensures phase_of_a_call { (sample.run_alone sample.host_ticks (codes "r") [] 9 []).phase ≡ Call 0 }
+{}
+
+/// Instructions with control.
+pub fn control_cases()
+    ensures branch_to_the_inner_label { sample.run_code sample.three_blocks (I32 0) 100 ≡ Normal 92 (I32 10 ∷ []) (sample.state_of (I32 0)) }
+    ensures branch_to_the_middle_label { sample.run_code sample.three_blocks (I32 1) 100 ≡ Normal 94 (I32 9 ∷ []) (sample.state_of (I32 1)) }
+    ensures branch_to_the_default_label { sample.run_code sample.three_blocks (I32 4294967295) 100 ≡ Normal 96 (I32 7 ∷ []) (sample.state_of (I32 4294967295)) }
+    ensures trap_in_a_nested_block { sample.run_code (Block None (sample.code_of (Block None (sample.code_of (Unreachable ∷ [])) 0 ∷ [])) 0 ∷ Br 0 ∷ []) (I32 0) 1 ≡ Stops (Trapped trap.Unreachable) (sample.state_of (I32 0)) }
+    ensures endless_loop { sample.run_code (Loop None (sample.code_of (Br 0 ∷ [])) 0 ∷ []) (I32 0) 5 ≡ Stops OutOfSteps (sample.state_of (I32 0)) }
+    ensures dead_code_behind_a_branch { sample.run_code (Block None (sample.code_of (Br 0 ∷ Binary type.I32 Add ∷ Drop ∷ [])) 0 ∷ []) (I32 0) 1 ≡ Normal 0 [] (sample.state_of (I32 0)) }
+    ensures free_instructions { sample.run_code (Nop ∷ Block None (sample.code_of []) 0 ∷ Loop None (sample.code_of []) 0 ∷ []) (I32 0) 0 ≡ Normal 0 [] (sample.state_of (I32 0)) }
+{}
+
+/// Instantiation: imports, limits, segments and the start function.
+pub fn instantiation_cases()
+    ensures linked { IsLinked (sample.both sample.exports_global (sample.imports_global None)) }
+    ensures values_of_linked_modules { (sample.run_both sample.exports_global (sample.imports_global None) (codes "run" ∷ codes "again" ∷ []) 30).values ≡ Some (I32 12) ∷ Some (I32 7) ∷ [] }
+    ensures start_function_runs_first { (sample.run_both sample.exports_global (sample.imports_global (Some (record { index = 0; place = 0 }))) (codes "again" ∷ []) 30).values ≡ Some (I32 7) ∷ [] }
+    ensures start_call_is_free { (sample.run_both sample.exports_global (sample.imports_global (Some (record { index = 0; place = 0 }))) [] 9).outcome ≡ Ended }
+    ensures start_function_costs_its_instructions { (sample.run_both sample.exports_global (sample.imports_global (Some (record { index = 0; place = 0 }))) [] 8).outcome ≡ Stopped OutOfSteps }
+    ensures limits_fit { (sample.run_both (sample.exports_table (Some 3)) (sample.imports_table 2 (Some 3)) [] 9).outcome ≡ Ended }
+    ensures table_too_short { (sample.run_both (sample.exports_table (Some 3)) (sample.imports_table 3 (Some 3)) [] 9).outcome ≡ Stopped (Trapped trap.ImportLimits) }
+    ensures maximum_too_great { (sample.run_both (sample.exports_table (Some 4)) (sample.imports_table 2 (Some 3)) [] 9).outcome ≡ Stopped (Trapped trap.ImportLimits) }
+    ensures maximum_is_missing { (sample.run_both (sample.exports_table None) (sample.imports_table 2 (Some 3)) [] 9).outcome ≡ Stopped (Trapped trap.ImportLimits) }
+    ensures phase_of_the_second_module { (sample.run_both (sample.exports_table None) (sample.imports_table 3 None) [] 9).phase ≡ Init 1 }
+    ensures byte_past_the_end { (sample.run_alone (sample.small_memory (sample.data_at (pos 0) (65 ∷ []) ∷ [])) (codes "grow") (I32 0 ∷ []) 9 []).outcome ≡ Stopped (Trapped trap.SegmentOut) }
+    ensures no_bytes_at_the_end { (sample.run_alone (sample.small_memory (sample.data_at (pos 0) [] ∷ [])) (codes "grow") (I32 0 ∷ []) 9 []).values ≡ Some (I32 0) ∷ [] }
+    ensures growth_past_the_maximum { (sample.run_alone (sample.small_memory []) (codes "grow") (I32 2 ∷ []) 9 []).values ≡ Some (I32 4294967295) ∷ [] }
+    ensures empty_segment_past_the_end { (sample.run_alone sample.segment_past_the_end (codes "t") [] 9 []).outcome ≡ Stopped (Trapped trap.SegmentOut) }
+{}

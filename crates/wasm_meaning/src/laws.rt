@@ -1,0 +1,34 @@
+// The laws of operators and runs.
+ghost use Rattle.std.specs.Prelude.{◌≡◌, ◌≢◌, ◌^◌, ◌<◌, ◌≤◌, ℕ, List};
+ghost use Rattle.std.specs.List.{AllByRecursion};
+ghost use Rattle.w2c_base.specs.declared.value.ValType.{ValType};
+ghost use Rattle.w2c_base.specs.Run.{Reply};
+ghost use Rattle.w2c_base.specs.Values.{bits};
+ghost use Rattle.wasm_tree.specs.Instructions.{BinaryOp, LoadOp, UnaryOp};
+ghost use Rattle.wasm_meaning.specs.Memories.{load_access, load_number};
+ghost use Rattle.wasm_meaning.specs.Operators.{AnswerFits, unary, binary};
+ghost use Rattle.wasm_meaning.specs.LinkedSet.{LinkedSet};
+ghost use Rattle.wasm_meaning.specs.Execution.{OutOfSteps};
+ghost use Rattle.wasm_meaning.specs.Run.{ListedCall, Stopped, wasm_run};
+
+/// The law that what an operator gives, or a load from bytes, has its width.
+#[tactic(auto, using(crate::proofs::Fits::binary_fits, crate::proofs::Fits::unary_fits, crate::proofs::Fits::load_fits))]
+pub fn operators_fit()
+    ensures binary { (t : ValType) (op : BinaryOp) (x y : ℕ) → x < 2 ^ bits t → y < 2 ^ bits t
+        → AnswerFits (bits t) (binary op (bits t) x y) }
+    ensures unary { (t : ValType) (op : UnaryOp) (x : ℕ) → x < 2 ^ bits t → unary op (bits t) x < 2 ^ bits t }
+    ensures load { (op : LoadOp) (bytes : List ℕ) (address : ℕ) → AllByRecursion (λ b. b < 256) bytes
+        → AnswerFits (bits (load_access op).ty) (load_number op bytes address) }
+{}
+
+/// The laws that a run which is not out of steps is the same with a larger budget, and that one
+/// which is out of steps is so with a smaller one.
+#[tactic(auto, using(crate::proofs::LongerRun::run_longer, crate::proofs::LongerRun::run_shorter))]
+pub fn larger_budgets_give_the_same_run()
+    ensures longer { (s : LinkedSet) (calls : List ListedCall) (replies : List Reply) (n m : ℕ) → n ≤ m
+        → (wasm_run s calls n replies).outcome ≢ Stopped OutOfSteps
+        → wasm_run s calls m replies ≡ wasm_run s calls n replies }
+    ensures shorter { (s : LinkedSet) (calls : List ListedCall) (replies : List Reply) (n m : ℕ) → n ≤ m
+        → (wasm_run s calls m replies).outcome ≡ Stopped OutOfSteps
+        → (wasm_run s calls n replies).outcome ≡ Stopped OutOfSteps }
+{}

@@ -1,0 +1,11 @@
+//! What WebAssembly modules mean: operators, memories, linked sets, the execution of instructions
+//! and the run of a set, as definitions, with their laws.
+#![tactic(auto)]
+
+mod cases;
+mod laws;
+
+pub use cases::{
+    control_cases, count_cases, instantiation_cases, memory_cases, operator_cases, run_cases,
+};
+pub use laws::{larger_budgets_give_the_same_run, operators_fit};
