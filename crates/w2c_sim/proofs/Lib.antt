@@ -1,2 +1,10 @@
 pub mod Names
 pub mod Units
+pub mod Constants
+pub mod Lookups
+pub mod WasmCode
+pub mod WasmRuns
+pub mod Reaches
+pub mod CCode
+pub mod CRuns
+pub mod Pairing

@@ -5,9 +5,9 @@ use Rattle.std.proofs.lemmas.List.{map-append}
 use Rattle.std.specs.List.{AllByRecursion}
 use Rattle.std.proofs.lemmas.Fmt.{decimal_injective}
 use Rattle.c_tree.specs.Tree as tree
-use Rattle.c_tree.specs.Spelled.{CSpells, FitsStmt, FitsNum, depth_limit, Formed}
+use Rattle.c_tree.specs.Spelled.{FitsStmt, FitsNum, depth_limit, Formed}
 use Rattle.c_tree.specs.WellFormed.{IsName, NamedStmt}
-use Rattle.c_tree.specs.ConstantUnit.{set_stmt, u32_local, names_of, IsAmong, AreDistinct, IsVariableName, IsDeclared, IsConstantUnit, IsConstantText}
+use Rattle.c_tree.specs.ConstantUnit.{set_stmt, u32_local, names_of, IsAmong, AreDistinct, IsVariableName, IsDeclared, IsConstantUnit}
 use Rattle.c_tree.proofs.WellFormedUnits.{formed}
 use Rattle.wasm_tree.specs.declared.constant_module.ConstantInstr.{ConstantInstr}
 use Rattle.wasm_tree.specs.declared.constant_module.ConstantInstr.TheVariants.{I32Const, I32Add}
@@ -24,18 +24,18 @@ all-append_one P (y ∷ ys) x all one = (all.0, all-append_one P ys x all.1 one)
 
 -- ---- which heights code reaches
 
-length-code : (code : List ConstantInstr) → length code ≤ length (code_bytes code)
+pub length-code : (code : List ConstantInstr) → length code ≤ length (code_bytes code)
 length-code [] = omega arith
 length-code (I32Const n ∷ code) = omega (arith, length-code code)
 length-code (I32Add ∷ code) = omega (arith, length-code code)
 
-peak-small : (height : ℕ) (code : List ConstantInstr) → peak height code ≤ height + length code
+pub peak-small : (height : ℕ) (code : List ConstantInstr) → peak height code ≤ height + length code
 peak-small height [] = omega arith
 peak-small height (I32Const n ∷ code) = let h = peak-small (height + 1) code in omega (arith, h)
 peak-small (suc height) (I32Add ∷ code) = let h = peak-small height code in omega (arith, h)
 peak-small zero (I32Add ∷ code) = omega arith
 
-peak-from : (height : ℕ) (code : List ConstantInstr) → height ≤ peak height code
+pub peak-from : (height : ℕ) (code : List ConstantInstr) → height ≤ peak height code
 peak-from height [] = omega arith
 peak-from height (I32Const n ∷ code) = omega arith
 peak-from (suc height) (I32Add ∷ code) = omega arith
@@ -70,14 +70,14 @@ same_or_less : (a b : ℕ) → a < suc b → (a < b) ⊎ (a ≡ b)
 same_or_less a b h = grind (arith, h)
 
 -- the variable of each height below the count is there
-slot-among : (height count : ℕ) → height < count → IsAmong (slot height) (names_of (slots count))
+pub slot-among : (height count : ℕ) → height < count → IsAmong (slot height) (names_of (slots count))
 slot-among height zero less = absurd (omega arith)
 slot-among height (suc count) less = rw (names-slots count) (elim (same_or_less height count less) [
   | inl below ↦ among-append (slot height) (slot count) (names_of (slots count)) (slot-among height count below)
   | inr same ↦ subst (λ (h : ℕ). IsAmong (slot h) (names_of (slots count) ++ slot count ∷ [])) (sym same) (among-last (slot count) (names_of (slots count)))
 ])
 
-slot-injective : (a b : ℕ) → a < 2 ^ 64 → b < 2 ^ 64 → slot a ≡ slot b → a ≡ b
+pub slot-injective : (a b : ℕ) → a < 2 ^ 64 → b < 2 ^ 64 → slot a ≡ slot b → a ≡ b
 slot-injective a b small_a small_b e = decimal_injective a b small_a small_b (cc)
 
 among-split : (name last : List ℕ) (names : List (List ℕ)) → IsAmong name (names ++ last ∷ []) → IsAmong name names ⊎ (name ≡ last)
@@ -208,7 +208,3 @@ printable-small name printable = λ k d less. let b = printable k d less in omeg
 
 pub bytes-small : (bytes : List ℕ) → ((i : ℕ) → Fits w8 (get_or bytes i 0)) → All (λ b. b < 256) bytes
 bytes-small bytes fits = λ k d less. let b = fits k in let same = get_or_default_zero bytes k d less in omega (arith, b, same)
-
-pub constant_text : (module_name bytes name text : List ℕ) (code : List ConstantInstr) (u : List tree.Item) → IsConstantModule bytes name code → u ≡ unit_of_constant module_name name code → CSpells u text
-    → IsConstantText (init_symbol_of module_name) (export_symbol_of module_name Func name) text
-constant_text module_name bytes name text code u m is spells = (unit_of_constant module_name name code, constant module_name bytes name code m, subst (λ v. CSpells v text) is spells)

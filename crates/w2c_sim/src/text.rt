@@ -1,8 +1,6 @@
 // The text of the unit that a module is translated to.
 ghost use Rattle.std.specs.Prelude.{◌≡◌, IfOk};
-ghost use Rattle.c_tree.specs.ConstantUnit.{IsConstantText};
-ghost use Rattle.w2c_mangle.specs.Symbols.{export_symbol_of, init_symbol_of};
-ghost use Rattle.w2c_mangle.specs.declared.symbol.SymbolKind.TheVariants as kinds;
+ghost use Rattle.w2c_sim.specs.Simulation.{IsTranslation};
 ghost use Rattle.w2c_sim.specs.Translation.{text_of, IsSpelledModule};
 
 use crate::translation::translate;
@@ -11,7 +9,8 @@ use std::alloc::Global;
 use w2c_base::{Bytes, Memory};
 use wasm_tree::ConstantModule;
 
-/// The C text of a module, under the module's name.
+/// The C text of a module, under the module's name: a unit that does what the module does, both
+/// ways, and whose runs are never undefined.
 pub fn unit_text(
     alloc: Global,
     module_name: &[u8],
@@ -19,8 +18,7 @@ pub fn unit_text(
 ) -> Result<Bytes, Memory>
     requires { IsSpelledModule «module».now.name «module».now.code }
     ensures text { IfOk result (λ text. text ≡ text_of module_name.now «module».now.name «module».now.code) }
-    ensures spells { IfOk result (λ text. IsConstantText (init_symbol_of module_name.now)
-        (export_symbol_of module_name.now kinds.Func «module».now.name) text) }
+    ensures translated { IfOk result (λ text. IsTranslation module_name.now «module».now.name «module».now.code text) }
 {
     let unit = translate(alloc, module_name, module)?;
     let text = print_unit(alloc, &unit)?;

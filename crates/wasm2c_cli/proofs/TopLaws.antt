@@ -7,7 +7,8 @@ use Rattle.wasm2c_cli.specs.declared.stop.Stop.TheVariants as stops
 use Rattle.wasm2c_cli.specs.CommandLine.{Line, line_of}
 use Rattle.wasm2c_cli.specs.Job.{Job, Usage, Missing, Refused, IsJobOf, IsJob}
 use Rattle.wasm2c_cli.specs.Lines.{status_of}
-use Rattle.wasm2c_cli.specs.Stops.{StandsOfJob, StopsWork}
+use Rattle.wasm2c_cli.specs.Stops.{StandsOfJob, StopsWork, WritesUnit, WritesUnitThat}
+use Rattle.w2c_sim.specs.Simulation.{Backward, Forward, NeverStops}
 use Rattle.wasm2c_cli.specs.Top.{Answers}
 
 usage_job : (words : List Name) (contents : Contents) → line_of words ≡ None → IsJob words contents Usage
@@ -42,3 +43,13 @@ stop_stands words old new r r' w w' named (stops.Unwritten file) why contents to
     let files = why.2 contents told in
     inr (files.0, files.1, inr (string_bytes file, files.2))
 stop_stands words old new r r' w w' named stops.Memory why contents told = why contents told
+
+-- what the unit that was written does
+pub goes_forward : (words : List Name) (old new : Told) → WritesUnit words old new → WritesUnitThat Forward words old new
+goes_forward words old new writes = λ contents told. let w = writes contents told in (w.0, w.1, w.2, w.2.translation.same.forward)
+
+pub goes_backward : (words : List Name) (old new : Told) → WritesUnit words old new → WritesUnitThat Backward words old new
+goes_backward words old new writes = λ contents told. let w = writes contents told in (w.0, w.1, w.2, w.2.translation.same.backward)
+
+pub stops_never : (words : List Name) (old new : Told) → WritesUnit words old new → WritesUnitThat (λ name export code unit. NeverStops name export unit) words old new
+stops_never words old new writes = λ contents told. let w = writes contents told in (w.0, w.1, w.2, w.2.translation.same.never_stops)

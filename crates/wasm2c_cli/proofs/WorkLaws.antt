@@ -5,11 +5,9 @@ use Rattle.w2c_io.specs.Contents.{Name, Contents, Told, HasFile, holding}
 use Rattle.w2c_io.specs.Causes.{Rose}
 use Rattle.w2c_io.specs.Telling.{Tells}
 use Rattle.w2c_io.proofs.Names.{get_here}
-use Rattle.c_tree.specs.ConstantUnit.{IsConstantText}
-use Rattle.w2c_mangle.specs.Symbols.{export_symbol_of, init_symbol_of}
-use Rattle.w2c_mangle.specs.declared.symbol.SymbolKind.TheVariants.{Func}
 use Rattle.wasm_tree.specs.ConstantModule.{IsConstantModule}
 use Rattle.wasm_tree.specs.declared.constant_module.ConstantInstr.{ConstantInstr}
+use Rattle.w2c_sim.specs.Simulation.{IsTranslation}
 use Rattle.wasm2c_cli.specs.declared.stop.Cause.TheVariants.{NotBuilt}
 use Rattle.wasm2c_cli.specs.declared.stop.Stop.{Stop}
 use Rattle.wasm2c_cli.specs.declared.stop.Stop.TheVariants as stops
@@ -79,8 +77,8 @@ done_work words line name code out text old mid new is made found same whole = �
     ((out, text) ∷ [], job_write words line old contents name code out text is made found told, whole ∙ ap (λ (t : Told). written t ((out, text) ∷ [])) same)
 
 pub unit_written : (words : List Name) (line : Line) (name : List ℕ) (code : List ConstantInstr) (out text : List ℕ) (old mid new : Told) → line_of words ≡ Some line → Makes line name code out text → Finds old line.input name code → mid ≡ old → new ≡ written mid ((out, text) ∷ [])
-    → IsConstantText (init_symbol_of (module_name_of line.input)) (export_symbol_of (module_name_of line.input) Func name) text → WritesUnit words old new
-unit_written words line name code out text old mid new is made found same whole spells = λ contents told. (line, is, unit contents told (found contents told))
+    → IsTranslation (module_name_of line.input) name code text → WritesUnit words old new
+unit_written words line name code out text old mid new is made found same whole translation = λ contents told. (line, is, unit contents told (found contents told))
   where
     stands : (contents : Contents) → old ≡ Some contents → HasFile new line.output text
     stands contents told =
@@ -96,5 +94,5 @@ unit_written words line name code out text old mid new is made found same whole 
       held = held;
       built = built;
       stands = stands contents told;
-      spells = spells;
+      translation = translation;
     }

@@ -4,11 +4,10 @@ use Rattle.std.specs.FinMap.{get}
 use Rattle.w2c_io.specs.Contents.{Name, Contents, Told, HasFile}
 use Rattle.w2c_io.specs.Causes.{Rose}
 use Rattle.w2c_io.specs.Telling.{Tells}
-use Rattle.c_tree.specs.ConstantUnit.{IsConstantText}
-use Rattle.w2c_mangle.specs.Symbols.{export_symbol_of, init_symbol_of}
-use Rattle.w2c_mangle.specs.declared.symbol.SymbolKind.TheVariants.{Func}
+use Rattle.c_tree.specs.Tree as tree
 use Rattle.wasm_tree.specs.ConstantModule.{IsConstantModule}
 use Rattle.wasm_tree.specs.declared.constant_module.ConstantInstr.{ConstantInstr}
+use Rattle.w2c_sim.specs.Simulation.{IsTranslation}
 use Rattle.wasm2c_cli.specs.declared.stop.Cause.TheVariants.{NotBuilt}
 use Rattle.wasm2c_cli.specs.declared.stop.Stop.{Stop}
 use Rattle.wasm2c_cli.specs.declared.stop.Stop.TheVariants as stops
@@ -59,7 +58,8 @@ KeepsCurrent old new stops.Memory = Unit {0}
 abbrev pub Done : List Name → Told → Told → Type 0
 Done words old new = Tells old (λ contents. (files : List (Name × List ℕ)) × IsJob words contents (Write files) × (new ≡ written old files))
 
--- the output holds the text of a constant unit with the symbols of the module's name and the export's
+-- the output holds the text of a unit, with the symbols of the module's name and the export's, that
+-- does what the module in the input does
 pub record HoldsUnit (line : Line) (contents : Contents) (new : Told) : Type 0 where
   pub bytes : List ℕ
   pub name : List ℕ
@@ -68,10 +68,15 @@ pub record HoldsUnit (line : Line) (contents : Contents) (new : Told) : Type 0 w
   pub held : get contents line.input ≡ Some bytes
   pub built : IsConstantModule bytes name code
   pub stands : HasFile new line.output text
-  pub spells : IsConstantText (init_symbol_of (module_name_of line.input)) (export_symbol_of (module_name_of line.input) Func name) text
+  pub translation : IsTranslation (module_name_of line.input) name code text
 
 abbrev pub WritesUnit : List Name → Told → Told → Type 0
 WritesUnit words old new = Tells old (λ contents. (line : Line) × (line_of words ≡ Some line) × HoldsUnit line contents new)
+
+-- such a unit, of which P holds: of the module's name, the export's, the code and the unit
+abbrev pub WritesUnitThat : (List ℕ → List ℕ → List ConstantInstr → List tree.Item → Type 0) → List Name → Told → Told → Type 0
+WritesUnitThat P words old new = Tells old (λ contents. (line : Line) × (line_of words ≡ Some line)
+    × (held : HoldsUnit line contents new) × P (module_name_of line.input) held.name held.code held.translation.unit)
 
 -- nothing has changed, or some of the job's files stand
 abbrev pub StandsOfJob : List Name → Contents → Told → Told → Type 0

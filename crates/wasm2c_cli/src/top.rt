@@ -3,13 +3,14 @@ ghost use Rattle.std.specs.Prelude.{◌≡◌, ◌⊎◌, ◌≤◌, List, ℕ, 
 ghost use Rattle.w2c_io.specs.Contents.{Name, Contents};
 ghost use Rattle.w2c_io.specs.Causes.{Rose};
 ghost use Rattle.w2c_io.specs.Telling.{Tells, Says, SaysPart};
+ghost use Rattle.w2c_sim.specs.Simulation.{Backward, Forward, NeverStops};
 ghost use Rattle.wasm2c_cli.specs.declared.stop.Cause.{Cause};
 ghost use Rattle.wasm2c_cli.specs.declared.stop.Stop.{Stop as AnyStop};
 ghost use Rattle.wasm2c_cli.specs.CommandLine.{line_of, texts};
 ghost use Rattle.wasm2c_cli.specs.Job.{IsJob, Job, Missing, Refused, Write};
 ghost use Rattle.wasm2c_cli.specs.Lines.{line_for, read_line, refused_line, usage_line, write_line};
 ghost use Rattle.wasm2c_cli.specs.Standing.{StandsAt};
-ghost use Rattle.wasm2c_cli.specs.Stops.{Done, Faulted, IsInput, IsOutput, StandsOfJob, WritesUnit};
+ghost use Rattle.wasm2c_cli.specs.Stops.{Done, Faulted, IsInput, IsOutput, StandsOfJob, WritesUnit, WritesUnitThat};
 ghost use Rattle.wasm2c_cli.specs.Top.{Answers};
 
 use crate::report::report;
@@ -34,6 +35,11 @@ pub fn wasm2c_top<F: Files, E: Sink>(
     // Status 0: the output stands whole and holds such a unit, and nothing else has changed.
     ensures done { result ≡ 0 → Done (texts words.now) (F.told files.old) (F.told files.new) }
     ensures unit { result ≡ 0 → WritesUnit (texts words.now) (F.told files.old) (F.told files.new) }
+    // The unit does what the module does, both ways, and nothing that is undefined.
+    ensures forward { result ≡ 0 → WritesUnitThat Forward (texts words.now) (F.told files.old) (F.told files.new) }
+    ensures backward { result ≡ 0 → WritesUnitThat Backward (texts words.now) (F.told files.old) (F.told files.new) }
+    ensures never_stops { result ≡ 0 → WritesUnitThat (λ name export code unit. NeverStops name export unit)
+        (texts words.now) (F.told files.old) (F.told files.new) }
     ensures silent { result ≡ 0 → E.told err.new ≡ E.told err.old }
 
     // Status 1 to 4: when each comes, and the line on the error stream.

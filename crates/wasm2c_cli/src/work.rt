@@ -1,12 +1,10 @@
 // The work that a command line asks for.
 ghost use Rattle.std.specs.Prelude.{◌≡◌, ◌≤◌, OnOk, IfOk, IfErr, None, string_bytes};
-ghost use Rattle.c_tree.specs.ConstantUnit.{IsConstantText};
-ghost use Rattle.w2c_mangle.specs.Symbols.{export_symbol_of, init_symbol_of};
-ghost use Rattle.w2c_mangle.specs.declared.symbol.SymbolKind.TheVariants as kinds;
 ghost use Rattle.wasm2c_cli.specs.CommandLine.{line_of, module_name_of, texts};
 ghost use Rattle.wasm2c_cli.specs.Job.{Makes};
 ghost use Rattle.wasm2c_cli.specs.Seen.{names_of_line};
 ghost use Rattle.wasm2c_cli.specs.Stops.{Done, KeepsCurrent, StopsWork, WritesUnit};
+ghost use Rattle.w2c_sim.specs.Simulation.{IsTranslation};
 ghost use Rattle.w2c_sim.specs.Translation.{IsSpelledModule};
 
 use crate::module_name::module_name;
@@ -50,8 +48,8 @@ fn make_output(alloc: Global, line: &Line<'_>, module: &ConstantModule) -> Resul
     requires { IsSpelledModule «module».now.name «module».now.code }
     ensures made { IfOk result (λ output. Makes (names_of_line line.now) «module».now.name «module».now.code
         (string_bytes output.name) output.text) }
-    ensures spells { IfOk result (λ output. IsConstantText (init_symbol_of (module_name_of (string_bytes line.now.input.now)))
-        (export_symbol_of (module_name_of (string_bytes line.now.input.now)) kinds.Func «module».now.name) output.text) }
+    ensures translated { IfOk result (λ output. IsTranslation (module_name_of (string_bytes line.now.input.now))
+        «module».now.name «module».now.code output.text) }
 {
     let text = unit_text(alloc, module_name(line.input.as_bytes()), module)?;
     let name = line.output.clone()?;

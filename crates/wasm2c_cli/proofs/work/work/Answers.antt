@@ -25,7 +25,7 @@ returns-in-Ok-write_all-clause-unit g c =
     let line : Line = names_of_line c.in-Some.line in
     let is : line_of (texts c.args.words.now) ≡ Some line = search rules in
     let output = c.in_ok-output.output in
-    unit_written (texts c.args.words.now) line c.in-Ok.module.name c.in-Ok.module.code (string_bytes output.name) output.text (told c.args.files.now) (told c.read_module.new.files) (told c.write_all.new.files) is c.in_ok-output.ensures.made c.in-Ok.ensures.found c.in-Ok.ensures.told c.in-Ok-write_all.ensures.whole c.in_ok-output.ensures.spells
+    unit_written (texts c.args.words.now) line c.in-Ok.module.name c.in-Ok.module.code (string_bytes output.name) output.text (told c.args.files.now) (told c.read_module.new.files) (told c.write_all.new.files) is c.in_ok-output.ensures.made c.in-Ok.ensures.found c.in-Ok.ensures.told c.in-Ok-write_all.ensures.whole c.in_ok-output.ensures.translated
 
 pub returns-clause-stop : goal.returns-clause-stop
 returns-clause-stop g c =
