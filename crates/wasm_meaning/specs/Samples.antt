@@ -84,6 +84,15 @@ two_constants = with_funcs
     (export_func (codes "f") 0 ∷ [])
     no_module
 
+-- a function that calls itself without an end
+abbrev pub calls_itself : Module
+calls_itself = with_funcs
+    (func_type [] None ∷ [])
+    (0 ∷ [])
+    (body (Call 0 ∷ []) ∷ [])
+    (export_func (codes "f") 0 ∷ [])
+    no_module
+
 abbrev element : ℤ → ℕ → ElementEntry
 element offset func = record {
   table = 0;

@@ -57,6 +57,8 @@ pub fn run_cases()
     ensures empty_module_costs_a_step { (wasm_run (record { modules = record { name = []; tree = sample.no_module } ∷ []; hosts = [] }) [] 0 []).outcome ≡ Stopped OutOfSteps }
     ensures two_constants { (sample.run_alone sample.two_constants (codes "f") [] 5 []).values ≡ Some (I32 42) ∷ [] }
     ensures two_constants_in_too_few_steps { (sample.run_alone sample.two_constants (codes "f") [] 4 []).outcome ≡ Stopped OutOfSteps }
+    ensures too_many_active_functions { (sample.run_alone sample.calls_itself (codes "f") [] 1026 []).outcome ≡ Stopped (Trapped trap.Exhaustion) }
+    ensures calls_take_steps { (sample.run_alone sample.calls_itself (codes "f") [] 1025 []).outcome ≡ Stopped OutOfSteps }
     ensures call_through_the_table { (sample.run_alone sample.indirect_calls (codes "c") (I32 0 ∷ []) 20 []).values ≡ Some (I32 4) ∷ [] }
     ensures empty_element { (sample.run_alone sample.indirect_calls (codes "c") (I32 1 ∷ []) 20 []).outcome ≡ Stopped (Trapped trap.Empty) }
     ensures element_of_another_type { (sample.run_alone sample.indirect_calls (codes "c") (I32 2 ∷ []) 20 []).outcome ≡ Stopped (Trapped trap.Signature) }

@@ -1,0 +1,4 @@
+pub mod Linear
+pub mod Lends
+pub mod Ownership
+pub mod Places
