@@ -318,7 +318,7 @@ mod tests {
     #[test]
     fn each_width_at_the_seam(rt: HostRuntime) -> Result<(), Fail> {
         let mut memory = LinMem::new(rt.alloc(), 2, None)?;
-        for at in 65_520..65_552 {
+        for at in 65_520..=65_552 {
             for (width, value) in [
                 (1, 0x91),
                 (2, 0x9182),
