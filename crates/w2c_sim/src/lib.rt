@@ -2,7 +2,9 @@
 //! modules of one constant function.
 #![tactic(auto)]
 
+mod cases;
 mod text;
 mod translation;
 
+pub use cases::run_cases;
 pub use text::unit_text;
