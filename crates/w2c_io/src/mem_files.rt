@@ -47,6 +47,10 @@ impl MemFiles {
         ensures contents { mem_contents result ≡ map.empty }
         ensures calls { (call : FileCall) → (plan_of call result).calls ≡ 0 }
         ensures planned { (call : FileCall) → (plan_of call result).planned.items ≡ [] }
+        ensures current { mem_current result ≡ None }
+        ensures read_faults { mem_read_faults result ≡ 0 }
+        ensures write_faults { mem_write_faults result ≡ 0 }
+        ensures fault_name { mem_fault_name result ≡ None }
     {
         MemFiles {
             alloc,
@@ -62,15 +66,21 @@ impl MemFiles {
         }
     }
 
-    /// Adds a file, or replaces the one of this name.
+    /// Adds a file, or replaces the one of this name; then no file is the current one.
     pub fn add(&mut self, name: &str, bytes: &[u8]) -> Result<(), Memory>
         ensures ok { OnOk result (mem_contents self.new ≡ map.insert (mem_contents self.old) name.now bytes.now) }
+        ensures closed { OnOk result (mem_current self.new ≡ None) }
         ensures err { OnErr result (mem_contents self.new ≡ mem_contents self.old) }
+        ensures current { OnErr result (mem_current self.new ≡ mem_current self.old) }
+        ensures plans { (call : FileCall) → plan_of call self.new ≡ plan_of call self.old }
+        ensures read_faults { mem_read_faults self.new ≡ mem_read_faults self.old }
+        ensures write_faults { mem_write_faults self.new ≡ mem_write_faults self.old }
+        ensures fault_name { mem_fault_name self.new ≡ mem_fault_name self.old }
     {
         let name = String::from_str(self.alloc, name)?;
         let bytes = bytes.to_vec(self.alloc)?;
-        self.is_open = false;
         add(&mut self.entries, name, bytes)?;
+        self.is_open = false;
         Ok(())
     }
 

@@ -19,11 +19,12 @@ pub struct SureFiles {
 }
 
 impl SureFiles {
-    ghost use Rattle.w2c_io.specs.InMemory.{sure_contents};
+    ghost use Rattle.w2c_io.specs.InMemory.{sure_contents, sure_current};
 
     /// No files.
     pub fn new(alloc: Global) -> Self
-        ensures { sure_contents result ≡ map.empty }
+        ensures contents { sure_contents result ≡ map.empty }
+        ensures current { sure_current result ≡ None }
     {
         SureFiles {
             alloc,
@@ -32,15 +33,17 @@ impl SureFiles {
         }
     }
 
-    /// Adds a file, or replaces the one of this name.
+    /// Adds a file, or replaces the one of this name; then no file is the current one.
     pub fn add(&mut self, name: &str, bytes: &[u8]) -> Result<(), Memory>
         ensures ok { OnOk result (sure_contents self.new ≡ map.insert (sure_contents self.old) name.now bytes.now) }
+        ensures closed { OnOk result (sure_current self.new ≡ None) }
         ensures err { OnErr result (sure_contents self.new ≡ sure_contents self.old) }
+        ensures current { OnErr result (sure_current self.new ≡ sure_current self.old) }
     {
         let name = String::from_str(self.alloc, name)?;
         let bytes = bytes.to_vec(self.alloc)?;
-        self.is_open = false;
         add(&mut self.entries, name, bytes)?;
+        self.is_open = false;
         Ok(())
     }
 
