@@ -7,3 +7,8 @@ pub mod Names
 pub mod Rows
 pub mod Tested
 pub mod TestsTell
+pub mod SameLists
+pub mod SameWords
+pub mod SameExpressions
+pub mod SameStatements
+pub mod OneUnit

@@ -1,7 +1,7 @@
 // A unit as the list of its items.
-ghost use Rattle.std.specs.Prelude.{◌≡◌, ◌<◌, ◌↔◌, List, [], ◌∷◌, ◌++◌, length, slice_index_or, OnOk, OnErr, IsTrue};
+ghost use Rattle.std.specs.Prelude.{◌≡◌, ◌<◌, ◌↔◌, ℕ, List, [], ◌∷◌, ◌++◌, length, slice_index_or, OnOk, OnErr, IsTrue};
 ghost use Rattle.c_tree.specs.Tree as tree;
-ghost use Rattle.c_tree.specs.Spelled.{Formed};
+ghost use Rattle.c_tree.specs.Spelled.{CSpells, Formed};
 ghost use Rattle.c_tree.specs.WellFormed.{IsWellFormed};
 
 use crate::formed::all_formed;
@@ -87,6 +87,11 @@ impl Unit {
 pub fn well_formed_units_are_spelled()
     ensures formed { (unit : List tree.Item) → IsWellFormed unit → Formed unit }
     ensures well_formed { (unit : List tree.Item) → Formed unit → IsWellFormed unit }
+{}
+
+/// The law that a text spells at most one unit.
+pub fn one_unit()
+    ensures { (u v : List tree.Item) (text : List ℕ) → CSpells u text → CSpells v text → u ≡ v }
 {}
 
 #[cfg(test)]

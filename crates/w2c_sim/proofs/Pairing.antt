@@ -1,5 +1,5 @@
 -- A module of one constant function and its unit: both runs end alike, or both are out of steps.
-use Rattle.std.proofs.Common.{◌≡◌, ℕ, suc, zero, ◌+◌, ◌*◌, ◌<◌, ◌≤◌, ◌^◌, inl, inr, List, [], ◌∷◌, length, All, Option, Some, replicate, refl, sym, ap, subst, arith}
+use Rattle.std.proofs.Common.{◌≡◌, ℕ, suc, zero, ◌+◌, ◌*◌, ◌<◌, ◌≤◌, ◌^◌, inl, inr, List, [], ◌∷◌, length, All, Option, Some, replicate, refl, sym, ◌∙◌, ap, subst, arith}
 use Rattle.std.proofs.Math.Nat.{suc-mul}
 use Rattle.std.specs.List.{AllByRecursion}
 use Rattle.w2c_base.specs.declared.value.Value.{Value}
@@ -15,6 +15,7 @@ use Rattle.wasm_meaning.specs.Store as store
 use Rattle.wasm_meaning.specs.Run as wasm
 use Rattle.c_tree.specs.Tree as tree
 use Rattle.c_tree.specs.Spelled.{CSpells}
+use Rattle.c_tree.proofs.OneUnit.{one_unit}
 use Rattle.c_meaning.specs.Run as c
 use Rattle.c_meaning.proofs.InitSymbols.{init_symbols_found}
 use Rattle.alike.specs.Alike.{Alike}
@@ -101,5 +102,6 @@ is_translation module_name bytes name text code u small spelled is spells = reco
   unit = unit_of_constant module_name name code;
   formed = constant module_name bytes name code spelled;
   spells = subst (λ (v : List tree.Item). CSpells v text) is spells;
+  only = λ other others. one_unit other u text others spells ∙ is;
   same = pairing module_name bytes name code small spelled;
 }

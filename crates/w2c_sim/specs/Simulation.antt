@@ -1,6 +1,6 @@
 -- That a unit does what a module of one constant function does, both ways. A list of calls of the
 -- export is so many calls without arguments, since the export has no parameters.
-use Rattle.std.specs.Prelude.{◌≢◌, ℕ, ◌+◌, ◌*◌, ◌≤◌, List}
+use Rattle.std.specs.Prelude.{◌≡◌, ◌≢◌, ℕ, ◌+◌, ◌*◌, ◌≤◌, List}
 use Rattle.w2c_base.specs.Run.{Reply}
 use Rattle.w2c_mangle.specs.Symbols.{export_symbol_of, init_symbol_of}
 use Rattle.w2c_mangle.specs.declared.symbol.SymbolKind.TheVariants.{Func}
@@ -40,9 +40,10 @@ pub record DoesTheSame (module_name name : List ℕ) (code : List ConstantInstr)
   pub backward : Backward module_name name code unit
   pub never_stops : NeverStops module_name name unit
 
--- the text spells a unit of the form that does what the module does
+-- the text spells a unit of the form, and no other, that does what the module does
 pub record IsTranslation (module_name name : List ℕ) (code : List ConstantInstr) (text : List ℕ) : Type 0 where
   pub unit : List tree.Item
   pub formed : IsConstantUnit (init_symbol_of module_name) (export_symbol_of module_name Func name) unit
   pub spells : CSpells unit text
+  pub only : (other : List tree.Item) → CSpells other text → other ≡ unit
   pub same : DoesTheSame module_name name code unit
