@@ -1,3 +1,4 @@
+pub mod Headers
 pub mod Runs
 pub mod Simulation
 pub mod Translation

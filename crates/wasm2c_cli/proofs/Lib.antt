@@ -1,4 +1,5 @@
 pub mod Decoding
+pub mod HeaderName
 pub mod ModuleName
 pub mod WriteLaws
 pub mod WorkLaws

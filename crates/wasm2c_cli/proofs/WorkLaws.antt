@@ -1,20 +1,23 @@
 -- What a step says of the whole work.
-use Rattle.std.proofs.Common.{◌≡◌, ℕ, List, [], ◌∷◌, sym, ◌∙◌, ap, subst, Option, Some, None, MatchOption, string_bytes, inl, inr}
-use Rattle.std.specs.FinMap.{get}
-use Rattle.w2c_io.specs.Contents.{Name, Contents, Told, HasFile, holding}
+use Rattle.std.proofs.Common.{◌≡◌, ◌⊎◌, ℕ, List, [], ◌∷◌, sym, ◌∙◌, ap, subst, Option, Some, None, MatchOption, string_bytes, inl, inr}
+use Rattle.std.specs.FinMap.{get, insert}
+use Rattle.w2c_io.specs.Contents.{Name, Contents, Told, HasFile}
 use Rattle.w2c_io.specs.Causes.{Rose}
 use Rattle.w2c_io.specs.Telling.{Tells}
-use Rattle.w2c_io.proofs.Names.{get_here}
+use Rattle.w2c_io.proofs.Names.{get_here, get_other}
 use Rattle.wasm_tree.specs.ConstantModule.{IsConstantModule}
 use Rattle.wasm_tree.specs.declared.constant_module.ConstantInstr.{ConstantInstr}
+use Rattle.w2c_sim.specs.Headers.{header_of}
 use Rattle.w2c_sim.specs.Simulation.{IsTranslation}
+use Rattle.w2c_sim.specs.Translation.{text_of}
 use Rattle.wasm2c_cli.specs.declared.stop.Cause.TheVariants.{NotBuilt}
 use Rattle.wasm2c_cli.specs.declared.stop.Stop.{Stop}
 use Rattle.wasm2c_cli.specs.declared.stop.Stop.TheVariants as stops
-use Rattle.wasm2c_cli.specs.CommandLine.{Line, line_of, module_name_of}
+use Rattle.wasm2c_cli.specs.CommandLine.{Line, header_name_of, line_of, module_name_of}
 use Rattle.wasm2c_cli.specs.Job.{Job, Makes, Usage, Missing, Refused, Write, IsJobOf, IsJob}
-use Rattle.wasm2c_cli.specs.Standing.{written, Stands, StandsAt}
+use Rattle.wasm2c_cli.specs.Standing.{file_names, written, IsOneOf, Stands, StandsAt}
 use Rattle.wasm2c_cli.specs.Stops.{Faulted, IsInput, IsOutput, StopsReading, StopsWriting, StopsWork, Done, HoldsUnit, WritesUnit}
+use Rattle.wasm2c_cli.proofs.HeaderName.{is_apart, output_is_c_file}
 
 no_usage : (words : List Name) (line : Line) → line_of words ≡ Some line → line_of words ≡ None → ⊥
 no_usage words line is none = cc
@@ -45,45 +48,72 @@ reading_stops_work words line old new r r' w w' named stops.Memory is same why =
 abbrev pub Finds : Told → Name → List ℕ → List ConstantInstr → Type 0
 Finds told file name code = Tells told (λ contents. (bytes : List ℕ) × (get contents file ≡ Some bytes) × IsConstantModule bytes name code)
 
-job_write : (words : List Name) (line : Line) (old : Told) (contents : Contents) (name : List ℕ) (code : List ConstantInstr) (out text : List ℕ) → line_of words ≡ Some line → Makes line name code out text → Finds old line.input name code → old ≡ Some contents
-    → IsJob words contents (Write ((out, text) ∷ []))
-job_write words line old contents name code out text is made found told =
+job_write : (words : List Name) (line : Line) (old : Told) (contents : Contents) (name : List ℕ) (code : List ConstantInstr) (files : List (Name × List ℕ)) → line_of words ≡ Some line → Makes line name code files → Finds old line.input name code → old ≡ Some contents
+    → IsJob words contents (Write files)
+job_write words line old contents name code files is made found told =
     let held = found contents told in
-    is_job words line contents (Write ((out, text) ∷ [])) is (record {
+    is_job words line contents (Write files) is (record {
       bytes = held.0;
       name = name;
       code = code;
       held = held.1;
       built = held.2;
-      written = λ i. (made.to_output i, made.is_text i) ∷ [];
+      written = made;
     })
 
-pub writing_stops_work : (words : List Name) (line : Line) (name : List ℕ) (code : List ConstantInstr) (out text : List ℕ) (old mid new : Told) (r r' w0 w w' : ℕ) (named : Option Name) (stop : Stop) → line_of words ≡ Some line → Makes line name code out text → Finds old line.input name code → mid ≡ old → w ≡ w0
-    → StopsWriting mid new ((out, text) ∷ []) w w' named stop → StopsWork words old new r r' w0 w' named stop
-writing_stops_work words line name code out text old mid new r r' w0 w w' named (stops.Unwritten file) is made found same count (one, faulted, stands) = (
-  subst (IsOutput (string_bytes file)) (sym is) (elim one [ inl e ↦ e ∙ made.to_output | inr none ↦ absurd none ]),
+pub makes : (line : Line) (name : List ℕ) (code : List ConstantInstr) (module_name out text beside header : List ℕ) → module_name ≡ module_name_of line.input → out ≡ line.output → text ≡ text_of module_name name code → beside ≡ header_name_of line.output → header ≡ header_of module_name name
+    → Makes line name code ((out, text) ∷ (beside, header) ∷ [])
+makes line name code module_name out text beside header named same is_text is_beside is_header = λ i.
+    (same i, (is_text ∙ ap (λ (m : List ℕ). text_of m name code) named) i) ∷ (is_beside i, (is_header ∙ ap (λ (m : List ℕ). header_of m name) named) i) ∷ []
+
+pub translated : (module_name same_name name : List ℕ) (code : List ConstantInstr) (text : List ℕ) → same_name ≡ module_name → text ≡ text_of same_name name code → IsTranslation same_name name code text → IsTranslation module_name name code (text_of module_name name code)
+translated module_name same_name name code text same is_text translation =
+    subst (λ (m : List ℕ). IsTranslation m name code (text_of m name code)) same (subst (λ (t : List ℕ). IsTranslation same_name name code t) is_text translation)
+
+one_of_two : (name first second : Name) → IsOneOf name (first ∷ second ∷ []) → (name ≡ first) ⊎ (name ≡ second)
+one_of_two name first second (inl e) = inl e
+one_of_two name first second (inr (inl e)) = inr e
+one_of_two name first second (inr (inr none)) = absurd none
+
+pub writing_stops_work : (words : List Name) (line : Line) (name : List ℕ) (code : List ConstantInstr) (files : List (Name × List ℕ)) (old mid new : Told) (r r' w0 w w' : ℕ) (named : Option Name) (stop : Stop) → line_of words ≡ Some line → Makes line name code files → Finds old line.input name code → mid ≡ old → w ≡ w0
+    → StopsWriting mid new files w w' named stop → StopsWork words old new r r' w0 w' named stop
+writing_stops_work words line name code files old mid new r r' w0 w w' named (stops.Unwritten file) is made found same count (one, faulted, stands) = (
+  subst (IsOutput (string_bytes file)) (sym is) (one_of_two (string_bytes file) line.output (header_name_of line.output) (subst (λ (all : List (Name × List ℕ)). IsOneOf (string_bytes file) (file_names all)) made one)),
   record { rose = subst (λ n. Rose n w') count faulted.rose; named = faulted.named },
-  λ contents told. ((out, text) ∷ [], job_write words line old contents name code out text is made found told, subst (λ t. StandsAt t new ((out, text) ∷ []) (string_bytes file)) same stands),
+  λ contents told. (files, job_write words line old contents name code files is made found told, subst (λ t. StandsAt t new files (string_bytes file)) same stands),
   no_usage words line is,
 )
-writing_stops_work words line name code out text old mid new r r' w0 w w' named stops.Memory is made found same count why = λ contents told.
-    inr ((out, text) ∷ [], job_write words line old contents name code out text is made found told, subst (λ t. Stands t new ((out, text) ∷ [])) same why)
-writing_stops_work words line name code out text old mid new r r' w0 w w' named (stops.Unread file) is made found same count why = absurd why
-writing_stops_work words line name code out text old mid new r r' w0 w w' named (stops.Refused file cause) is made found same count why = absurd why
-writing_stops_work words line name code out text old mid new r r' w0 w w' named stops.Usage is made found same count why = absurd why
+writing_stops_work words line name code files old mid new r r' w0 w w' named stops.Memory is made found same count why = λ contents told.
+    inr (files, job_write words line old contents name code files is made found told, subst (λ t. Stands t new files) same why)
+writing_stops_work words line name code files old mid new r r' w0 w w' named (stops.Unread file) is made found same count why = absurd why
+writing_stops_work words line name code files old mid new r r' w0 w w' named (stops.Refused file cause) is made found same count why = absurd why
+writing_stops_work words line name code files old mid new r r' w0 w w' named stops.Usage is made found same count why = absurd why
 
-pub done_work : (words : List Name) (line : Line) (name : List ℕ) (code : List ConstantInstr) (out text : List ℕ) (old mid new : Told) → line_of words ≡ Some line → Makes line name code out text → Finds old line.input name code → mid ≡ old → new ≡ written mid ((out, text) ∷ []) → Done words old new
-done_work words line name code out text old mid new is made found same whole = λ contents told.
-    ((out, text) ∷ [], job_write words line old contents name code out text is made found told, whole ∙ ap (λ (t : Told). written t ((out, text) ∷ [])) same)
+pub done_work : (words : List Name) (line : Line) (name : List ℕ) (code : List ConstantInstr) (files : List (Name × List ℕ)) (old mid new : Told) → line_of words ≡ Some line → Makes line name code files → Finds old line.input name code → mid ≡ old → new ≡ written mid files → Done words old new
+done_work words line name code files old mid new is made found same whole = λ contents told.
+    (files, job_write words line old contents name code files is made found told, whole ∙ ap (λ (t : Told). written t files) same)
 
-pub unit_written : (words : List Name) (line : Line) (name : List ℕ) (code : List ConstantInstr) (out text : List ℕ) (old mid new : Told) → line_of words ≡ Some line → Makes line name code out text → Finds old line.input name code → mid ≡ old → new ≡ written mid ((out, text) ∷ [])
-    → IsTranslation (module_name_of line.input) name code text → WritesUnit words old new
-unit_written words line name code out text old mid new is made found same whole translation = λ contents told. (line, is, unit contents told (found contents told))
+-- two files of distinct names stand, the first one too
+first_stands : (contents : Contents) (new : Told) (name other : Name) (text more : List ℕ) → (name ≡ other → ⊥) → new ≡ written (Some contents) ((name, text) ∷ (other, more) ∷ []) → HasFile new name text
+first_stands contents new name other text more apart is =
+    subst (λ (t : Told). HasFile t name text) (sym is) (get_other (insert contents name text) other more name apart ∙ get_here contents name text)
+
+second_stands : (contents : Contents) (new : Told) (name other : Name) (text more : List ℕ) → new ≡ written (Some contents) ((name, text) ∷ (other, more) ∷ []) → HasFile new other more
+second_stands contents new name other text more is =
+    subst (λ (t : Told). HasFile t other more) (sym is) (get_here (insert contents name text) other more)
+
+pub unit_written : (words : List Name) (line : Line) (name : List ℕ) (code : List ConstantInstr) (files : List (Name × List ℕ)) (old mid new : Told) → line_of words ≡ Some line → Makes line name code files → Finds old line.input name code → mid ≡ old → new ≡ written mid files
+    → IsTranslation (module_name_of line.input) name code (text_of (module_name_of line.input) name code) → WritesUnit words old new
+unit_written words line name code files old mid new is made found same whole translation = λ contents told. (line, is, unit contents told (found contents told))
   where
-    stands : (contents : Contents) → old ≡ Some contents → HasFile new line.output text
-    stands contents told =
-        let is_new : new ≡ holding (Some contents) out text = whole ∙ ap (λ (t : Told). holding t out text) (same ∙ told) in
-        subst (λ (n : Name). HasFile new n text) made.to_output (subst (λ (t : Told). HasFile t out text) (sym is_new) (get_here contents out text))
+    text : List ℕ
+    text = text_of (module_name_of line.input) name code
+
+    header : List ℕ
+    header = header_of (module_name_of line.input) name
+
+    is_new : (contents : Contents) → old ≡ Some contents → new ≡ written (Some contents) ((line.output, text) ∷ (header_name_of line.output, header) ∷ [])
+    is_new contents told = whole ∙ ap (written mid) made ∙ ap (λ (t : Told). written t ((line.output, text) ∷ (header_name_of line.output, header) ∷ [])) (same ∙ told)
 
     unit : (contents : Contents) → old ≡ Some contents → (bytes : List ℕ) × (get contents line.input ≡ Some bytes) × IsConstantModule bytes name code → HoldsUnit line contents new
     unit contents told (bytes, held, built) = record {
@@ -93,6 +123,7 @@ unit_written words line name code out text old mid new is made found same whole 
       text = text;
       held = held;
       built = built;
-      stands = stands contents told;
+      stands = first_stands contents new line.output (header_name_of line.output) text header (is_apart line.output (output_is_c_file words line is)) (is_new contents told);
+      header_stands = second_stands contents new line.output (header_name_of line.output) text header (is_new contents told);
       translation = translation;
     }

@@ -1,5 +1,5 @@
 -- The reading of a command line: FILE -o OUT.c
-use Rattle.std.specs.Prelude.{ℕ, ◌-◌, ◌==◌, ◌&&◌, nat_le, Bool, List, [], ◌∷◌, length, map, drop, Option, Some, None, if◌then◌else◌, codes, String, string_bytes}
+use Rattle.std.specs.Prelude.{ℕ, ◌-◌, ◌==◌, ◌&&◌, nat_le, Bool, List, [], ◌∷◌, ◌++◌, length, map, take, drop, Option, Some, None, if◌then◌else◌, codes, String, string_bytes}
 use Rattle.std.specs.Str.{bytes_eq}
 use Rattle.std.specs.List.{after_last, before_last}
 use Rattle.std.specs.declared.alloc.Global.{Global}
@@ -36,6 +36,10 @@ module_name_of file = without_ending (after_last is_slash file)
 -- it ends in .c and has at least 3 bytes
 abbrev pub is_c_file : Name → Bool
 is_c_file name = nat_le 3 (length name) && bytes_eq (drop (length name - 2) name) (codes ".c")
+
+-- the header beside a C file: its name with .h in place of .c
+abbrev pub header_name_of : Name → Name
+header_name_of out = take (length out - 2) out ++ codes ".h"
 
 -- it has 1 to 1,024 bytes
 abbrev pub is_module_name : List ℕ → Bool

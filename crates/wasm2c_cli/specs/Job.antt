@@ -6,7 +6,8 @@ use Rattle.wasm_tree.specs.ConstantModule.{IsConstantModule}
 use Rattle.wasm_tree.specs.declared.constant_module.ConstantInstr.{ConstantInstr}
 use Rattle.wasm2c_cli.specs.declared.stop.Cause.{Cause}
 use Rattle.wasm2c_cli.specs.declared.stop.Cause.TheVariants.{NotBuilt}
-use Rattle.wasm2c_cli.specs.CommandLine.{Line, line_of, module_name_of}
+use Rattle.wasm2c_cli.specs.CommandLine.{Line, header_name_of, line_of, module_name_of}
+use Rattle.w2c_sim.specs.Headers.{header_of}
 use Rattle.w2c_sim.specs.Translation.{text_of}
 
 pub data Job : Type 0 where
@@ -19,19 +20,19 @@ pub data Job : Type 0 where
 abbrev pub IsBuilt : List ℕ → Type 0
 IsBuilt bytes = (name : List ℕ) × (code : List ConstantInstr) × IsConstantModule bytes name code
 
--- the file that a line names holds a module, and these are the files to write: its C text
+-- what is made of a line and a module: the C file, then the header
+abbrev pub Makes : Line → List ℕ → List ConstantInstr → List (Name × List ℕ) → Type 0
+Makes line name code files =
+    files ≡ (line.output, text_of (module_name_of line.input) name code) ∷ (header_name_of line.output, header_of (module_name_of line.input) name) ∷ []
+
+-- the file that a line names holds a module, and these are the files to write
 pub record Translates (line : Line) (contents : Contents) (files : List (Name × List ℕ)) : Type 0 where
   pub bytes : List ℕ
   pub name : List ℕ
   pub code : List ConstantInstr
   pub held : get contents line.input ≡ Some bytes
   pub built : IsConstantModule bytes name code
-  pub written : files ≡ (line.output, text_of (module_name_of line.input) name code) ∷ []
-
--- what is made of a line and a module: the output's name, and the C text
-pub record Makes (line : Line) (name : List ℕ) (code : List ConstantInstr) (out text : List ℕ) : Type 0 where
-  pub to_output : out ≡ line.output
-  pub is_text : text ≡ text_of (module_name_of line.input) name code
+  pub written : Makes line name code files
 
 -- what a line asks for
 abbrev pub IsJobOf : Line → Contents → Job → Type 0

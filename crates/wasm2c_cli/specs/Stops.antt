@@ -7,11 +7,12 @@ use Rattle.w2c_io.specs.Telling.{Tells}
 use Rattle.c_tree.specs.Tree as tree
 use Rattle.wasm_tree.specs.ConstantModule.{IsConstantModule}
 use Rattle.wasm_tree.specs.declared.constant_module.ConstantInstr.{ConstantInstr}
+use Rattle.w2c_sim.specs.Headers.{header_of}
 use Rattle.w2c_sim.specs.Simulation.{IsTranslation}
 use Rattle.wasm2c_cli.specs.declared.stop.Cause.TheVariants.{NotBuilt}
 use Rattle.wasm2c_cli.specs.declared.stop.Stop.{Stop}
 use Rattle.wasm2c_cli.specs.declared.stop.Stop.TheVariants as stops
-use Rattle.wasm2c_cli.specs.CommandLine.{Line, line_of, module_name_of}
+use Rattle.wasm2c_cli.specs.CommandLine.{Line, header_name_of, line_of, module_name_of}
 use Rattle.wasm2c_cli.specs.Job.{Missing, Refused, Write, IsBuilt, IsJob}
 use Rattle.wasm2c_cli.specs.Standing.{IsOneOf, file_names, written, Stands, StandsAt}
 
@@ -41,10 +42,10 @@ abbrev pub IsInput : Name → Option Line → Type 0
 IsInput name None = ⊥
 IsInput name (Some line) = name ≡ line.input
 
--- the file that the words say is to be written
+-- one of the files that the words say are to be written
 abbrev pub IsOutput : Name → Option Line → Type 0
 IsOutput name None = ⊥
-IsOutput name (Some line) = name ≡ line.output
+IsOutput name (Some line) = (name ≡ line.output) ⊎ (name ≡ header_name_of line.output)
 
 -- where nothing was written, the same file is current
 abbrev pub KeepsCurrent : Option Name → Option Name → Stop → Type 0
@@ -59,7 +60,7 @@ abbrev pub Done : List Name → Told → Told → Type 0
 Done words old new = Tells old (λ contents. (files : List (Name × List ℕ)) × IsJob words contents (Write files) × (new ≡ written old files))
 
 -- the output holds the text of a unit, with the symbols of the module's name and the export's, that
--- does what the module in the input does
+-- does what the module in the input does, and the file beside it the header
 pub record HoldsUnit (line : Line) (contents : Contents) (new : Told) : Type 0 where
   pub bytes : List ℕ
   pub name : List ℕ
@@ -68,6 +69,7 @@ pub record HoldsUnit (line : Line) (contents : Contents) (new : Told) : Type 0 w
   pub held : get contents line.input ≡ Some bytes
   pub built : IsConstantModule bytes name code
   pub stands : HasFile new line.output text
+  pub header_stands : HasFile new (header_name_of line.output) (header_of (module_name_of line.input) name)
   pub translation : IsTranslation (module_name_of line.input) name code text
 
 abbrev pub WritesUnit : List Name → Told → Told → Type 0

@@ -33,6 +33,15 @@ return i0;
 }
 ";
 
+const TWO_H: &str = "/* made by wasm2c; int has 32 bits and every character of a name counts */
+#ifndef W2CZ_twoZ_H
+#define W2CZ_twoZ_H
+#include \"w2c_rt.h\"
+void w2cZ_twoZ_i(void);
+u32 w2cZ_twoZ_fZ_f(void);
+#endif
+";
+
 // The first 26 bytes of TWO, and another code section.
 fn with_code(alloc: Global, code: &[u8]) -> Result<Vec<u8>, Fail> {
     let mut bytes = TWO[..26].to_vec(alloc)?;
@@ -65,7 +74,7 @@ fn two_constants(rt: HostRuntime) -> Result<(), Fail> {
     files.add("in/two.wasm", &TWO)?;
     assert_eq!(rt; sure_top(alloc, words.as_slice(), &mut files, &mut err), 0);
     assert_eq!(rt; files.get("two.c"), Some(TWO_C.as_bytes()));
-    assert!(rt; files.get("two.h").is_none());
+    assert_eq!(rt; files.get("two.h"), Some(TWO_H.as_bytes()));
     assert_eq!(rt; err.bytes(), b"".as_slice());
     Ok(())
 }
@@ -81,6 +90,8 @@ fn a_negative_constant(rt: HostRuntime) -> Result<(), Fail> {
     assert_eq!(rt; sure_top(alloc, words.as_slice(), &mut files, &mut err), 0);
     let end = b"i0 = 4294967295u;\nreturn i0;\n}\n".as_slice();
     assert!(rt; files.get("n.c").is_some_and(|text| text.ends_with(end)));
+    let lines = b"void w2cZ_nZ_i(void);\nu32 w2cZ_nZ_fZ_f(void);\n#endif\n".as_slice();
+    assert!(rt; files.get("n.h").is_some_and(|text| text.ends_with(lines)));
     Ok(())
 }
 
@@ -128,13 +139,18 @@ fn bad_command_lines(rt: HostRuntime) -> Result<(), Fail> {
     Ok(())
 }
 
-// The status where one call fails; two.c holds a text before.
-fn status_with_fault(alloc: Global, call: FileCall, files: &mut MemFiles) -> Result<u8, Fail> {
+// The status where one call fails, the nth of its kind; two.c holds a text before.
+fn status_with_fault(
+    alloc: Global,
+    call: FileCall,
+    nth: u64,
+    files: &mut MemFiles,
+) -> Result<u8, Fail> {
     let words = words(alloc, &["two.wasm", "-o", "two.c"])?;
     let mut err = MemSink::new(alloc);
     files.add("two.wasm", &TWO)?;
     files.add("two.c", b"before")?;
-    files.fail(call, 1)?;
+    files.fail(call, nth)?;
     Ok(wasm2c_top(alloc, words.as_slice(), files, &mut err))
 }
 
@@ -142,16 +158,40 @@ fn status_with_fault(alloc: Global, call: FileCall, files: &mut MemFiles) -> Res
 fn faults_of_the_outside(rt: HostRuntime) -> Result<(), Fail> {
     let alloc = rt.alloc();
     let mut files = MemFiles::new(alloc);
-    assert_eq!(rt; status_with_fault(alloc, FileCall::Read, &mut files)?, 3);
+    assert_eq!(rt; status_with_fault(alloc, FileCall::Read, 1, &mut files)?, 3);
     assert_eq!(rt; files.get("two.c"), Some(b"before".as_slice()));
     let mut files = MemFiles::new(alloc);
-    assert_eq!(rt; status_with_fault(alloc, FileCall::Begin, &mut files)?, 4);
+    assert_eq!(rt;
+        status_with_fault(alloc, FileCall::Begin, 1, &mut files)?,
+        4
+    );
     assert_eq!(rt; files.get("two.c"), Some(b"before".as_slice()));
     let mut files = MemFiles::new(alloc);
-    assert_eq!(rt; status_with_fault(alloc, FileCall::Put, &mut files)?, 4);
+    assert_eq!(rt; status_with_fault(alloc, FileCall::Put, 1, &mut files)?, 4);
     assert!(rt;
         files.get("two.c").is_some_and(|text| TWO_C.as_bytes().starts_with(text)
             && !text.is_empty())
+    );
+    Ok(())
+}
+
+#[test]
+fn a_fault_at_the_header_leaves_the_c_file(rt: HostRuntime) -> Result<(), Fail> {
+    let alloc = rt.alloc();
+    let mut files = MemFiles::new(alloc);
+    assert_eq!(rt;
+        status_with_fault(alloc, FileCall::Begin, 2, &mut files)?,
+        4
+    );
+    assert_eq!(rt; files.get("two.c"), Some(TWO_C.as_bytes()));
+    assert!(rt; files.get("two.h").is_none());
+    let mut files = MemFiles::new(alloc);
+    assert_eq!(rt; status_with_fault(alloc, FileCall::Put, 2, &mut files)?, 4);
+    assert_eq!(rt; files.get("two.c"), Some(TWO_C.as_bytes()));
+    assert!(rt;
+        files
+            .get("two.h")
+            .is_some_and(|text| TWO_H.as_bytes().starts_with(text))
     );
     Ok(())
 }

@@ -1,9 +1,10 @@
 // The words of a command line.
-ghost use Rattle.std.specs.Prelude.{◌≡◌, string_bytes};
-ghost use Rattle.wasm2c_cli.specs.CommandLine.{is_c_file as is_c_file_name, is_line as is_line_of, is_module_name as is_module_name_of, line_of, texts};
+ghost use Rattle.std.specs.Prelude.{◌≡◌, IfOk, IsTrue, string_bytes};
+ghost use Rattle.wasm2c_cli.specs.CommandLine.{is_c_file as is_c_file_name, is_line as is_line_of, is_module_name as is_module_name_of, header_name_of, line_of, texts};
 ghost use Rattle.wasm2c_cli.specs.Seen.{seen_line};
 
 use crate::module_name::module_name;
+use std::alloc::AllocError;
 
 /// The file to read, and the file to write.
 #[derive(Clone, Copy)]
@@ -26,6 +27,17 @@ pub fn read_words(words: &[String]) -> Option<Line<'_>>
         return Some(Line { input, output });
     }
     None
+}
+
+/// The name of the header beside a C file: `.h` in place of `.c`.
+pub fn header_name(output: &String) -> Result<String, AllocError>
+    requires { IsTrue (is_c_file_name (string_bytes output.now)) }
+    ensures { IfOk result (λ name. string_bytes name ≡ header_name_of (string_bytes output.now)) }
+{
+    let mut name = output.clone()?;
+    name.pop();
+    name.push('h')?;
+    Ok(name)
 }
 
 fn is_line(input: &String, flag: &String, output: &String) -> bool

@@ -1,24 +1,25 @@
 // The work that a command line asks for.
-ghost use Rattle.std.specs.Prelude.{◌≡◌, ◌≤◌, OnOk, IfOk, IfErr, None, string_bytes};
-ghost use Rattle.wasm2c_cli.specs.CommandLine.{line_of, module_name_of, texts};
+ghost use Rattle.std.specs.Prelude.{◌≡◌, ◌≤◌, OnOk, IfOk, IfErr, IsTrue, None, string_bytes};
+ghost use Rattle.wasm2c_cli.specs.CommandLine.{is_c_file, line_of, module_name_of, texts};
 ghost use Rattle.wasm2c_cli.specs.Job.{Makes};
 ghost use Rattle.wasm2c_cli.specs.Seen.{names_of_line};
+ghost use Rattle.wasm2c_cli.specs.SeenOutputs.{seen_outputs};
 ghost use Rattle.wasm2c_cli.specs.Stops.{Done, KeepsCurrent, StopsWork, WritesUnit};
 ghost use Rattle.w2c_sim.specs.Simulation.{IsTranslation};
-ghost use Rattle.w2c_sim.specs.Translation.{IsSpelledModule};
+ghost use Rattle.w2c_sim.specs.Translation.{text_of, IsSpelledModule};
 
 use crate::module_name::module_name;
 use crate::reading::read_module;
 use crate::stop::Stop;
-use crate::words::{Line, read_words};
+use crate::words::{Line, header_name, read_words};
 use crate::writing::{Output, write_all};
 use std::alloc::Global;
 use w2c_base::Memory;
 use w2c_io::Files;
-use w2c_sim::unit_text;
+use w2c_sim::{unit_header, unit_text};
 use wasm_tree::ConstantModule;
 
-/// Reads the words, then the file, translates it, and writes the text.
+/// Reads the words, then the file, translates it, and writes the C file, then the header.
 pub fn work<F: Files>(alloc: Global, words: &[String], files: &mut F) -> Result<(), Stop>
     ensures done { OnOk result (Done (texts words.now) (F.told files.old) (F.told files.new)) }
     ensures unit { OnOk result (WritesUnit (texts words.now) (F.told files.old) (F.told files.new)) }
@@ -36,22 +37,33 @@ pub fn work<F: Files>(alloc: Global, words: &[String], files: &mut F) -> Result<
         Ok(module) => module,
         Err(stop) => return Err(stop),
     };
-    let output = make_output(alloc, &line, &module)?;
-    match write_all(&[output], files) {
+    let outputs = make_outputs(alloc, &line, &module)?;
+    match write_all(&outputs, files) {
         Ok(()) => Ok(()),
         Err(stop) => Err(stop),
     }
 }
 
-// The file to write, with the C text of a module.
-fn make_output(alloc: Global, line: &Line<'_>, module: &ConstantModule) -> Result<Output, Memory>
-    requires { IsSpelledModule «module».now.name «module».now.code }
-    ensures made { IfOk result (λ output. Makes (names_of_line line.now) «module».now.name «module».now.code
-        (string_bytes output.name) output.text) }
-    ensures translated { IfOk result (λ output. IsTranslation (module_name_of (string_bytes line.now.input.now))
-        «module».now.name «module».now.code output.text) }
+// The files to write: the C text of a module, then its header.
+fn make_outputs(
+    alloc: Global,
+    line: &Line<'_>,
+    module: &ConstantModule,
+) -> Result<[Output; 2], Memory>
+    requires spelled { IsSpelledModule «module».now.name «module».now.code }
+    requires c_file { IsTrue (is_c_file (string_bytes line.now.output.now)) }
+    ensures made { IfOk result (λ outputs. Makes (names_of_line line.now) «module».now.name «module».now.code (seen_outputs outputs)) }
+    ensures translated { OnOk result (IsTranslation (module_name_of (string_bytes line.now.input.now)) «module».now.name «module».now.code
+        (text_of (module_name_of (string_bytes line.now.input.now)) «module».now.name «module».now.code)) }
 {
-    let text = unit_text(alloc, module_name(line.input.as_bytes()), module)?;
-    let name = line.output.clone()?;
-    Ok(Output { name, text })
+    let module_name = module_name(line.input.as_bytes());
+    let unit = Output {
+        name: line.output.clone()?,
+        text: unit_text(alloc, module_name, module)?,
+    };
+    let header = Output {
+        name: header_name(line.output)?,
+        text: unit_header(alloc, module_name, module)?,
+    };
+    Ok([unit, header])
 }

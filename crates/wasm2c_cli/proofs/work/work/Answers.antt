@@ -1,6 +1,7 @@
-use Rattle.std.proofs.Common.{◌≡◌, rules, string_bytes, Some}
+use Rattle.std.proofs.Common.{◌≡◌, rules, Some}
 use Rattle.wasm2c_cli.specs.CommandLine.{Line, line_of, texts}
 use Rattle.wasm2c_cli.specs.Seen.{names_of_line}
+use Rattle.wasm2c_cli.specs.SeenOutputs.{seen_outputs}
 use Rattle.wasm2c_cli.proofs.WorkLaws.{reading_stops_work, writing_stops_work, done_work, unit_written}
 use Rattle.wasm2c_cli.proofs.work.work.Goals as goal
 
@@ -16,21 +17,18 @@ returns-in-Ok-write_all-clause-done g c =
     let told = g.F.Files.told in
     let line : Line = names_of_line c.in-Some.line in
     let is : line_of (texts c.args.words.now) ≡ Some line = search rules in
-    let output = c.in_ok-output.output in
-    done_work (texts c.args.words.now) line c.in-Ok.module.name c.in-Ok.module.code (string_bytes output.name) output.text (told c.args.files.now) (told c.read_module.new.files) (told c.write_all.new.files) is c.in_ok-output.ensures.made c.in-Ok.ensures.found c.in-Ok.ensures.told c.in-Ok-write_all.ensures.whole
+    done_work (texts c.args.words.now) line c.in-Ok.module.name c.in-Ok.module.code (seen_outputs c.in_ok-outputs.outputs) (told c.args.files.now) (told c.read_module.new.files) (told c.write_all.new.files) is c.in_ok-outputs.ensures.made c.in-Ok.ensures.found c.in-Ok.ensures.told c.in-Ok-write_all.ensures.whole
 
 pub returns-in-Ok-write_all-clause-unit : goal.returns-in-Ok-write_all-clause-unit
 returns-in-Ok-write_all-clause-unit g c =
     let told = g.F.Files.told in
     let line : Line = names_of_line c.in-Some.line in
     let is : line_of (texts c.args.words.now) ≡ Some line = search rules in
-    let output = c.in_ok-output.output in
-    unit_written (texts c.args.words.now) line c.in-Ok.module.name c.in-Ok.module.code (string_bytes output.name) output.text (told c.args.files.now) (told c.read_module.new.files) (told c.write_all.new.files) is c.in_ok-output.ensures.made c.in-Ok.ensures.found c.in-Ok.ensures.told c.in-Ok-write_all.ensures.whole c.in_ok-output.ensures.translated
+    unit_written (texts c.args.words.now) line c.in-Ok.module.name c.in-Ok.module.code (seen_outputs c.in_ok-outputs.outputs) (told c.args.files.now) (told c.read_module.new.files) (told c.write_all.new.files) is c.in_ok-outputs.ensures.made c.in-Ok.ensures.found c.in-Ok.ensures.told c.in-Ok-write_all.ensures.whole c.in_ok-outputs.ensures.translated
 
 pub returns-clause-stop : goal.returns-clause-stop
 returns-clause-stop g c =
     let files = g.F.Files in
     let line : Line = names_of_line c.in-Some.line in
     let is : line_of (texts c.args.words.now) ≡ Some line = search rules in
-    let output = c.in_ok-output.output in
-    writing_stops_work (texts c.args.words.now) line c.in-Ok.module.name c.in-Ok.module.code (string_bytes output.name) output.text (files.told c.args.files.now) (files.told c.read_module.new.files) (files.told c.write_all.new.files) (files.read_faults c.args.files.now) (files.read_faults c.write_all.new.files) (files.write_faults c.args.files.now) (files.write_faults c.read_module.new.files) (files.write_faults c.write_all.new.files) (files.fault_name c.write_all.new.files) c.in-Err-write_all.stop is c.in_ok-output.ensures.made c.in-Ok.ensures.found c.in-Ok.ensures.told c.in-Ok.ensures.writes c.in-Err-write_all.ensures.stop
+    writing_stops_work (texts c.args.words.now) line c.in-Ok.module.name c.in-Ok.module.code (seen_outputs c.in_ok-outputs.outputs) (files.told c.args.files.now) (files.told c.read_module.new.files) (files.told c.write_all.new.files) (files.read_faults c.args.files.now) (files.read_faults c.write_all.new.files) (files.write_faults c.args.files.now) (files.write_faults c.read_module.new.files) (files.write_faults c.write_all.new.files) (files.fault_name c.write_all.new.files) c.in-Err-write_all.stop is c.in_ok-outputs.ensures.made c.in-Ok.ensures.found c.in-Ok.ensures.told c.in-Ok.ensures.writes c.in-Err-write_all.ensures.stop
