@@ -25,12 +25,10 @@ pub fn unit_header(
     lines.push((CType::U32, symbol, CTypes::new(alloc)))?;
     let mut name = Bytes::new(alloc);
     name.extend(module_name)?;
-    let text = print_header(
-        alloc,
-        &Header {
-            module: name,
-            lines,
-        },
-    )?;
+    let header = Header {
+        module: name,
+        lines,
+    };
+    let text = print_header(alloc, &header)?;
     Ok(text)
 }

@@ -1,5 +1,5 @@
--- Words ask for at most one job.
-use Rattle.std.proofs.Common.{◌≡◌, ℕ, List, [], ◌∷◌, refl, sym, ◌∙◌, ap, subst, Option, Some, None, MatchOption}
+-- Words ask for at most one job, and the names of its files are distinct.
+use Rattle.std.proofs.Common.{◌≡◌, ℕ, List, [], ◌∷◌, refl, sym, ◌∙◌, ap, subst, Option, Some, None, MatchOption, inl, inr}
 use Rattle.std.specs.FinMap.{get}
 use Rattle.w2c_io.specs.Contents.{Name, Contents}
 use Rattle.wasm_tree.specs.ConstantModule.{IsConstantModule}
@@ -9,6 +9,8 @@ use Rattle.wasm2c_cli.specs.CommandLine.{Line, header_name_of, line_of, module_n
 use Rattle.w2c_sim.specs.Headers.{header_of}
 use Rattle.w2c_sim.specs.Translation.{text_of}
 use Rattle.wasm2c_cli.specs.Job.{Job, Usage, Missing, Refused, Write, IsBuilt, IsJobOf, IsJob, Translates}
+use Rattle.wasm2c_cli.specs.Standing.{file_names, AreDistinct, IsOneOf}
+use Rattle.wasm2c_cli.proofs.HeaderName.{is_apart, output_is_c_file}
 
 -- a file is not there and there, or has two contents
 absent : (contents : Contents) (file other : Name) (bytes : List ℕ) → get contents file ≡ None → get contents other ≡ Some bytes → file ≡ other → ⊥
@@ -53,3 +55,17 @@ by_line (Some line) contents job other p q = one_of_line line contents job other
 
 pub one_job : (words : List Name) (contents : Contents) (job other : Job) → IsJob words contents job → IsJob words contents other → job ≡ other
 one_job words contents job other p q = by_line (line_of words) contents job other p q
+
+no_usage : (files : List (Name × List ℕ)) → Write files ≡ Usage → ⊥
+no_usage files e = cc
+
+distinct_by_line : (words : List Name) (line : Option Line) (contents : Contents) (files : List (Name × List ℕ)) → line_of words ≡ line → MatchOption line (Write files ≡ Usage) (λ l. IsJobOf l contents (Write files)) → AreDistinct (file_names files)
+distinct_by_line words None contents files is job = absurd (no_usage files job)
+distinct_by_line words (Some line) contents files is job = subst (λ (all : List (Name × List ℕ)). AreDistinct (file_names all)) (sym job.written) (apart, ((λ none. absurd none), tt))
+  where
+    apart : IsOneOf line.output (header_name_of line.output ∷ []) → ⊥
+    apart (inl same) = is_apart line.output (output_is_c_file words line is) same
+    apart (inr none) = absurd none
+
+pub distinct_files : (words : List Name) (contents : Contents) (files : List (Name × List ℕ)) → IsJob words contents (Write files) → AreDistinct (file_names files)
+distinct_files words contents files job = distinct_by_line words (line_of words) contents files refl job

@@ -37,7 +37,7 @@ module_name_of file = without_ending (after_last is_slash file)
 abbrev pub is_c_file : Name → Bool
 is_c_file name = nat_le 3 (length name) && bytes_eq (drop (length name - 2) name) (codes ".c")
 
--- the header beside a C file: its name with .h in place of .c
+-- the header's name, beside a C file: .h in place of .c
 abbrev pub header_name_of : Name → Name
 header_name_of out = take (length out - 2) out ++ codes ".h"
 

@@ -14,7 +14,7 @@ mod words;
 mod work;
 mod writing;
 
-pub use law::{one_job, written_files};
+pub use law::{distinct_files, one_job, written_files};
 use std::env;
 use std::process::ExitCode;
 pub use top::{sure_top, wasm2c_top};

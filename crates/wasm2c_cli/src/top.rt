@@ -18,8 +18,8 @@ use crate::work::work;
 use std::alloc::Global;
 use w2c_io::{Files, Sink, SureFiles, SureSink};
 
-/// Does what the words ask for, and gives the exit status: 0 where the text stands, 1 for a file
-/// that is refused, 2 for words without a reading, 3 and 4 for a file that cannot be read or
+/// Does what the words ask for, and gives the exit status: 0 where the C file and the header
+/// stand, 1 for a file that is refused, 2 for words without a reading, 3 and 4 for a file that cannot be read or
 /// written, 5 for want of memory. `words` leaves out the program's name.
 pub fn wasm2c_top<F: Files, E: Sink>(
     alloc: Global,
@@ -32,7 +32,8 @@ pub fn wasm2c_top<F: Files, E: Sink>(
         → (Rose (F.write_faults files.old) (F.write_faults files.new) → ⊥)
         → (result ≡ 5) ⊎ ((job : Job) × IsJob (texts words.now) m job × Answers job result)) }
 
-    // Status 0: the output stands whole and holds such a unit, and nothing else has changed.
+    // Status 0: the output stands whole and holds such a unit, the header stands beside it, and
+    // nothing else has changed.
     ensures done { result ≡ 0 → Done (texts words.now) (F.told files.old) (F.told files.new) }
     ensures unit { result ≡ 0 → WritesUnit (texts words.now) (F.told files.old) (F.told files.new) }
     // The unit does what the module does, both ways, and nothing that is undefined.
