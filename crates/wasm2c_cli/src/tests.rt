@@ -73,8 +73,8 @@ fn two_constants(rt: HostRuntime) -> Result<(), Fail> {
     let mut err = SureSink::new(alloc);
     files.add("in/two.wasm", &TWO)?;
     assert_eq!(rt; sure_top(alloc, words.as_slice(), &mut files, &mut err), 0);
-    assert_eq!(rt; files.get("two.c"), Some(TWO_C.as_bytes()));
-    assert_eq!(rt; files.get("two.h"), Some(TWO_H.as_bytes()));
+    assert!(rt; files.get("two.c").is_some_and(|text| text == TWO_C.as_bytes()));
+    assert!(rt; files.get("two.h").is_some_and(|text| text == TWO_H.as_bytes()));
     assert_eq!(rt; err.bytes(), b"".as_slice());
     Ok(())
 }
