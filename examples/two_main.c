@@ -1,8 +1,7 @@
-/* Calls the function f of the module two. */
+/* Calls the exported function of two.wasm and prints its value. */
 #include <stdio.h>
-#include "w2c_rt.h"
-void w2cZ_twoZ_i(void);
-u32 w2cZ_twoZ_fZ_f(void);
+#include "two.h"
+
 int main(void) {
     w2cZ_twoZ_i();
     printf("%lu\n", (unsigned long)w2cZ_twoZ_fZ_f());

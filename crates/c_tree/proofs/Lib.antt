@@ -12,3 +12,7 @@ pub mod SameWords
 pub mod SameExpressions
 pub mod SameStatements
 pub mod OneUnit
+pub mod Passes
+pub mod PassesExpressions
+pub mod PassesStatements
+pub mod NoFault

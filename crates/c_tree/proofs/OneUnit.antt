@@ -79,7 +79,7 @@ no_local (x ∷ xs) r l more e =
     (let a = append_assoc (type_tokens l.0) (Named l.1 ∷ Fixed tok.Assign ∷ num_token l.2 ∷ Fixed tok.Semicolon ∷ []) more in
     let b = append_assoc (stmt_tokens x) (each stmt_tokens xs) (Fixed tok.RightBrace ∷ r) in cc)
 
-body_front : (x : tree.Body) (r : List Token) → close_tokens (Some x) ++ r ≡ Fixed tok.LeftBrace ∷ (each local_tokens x.locals ++ (each stmt_tokens x.stmts ++ (Fixed tok.RightBrace ∷ r)))
+pub body_front : (x : tree.Body) (r : List Token) → close_tokens (Some x) ++ r ≡ Fixed tok.LeftBrace ∷ (each local_tokens x.locals ++ (each stmt_tokens x.stmts ++ (Fixed tok.RightBrace ∷ r)))
 body_front x r = simp append_assoc
 
 same_close : (d : ℕ) (x y : Option tree.Body) (r s : List Token) → FitsBody d x → FitsBody d y → close_tokens x ++ r ≡ close_tokens y ++ s → (x ≡ y) × (r ≡ s)
@@ -102,7 +102,7 @@ same_static false false t u r s e = (refl, e)
 same_static true false t u r s e = absurd (type_first u tok.WordStatic s (type_tokens t ++ r) refl cc)
 same_static false true t u r s e = absurd (type_first t tok.WordStatic r (type_tokens u ++ s) refl cc)
 
-func_front : (f : tree.Func) (r : List Token) → func_tokens f ++ r
+pub func_front : (f : tree.Func) (r : List Token) → func_tokens f ++ r
     ≡ static_tokens f.is_static ++ (type_tokens f.result ++ (Named f.name ∷ Fixed tok.LeftParen ∷ (separated param_tokens f.params ++ (Fixed tok.RightParen ∷ (close_tokens f.body ++ r)))))
 func_front f r = simp append_assoc
 
@@ -127,7 +127,7 @@ same_func d f g r s p q e =
 
 -- ---- items
 
-abbrev byte_tokens : ℕ → List Token
+abbrev pub byte_tokens : ℕ → List Token
 byte_tokens b = num_token (Plain b) ∷ []
 
 byte_fits : (xs : List ℕ) → AllByRecursion (λ b. b < 256) xs → AllByRecursion (λ b. FitsNum (Plain b)) xs
@@ -170,7 +170,7 @@ no_variable f t n v r s e =
     let k = same_type f.result t behind (Named n ∷ (value_tokens v ++ s)) (λ ts z. cc) (λ ts z. cc) h.1 in
     no_value v s (separated param_tokens f.params ++ (Fixed tok.RightParen ∷ (close_tokens f.body ++ r))) cc
 
-array_front : (n : List ℕ) (count : ℕ) (bytes : List ℕ) (r : List Token) → item_tokens (tree.Array n count bytes) ++ r
+pub array_front : (n : List ℕ) (count : ℕ) (bytes : List ℕ) (r : List Token) → item_tokens (tree.Array n count bytes) ++ r
     ≡ Fixed tok.WordStatic ∷ Fixed tok.WordConst ∷ Fixed tok.WordU8 ∷ Named n ∷ Fixed tok.LeftBracket ∷ num_token (Plain count) ∷ Fixed tok.RightBracket ∷ Fixed tok.Assign ∷ Fixed tok.LeftBrace
     ∷ (separated byte_tokens bytes ++ (Fixed tok.RightBrace ∷ Fixed tok.Semicolon ∷ r))
 array_front n count bytes r = simp append_assoc

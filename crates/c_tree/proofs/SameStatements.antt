@@ -41,7 +41,7 @@ func_type params result = record { params = params; result = result }
 same_func_type : (t u : tree.FuncType) → t.params ≡ u.params → t.result ≡ u.result → t ≡ u
 same_func_type t u e f = ap (λ params. func_type params t.result) e ∙ ap (λ result. func_type u.params result) f
 
-through_front : (t : tree.FuncType) (n : List ℕ) (r : List Token) → through_tokens t n ++ r
+pub through_front : (t : tree.FuncType) (n : List ℕ) (r : List Token) → through_tokens t n ++ r
     ≡ Fixed tok.LeftParen ∷ Fixed tok.Star ∷ Fixed tok.LeftParen ∷ (type_tokens t.result ++ (Fixed tok.LeftParen ∷ Fixed tok.Star ∷ Fixed tok.RightParen ∷ Fixed tok.LeftParen ∷ (separated type_tokens t.params
     ++ (Fixed tok.RightParen ∷ Fixed tok.RightParen ∷ Named n ∷ Fixed tok.RightParen ∷ r))))
 through_front t n r = simp append_assoc
@@ -60,7 +60,7 @@ same_callee (tree.Through t n) (tree.Through u m) r s e =
     let l = same_func_type t u k.0 h.0 in
     (cc, cc)
 
-call_front : (f : tree.Callee) (xs : List tree.Arg) (r : List Token) → call_tokens f xs ++ r ≡ callee_tokens f ++ (Fixed tok.LeftParen ∷ (separated arg_tokens xs ++ (Fixed tok.RightParen ∷ Fixed tok.Semicolon ∷ r)))
+pub call_front : (f : tree.Callee) (xs : List tree.Arg) (r : List Token) → call_tokens f xs ++ r ≡ callee_tokens f ++ (Fixed tok.LeftParen ∷ (separated arg_tokens xs ++ (Fixed tok.RightParen ∷ Fixed tok.Semicolon ∷ r)))
 call_front f xs r = simp append_assoc
 
 same_call : (d : ℕ) (f g : tree.Callee) (xs ys : List tree.Arg) (r s : List Token) → AllByRecursion (FitsArg d) xs → AllByRecursion (FitsArg d) ys → call_tokens f xs ++ r ≡ call_tokens g ys ++ s → (f ≡ g) × (xs ≡ ys) × (r ≡ s)
@@ -105,10 +105,10 @@ same_case x y r s p q here there e = let h = same_num x.0 y.0 p q cc in (same_pa
 
 -- ---- statements
 
-if_front : (o : COp) (a b : tree.Expr) (n : List ℕ) (r : List Token) → stmt_tokens (tree.If o a b n) ++ r ≡ Fixed tok.WordIf ∷ Fixed tok.LeftParen ∷ (expr_tokens a ++ (op_token o ∷ (expr_tokens b ++ (Fixed tok.RightParen ∷ (goto_tokens n ++ r)))))
+pub if_front : (o : COp) (a b : tree.Expr) (n : List ℕ) (r : List Token) → stmt_tokens (tree.If o a b n) ++ r ≡ Fixed tok.WordIf ∷ Fixed tok.LeftParen ∷ (expr_tokens a ++ (op_token o ∷ (expr_tokens b ++ (Fixed tok.RightParen ∷ (goto_tokens n ++ r)))))
 if_front o a b n r = simp append_assoc
 
-switch_front : (e : tree.Expr) (cases : List tree.Case) (n : List ℕ) (r : List Token) → stmt_tokens (tree.Switch e cases n) ++ r
+pub switch_front : (e : tree.Expr) (cases : List tree.Case) (n : List ℕ) (r : List Token) → stmt_tokens (tree.Switch e cases n) ++ r
     ≡ Fixed tok.WordSwitch ∷ Fixed tok.LeftParen ∷ (expr_tokens e ++ (Fixed tok.RightParen ∷ Fixed tok.LeftBrace ∷ (each case_tokens cases ++ (Fixed tok.WordDefault ∷ Fixed tok.Colon ∷ (goto_tokens n ++ (Fixed tok.RightBrace ∷ r))))))
 switch_front e cases n r = simp append_assoc
 

@@ -1,7 +1,8 @@
 // A unit as the list of its items.
 ghost use Rattle.std.specs.Prelude.{◌≡◌, ◌<◌, ◌↔◌, ℕ, List, [], ◌∷◌, ◌++◌, length, slice_index_or, OnOk, OnErr, IsTrue};
+ghost use Rattle.c_tree.specs.declared.token.CReadFault.{CReadFault};
 ghost use Rattle.c_tree.specs.Tree as tree;
-ghost use Rattle.c_tree.specs.Spelled.{CSpells, Formed};
+ghost use Rattle.c_tree.specs.Spelled.{CSpells, CUpto, Formed};
 ghost use Rattle.c_tree.specs.WellFormed.{IsWellFormed};
 
 use crate::formed::all_formed;
@@ -92,6 +93,11 @@ pub fn well_formed_units_are_spelled()
 /// The law that a text spells at most one unit.
 pub fn one_unit()
     ensures { (u v : List tree.Item) (text : List ℕ) → CSpells u text → CSpells v text → u ≡ v }
+{}
+
+/// The law that a text that spells a unit has no first fault.
+pub fn spelled_texts_have_no_fault()
+    ensures { (u : List tree.Item) (text : List ℕ) (fault : CReadFault) → CSpells u text → CUpto text fault → ⊥ }
 {}
 
 #[cfg(test)]
