@@ -9,3 +9,7 @@ pub mod Spelled
 pub mod WellFormed
 pub mod Tests
 pub mod ConstantUnit
+pub mod Runtime
+pub mod Scope
+pub mod Rules
+pub mod FirstBroken
