@@ -13,3 +13,4 @@ pub mod Runtime
 pub mod Scope
 pub mod Rules
 pub mod FirstBroken
+pub mod RuleSamples

@@ -4,11 +4,15 @@
 
 mod formed;
 mod name;
+mod rule_cases;
 mod token;
 mod tree;
 mod unit;
 
 pub use name::words_that_are_names;
+pub use rule_cases::{
+    declaration_cases, ending_cases, expression_cases, name_cases, order_cases, type_cases, use_cases,
+};
 pub use token::{CReadFault, Kind, Part, Suffix, Tok, Wanted};
 pub use tree::{
     Arg, Args, Body, CFuncType, COp, CType, CTypes, Callee, Cases, Expr, Func, Header, HeaderLines,
