@@ -4,7 +4,7 @@ use Rattle.std.proofs.Math.Seq.{get_or-append_seam, take-append_seam}
 use Rattle.std.proofs.lemmas.List.{append_cancel_left}
 use Rattle.std.proofs.lemmas.Slice.Eq.{bytes_eq-Decides}
 use Rattle.w2c_io.specs.Contents.{Name}
-use Rattle.wasm2c_cli.specs.CommandLine.{Line, header_name_of, is_c_file, is_line, line_of}
+use Rattle.wasm2c_cli.specs.CommandLine.{Line, header_name_of, is_c_file, is_line, line_named, line_of, module_name_by}
 
 not_true : IsTrue false → ⊥
 not_true h = cc
@@ -59,14 +59,17 @@ none_some line e = cc
 some_same : (a b : Line) → ◌≡◌ {A = Option Line} (Some a) (Some b) → a ≡ b
 some_same a b e = cc
 
-of_test : (file flag out : Name) (line : Line) (test : Bool) → is_line file flag out ≡ test → ◌≡◌ {A = Option Line} (if test then Some (record { input = file; output = out }) else None) (Some line) → IsTrue (is_c_file line.output)
-of_test file flag out line true passed is =
-    subst (λ (l : Line). IsTrue (is_c_file l.output)) (some_same (record { input = file; output = out }) line is) (first_true _ _ (second_true _ _ passed))
-of_test file flag out line false failed is = absurd (none_some line is)
+of_test : (file flag out : Name) (name : List ℕ) (line : Line) (test : Bool) → is_line flag out name ≡ test → ◌≡◌ {A = Option Line} (if test then Some (record { input = file; output = out; module_name = name }) else None) (Some line) → IsTrue (is_c_file line.output)
+of_test file flag out name line true passed is =
+    subst (λ (l : Line). IsTrue (is_c_file l.output)) (some_same (record { input = file; output = out; module_name = name }) line is) (first_true _ _ (second_true _ _ passed))
+of_test file flag out name line false failed is = absurd (none_some line is)
+
+of_name : (file flag out : Name) (name : Option (List ℕ)) (line : Line) → line_named file flag out name ≡ Some line → IsTrue (is_c_file line.output)
+of_name file flag out None line is = absurd (none_some line is)
+of_name file flag out (Some name) line is = of_test file flag out name line (is_line flag out name) refl is
 
 pub output_is_c_file : (words : List Name) (line : Line) → line_of words ≡ Some line → IsTrue (is_c_file line.output)
 output_is_c_file [] line is = absurd (none_some line is)
 output_is_c_file (file ∷ []) line is = absurd (none_some line is)
 output_is_c_file (file ∷ flag ∷ []) line is = absurd (none_some line is)
-output_is_c_file (file ∷ flag ∷ out ∷ []) line is = of_test file flag out line (is_line file flag out) refl is
-output_is_c_file (file ∷ flag ∷ out ∷ word ∷ words) line is = absurd (none_some line is)
+output_is_c_file (file ∷ flag ∷ out ∷ words) line is = of_name file flag out (module_name_by file words) line is

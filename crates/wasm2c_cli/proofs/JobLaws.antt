@@ -5,7 +5,7 @@ use Rattle.w2c_io.specs.Contents.{Name, Contents}
 use Rattle.wasm_tree.specs.ConstantModule.{IsConstantModule}
 use Rattle.wasm_tree.proofs.OneSpelling.{one_spelling}
 use Rattle.wasm2c_cli.specs.declared.stop.Cause.TheVariants.{NotBuilt}
-use Rattle.wasm2c_cli.specs.CommandLine.{Line, header_name_of, line_of, module_name_of}
+use Rattle.wasm2c_cli.specs.CommandLine.{Line, header_name_of, line_of}
 use Rattle.w2c_sim.specs.Headers.{header_of}
 use Rattle.w2c_sim.specs.Translation.{text_of}
 use Rattle.wasm2c_cli.specs.Job.{Job, Usage, Missing, Refused, Write, IsBuilt, IsJobOf, IsJob, Translates}
@@ -32,7 +32,7 @@ same_files : (line : Line) (contents : Contents) (files others : List (Name × L
 same_files line contents files others t u =
     let bytes = same_bytes contents line.input line.input t.bytes u.bytes t.held u.held refl in
     let parts = one_spelling t.bytes t.name u.name t.code u.code t.built (subst (λ (b : List ℕ). IsConstantModule b u.name u.code) (sym bytes) u.built) in
-    t.written ∙ (λ i. (line.output, text_of (module_name_of line.input) (parts.0 i) (parts.1 i)) ∷ (header_name_of line.output, header_of (module_name_of line.input) (parts.0 i)) ∷ []) ∙ sym u.written
+    t.written ∙ (λ i. (line.output, text_of line.module_name (parts.0 i) (parts.1 i)) ∷ (header_name_of line.output, header_of line.module_name (parts.0 i)) ∷ []) ∙ sym u.written
 
 one_of_line : (line : Line) (contents : Contents) (job other : Job) → IsJobOf line contents job → IsJobOf line contents other → job ≡ other
 one_of_line line contents Usage other p q = absurd p

@@ -13,7 +13,7 @@ use Rattle.w2c_sim.specs.Translation.{text_of}
 use Rattle.wasm2c_cli.specs.declared.stop.Cause.TheVariants.{NotBuilt}
 use Rattle.wasm2c_cli.specs.declared.stop.Stop.{Stop}
 use Rattle.wasm2c_cli.specs.declared.stop.Stop.TheVariants as stops
-use Rattle.wasm2c_cli.specs.CommandLine.{Line, header_name_of, line_of, module_name_of}
+use Rattle.wasm2c_cli.specs.CommandLine.{Line, header_name_of, line_of}
 use Rattle.wasm2c_cli.specs.Job.{Job, Makes, Usage, Missing, Refused, Write, IsJobOf, IsJob}
 use Rattle.wasm2c_cli.specs.Standing.{file_names, written, IsOneOf, Stands, StandsAt}
 use Rattle.wasm2c_cli.specs.Stops.{Faulted, IsInput, IsOutput, StopsReading, StopsWriting, StopsWork, Done, HoldsUnit, WritesUnit}
@@ -61,14 +61,13 @@ job_write words line old contents name code files is made found told =
       written = made;
     })
 
-pub makes : (line : Line) (name : List ℕ) (code : List ConstantInstr) (module_name out text beside header : List ℕ) → module_name ≡ module_name_of line.input → out ≡ line.output → text ≡ text_of module_name name code → beside ≡ header_name_of line.output → header ≡ header_of module_name name
+pub makes : (line : Line) (name : List ℕ) (code : List ConstantInstr) (out text beside header : List ℕ) → out ≡ line.output → text ≡ text_of line.module_name name code → beside ≡ header_name_of line.output → header ≡ header_of line.module_name name
     → Makes line name code ((out, text) ∷ (beside, header) ∷ [])
-makes line name code module_name out text beside header named same is_text is_beside is_header = λ i.
-    (same i, (is_text ∙ ap (λ (m : List ℕ). text_of m name code) named) i) ∷ (is_beside i, (is_header ∙ ap (λ (m : List ℕ). header_of m name) named) i) ∷ []
+makes line name code out text beside header same is_text is_beside is_header = λ i.
+    (same i, is_text i) ∷ (is_beside i, is_header i) ∷ []
 
-pub translated : (module_name same_name name : List ℕ) (code : List ConstantInstr) (text : List ℕ) → same_name ≡ module_name → text ≡ text_of same_name name code → IsTranslation same_name name code text → IsTranslation module_name name code (text_of module_name name code)
-translated module_name same_name name code text same is_text translation =
-    subst (λ (m : List ℕ). IsTranslation m name code (text_of m name code)) same (subst (λ (t : List ℕ). IsTranslation same_name name code t) is_text translation)
+pub translated : (module_name name : List ℕ) (code : List ConstantInstr) (text : List ℕ) → text ≡ text_of module_name name code → IsTranslation module_name name code text → IsTranslation module_name name code (text_of module_name name code)
+translated module_name name code text is_text translation = subst (λ (t : List ℕ). IsTranslation module_name name code t) is_text translation
 
 one_of_two : (name first second : Name) → IsOneOf name (first ∷ second ∷ []) → (name ≡ first) ⊎ (name ≡ second)
 one_of_two name first second (inl e) = inl e
@@ -103,14 +102,14 @@ second_stands contents new name other text more is =
     subst (λ (t : Told). HasFile t other more) (sym is) (get_here (insert contents name text) other more)
 
 pub unit_written : (words : List Name) (line : Line) (name : List ℕ) (code : List ConstantInstr) (files : List (Name × List ℕ)) (old mid new : Told) → line_of words ≡ Some line → Makes line name code files → Finds old line.input name code → mid ≡ old → new ≡ written mid files
-    → IsTranslation (module_name_of line.input) name code (text_of (module_name_of line.input) name code) → WritesUnit words old new
+    → IsTranslation line.module_name name code (text_of line.module_name name code) → WritesUnit words old new
 unit_written words line name code files old mid new is made found same whole translation = λ contents told. (line, is, unit contents told (found contents told))
   where
     text : List ℕ
-    text = text_of (module_name_of line.input) name code
+    text = text_of line.module_name name code
 
     header : List ℕ
-    header = header_of (module_name_of line.input) name
+    header = header_of line.module_name name
 
     is_new : (contents : Contents) → old ≡ Some contents → new ≡ written (Some contents) ((line.output, text) ∷ (header_name_of line.output, header) ∷ [])
     is_new contents told = whole ∙ ap (written mid) made ∙ ap (λ (t : Told). written t ((line.output, text) ∷ (header_name_of line.output, header) ∷ [])) (same ∙ told)

@@ -1,4 +1,4 @@
--- The reading of a command line: FILE -o OUT.c
+-- The reading of a command line: FILE -o OUT.c, then nothing or -n NAME.
 use Rattle.std.specs.Prelude.{ℕ, ◌-◌, ◌==◌, ◌&&◌, nat_le, Bool, List, [], ◌∷◌, ◌++◌, length, map, take, drop, Option, Some, None, if◌then◌else◌, codes, String, string_bytes}
 use Rattle.std.specs.Str.{bytes_eq}
 use Rattle.std.specs.List.{after_last, before_last}
@@ -9,10 +9,11 @@ use Rattle.w2c_io.specs.Contents.{Name}
 abbrev pub texts : List (String Global) → List (List ℕ)
 texts words = map (λ word. string_bytes word) words
 
--- the file to read, and the file to write
+-- the file to read, the file to write, and the module's name
 pub record Line : Type 0 where
   pub input : Name
   pub output : Name
+  pub module_name : List ℕ
 
 abbrev pub is_slash : ℕ → Bool
 is_slash b = b == 47
@@ -29,7 +30,7 @@ or_else (b ∷ bs) other = b ∷ bs
 abbrev pub without_ending : List ℕ → List ℕ
 without_ending name = or_else (before_last is_dot name) name
 
--- a module's name: the part of the file's name after its last `/`, without its ending
+-- a module's name by its file's: the part of that name after its last `/`, without its ending
 abbrev pub module_name_of : Name → List ℕ
 module_name_of file = without_ending (after_last is_slash file)
 
@@ -45,13 +46,25 @@ header_name_of out = take (length out - 2) out ++ codes ".h"
 abbrev pub is_module_name : List ℕ → Bool
 is_module_name name = nat_le 1 (length name) && nat_le (length name) 1024
 
--- FILE -o OUT.c, and what the two names must be
-abbrev pub is_line : Name → Name → Name → Bool
-is_line file flag out = bytes_eq flag (codes "-o") && (is_c_file out && is_module_name (module_name_of file))
+-- -o OUT.c, and what the output's name and the module's must be
+abbrev pub is_line : Name → Name → List ℕ → Bool
+is_line flag out module_name = bytes_eq flag (codes "-o") && (is_c_file out && is_module_name module_name)
+
+-- the module's name by the words behind OUT.c: that of the file where there are none, else -n NAME
+abbrev pub module_name_by : Name → List Name → Option (List ℕ)
+module_name_by file [] = Some (module_name_of file)
+module_name_by file (flag ∷ []) = None
+module_name_by file (flag ∷ name ∷ []) = if bytes_eq flag (codes "-n") then Some name else None
+module_name_by file (flag ∷ name ∷ word ∷ words) = None
+
+-- the line of these words, where they give the module a name
+abbrev pub line_named : Name → Name → Name → Option (List ℕ) → Option Line
+line_named file flag out None = None
+line_named file flag out (Some module_name) =
+    if is_line flag out module_name then Some (record { input = file; output = out; module_name = module_name }) else None
 
 abbrev pub line_of : List Name → Option Line
-line_of (file ∷ flag ∷ out ∷ []) = if is_line file flag out then Some (record { input = file; output = out }) else None
 line_of [] = None
 line_of (file ∷ []) = None
 line_of (file ∷ flag ∷ []) = None
-line_of (file ∷ flag ∷ out ∷ word ∷ words) = None
+line_of (file ∷ flag ∷ out ∷ words) = line_named file flag out (module_name_by file words)

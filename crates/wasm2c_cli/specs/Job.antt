@@ -6,7 +6,7 @@ use Rattle.wasm_tree.specs.ConstantModule.{IsConstantModule}
 use Rattle.wasm_tree.specs.declared.constant_module.ConstantInstr.{ConstantInstr}
 use Rattle.wasm2c_cli.specs.declared.stop.Cause.{Cause}
 use Rattle.wasm2c_cli.specs.declared.stop.Cause.TheVariants.{NotBuilt}
-use Rattle.wasm2c_cli.specs.CommandLine.{Line, header_name_of, line_of, module_name_of}
+use Rattle.wasm2c_cli.specs.CommandLine.{Line, header_name_of, line_of}
 use Rattle.w2c_sim.specs.Headers.{header_of}
 use Rattle.w2c_sim.specs.Translation.{text_of}
 
@@ -23,7 +23,7 @@ IsBuilt bytes = (name : List ℕ) × (code : List ConstantInstr) × IsConstantMo
 -- what is made of a line and a module: the C file, then the header
 abbrev pub Makes : Line → List ℕ → List ConstantInstr → List (Name × List ℕ) → Type 0
 Makes line name code files =
-    files ≡ (line.output, text_of (module_name_of line.input) name code) ∷ (header_name_of line.output, header_of (module_name_of line.input) name) ∷ []
+    files ≡ (line.output, text_of line.module_name name code) ∷ (header_name_of line.output, header_of line.module_name name) ∷ []
 
 -- the file that a line names holds a module, and these are the files to write
 pub record Translates (line : Line) (contents : Contents) (files : List (Name × List ℕ)) : Type 0 where

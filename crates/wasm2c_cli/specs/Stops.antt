@@ -12,7 +12,7 @@ use Rattle.w2c_sim.specs.Simulation.{IsTranslation}
 use Rattle.wasm2c_cli.specs.declared.stop.Cause.TheVariants.{NotBuilt}
 use Rattle.wasm2c_cli.specs.declared.stop.Stop.{Stop}
 use Rattle.wasm2c_cli.specs.declared.stop.Stop.TheVariants as stops
-use Rattle.wasm2c_cli.specs.CommandLine.{Line, header_name_of, line_of, module_name_of}
+use Rattle.wasm2c_cli.specs.CommandLine.{Line, header_name_of, line_of}
 use Rattle.wasm2c_cli.specs.Job.{Missing, Refused, Write, IsBuilt, IsJob}
 use Rattle.wasm2c_cli.specs.Standing.{IsOneOf, file_names, written, Stands, StandsAt}
 
@@ -69,8 +69,8 @@ pub record HoldsUnit (line : Line) (contents : Contents) (new : Told) : Type 0 w
   pub held : get contents line.input ≡ Some bytes
   pub built : IsConstantModule bytes name code
   pub stands : HasFile new line.output text
-  pub header_stands : HasFile new (header_name_of line.output) (header_of (module_name_of line.input) name)
-  pub translation : IsTranslation (module_name_of line.input) name code text
+  pub header_stands : HasFile new (header_name_of line.output) (header_of line.module_name name)
+  pub translation : IsTranslation line.module_name name code text
 
 abbrev pub WritesUnit : List Name → Told → Told → Type 0
 WritesUnit words old new = Tells old (λ contents. (line : Line) × (line_of words ≡ Some line) × HoldsUnit line contents new)
@@ -78,7 +78,7 @@ WritesUnit words old new = Tells old (λ contents. (line : Line) × (line_of wor
 -- such a unit, of which P holds: of the module's name, the export's, the code and the unit
 abbrev pub WritesUnitThat : (List ℕ → List ℕ → List ConstantInstr → List tree.Item → Type 0) → List Name → Told → Told → Type 0
 WritesUnitThat P words old new = Tells old (λ contents. (line : Line) × (line_of words ≡ Some line)
-    × (held : HoldsUnit line contents new) × P (module_name_of line.input) held.name held.code held.translation.unit)
+    × (held : HoldsUnit line contents new) × P line.module_name held.name held.code held.translation.unit)
 
 -- nothing has changed, or some of the job's files stand
 abbrev pub StandsOfJob : List Name → Contents → Told → Told → Type 0

@@ -73,9 +73,38 @@ fn two_constants(rt: HostRuntime) -> Result<(), Fail> {
     let mut err = SureSink::new(alloc);
     files.add("in/two.wasm", &TWO)?;
     assert_eq!(rt; sure_top(alloc, words.as_slice(), &mut files, &mut err), 0);
-    assert!(rt; files.get("two.c").is_some_and(|text| text == TWO_C.as_bytes()));
-    assert!(rt; files.get("two.h").is_some_and(|text| text == TWO_H.as_bytes()));
+    assert!(rt;
+        files
+            .get("two.c")
+            .is_some_and(|text| text == TWO_C.as_bytes())
+    );
+    assert!(rt;
+        files
+            .get("two.h")
+            .is_some_and(|text| text == TWO_H.as_bytes())
+    );
     assert_eq!(rt; err.bytes(), b"".as_slice());
+    Ok(())
+}
+
+#[test]
+fn a_given_name(rt: HostRuntime) -> Result<(), Fail> {
+    let alloc = rt.alloc();
+    let words = words(alloc, &["in/1.wasm", "-o", "out/1.c", "-n", "two"])?;
+    let mut files = SureFiles::new(alloc);
+    let mut err = SureSink::new(alloc);
+    files.add("in/1.wasm", &TWO)?;
+    assert_eq!(rt; sure_top(alloc, words.as_slice(), &mut files, &mut err), 0);
+    assert!(rt;
+        files
+            .get("out/1.c")
+            .is_some_and(|text| text == TWO_C.as_bytes())
+    );
+    assert!(rt;
+        files
+            .get("out/1.h")
+            .is_some_and(|text| text == TWO_H.as_bytes())
+    );
     Ok(())
 }
 
@@ -119,6 +148,8 @@ fn bad_command_lines(rt: HostRuntime) -> Result<(), Fail> {
     let one = words(alloc, &["a.wasm"])?;
     let other_end = words(alloc, &["a.wasm", "-o", "a.h"])?;
     let no_name = words(alloc, &["in/", "-o", "a.c"])?;
+    let empty_name = words(alloc, &["a.wasm", "-o", "a.c", "-n", ""])?;
+    let name_first = words(alloc, &["a.wasm", "-n", "a", "-o", "a.c"])?;
     assert_eq!(rt; wasm2c_top(alloc, one.as_slice(), &mut files, &mut err), 2);
     assert_eq!(rt; err.bytes(), b"wasm2c: bad command line\n".as_slice());
     assert_eq!(rt;
@@ -127,6 +158,14 @@ fn bad_command_lines(rt: HostRuntime) -> Result<(), Fail> {
     );
     assert_eq!(rt;
         wasm2c_top(alloc, no_name.as_slice(), &mut files, &mut err),
+        2
+    );
+    assert_eq!(rt;
+        wasm2c_top(alloc, empty_name.as_slice(), &mut files, &mut err),
+        2
+    );
+    assert_eq!(rt;
+        wasm2c_top(alloc, name_first.as_slice(), &mut files, &mut err),
         2
     );
     let mut absent = MemSink::new(alloc);

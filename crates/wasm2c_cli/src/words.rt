@@ -1,30 +1,33 @@
 // The words of a command line.
-ghost use Rattle.std.specs.Prelude.{◌≡◌, IfOk, IsTrue, string_bytes};
-ghost use Rattle.wasm2c_cli.specs.CommandLine.{is_c_file as is_c_file_name, is_line as is_line_of, is_module_name as is_module_name_of, header_name_of, line_of, texts};
+ghost use Rattle.std.specs.Prelude.{◌≡◌, IfOk, IsTrue, option_copied, string_bytes};
+ghost use Rattle.wasm2c_cli.specs.CommandLine.{is_c_file as is_c_file_name, is_line as is_line_of, is_module_name as is_module_name_of, header_name_of, line_of, module_name_by, texts};
 ghost use Rattle.wasm2c_cli.specs.Seen.{seen_line};
 
 use crate::module_name::module_name;
 use std::alloc::AllocError;
 
-/// The file to read, and the file to write.
+/// The file to read, the file to write, and the module's name.
 #[derive(Clone, Copy)]
 pub struct Line<'a> {
     pub input: &'a String,
     pub output: &'a String,
+    pub module_name: &'a [u8],
 }
 
-/// The reading of the words `FILE -o OUT.c`, None where they have none.
+/// The reading of the words `FILE -o OUT.c [-n NAME]`, None where they have none.
 pub fn read_words(words: &[String]) -> Option<Line<'_>>
     ensures { seen_line result ≡ line_of (texts words.now) }
 {
     let (input, words) = words.split_first()?;
     let (flag, words) = words.split_first()?;
     let (output, words) = words.split_first()?;
-    let None = words.split_first() else {
-        return None;
-    };
-    if is_line(input, flag, output) {
-        return Some(Line { input, output });
+    let module_name = name_by_words(input, words)?;
+    if is_line(flag, output, module_name) {
+        return Some(Line {
+            input,
+            output,
+            module_name,
+        });
     }
     None
 }
@@ -40,12 +43,27 @@ pub fn header_name(output: &String) -> Result<String, AllocError>
     Ok(name)
 }
 
-fn is_line(input: &String, flag: &String, output: &String) -> bool
-    ensures { result ≡ is_line_of (string_bytes input.now) (string_bytes flag.now) (string_bytes output.now) }
+// The module's name: by the words behind OUT.c, or the file's where there are none.
+fn name_by_words<'a>(input: &'a String, words: &'a [String]) -> Option<&'a [u8]>
+    ensures { option_copied result ≡ module_name_by (string_bytes input.now) (texts words.now) }
 {
-    flag.as_str() == "-o"
-        && is_c_file(output.as_bytes())
-        && is_module_name(module_name(input.as_bytes()))
+    let Some((flag, words)) = words.split_first() else {
+        return Some(module_name(input.as_bytes()));
+    };
+    let (name, words) = words.split_first()?;
+    let None = words.split_first() else {
+        return None;
+    };
+    if flag.as_str() == "-n" {
+        return Some(name.as_bytes());
+    }
+    None
+}
+
+fn is_line(flag: &String, output: &String, module_name: &[u8]) -> bool
+    ensures { result ≡ is_line_of (string_bytes flag.now) (string_bytes output.now) module_name.now }
+{
+    flag.as_str() == "-o" && is_c_file(output.as_bytes()) && is_module_name(module_name)
 }
 
 fn is_c_file(name: &[u8]) -> bool

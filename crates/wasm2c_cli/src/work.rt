@@ -1,6 +1,6 @@
 // The work that a command line asks for.
 ghost use Rattle.std.specs.Prelude.{◌≡◌, ◌≤◌, OnOk, IfOk, IfErr, IsTrue, None, string_bytes};
-ghost use Rattle.wasm2c_cli.specs.CommandLine.{is_c_file, line_of, module_name_of, texts};
+ghost use Rattle.wasm2c_cli.specs.CommandLine.{is_c_file, line_of, texts};
 ghost use Rattle.wasm2c_cli.specs.Job.{Makes};
 ghost use Rattle.wasm2c_cli.specs.Seen.{names_of_line};
 ghost use Rattle.wasm2c_cli.specs.SeenOutputs.{seen_outputs};
@@ -8,7 +8,6 @@ ghost use Rattle.wasm2c_cli.specs.Stops.{Done, KeepsCurrent, StopsWork, WritesUn
 ghost use Rattle.w2c_sim.specs.Simulation.{IsTranslation};
 ghost use Rattle.w2c_sim.specs.Translation.{text_of, IsSpelledModule};
 
-use crate::module_name::module_name;
 use crate::reading::read_module;
 use crate::stop::Stop;
 use crate::words::{Line, header_name, read_words};
@@ -53,17 +52,16 @@ fn make_outputs(
     requires spelled { IsSpelledModule «module».now.name «module».now.code }
     requires c_file { IsTrue (is_c_file (string_bytes line.now.output.now)) }
     ensures made { IfOk result (λ outputs. Makes (names_of_line line.now) «module».now.name «module».now.code (seen_outputs outputs)) }
-    ensures translated { OnOk result (IsTranslation (module_name_of (string_bytes line.now.input.now)) «module».now.name «module».now.code
-        (text_of (module_name_of (string_bytes line.now.input.now)) «module».now.name «module».now.code)) }
+    ensures translated { OnOk result (IsTranslation line.now.module_name.now «module».now.name «module».now.code
+        (text_of line.now.module_name.now «module».now.name «module».now.code)) }
 {
-    let module_name = module_name(line.input.as_bytes());
     let unit = Output {
         name: line.output.clone()?,
-        text: unit_text(alloc, module_name, module)?,
+        text: unit_text(alloc, line.module_name, module)?,
     };
     let header = Output {
         name: header_name(line.output)?,
-        text: unit_header(alloc, module_name, module)?,
+        text: unit_header(alloc, line.module_name, module)?,
     };
     Ok([unit, header])
 }
