@@ -1,5 +1,5 @@
-//! Units of the C subset as trees, and which texts spell them: tokens, grammar, and the first
-//! fault of a text that spells none.
+//! Units of the C subset as trees; which texts spell them: tokens, grammar, and the first fault of
+//! a text that spells none; and the rules that a unit keeps.
 #![tactic(auto)]
 
 mod formed;
