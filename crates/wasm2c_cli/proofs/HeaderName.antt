@@ -4,7 +4,7 @@ use Rattle.std.proofs.Math.Seq.{get_or-append_seam, take-append_seam}
 use Rattle.std.proofs.lemmas.List.{append_cancel_left}
 use Rattle.std.proofs.lemmas.Slice.Eq.{bytes_eq-Decides}
 use Rattle.w2c_io.specs.Contents.{Name}
-use Rattle.wasm2c_cli.specs.CommandLine.{Line, header_name_of, is_c_file, is_line, line_named, line_of, module_name_by}
+use Rattle.wasm2c_cli.specs.CommandLine.{Line, header_name_of, is_c_file, is_line, line_named, line_of, module_name_by, runtime_of}
 
 not_true : IsTrue false → ⊥
 not_true h = cc
@@ -27,6 +27,13 @@ pub is_apart : (out : Name) → IsTrue (is_c_file out) → out ≡ header_name_o
 is_apart out h same =
     let ends : codes ".c" ≡ codes ".h" = append_cancel_left (take (length out - 2) out) (codes ".c") (codes ".h") (sym (ends_in_c out h) ∙ same) in
     let last : ◌≡◌ {A = ℕ} 99 104 = ap (λ (l : List ℕ). get_or l 1 0) ends in
+    omega (arith, last)
+
+-- names in one directory that differ at the end
+pub h_is_not_c : (dir : Name) → dir ++ codes "/w2c_rt.h" ≡ dir ++ codes "/w2c_rt.c" → ⊥
+h_is_not_c dir same =
+    let ends : codes "/w2c_rt.h" ≡ codes "/w2c_rt.c" = append_cancel_left dir (codes "/w2c_rt.h") (codes "/w2c_rt.c") same in
+    let last : ◌≡◌ {A = ℕ} 104 99 = ap (λ (l : List ℕ). get_or l 8 0) ends in
     omega (arith, last)
 
 but_last : (front : List ℕ) (b : ℕ) → take (length (front ++ b ∷ []) - 1) (front ++ b ∷ []) ≡ front
@@ -73,3 +80,13 @@ output_is_c_file [] line is = absurd (none_some line is)
 output_is_c_file (file ∷ []) line is = absurd (none_some line is)
 output_is_c_file (file ∷ flag ∷ []) line is = absurd (none_some line is)
 output_is_c_file (file ∷ flag ∷ out ∷ words) line is = of_name file flag out (module_name_by file words) line is
+
+none_some_name : (dir : Name) → ◌≡◌ {A = Option Name} None (Some dir) → ⊥
+none_some_name dir e = cc
+
+-- words that name a directory for the runtime name no file to translate
+pub no_line : (words : List Name) (dir : Name) → runtime_of words ≡ Some dir → line_of words ≡ None
+no_line [] dir is = refl
+no_line (flag ∷ []) dir is = refl
+no_line (flag ∷ name ∷ []) dir is = refl
+no_line (flag ∷ name ∷ word ∷ words) dir is = absurd (none_some_name dir is)

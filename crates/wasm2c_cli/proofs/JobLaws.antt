@@ -1,16 +1,17 @@
 -- Words ask for at most one job, and the names of its files are distinct.
-use Rattle.std.proofs.Common.{◌≡◌, ℕ, List, [], ◌∷◌, refl, sym, ◌∙◌, ap, subst, Option, Some, None, MatchOption, inl, inr}
+use Rattle.std.proofs.Common.{◌≡◌, ℕ, List, [], ◌∷◌, ◌++◌, codes, refl, sym, ◌∙◌, ap, subst, Option, Some, None, MatchOption, inl, inr}
 use Rattle.std.specs.FinMap.{get}
 use Rattle.w2c_io.specs.Contents.{Name, Contents}
 use Rattle.wasm_tree.specs.ConstantModule.{IsConstantModule}
 use Rattle.wasm_tree.proofs.OneSpelling.{one_spelling}
 use Rattle.wasm2c_cli.specs.declared.stop.Cause.TheVariants.{NotBuilt}
-use Rattle.wasm2c_cli.specs.CommandLine.{Line, header_name_of, line_of}
+use Rattle.wasm2c_cli.specs.CommandLine.{Line, header_name_of, line_of, runtime_of}
 use Rattle.w2c_sim.specs.Headers.{header_of}
 use Rattle.w2c_sim.specs.Translation.{text_of}
-use Rattle.wasm2c_cli.specs.Job.{Job, Usage, Missing, Refused, Write, IsBuilt, IsJobOf, IsJob, Translates}
+use Rattle.wasm2c_cli.specs.Job.{Job, Usage, Missing, Refused, Write, IsBuilt, IsJobOf, IsJob, IsOtherJob, Translates}
+use Rattle.wasm2c_cli.specs.Runtime.{runtime_files}
 use Rattle.wasm2c_cli.specs.Standing.{file_names, AreDistinct, IsOneOf}
-use Rattle.wasm2c_cli.proofs.HeaderName.{is_apart, output_is_c_file}
+use Rattle.wasm2c_cli.proofs.HeaderName.{is_apart, h_is_not_c, output_is_c_file}
 
 -- a file is not there and there, or has two contents
 absent : (contents : Contents) (file other : Name) (bytes : List ℕ) → get contents file ≡ None → get contents other ≡ Some bytes → file ≡ other → ⊥
@@ -49,23 +50,35 @@ one_of_line line contents (Write files) (Missing other) p q = absurd (absent con
 one_of_line line contents (Write files) (Refused other NotBuilt) p q = absurd (refused_translated line contents other q.1.0 files q.0 q.1.1 q.1.2 p)
 one_of_line line contents (Write files) (Write others) p q = λ i. Write (same_files line contents files others p q i)
 
-by_line : (line : Option Line) (contents : Contents) (job other : Job) → MatchOption line (job ≡ Usage) (λ l. IsJobOf l contents job) → MatchOption line (other ≡ Usage) (λ l. IsJobOf l contents other) → job ≡ other
-by_line None contents job other p q = p ∙ sym q
-by_line (Some line) contents job other p q = one_of_line line contents job other p q
+by_line : (line : Option Line) (dir : Option Name) (contents : Contents) (job other : Job) → MatchOption line (IsOtherJob dir job) (λ l. IsJobOf l contents job) → MatchOption line (IsOtherJob dir other) (λ l. IsJobOf l contents other) → job ≡ other
+by_line None None contents job other p q = p ∙ sym q
+by_line None (Some dir) contents job other p q = p ∙ sym q
+by_line (Some line) dir contents job other p q = one_of_line line contents job other p q
 
 pub one_job : (words : List Name) (contents : Contents) (job other : Job) → IsJob words contents job → IsJob words contents other → job ≡ other
-one_job words contents job other p q = by_line (line_of words) contents job other p q
+one_job words contents job other p q = by_line (line_of words) (runtime_of words) contents job other p q
 
 no_usage : (files : List (Name × List ℕ)) → Write files ≡ Usage → ⊥
 no_usage files e = cc
 
-distinct_by_line : (words : List Name) (line : Option Line) (contents : Contents) (files : List (Name × List ℕ)) → line_of words ≡ line → MatchOption line (Write files ≡ Usage) (λ l. IsJobOf l contents (Write files)) → AreDistinct (file_names files)
-distinct_by_line words None contents files is job = absurd (no_usage files job)
-distinct_by_line words (Some line) contents files is job = subst (λ (all : List (Name × List ℕ)). AreDistinct (file_names all)) (sym job.written) (apart, ((λ none. absurd none), tt))
+same_write : (files others : List (Name × List ℕ)) → Write files ≡ Write others → files ≡ others
+same_write files others e = cc
+
+distinct_runtime : (dir : Name) → AreDistinct (file_names (runtime_files dir))
+distinct_runtime dir = (apart, ((λ none. absurd none), tt))
+  where
+    apart : IsOneOf (dir ++ codes "/w2c_rt.h") ((dir ++ codes "/w2c_rt.c") ∷ []) → ⊥
+    apart (inl same) = h_is_not_c dir same
+    apart (inr none) = absurd none
+
+distinct_by_line : (words : List Name) (line : Option Line) (dir : Option Name) (contents : Contents) (files : List (Name × List ℕ)) → line_of words ≡ line → MatchOption line (IsOtherJob dir (Write files)) (λ l. IsJobOf l contents (Write files)) → AreDistinct (file_names files)
+distinct_by_line words None None contents files is job = absurd (no_usage files job)
+distinct_by_line words None (Some dir) contents files is job = subst (λ (all : List (Name × List ℕ)). AreDistinct (file_names all)) (sym (same_write files (runtime_files dir) job)) (distinct_runtime dir)
+distinct_by_line words (Some line) dir contents files is job = subst (λ (all : List (Name × List ℕ)). AreDistinct (file_names all)) (sym job.written) (apart, ((λ none. absurd none), tt))
   where
     apart : IsOneOf line.output (header_name_of line.output ∷ []) → ⊥
     apart (inl same) = is_apart line.output (output_is_c_file words line is) same
     apart (inr none) = absurd none
 
 pub distinct_files : (words : List Name) (contents : Contents) (files : List (Name × List ℕ)) → IsJob words contents (Write files) → AreDistinct (file_names files)
-distinct_files words contents files job = distinct_by_line words (line_of words) contents files refl job
+distinct_files words contents files job = distinct_by_line words (line_of words) (runtime_of words) contents files refl job

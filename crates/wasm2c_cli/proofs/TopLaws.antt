@@ -4,15 +4,16 @@ use Rattle.w2c_io.specs.Contents.{Name, Contents, Told}
 use Rattle.w2c_io.specs.Causes.{Rose}
 use Rattle.wasm2c_cli.specs.declared.stop.Stop.{Stop}
 use Rattle.wasm2c_cli.specs.declared.stop.Stop.TheVariants as stops
-use Rattle.wasm2c_cli.specs.CommandLine.{Line, line_of}
-use Rattle.wasm2c_cli.specs.Job.{Job, Usage, Missing, Refused, IsJobOf, IsJob}
+use Rattle.wasm2c_cli.specs.CommandLine.{Line, line_of, runtime_of}
+use Rattle.wasm2c_cli.specs.Job.{Job, Usage, Missing, Refused, IsJobOf, IsJob, IsOtherJob}
 use Rattle.wasm2c_cli.specs.Lines.{status_of}
 use Rattle.wasm2c_cli.specs.Stops.{StandsOfJob, StopsWork, WritesUnit, WritesUnitThat}
 use Rattle.w2c_sim.specs.Simulation.{Backward, Forward, NeverStops}
 use Rattle.wasm2c_cli.specs.Top.{Answers}
 
-usage_job : (words : List Name) (contents : Contents) → line_of words ≡ None → IsJob words contents Usage
-usage_job words contents none = subst (λ (o : Option Line). MatchOption o (Usage ≡ Usage) (λ l. IsJobOf l contents Usage)) (sym none) refl
+usage_job : (words : List Name) (contents : Contents) → line_of words ≡ None → runtime_of words ≡ None → IsJob words contents Usage
+usage_job words contents none nowhere =
+    subst (λ (o : Option Line). MatchOption o (IsOtherJob (runtime_of words) Usage) (λ l. IsJobOf l contents Usage)) (sym none) (subst (λ (o : Option Name). IsOtherJob o Usage) (sym nowhere) refl)
 
 same_contents : (m n : Contents) → ◌≡◌ {A = Told} (Some m) (Some n) → m ≡ n
 same_contents m n e = cc
@@ -20,7 +21,7 @@ same_contents m n e = cc
 -- where no count rose, the stop's status is the job's answer, or want of memory
 stop_answers : (words : List Name) (old new : Told) (r r' w w' : ℕ) (named : Option Name) (status : ℕ) (stop : Stop) → StopsWork words old new r r' w w' named stop → status ≡ status_of stop
     → (contents : Contents) → old ≡ Some contents → (Rose r r' → ⊥) → (Rose w w' → ⊥) → (status ≡ 5) ⊎ ((job : Job) × IsJob words contents job × Answers job status)
-stop_answers words old new r r' w w' named status stops.Usage why is contents told no_reads no_writes = inr (Usage, usage_job words contents why.0, is)
+stop_answers words old new r r' w w' named status stops.Usage why is contents told no_reads no_writes = inr (Usage, usage_job words contents why.0 why.1, is)
 stop_answers words old new r r' w w' named status (stops.Refused file cause) why is contents told no_reads no_writes = inr (Refused (string_bytes file) cause, why.0 contents told, is)
 stop_answers words old new r r' w w' named status (stops.Unread file) why is contents told no_reads no_writes = elim why.1 [
   | inl faulted ↦ absurd (no_reads faulted.rose)
@@ -36,7 +37,7 @@ stop_complete words old new r r' w w' named status stop why (inr five) = λ cont
 
 -- nothing has changed, or some of the job's files stand
 pub stop_stands : (words : List Name) (old new : Told) (r r' w w' : ℕ) (named : Option Name) (stop : Stop) → StopsWork words old new r r' w w' named stop → (contents : Contents) → old ≡ Some contents → StandsOfJob words contents old new
-stop_stands words old new r r' w w' named stops.Usage why contents told = inl why.1
+stop_stands words old new r r' w w' named stops.Usage why contents told = inl why.2
 stop_stands words old new r r' w w' named (stops.Refused file cause) why contents told = inl why.1
 stop_stands words old new r r' w w' named (stops.Unread file) why contents told = inl why.2
 stop_stands words old new r r' w w' named (stops.Unwritten file) why contents told =

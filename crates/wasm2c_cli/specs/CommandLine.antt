@@ -1,4 +1,4 @@
--- The reading of a command line: FILE -o OUT.c, then nothing or -n NAME.
+-- The readings of a command line: FILE -o OUT.c, then nothing or -n NAME, and --runtime DIR.
 use Rattle.std.specs.Prelude.{ℕ, ◌-◌, ◌==◌, ◌&&◌, nat_le, Bool, List, [], ◌∷◌, ◌++◌, length, map, take, drop, Option, Some, None, if◌then◌else◌, codes, String, string_bytes}
 use Rattle.std.specs.Str.{bytes_eq}
 use Rattle.std.specs.List.{after_last, before_last}
@@ -68,3 +68,10 @@ line_of [] = None
 line_of (file ∷ []) = None
 line_of (file ∷ flag ∷ []) = None
 line_of (file ∷ flag ∷ out ∷ words) = line_named file flag out (module_name_by file words)
+
+-- the directory DIR of --runtime DIR
+abbrev pub runtime_of : List Name → Option Name
+runtime_of [] = None
+runtime_of (flag ∷ []) = None
+runtime_of (flag ∷ dir ∷ []) = if bytes_eq flag (codes "--runtime") then Some dir else None
+runtime_of (flag ∷ dir ∷ word ∷ words) = None

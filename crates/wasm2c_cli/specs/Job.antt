@@ -1,12 +1,13 @@
 -- What a command line asks for, over what the files hold.
-use Rattle.std.specs.Prelude.{◌≡◌, ℕ, List, [], ◌∷◌, Some, None, MatchOption}
+use Rattle.std.specs.Prelude.{◌≡◌, ℕ, List, [], ◌∷◌, Option, Some, None, MatchOption}
 use Rattle.std.specs.FinMap.{get}
 use Rattle.w2c_io.specs.Contents.{Name, Contents}
 use Rattle.wasm_tree.specs.ConstantModule.{IsConstantModule}
 use Rattle.wasm_tree.specs.declared.constant_module.ConstantInstr.{ConstantInstr}
 use Rattle.wasm2c_cli.specs.declared.stop.Cause.{Cause}
 use Rattle.wasm2c_cli.specs.declared.stop.Cause.TheVariants.{NotBuilt}
-use Rattle.wasm2c_cli.specs.CommandLine.{Line, header_name_of, line_of}
+use Rattle.wasm2c_cli.specs.CommandLine.{Line, header_name_of, line_of, runtime_of}
+use Rattle.wasm2c_cli.specs.Runtime.{runtime_files}
 use Rattle.w2c_sim.specs.Headers.{header_of}
 use Rattle.w2c_sim.specs.Translation.{text_of}
 
@@ -41,6 +42,11 @@ IsJobOf line contents (Missing file) = (file ≡ line.input) × (get contents fi
 IsJobOf line contents (Refused file NotBuilt) = (file ≡ line.input) × ((bytes : List ℕ) × (get contents file ≡ Some bytes) × (IsBuilt bytes → ⊥))
 IsJobOf line contents (Write files) = Translates line contents files
 
--- usage where the words have no reading, else what their line asks for
+-- what words ask for that name no file to translate: the runtime's files, or usage
+abbrev pub IsOtherJob : Option Name → Job → Type 0
+IsOtherJob None job = job ≡ Usage
+IsOtherJob (Some dir) job = job ≡ Write (runtime_files dir)
+
+-- usage where the words have no reading, else what their line asks for, or the runtime's files
 abbrev pub IsJob : List Name → Contents → Job → Type 0
-IsJob words contents job = MatchOption (line_of words) (job ≡ Usage) (λ line. IsJobOf line contents job)
+IsJob words contents job = MatchOption (line_of words) (IsOtherJob (runtime_of words) job) (λ line. IsJobOf line contents job)

@@ -1,6 +1,7 @@
 pub mod CommandLine
 pub mod Job
 pub mod Lines
+pub mod Runtime
 pub mod Seen
 pub mod SeenOutputs
 pub mod Standing

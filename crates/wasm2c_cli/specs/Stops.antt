@@ -12,8 +12,9 @@ use Rattle.w2c_sim.specs.Simulation.{IsTranslation}
 use Rattle.wasm2c_cli.specs.declared.stop.Cause.TheVariants.{NotBuilt}
 use Rattle.wasm2c_cli.specs.declared.stop.Stop.{Stop}
 use Rattle.wasm2c_cli.specs.declared.stop.Stop.TheVariants as stops
-use Rattle.wasm2c_cli.specs.CommandLine.{Line, header_name_of, line_of}
+use Rattle.wasm2c_cli.specs.CommandLine.{Line, header_name_of, line_of, runtime_of}
 use Rattle.wasm2c_cli.specs.Job.{Missing, Refused, Write, IsBuilt, IsJob}
+use Rattle.wasm2c_cli.specs.Runtime.{runtime_files}
 use Rattle.wasm2c_cli.specs.Standing.{IsOneOf, file_names, written, Stands, StandsAt}
 
 -- a call on the file failed, and the count says so
@@ -43,9 +44,14 @@ IsInput name None = ⊥
 IsInput name (Some line) = name ≡ line.input
 
 -- one of the files that the words say are to be written
-abbrev pub IsOutput : Name → Option Line → Type 0
-IsOutput name None = ⊥
-IsOutput name (Some line) = (name ≡ line.output) ⊎ (name ≡ header_name_of line.output)
+abbrev pub IsOutput : Name → Option Line → Option Name → Type 0
+IsOutput name None None = ⊥
+IsOutput name None (Some dir) = IsOneOf name (file_names (runtime_files dir))
+IsOutput name (Some line) dir = (name ≡ line.output) ⊎ (name ≡ header_name_of line.output)
+
+-- the words have a reading
+abbrev pub HasReading : List Name → Type 0
+HasReading words = line_of words ≡ None → runtime_of words ≡ None → ⊥
 
 -- where nothing was written, the same file is current
 abbrev pub KeepsCurrent : Option Name → Option Name → Stop → Type 0
@@ -86,10 +92,10 @@ StandsOfJob words contents old new = (new ≡ old) ⊎ ((files : List (Name × L
 
 -- why the work stopped
 abbrev pub StopsWork : List Name → Told → Told → ℕ → ℕ → ℕ → ℕ → Option Name → Stop → Type 0
-StopsWork words old new reads reads' writes writes' named stops.Usage = (line_of words ≡ None) × (new ≡ old)
-StopsWork words old new reads reads' writes writes' named (stops.Refused name cause) = Tells old (λ contents. IsJob words contents (Refused (string_bytes name) cause)) × (new ≡ old) × (line_of words ≡ None → ⊥)
+StopsWork words old new reads reads' writes writes' named stops.Usage = (line_of words ≡ None) × (runtime_of words ≡ None) × (new ≡ old)
+StopsWork words old new reads reads' writes writes' named (stops.Refused name cause) = Tells old (λ contents. IsJob words contents (Refused (string_bytes name) cause)) × (new ≡ old) × HasReading words
 StopsWork words old new reads reads' writes writes' named (stops.Unread name) =
     IsInput (string_bytes name) (line_of words) × (Faulted (string_bytes name) reads reads' named ⊎ ((contents : Contents) × (old ≡ Some contents) × IsJob words contents (Missing (string_bytes name)))) × (new ≡ old)
 StopsWork words old new reads reads' writes writes' named (stops.Unwritten name) =
-    IsOutput (string_bytes name) (line_of words) × Faulted (string_bytes name) writes writes' named × Tells old (λ contents. (files : List (Name × List ℕ)) × IsJob words contents (Write files) × StandsAt old new files (string_bytes name)) × (line_of words ≡ None → ⊥)
+    IsOutput (string_bytes name) (line_of words) (runtime_of words) × Faulted (string_bytes name) writes writes' named × Tells old (λ contents. (files : List (Name × List ℕ)) × IsJob words contents (Write files) × StandsAt old new files (string_bytes name)) × HasReading words
 StopsWork words old new reads reads' writes writes' named stops.Memory = Tells old (λ contents. StandsOfJob words contents old new)

@@ -6,6 +6,7 @@ mod law;
 mod module_name;
 mod reading;
 mod report;
+mod runtime;
 mod stop;
 #[cfg(test)]
 mod tests;

@@ -109,6 +109,28 @@ fn a_given_name(rt: HostRuntime) -> Result<(), Fail> {
 }
 
 #[test]
+fn the_runtime(rt: HostRuntime) -> Result<(), Fail> {
+    let alloc = rt.alloc();
+    let words = words(alloc, &["--runtime", "out"])?;
+    let mut files = SureFiles::new(alloc);
+    let mut err = SureSink::new(alloc);
+    assert_eq!(rt; sure_top(alloc, words.as_slice(), &mut files, &mut err), 0);
+    let header = b"#ifndef W2C_RT_H\n".as_slice();
+    let source = b"#include <stdio.h>\n".as_slice();
+    assert!(rt;
+        files
+            .get("out/w2c_rt.h")
+            .is_some_and(|text| text.len() == 969 && text.starts_with(header))
+    );
+    assert!(rt;
+        files
+            .get("out/w2c_rt.c")
+            .is_some_and(|text| text.len() == 2030 && text.starts_with(source))
+    );
+    Ok(())
+}
+
+#[test]
 fn a_negative_constant(rt: HostRuntime) -> Result<(), Fail> {
     let alloc = rt.alloc();
     let words = words(alloc, &["n.wasm", "-o", "n.c"])?;

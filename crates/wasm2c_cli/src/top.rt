@@ -6,7 +6,7 @@ ghost use Rattle.w2c_io.specs.Telling.{Tells, Says, SaysPart};
 ghost use Rattle.w2c_sim.specs.Simulation.{Backward, Forward, NeverStops};
 ghost use Rattle.wasm2c_cli.specs.declared.stop.Cause.{Cause};
 ghost use Rattle.wasm2c_cli.specs.declared.stop.Stop.{Stop as AnyStop};
-ghost use Rattle.wasm2c_cli.specs.CommandLine.{line_of, texts};
+ghost use Rattle.wasm2c_cli.specs.CommandLine.{line_of, runtime_of, texts};
 ghost use Rattle.wasm2c_cli.specs.Job.{IsJob, Job, Missing, Refused, Write};
 ghost use Rattle.wasm2c_cli.specs.Lines.{line_for, read_line, refused_line, usage_line, write_line};
 ghost use Rattle.wasm2c_cli.specs.Standing.{StandsAt};
@@ -32,14 +32,14 @@ pub fn wasm2c_top<F: Files, E: Sink>(
         → (Rose (F.write_faults files.old) (F.write_faults files.new) → ⊥)
         → (result ≡ 5) ⊎ ((job : Job) × IsJob (texts words.now) m job × Answers job result)) }
 
-    // Status 0: the output stands whole and holds such a unit, the header stands beside it, and
-    // nothing else has changed.
+    // Status 0: the job's files stand whole, and nothing else has changed. Where a module was asked
+    // for, the output holds such a unit, and the header stands beside it.
     ensures done { result ≡ 0 → Done (texts words.now) (F.told files.old) (F.told files.new) }
-    ensures unit { result ≡ 0 → WritesUnit (texts words.now) (F.told files.old) (F.told files.new) }
+    ensures unit { result ≡ 0 → runtime_of (texts words.now) ≡ None → WritesUnit (texts words.now) (F.told files.old) (F.told files.new) }
     // The unit does what the module does, both ways, and nothing that is undefined.
-    ensures forward { result ≡ 0 → WritesUnitThat Forward (texts words.now) (F.told files.old) (F.told files.new) }
-    ensures backward { result ≡ 0 → WritesUnitThat Backward (texts words.now) (F.told files.old) (F.told files.new) }
-    ensures never_stops { result ≡ 0 → WritesUnitThat (λ name export code unit. NeverStops name export unit)
+    ensures forward { result ≡ 0 → runtime_of (texts words.now) ≡ None → WritesUnitThat Forward (texts words.now) (F.told files.old) (F.told files.new) }
+    ensures backward { result ≡ 0 → runtime_of (texts words.now) ≡ None → WritesUnitThat Backward (texts words.now) (F.told files.old) (F.told files.new) }
+    ensures never_stops { result ≡ 0 → runtime_of (texts words.now) ≡ None → WritesUnitThat (λ name export code unit. NeverStops name export unit)
         (texts words.now) (F.told files.old) (F.told files.new) }
     ensures silent { result ≡ 0 → E.told err.new ≡ E.told err.old }
 
@@ -47,14 +47,14 @@ pub fn wasm2c_top<F: Files, E: Sink>(
     ensures refused { result ≡ 1 → (file : Name) × (cause : Cause)
         × Tells (F.told files.old) (λ m. IsJob (texts words.now) m (Refused file cause))
         × Says (E.told err.old) (E.told err.new) (E.faults err.old) (E.faults err.new) (refused_line file cause) }
-    ensures usage { result ≡ 2 → (line_of (texts words.now) ≡ None)
+    ensures usage { result ≡ 2 → (line_of (texts words.now) ≡ None) × (runtime_of (texts words.now) ≡ None)
         × Says (E.told err.old) (E.told err.new) (E.faults err.old) (E.faults err.new) usage_line }
-    ensures usage_always { line_of (texts words.now) ≡ None → (result ≡ 2) ⊎ (result ≡ 5) }
+    ensures usage_always { line_of (texts words.now) ≡ None → runtime_of (texts words.now) ≡ None → (result ≡ 2) ⊎ (result ≡ 5) }
     ensures read_fault { result ≡ 3 → (file : Name) × IsInput file (line_of (texts words.now))
         × (Faulted file (F.read_faults files.old) (F.read_faults files.new) (F.fault_name files.new)
         ⊎ ((m : Contents) × (F.told files.old ≡ Some m) × IsJob (texts words.now) m (Missing file)))
         × Says (E.told err.old) (E.told err.new) (E.faults err.old) (E.faults err.new) (read_line file) }
-    ensures write_fault { result ≡ 4 → (file : Name) × IsOutput file (line_of (texts words.now))
+    ensures write_fault { result ≡ 4 → (file : Name) × IsOutput file (line_of (texts words.now)) (runtime_of (texts words.now))
         × Faulted file (F.write_faults files.old) (F.write_faults files.new) (F.fault_name files.new)
         × Tells (F.told files.old) (λ m. (all : List (Name × List ℕ)) × IsJob (texts words.now) m (Write all)
         × StandsAt (F.told files.old) (F.told files.new) all file)

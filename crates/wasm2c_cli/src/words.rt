@@ -1,6 +1,6 @@
 // The words of a command line.
-ghost use Rattle.std.specs.Prelude.{◌≡◌, IfOk, IsTrue, option_copied, string_bytes};
-ghost use Rattle.wasm2c_cli.specs.CommandLine.{is_c_file as is_c_file_name, is_line as is_line_of, is_module_name as is_module_name_of, header_name_of, line_of, module_name_by, texts};
+ghost use Rattle.std.specs.Prelude.{◌≡◌, IfOk, IsTrue, option_copied, option_map, string_bytes};
+ghost use Rattle.wasm2c_cli.specs.CommandLine.{is_c_file as is_c_file_name, is_line as is_line_of, is_module_name as is_module_name_of, header_name_of, line_of, module_name_by, runtime_of, texts};
 ghost use Rattle.wasm2c_cli.specs.Seen.{seen_line};
 
 use crate::module_name::module_name;
@@ -28,6 +28,21 @@ pub fn read_words(words: &[String]) -> Option<Line<'_>>
             output,
             module_name,
         });
+    }
+    None
+}
+
+/// The directory of the words `--runtime DIR`, None where they are others.
+pub fn runtime_dir(words: &[String]) -> Option<&String>
+    ensures { option_map (λ dir. string_bytes dir.now) result ≡ runtime_of (texts words.now) }
+{
+    let (flag, words) = words.split_first()?;
+    let (dir, words) = words.split_first()?;
+    let None = words.split_first() else {
+        return None;
+    };
+    if flag.as_str() == "--runtime" {
+        return Some(dir);
     }
     None
 }

@@ -1,16 +1,17 @@
 // The work that a command line asks for.
 ghost use Rattle.std.specs.Prelude.{◌≡◌, ◌≤◌, OnOk, IfOk, IfErr, IsTrue, None, string_bytes};
-ghost use Rattle.wasm2c_cli.specs.CommandLine.{is_c_file, line_of, texts};
+ghost use Rattle.wasm2c_cli.specs.CommandLine.{is_c_file, runtime_of, texts};
 ghost use Rattle.wasm2c_cli.specs.Job.{Makes};
 ghost use Rattle.wasm2c_cli.specs.Seen.{names_of_line};
 ghost use Rattle.wasm2c_cli.specs.SeenOutputs.{seen_outputs};
-ghost use Rattle.wasm2c_cli.specs.Stops.{Done, KeepsCurrent, StopsWork, WritesUnit};
+ghost use Rattle.wasm2c_cli.specs.Stops.{Done, HasReading, KeepsCurrent, StopsWork, WritesUnit};
 ghost use Rattle.w2c_sim.specs.Simulation.{IsTranslation};
 ghost use Rattle.w2c_sim.specs.Translation.{text_of, IsSpelledModule};
 
 use crate::reading::read_module;
+use crate::runtime::runtime_outputs;
 use crate::stop::Stop;
-use crate::words::{Line, header_name, read_words};
+use crate::words::{Line, header_name, read_words, runtime_dir};
 use crate::writing::{Output, write_all};
 use std::alloc::Global;
 use w2c_base::Memory;
@@ -18,17 +19,22 @@ use w2c_io::Files;
 use w2c_sim::{unit_header, unit_text};
 use wasm_tree::ConstantModule;
 
-/// Reads the words, then the file, translates it, and writes the C file, then the header.
+/// Reads the words, then the file, translates it, and writes the C file, then the header. For
+/// `--runtime` it reads none, and writes the runtime's two files.
 pub fn work<F: Files>(alloc: Global, words: &[String], files: &mut F) -> Result<(), Stop>
     ensures done { OnOk result (Done (texts words.now) (F.told files.old) (F.told files.new)) }
-    ensures unit { OnOk result (WritesUnit (texts words.now) (F.told files.old) (F.told files.new)) }
-    ensures line { OnOk result (line_of (texts words.now) ≡ None → ⊥) }
+    ensures unit { OnOk result (runtime_of (texts words.now) ≡ None → WritesUnit (texts words.now) (F.told files.old) (F.told files.new)) }
+    ensures line { OnOk result (HasReading (texts words.now)) }
     ensures current { IfErr result (KeepsCurrent (F.current files.old) (F.current files.new)) }
     ensures reads { F.read_faults files.old ≤ F.read_faults files.new }
     ensures writes { F.write_faults files.old ≤ F.write_faults files.new }
     ensures stop { IfErr result (StopsWork (texts words.now) (F.told files.old) (F.told files.new)
         (F.read_faults files.old) (F.read_faults files.new) (F.write_faults files.old) (F.write_faults files.new) (F.fault_name files.new)) }
 {
+    if let Some(dir) = runtime_dir(words) {
+        let outputs = runtime_outputs(alloc, dir)?;
+        return write_all(&outputs, files);
+    }
     let Some(line) = read_words(words) else {
         return Err(Stop::Usage);
     };

@@ -13,10 +13,10 @@ returns-in-Err-clause-stands g c = λ five.
     stop_stands (texts c.args.words.now) (files.told c.args.files.now) (files.told c.work.new.files) (files.read_faults c.args.files.now) (files.read_faults c.work.new.files) (files.write_faults c.args.files.now) (files.write_faults c.work.new.files) (files.fault_name c.work.new.files) c.in-Err.stop c.in-Err.ensures.stop
 
 pub returns-in-Ok-clause-forward : goal.returns-in-Ok-clause-forward
-returns-in-Ok-clause-forward g c = λ zero. goes_forward (texts c.args.words.now) (g.F.Files.told c.args.files.now) (g.F.Files.told c.work.new.files) c.in-Ok.ensures.unit
+returns-in-Ok-clause-forward g c = λ zero no_runtime. goes_forward (texts c.args.words.now) (g.F.Files.told c.args.files.now) (g.F.Files.told c.work.new.files) (c.in-Ok.ensures.unit no_runtime)
 
 pub returns-in-Ok-clause-backward : goal.returns-in-Ok-clause-backward
-returns-in-Ok-clause-backward g c = λ zero. goes_backward (texts c.args.words.now) (g.F.Files.told c.args.files.now) (g.F.Files.told c.work.new.files) c.in-Ok.ensures.unit
+returns-in-Ok-clause-backward g c = λ zero no_runtime. goes_backward (texts c.args.words.now) (g.F.Files.told c.args.files.now) (g.F.Files.told c.work.new.files) (c.in-Ok.ensures.unit no_runtime)
 
 pub returns-in-Ok-clause-never_stops : goal.returns-in-Ok-clause-never_stops
-returns-in-Ok-clause-never_stops g c = λ zero. stops_never (texts c.args.words.now) (g.F.Files.told c.args.files.now) (g.F.Files.told c.work.new.files) c.in-Ok.ensures.unit
+returns-in-Ok-clause-never_stops g c = λ zero no_runtime. stops_never (texts c.args.words.now) (g.F.Files.told c.args.files.now) (g.F.Files.told c.work.new.files) (c.in-Ok.ensures.unit no_runtime)
