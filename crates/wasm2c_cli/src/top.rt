@@ -19,8 +19,9 @@ use std::alloc::Global;
 use w2c_io::{Files, Sink, SureFiles, SureSink};
 
 /// Does what the words ask for, and gives the exit status: 0 where the C file and the header
-/// stand, 1 for a file that is refused, 2 for words without a reading, 3 and 4 for a file that
-/// cannot be read or written, 5 for want of memory. `words` leaves out the program's name.
+/// stand, or the runtime's two files, 1 for a file that is refused, 2 for words without a reading,
+/// 3 and 4 for a file that cannot be read or written, 5 for want of memory. `words` leaves out the
+/// program's name.
 pub fn wasm2c_top<F: Files, E: Sink>(
     alloc: Global,
     words: &[String],
