@@ -4,7 +4,7 @@ use Rattle.std.proofs.Math.Seq.{get_or-append_seam, take-append_seam}
 use Rattle.std.proofs.lemmas.List.{append_cancel_left}
 use Rattle.std.proofs.lemmas.Slice.Eq.{bytes_eq-Decides}
 use Rattle.w2c_io.specs.Contents.{Name}
-use Rattle.wasm2c_cli.specs.CommandLine.{Line, header_name_of, is_c_file, is_line, line_named, line_of, module_name_by, runtime_of}
+use Rattle.wasm2c_cli.specs.CommandLine.{Line, header_name_of, is_c_file, is_line, line_named, line_of, module_name_by}
 
 not_true : IsTrue false → ⊥
 not_true h = cc
@@ -80,13 +80,3 @@ output_is_c_file [] line is = absurd (none_some line is)
 output_is_c_file (file ∷ []) line is = absurd (none_some line is)
 output_is_c_file (file ∷ flag ∷ []) line is = absurd (none_some line is)
 output_is_c_file (file ∷ flag ∷ out ∷ words) line is = of_name file flag out (module_name_by file words) line is
-
-none_some_name : (dir : Name) → ◌≡◌ {A = Option Name} None (Some dir) → ⊥
-none_some_name dir e = cc
-
--- words that name a directory for the runtime name no file to translate
-pub no_line : (words : List Name) (dir : Name) → runtime_of words ≡ Some dir → line_of words ≡ None
-no_line [] dir is = refl
-no_line (flag ∷ []) dir is = refl
-no_line (flag ∷ name ∷ []) dir is = refl
-no_line (flag ∷ name ∷ word ∷ words) dir is = absurd (none_some_name dir is)

@@ -1,5 +1,5 @@
 -- What a step says of the whole work.
-use Rattle.std.proofs.Common.{◌≡◌, ◌⊎◌, ℕ, List, [], ◌∷◌, sym, ◌∙◌, ap, refl, subst, Option, Some, None, MatchOption, string_bytes, inl, inr}
+use Rattle.std.proofs.Common.{◌≡◌, ◌⊎◌, ℕ, List, [], ◌∷◌, sym, ◌∙◌, ap, subst, Option, Some, MatchOption, string_bytes, inl, inr}
 use Rattle.std.specs.FinMap.{get, insert}
 use Rattle.w2c_io.specs.Contents.{Name, Contents, Told, HasFile}
 use Rattle.w2c_io.specs.Causes.{Rose}
@@ -15,10 +15,9 @@ use Rattle.wasm2c_cli.specs.declared.stop.Stop.{Stop}
 use Rattle.wasm2c_cli.specs.declared.stop.Stop.TheVariants as stops
 use Rattle.wasm2c_cli.specs.CommandLine.{Line, header_name_of, line_of, runtime_of}
 use Rattle.wasm2c_cli.specs.Job.{Job, Makes, Missing, Refused, Write, IsJobOf, IsJob, IsOtherJob}
-use Rattle.wasm2c_cli.specs.Runtime.{runtime_files}
 use Rattle.wasm2c_cli.specs.Standing.{file_names, written, IsOneOf, Stands, StandsAt}
 use Rattle.wasm2c_cli.specs.Stops.{Faulted, HasReading, IsInput, IsOutput, StopsReading, StopsWriting, StopsWork, Done, HoldsUnit, WritesUnit}
-use Rattle.wasm2c_cli.proofs.HeaderName.{is_apart, no_line, output_is_c_file}
+use Rattle.wasm2c_cli.proofs.HeaderName.{is_apart, output_is_c_file}
 
 no_usage : (words : List Name) (line : Line) → line_of words ≡ Some line → HasReading words
 no_usage words line is none nowhere = cc
@@ -127,35 +126,3 @@ unit_written words line name code files old mid new is made found same whole tra
       header_stands = second_stands contents new line.output (header_name_of line.output) text header (is_new contents told);
       translation = translation;
     }
-
--- the runtime's files
-
-runtime_job : (words : List Name) (dir : Name) (contents : Contents) → runtime_of words ≡ Some dir → IsJob words contents (Write (runtime_files dir))
-runtime_job words dir contents is =
-    subst (λ (o : Option Line). MatchOption o (IsOtherJob (runtime_of words) (Write (runtime_files dir))) (λ l. IsJobOf l contents (Write (runtime_files dir)))) (sym (no_line words dir is))
-    (subst (λ (o : Option Name). IsOtherJob o (Write (runtime_files dir))) (sym is) refl)
-
-runtime_output : (words : List Name) (dir name : Name) → runtime_of words ≡ Some dir → IsOneOf name (file_names (runtime_files dir)) → IsOutput name (line_of words) (runtime_of words)
-runtime_output words dir name is one =
-    subst (λ (o : Option Line). IsOutput name o (runtime_of words)) (sym (no_line words dir is)) (subst (λ (o : Option Name). IsOutput name None o) (sym is) one)
-
-runtime_is_read : (words : List Name) (dir : Name) → runtime_of words ≡ Some dir → HasReading words
-runtime_is_read words dir is none nowhere = cc
-
-pub done_runtime : (words : List Name) (dir : Name) (files : List (Name × List ℕ)) (old new : Told) → runtime_of words ≡ Some dir → files ≡ runtime_files dir → new ≡ written old files → Done words old new
-done_runtime words dir files old new is made whole = λ contents told.
-    (runtime_files dir, runtime_job words dir contents is, whole ∙ ap (written old) made)
-
-pub runtime_stops_work : (words : List Name) (dir : Name) (files : List (Name × List ℕ)) (old new : Told) (r r' w w' : ℕ) (named : Option Name) (stop : Stop) → runtime_of words ≡ Some dir → files ≡ runtime_files dir
-    → StopsWriting old new files w w' named stop → StopsWork words old new r r' w w' named stop
-runtime_stops_work words dir files old new r r' w w' named (stops.Unwritten file) is made (one, faulted, stands) = (
-  runtime_output words dir (string_bytes file) is (subst (λ (all : List (Name × List ℕ)). IsOneOf (string_bytes file) (file_names all)) made one),
-  faulted,
-  λ contents told. (runtime_files dir, runtime_job words dir contents is, subst (λ (all : List (Name × List ℕ)). StandsAt old new all (string_bytes file)) made stands),
-  runtime_is_read words dir is,
-)
-runtime_stops_work words dir files old new r r' w w' named stops.Memory is made why = λ contents told.
-    inr (runtime_files dir, runtime_job words dir contents is, subst (λ (all : List (Name × List ℕ)). Stands old new all) made why)
-runtime_stops_work words dir files old new r r' w w' named (stops.Unread file) is made why = absurd why
-runtime_stops_work words dir files old new r r' w w' named (stops.Refused file cause) is made why = absurd why
-runtime_stops_work words dir files old new r r' w w' named stops.Usage is made why = absurd why
