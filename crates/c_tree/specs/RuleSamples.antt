@@ -81,3 +81,17 @@ call name args = tree.Call None (tree.Called name) args
 -- a call through a name, of a function of one parameter
 abbrev pub call_through : Name → CType → CType → tree.Stmt
 call_through name result param = tree.Call None (tree.Through (record { params = param ∷ []; result = result }) name) (tree.Value x ∷ [])
+
+-- void w2cZ_h(T);
+abbrev pub takes : CType → tree.Item
+takes t = declaration false type.Void (codes "w2cZ_h") ((t, None) ∷ [])
+
+-- static void f(u32) { return; }
+abbrev pub f_without_parameter_name : tree.Item
+f_without_parameter_name = tree.Function (record {
+  is_static = true;
+  result = type.Void;
+  name = codes "f";
+  params = (type.U32, None) ∷ [];
+  body = Some (record { locals = []; stmts = tree.ReturnNone ∷ [] });
+})

@@ -24,6 +24,7 @@ pub fn name_cases()
     ensures external_without_symbol { broken_rules (sample.declaration false type.Void (codes "h") ((type.Void, None) ∷ []) ∷ []) ≡ sample.at 0 0 2 ∷ [] }
     ensures runtime_local { broken_rules (sample.external ((type.U32, codes "w2c_z", N32 0) ∷ []) (sample.gives sample.x ∷ []) ∷ []) ≡ sample.at 0 0 2 ∷ [] }
     ensures label_with_symbol { broken_rules (sample.alone (tree.Label (codes "w2cZ_L") ∷ sample.gives sample.x ∷ [])) ≡ sample.at 0 1 2 ∷ [] }
+    ensures parameter_without_a_name { broken_rules (sample.f_without_parameter_name ∷ []) ≡ sample.at 0 0 6 ∷ [] }
     ensures local_as_parameter { broken_rules (sample.external ((type.U32, codes "x", N32 0) ∷ []) (sample.gives sample.y ∷ []) ∷ []) ≡ sample.at 0 0 6 ∷ [] }
     ensures local_hides_a_later_variable { broken_rules (sample.external ((type.U32, codes "g", N32 0) ∷ []) (sample.gives sample.x ∷ []) ∷ sample.variable type.U32 (codes "g") None ∷ []) ≡ sample.at 0 0 6 ∷ [] }
 {}
@@ -69,7 +70,12 @@ pub fn expression_cases()
     ensures result_left_out { broken_rules (sample.alone (tree.ReturnNone ∷ [])) ≡ sample.at 0 1 10 ∷ [] }
     ensures address { broken_rules (sample.behind (sample.variable type.Mem (codes "m") None ∷ []) (sample.call (codes "w2c_put4") (tree.Address (codes "m") ∷ tree.Value (tree.Number (N64 0)) ∷ tree.Value sample.x ∷ []))) ≡ [] }
     ensures argument_left_out { broken_rules (sample.behind (sample.variable type.Mem (codes "m") None ∷ []) (sample.call (codes "w2c_put4") (tree.Address (codes "m") ∷ tree.Value (tree.Number (N64 0)) ∷ []))) ≡ sample.at 1 1 10 ∷ [] }
-    ensures address_of_a_parameter { broken_rules (sample.alone (tree.Set (codes "x") (tree.Address (codes "y")) ∷ sample.gives sample.x ∷ [])) ≡ sample.at 0 1 10 ∷ [] }
+    ensures address_of_a_parameter { broken_rules (sample.behind (sample.takes type.PtrU32 ∷ []) (sample.call (codes "w2cZ_h") (tree.Address (codes "y") ∷ []))) ≡ sample.at 1 1 10 ∷ [] }
+    ensures address_of_a_variable { broken_rules (sample.behind (sample.variable type.U32 (codes "g") None ∷ sample.takes type.PtrU32 ∷ []) (sample.call (codes "w2cZ_h") (tree.Address (codes "g") ∷ []))) ≡ [] }
+    ensures function_of_the_unit { broken_rules (sample.behind (sample.takes type.FnPtr ∷ []) (sample.call (codes "w2cZ_h") (tree.OfFunction (codes "w2cZ_h") ∷ []))) ≡ [] }
+    ensures function_of_the_runtime { broken_rules (sample.behind (sample.takes type.FnPtr ∷ []) (sample.call (codes "w2cZ_h") (tree.OfFunction (codes "w2c_trap") ∷ []))) ≡ sample.at 1 1 10 ∷ [] }
+    ensures through_no_element { broken_rules (sample.alone (sample.call_through (codes "x") type.Void type.U32 ∷ sample.gives sample.x ∷ [])) ≡ sample.at 0 1 9 ∷ [] }
+    ensures memory_as_a_value { broken_rules (sample.behind (sample.variable type.Mem (codes "m") None ∷ sample.takes type.PtrMem ∷ []) (sample.call (codes "w2cZ_h") (tree.Value (sample.by_name (codes "m")) ∷ []))) ≡ sample.at 2 1 9 ∷ [] }
     ensures assigned_void { broken_rules (sample.behind (sample.f_defined ∷ []) (tree.Call (Some (codes "x")) (tree.Called (codes "f")) [])) ≡ sample.at 1 1 10 ∷ [] }
 {}
 
