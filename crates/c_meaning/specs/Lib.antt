@@ -2,6 +2,7 @@ pub mod Linking
 pub mod Machine
 pub mod Operators
 pub mod Primitives
+pub mod Reaches
 pub mod Run
 pub mod Samples
 pub mod State

@@ -17,7 +17,8 @@ use Rattle.c_meaning.specs.Run.{Pending, Progress, Going, go_on}
 use Rattle.w2c_sim.specs.Translation.{slot, sets_of, peak}
 use Rattle.w2c_sim.proofs.Constants.{stack_after}
 use Rattle.w2c_sim.proofs.Lookups.{named-with_named, named-with_another, is_some-with_named}
-use Rattle.w2c_sim.proofs.Reaches.{Reaches, stays, step, join_one}
+use Rattle.c_meaning.specs.Reaches.{Reaches}
+use Rattle.c_meaning.proofs.Ways.{stays, step, join_one}
 use Rattle.w2c_sim.proofs.Units.{peak-from, slot-injective}
 
 -- each operand of the stack, its top first, is in the variable of its height

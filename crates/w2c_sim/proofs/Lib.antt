@@ -4,7 +4,6 @@ pub mod Constants
 pub mod Lookups
 pub mod WasmCode
 pub mod WasmRuns
-pub mod Reaches
 pub mod CCode
 pub mod CRuns
 pub mod Pairing

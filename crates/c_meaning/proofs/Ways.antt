@@ -1,5 +1,5 @@
--- How a C run comes from one state to another in so many statements, without an end between.
-use Rattle.std.proofs.Common.{◌≡◌, ℕ, zero, suc, ◌+◌, ◌-◌, ◌<◌, ◌≤◌, inl, inr, List, refl, sym, ap, ◌∙◌, subst, arith}
+-- Ways of a C run: one statement, one way behind another, and a way to the end.
+use Rattle.std.proofs.Common.{◌≡◌, ℕ, zero, suc, ◌+◌, ◌-◌, ◌<◌, ◌≤◌, ◌⊎◌, inl, inr, List, refl, sym, ap, ◌∙◌, subst, arith}
 use Rattle.w2c_base.specs.Run.{Reply}
 use Rattle.c_meaning.specs.State.{State}
 use Rattle.c_meaning.specs.Linking.{Program, SymbolCall}
@@ -7,11 +7,10 @@ use Rattle.c_meaning.specs.Step.{c_step}
 use Rattle.c_meaning.specs.Run.{CRun, OutOfSteps, Pending, Progress, Going, Over, IsGoing, go_on, after, run_of, c_start, c_run}
 use Rattle.c_meaning.proofs.Longer.{after_sum, after_over}
 use Rattle.c_meaning.proofs.OnTheWay.{going_is_out}
-use Rattle.w2c_sim.proofs.Constants.{less_or_not}
+use Rattle.c_meaning.specs.Reaches.{Reaches}
 
-pub record Reaches (p : Program) (n : ℕ) (from to : Progress) : Type 0 where
-  pub there : after p n from ≡ to
-  pub on_the_way : (m : ℕ) → m < n → IsGoing (after p m from)
+less_or_not : (m n : ℕ) → (m < n) ⊎ (n ≤ m)
+less_or_not m n = grind arith
 
 pub stays : (p : Program) (progress : Progress) → Reaches p 0 progress progress
 stays p progress = record { there = refl; on_the_way = λ m less. absurd (omega arith) }
