@@ -1,0 +1,45 @@
+-- The helpers of signed comparisons.
+use Rattle.std.proofs.Common.{◌≡◌, ℕ, ◌%◌, ◌^◌, Bool, true, false, if◌then◌else◌, refl, ◌∙◌, ap, arith, List, Option, Some}
+use Rattle.w2c_base.specs.declared.value.ValType.{ValType}
+use Rattle.w2c_base.specs.declared.value.ValType.TheVariants as type
+use Rattle.w2c_base.specs.declared.value.Value.TheVariants.{I32}
+use Rattle.wasm_tree.specs.Instructions as wasm
+use Rattle.wasm_meaning.specs.Operators.{truth}
+use Rattle.c_meaning.specs.State.{Number, Machine, Frame}
+use Rattle.c_meaning.specs.Linking.{Program}
+use Rattle.c_meaning.specs.Step.{give}
+use Rattle.c_meaning.specs.Run.{Pending, Progress, go_on}
+use Rattle.c_prelude.specs.declared.rows.Form.TheVariants as form
+use Rattle.c_prelude.specs.Rows.{Compare}
+use Rattle.c_prelude.specs.Helpers.{number_helper}
+use Rattle.c_prelude.specs.Operators.{DoesOperator}
+use Rattle.c_prelude.proofs.Computed.{computed}
+use Rattle.c_prelude.proofs.Numbers.{lt_s_32, lt_s_64, le_s_32, le_s_64}
+
+-- the run when a u32 was given back
+abbrev given : Program → Pending → Machine → List Frame → ℕ → Option Progress
+given p pending m below n = Some (go_on p pending (give m (Some (Number (I32 n))) below))
+
+-- a test of C as the value of a comparison
+bit : (b c : Bool) → b ≡ c → (if b then 1 else 0) % 2 ^ 32 ≡ truth c
+bit b c e = narrow b ∙ ap truth e
+  where
+    narrow : (b : Bool) → (if b then 1 else 0) % 2 ^ 32 ≡ truth b
+    narrow true = refl
+    narrow false = refl
+
+pub lt_s_right : (t : ValType) → DoesOperator (number_helper (record { ty = t; form = form.LtS })) t (Compare wasm.LtS)
+lt_s_right type.I32 m x y p q = computed 1 (omega arith) (λ program pending unit item below. ap (given program pending m below) (bit _ _ (lt_s_32 x y p q)))
+lt_s_right type.I64 m x y p q = computed 1 (omega arith) (λ program pending unit item below. ap (given program pending m below) (bit _ _ (lt_s_64 x y p q)))
+
+pub gt_s_right : (t : ValType) → DoesOperator (number_helper (record { ty = t; form = form.GtS })) t (Compare wasm.GtS)
+gt_s_right type.I32 m x y p q = computed 1 (omega arith) (λ program pending unit item below. ap (given program pending m below) (bit _ _ (lt_s_32 y x q p)))
+gt_s_right type.I64 m x y p q = computed 1 (omega arith) (λ program pending unit item below. ap (given program pending m below) (bit _ _ (lt_s_64 y x q p)))
+
+pub le_s_right : (t : ValType) → DoesOperator (number_helper (record { ty = t; form = form.LeS })) t (Compare wasm.LeS)
+le_s_right type.I32 m x y p q = computed 1 (omega arith) (λ program pending unit item below. ap (given program pending m below) (bit _ _ (le_s_32 x y p q)))
+le_s_right type.I64 m x y p q = computed 1 (omega arith) (λ program pending unit item below. ap (given program pending m below) (bit _ _ (le_s_64 x y p q)))
+
+pub ge_s_right : (t : ValType) → DoesOperator (number_helper (record { ty = t; form = form.GeS })) t (Compare wasm.GeS)
+ge_s_right type.I32 m x y p q = computed 1 (omega arith) (λ program pending unit item below. ap (given program pending m below) (bit _ _ (le_s_32 y x q p)))
+ge_s_right type.I64 m x y p q = computed 1 (omega arith) (λ program pending unit item below. ap (given program pending m below) (bit _ _ (le_s_64 y x q p)))

@@ -1,0 +1,17 @@
+pub mod Blocks
+pub mod CallStatements
+pub mod Comparisons
+pub mod Computed
+pub mod Division
+pub mod EachHelper
+pub mod Extensions
+pub mod Functions
+pub mod Halving
+pub mod Memories
+pub mod Numbers
+pub mod Ones
+pub mod Shifts
+pub mod Signs
+pub mod Tables
+pub mod Widths
+pub mod Zeros

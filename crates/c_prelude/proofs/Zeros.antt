@@ -1,0 +1,197 @@
+-- The helpers that count zeros.
+use Rattle.std.proofs.Common.{◌≡◌, ℕ, zero, suc, ◌+◌, ◌-◌, ◌*◌, ◌/◌, ◌%◌, ◌^◌, ◌<◌, ◌≤◌, true, false, arith, refl, sym, ap, ◌∙◌, Some, List, [], ◌∷◌, codes}
+use mathlib.Core.Logic.{inl, inr}
+use Rattle.std.specs.Prelude.{nat_lt, nat_eq}
+use native.Mathlib.Nat.{mod-eq_of_lt, mul-one}
+use Rattle.std.proofs.lemmas.Nat.{pow_pos}
+use Rattle.std.proofs.lemmas.Bool.Decides.{nat_tests, eqb_tells}
+use lib.Count.{count_leading_zeros, count_trailing_zeros}
+use Rattle.w2c_base.specs.declared.value.ValType.{ValType}
+use Rattle.w2c_base.specs.declared.value.ValType.TheVariants as type
+use Rattle.w2c_base.specs.Values.{bits, value}
+use Rattle.wasm_tree.specs.Instructions as wasm
+use Rattle.wasm_meaning.specs.Operators.{Gives, truth}
+use Rattle.c_tree.specs.declared.tree.COp.TheVariants as op
+use Rattle.c_tree.specs.Tree as tree
+use Rattle.c_meaning.specs.State.{Number, Vars, Machine, Frame}
+use Rattle.c_meaning.specs.Linking.{Program}
+use Rattle.c_meaning.specs.Run.{Pending, Progress, Going}
+use Rattle.c_meaning.proofs.Goes.{walk}
+use Rattle.c_prelude.specs.declared.rows.Form.{Form}
+use Rattle.c_prelude.specs.declared.rows.Form.TheVariants as form
+use Rattle.c_prelude.specs.Pieces.{num, flag}
+use Rattle.c_prelude.specs.Rows.{Unary}
+use Rattle.c_prelude.specs.Helpers.{number_helper, number_stmts}
+use Rattle.c_prelude.specs.Calls.{call_ended}
+use Rattle.c_prelude.specs.Operators.{DoesOperator, answered}
+use Rattle.c_prelude.proofs.Computed.{computed}
+use Rattle.c_prelude.proofs.Widths.{widths, evaluate-num, evaluate-flag, seen, sides, bits-below}
+use Rattle.c_prelude.proofs.Halving.{below_test, Shifted, shift-some, shift-none, shifted-some, shifted-none, counted, room, more_room, Lowered, drop-some, drop-none, lowered-some, lowered-none, lowest}
+
+-- ---- the statements, by recursion on the stages
+
+abbrev x : tree.Expr
+x = tree.Name (codes "x")
+
+abbrev n : tree.Expr
+n = tree.Name (codes "n")
+
+abbrev k : tree.Expr
+k = tree.Name (codes "t")
+
+abbrev set : List ℕ → tree.Expr → tree.Stmt
+set name e = tree.Set name (tree.Value e)
+
+-- where x is below 2 ^ (N - s), its top s bits are zeros: they are counted and shifted out
+abbrev clz_stage : ValType → ℕ → List tree.Stmt → List tree.Stmt
+clz_stage t s rest =
+    set (codes "t") (tree.Op op.Mul (flag t (tree.Op op.Lt x (num t (2 ^ (bits t - s))))) (num t s))
+    ∷ set (codes "n") (tree.Op op.Add n k)
+    ∷ set (codes "x") (tree.Op op.Shl x k)
+    ∷ rest
+
+abbrev ctz_stage : ValType → ℕ → List tree.Stmt → List tree.Stmt
+ctz_stage t s rest =
+    set (codes "t") (tree.Op op.Mul (flag t (tree.Op op.Eq (tree.Op op.Rem x (num t (2 ^ s))) (num t 0))) (num t s))
+    ∷ set (codes "n") (tree.Op op.Add n k)
+    ∷ set (codes "x") (tree.Op op.Shr x k)
+    ∷ rest
+
+-- the stages for 2 ^ (c - 1), .., 2, 1 bits
+abbrev stages : (ValType → ℕ → List tree.Stmt → List tree.Stmt) → ValType → ℕ → List tree.Stmt → List tree.Stmt
+stages stage t zero rest = rest
+stages stage t (suc c) rest = stage t (2 ^ c) (stages stage t c rest)
+
+abbrev pub steps_of : ValType → ℕ
+steps_of type.I32 = 5
+steps_of type.I64 = 6
+
+abbrev count_end : ValType → List tree.Stmt
+count_end t = tree.Return (tree.Value (tree.Op op.Add n (flag t (tree.Op op.Eq x (num t 0))))) ∷ []
+
+-- ---- runs
+
+-- the variables of a count of zeros
+abbrev counting : ValType → ℕ → ℕ → ℕ → Vars
+counting t a b c = (codes "x", Number (value t a)) ∷ (codes "n", Number (value t b)) ∷ (codes "t", Number (value t c)) ∷ []
+
+-- a call of the helper with these statements, when these are to come
+pub record Call : Type 0 where
+  pub program : Program
+  pub pending : Pending
+  pub machine : Machine
+  pub unit : ℕ
+  pub item : ℕ
+  pub stmts : List tree.Stmt
+  pub below : List Frame
+
+abbrev at : ValType → Call → List tree.Stmt → ℕ → ℕ → ℕ → Progress
+at t call rest a b c = Going call.pending (record {
+  machine = call.machine;
+  running = record { unit = call.unit; item = call.item; stmts = call.stmts; rest = rest; vars = counting t a b c };
+  below = call.below;
+})
+
+abbrev pub gives : ValType → Call → ℕ → Progress
+gives t call v = call_ended call.program call.pending (answered call.machine t (Gives v)) call.below
+
+-- a stage that shifts by u
+clz_step : (t : ValType) (call : Call) (rest : List tree.Stmt) (s a b c u : ℕ)
+    → truth (nat_lt a (2 ^ (bits t - s))) * s % 2 ^ bits t ≡ u → nat_lt u (bits t) ≡ true
+    → walk call.program 3 (Some (at t call (clz_stage t s rest) a b c))
+    ≡ Some (at t call rest (a * 2 ^ u % 2 ^ bits t) ((b + u) % 2 ^ bits t) u)
+clz_step t call rest s a b c u e h =
+    simp (widths, evaluate-num call.program call.machine (seen call.unit (counting t a b c)) t, evaluate-flag call.program call.machine (seen call.unit (counting t a b c)) t, e, h)
+
+not_zero : (c : ℕ) → nat_eq (2 ^ c) 0 ≡ false
+not_zero c = let p : 0 < 2 ^ c = pow_pos c in grind (arith, nat_tests)
+
+ctz_step : (t : ValType) (call : Call) (rest : List tree.Stmt) (s a b c u : ℕ)
+    → truth (nat_eq (a % 2 ^ s) 0) * s % 2 ^ bits t ≡ u → nat_lt u (bits t) ≡ true
+    → walk call.program 3 (Some (at t call (ctz_stage t s rest) a b c))
+    ≡ Some (at t call rest (a / 2 ^ u) ((b + u) % 2 ^ bits t) u)
+ctz_step t call rest s a b c u e h =
+    simp (widths, evaluate-num call.program call.machine (seen call.unit (counting t a b c)) t, evaluate-flag call.program call.machine (seen call.unit (counting t a b c)) t, not_zero s, e, h)
+
+-- the last statement
+ends : (t : ValType) (call : Call) (a b c : ℕ) → walk call.program 1 (Some (at t call (count_end t) a b c)) ≡ Some (gives t call ((b + truth (nat_eq a 0)) % 2 ^ bits t))
+ends t call a b c = simp (widths, evaluate-num call.program call.machine (seen call.unit (counting t a b c)) t, evaluate-flag call.program call.machine (seen call.unit (counting t a b c)) t)
+
+turns : ℕ → ℕ
+turns zero = 1
+turns (suc c) = suc (suc (suc (turns c)))
+
+clz_run : (t : ValType) (call : Call) (c y a b v : ℕ) → Shifted (bits t) c y a b
+    → walk call.program (turns c) (Some (at t call (stages clz_stage t c (count_end t)) a b v)) ≡ Some (gives t call (count_leading_zeros (bits t) y))
+unfolding turns
+clz_run t call zero y a b v h = ends t call a b v ∙ ap (λ n. Some (gives t call n)) (counted (bits t) y a b (bits-below t) h)
+clz_run t call (suc c) y a b v h =
+    let N = bits t in
+    let rest = stages clz_stage t c (count_end t) in
+    elim (sides (2 ^ (N - 2 ^ c)) a) [
+      | inl l ↦
+          ap (walk call.program (turns c)) (clz_step t call rest (2 ^ c) a b v 0 (shift-none N c y a b (bits-below t) h l.2) (below_test 0 N (room N c b h.reach)))
+          ∙ clz_run t call c y _ _ 0 (shifted-none N c y a b (bits-below t) h l.2)
+      | inr l ↦
+          ap (walk call.program (turns c)) (clz_step t call rest (2 ^ c) a b v (2 ^ c) (shift-some N c y a b (bits-below t) h l.2) (below_test (2 ^ c) N (more_room N c b h.reach)))
+          ∙ clz_run t call c y _ _ (2 ^ c) (shifted-some N c y a b (bits-below t) h l.2)
+    ]
+
+ctz_run : (t : ValType) (call : Call) (c y a b v : ℕ) → Lowered (bits t) c y a b
+    → walk call.program (turns c) (Some (at t call (stages ctz_stage t c (count_end t)) a b v)) ≡ Some (gives t call (count_trailing_zeros (bits t) y))
+unfolding turns
+ctz_run t call zero y a b v h = ends t call a b v ∙ ap (λ n. Some (gives t call n)) (lowest (bits t) y a b (bits-below t) h)
+ctz_run t call (suc c) y a b v h =
+    let N = bits t in
+    let rest = stages ctz_stage t c (count_end t) in
+    elim (eqb_tells (a % 2 ^ 2 ^ c) 0) [
+      | inl l ↦
+          ap (walk call.program (turns c)) (ctz_step t call rest (2 ^ c) a b v (2 ^ c) (drop-some N c y a b (bits-below t) h l.1) (below_test (2 ^ c) N (more_room N c b h.reach)))
+          ∙ ctz_run t call c y _ _ (2 ^ c) (lowered-some N c y a b (bits-below t) h l.1)
+      | inr l ↦
+          ap (walk call.program (turns c)) (ctz_step t call rest (2 ^ c) a b v 0 (drop-none N c y a b (bits-below t) h l.1) (below_test 0 N (room N c b h.reach)))
+          ∙ ctz_run t call c y _ _ 0 (lowered-none N c y a b (bits-below t) h l.1)
+    ]
+
+-- ---- the beginning
+
+clz_begin : (t : ValType) (x : ℕ) → x < 2 ^ bits t → Shifted (bits t) (steps_of t) x x 0
+clz_begin type.I32 x p = record { value = omega arith; below = p; reach = omega arith; high = λ q. q; none = λ z. refl }
+clz_begin type.I64 x p = record { value = omega arith; below = p; reach = omega arith; high = λ q. q; none = λ z. refl }
+
+pub whole_width : (t : ValType) → 2 ^ steps_of t ≡ bits t
+whole_width type.I32 = refl
+whole_width type.I64 = refl
+
+ctz_begin : (t : ValType) (x : ℕ) → x < 2 ^ bits t → Lowered (bits t) (steps_of t) x x 0
+ctz_begin t x p = record {
+  value = sym (mul-one x);
+  below = p;
+  reach = omega (arith, whole_width t);
+  odd = λ q. rw (whole_width t, mod-eq_of_lt p) q;
+  none = λ z. omega (arith, whole_width t);
+}
+
+few_turns : (t : ValType) → turns (steps_of t) ≤ 390
+unfolding turns
+few_turns type.I32 = omega arith
+few_turns type.I64 = omega arith
+
+abbrev pub called : Form → ValType → Program → Pending → Machine → ℕ → ℕ → List Frame → Call
+called form t program pending m unit item below = record {
+  program = program;
+  pending = pending;
+  machine = m;
+  unit = unit;
+  item = item;
+  stmts = number_stmts (record { ty = t; form = form });
+  below = below;
+}
+
+pub clz_right : (t : ValType) → DoesOperator (number_helper (record { ty = t; form = form.Clz })) t (Unary wasm.Clz)
+clz_right type.I32 m x p = computed (turns 5) (few_turns type.I32) (λ program pending unit item below. clz_run type.I32 (called form.Clz type.I32 program pending m unit item below) 5 x x 0 0 (clz_begin type.I32 x p))
+clz_right type.I64 m x p = computed (turns 6) (few_turns type.I64) (λ program pending unit item below. clz_run type.I64 (called form.Clz type.I64 program pending m unit item below) 6 x x 0 0 (clz_begin type.I64 x p))
+
+pub ctz_right : (t : ValType) → DoesOperator (number_helper (record { ty = t; form = form.Ctz })) t (Unary wasm.Ctz)
+ctz_right type.I32 m x p = computed (turns 5) (few_turns type.I32) (λ program pending unit item below. ctz_run type.I32 (called form.Ctz type.I32 program pending m unit item below) 5 x x 0 0 (ctz_begin type.I32 x p))
+ctz_right type.I64 m x p = computed (turns 6) (few_turns type.I64) (λ program pending unit item below. ctz_run type.I64 (called form.Ctz type.I64 program pending m unit item below) 6 x x 0 0 (ctz_begin type.I64 x p))

@@ -1,0 +1,10 @@
+use Rattle.c_tree.specs.View.{func_of}
+use Rattle.c_prelude.proofs.EachHelper.{made_right}
+use Rattle.c_prelude.proofs.Functions.{made_static}
+use Rattle.c_prelude.proofs.make.helper.Goals as goal
+
+pub returns-clause-does : goal.returns-clause-does
+returns-clause-does c = made_right c.args.which (func_of c.in_ok-make.field-0) c.in_ok-make.ensures
+
+pub returns-clause-function : goal.returns-clause-function
+returns-clause-function c = made_static c.args.which (func_of c.in_ok-make.field-0) c.in_ok-make.ensures

@@ -1,0 +1,159 @@
+-- The table of helpers: what each stands for, its type and its name (WebAssembly Core 1.0, 4.3.2 and
+-- 4.4.4).
+use Rattle.std.specs.Prelude.{ℕ, ◌*◌, false, List, codes}
+use Rattle.w2c_base.specs.declared.value.ValType.{ValType}
+use Rattle.w2c_base.specs.declared.value.ValType.TheVariants as type
+use Rattle.wasm_tree.specs.Instructions as wasm
+use Rattle.wasm_meaning.specs.Memories.{load_access, store_access, extends_sign}
+use Rattle.c_prelude.specs.declared.operation.NumOp.{NumOp}
+use Rattle.c_prelude.specs.declared.operation.NumOp.TheVariants as num
+use Rattle.c_prelude.specs.declared.operation.LoadOp.{LoadOp}
+use Rattle.c_prelude.specs.declared.operation.LoadOp.TheVariants as load
+use Rattle.c_prelude.specs.declared.operation.StoreOp.{StoreOp}
+use Rattle.c_prelude.specs.declared.operation.StoreOp.TheVariants as store
+use Rattle.c_prelude.specs.declared.rows.Form.{Form}
+use Rattle.c_prelude.specs.declared.rows.Form.TheVariants.{DivS, DivU, RemS, RemU, ShrS, Rotl, Rotr, Clz, Ctz, Popcnt, LtS, GtS, LeS, GeS, ExtendS}
+use Rattle.c_prelude.specs.declared.rows.Row.{Row}
+use Rattle.c_prelude.specs.declared.rows.Access.{Access}
+
+abbrev row : ValType → Form → Row
+row t form = record { ty = t; form = form }
+
+-- the type and the form of an operator
+abbrev pub row_of : NumOp → Row
+row_of num.I32DivS = row type.I32 DivS
+row_of num.I32DivU = row type.I32 DivU
+row_of num.I32RemS = row type.I32 RemS
+row_of num.I32RemU = row type.I32 RemU
+row_of num.I32ShrS = row type.I32 ShrS
+row_of num.I32Rotl = row type.I32 Rotl
+row_of num.I32Rotr = row type.I32 Rotr
+row_of num.I32Clz = row type.I32 Clz
+row_of num.I32Ctz = row type.I32 Ctz
+row_of num.I32Popcnt = row type.I32 Popcnt
+row_of num.I32LtS = row type.I32 LtS
+row_of num.I32GtS = row type.I32 GtS
+row_of num.I32LeS = row type.I32 LeS
+row_of num.I32GeS = row type.I32 GeS
+row_of num.I64DivS = row type.I64 DivS
+row_of num.I64DivU = row type.I64 DivU
+row_of num.I64RemS = row type.I64 RemS
+row_of num.I64RemU = row type.I64 RemU
+row_of num.I64ShrS = row type.I64 ShrS
+row_of num.I64Rotl = row type.I64 Rotl
+row_of num.I64Rotr = row type.I64 Rotr
+row_of num.I64Clz = row type.I64 Clz
+row_of num.I64Ctz = row type.I64 Ctz
+row_of num.I64Popcnt = row type.I64 Popcnt
+row_of num.I64LtS = row type.I64 LtS
+row_of num.I64GtS = row type.I64 GtS
+row_of num.I64LeS = row type.I64 LeS
+row_of num.I64GeS = row type.I64 GeS
+row_of num.I64ExtendI32S = row type.I64 ExtendS
+
+-- the operator of a form
+pub data Operator : Type 0 where
+  Unary : wasm.UnaryOp → Operator
+  Binary : wasm.BinaryOp → Operator
+  Compare : wasm.CompareOp → Operator
+  ExtendI32S : Operator
+
+abbrev pub operator_of : Form → Operator
+operator_of DivS = Binary wasm.DivS
+operator_of DivU = Binary wasm.DivU
+operator_of RemS = Binary wasm.RemS
+operator_of RemU = Binary wasm.RemU
+operator_of ShrS = Binary wasm.ShrS
+operator_of Rotl = Binary wasm.Rotl
+operator_of Rotr = Binary wasm.Rotr
+operator_of Clz = Unary wasm.Clz
+operator_of Ctz = Unary wasm.Ctz
+operator_of Popcnt = Unary wasm.Popcnt
+operator_of LtS = Compare wasm.LtS
+operator_of GtS = Compare wasm.GtS
+operator_of LeS = Compare wasm.LeS
+operator_of GeS = Compare wasm.GeS
+operator_of ExtendS = ExtendI32S
+
+-- the load and the store of a name
+abbrev pub load_of : LoadOp → wasm.LoadOp
+load_of load.I32Load = wasm.I32Load
+load_of load.I64Load = wasm.I64Load
+load_of load.I32Load8S = wasm.I32Load8S
+load_of load.I32Load8U = wasm.I32Load8U
+load_of load.I32Load16S = wasm.I32Load16S
+load_of load.I32Load16U = wasm.I32Load16U
+load_of load.I64Load8S = wasm.I64Load8S
+load_of load.I64Load8U = wasm.I64Load8U
+load_of load.I64Load16S = wasm.I64Load16S
+load_of load.I64Load16U = wasm.I64Load16U
+load_of load.I64Load32S = wasm.I64Load32S
+load_of load.I64Load32U = wasm.I64Load32U
+
+abbrev pub store_of : StoreOp → wasm.StoreOp
+store_of store.I32Store = wasm.I32Store
+store_of store.I64Store = wasm.I64Store
+store_of store.I32Store8 = wasm.I32Store8
+store_of store.I32Store16 = wasm.I32Store16
+store_of store.I64Store8 = wasm.I64Store8
+store_of store.I64Store16 = wasm.I64Store16
+store_of store.I64Store32 = wasm.I64Store32
+
+-- the type of a load's value, how many bits are read, and whether they are extended by their sign
+abbrev pub load_row : LoadOp → Access
+load_row op = record {
+  ty = (load_access (load_of op)).ty;
+  size = 8 * (load_access (load_of op)).width;
+  is_signed = extends_sign (load_of op);
+}
+
+abbrev pub store_row : StoreOp → Access
+store_row op = record {
+  ty = (store_access (store_of op)).ty;
+  size = 8 * (store_access (store_of op)).width;
+  is_signed = false;
+}
+
+abbrev pub prefix_of : ValType → List ℕ
+prefix_of type.I32 = codes "i32_"
+prefix_of type.I64 = codes "i64_"
+
+abbrev pub form_name : Form → List ℕ
+form_name DivS = codes "div_s"
+form_name DivU = codes "div_u"
+form_name RemS = codes "rem_s"
+form_name RemU = codes "rem_u"
+form_name ShrS = codes "shr_s"
+form_name Rotl = codes "rotl"
+form_name Rotr = codes "rotr"
+form_name Clz = codes "clz"
+form_name Ctz = codes "ctz"
+form_name Popcnt = codes "popcnt"
+form_name LtS = codes "lt_s"
+form_name GtS = codes "gt_s"
+form_name LeS = codes "le_s"
+form_name GeS = codes "ge_s"
+form_name ExtendS = codes "extend_i32_s"
+
+abbrev pub load_name : LoadOp → List ℕ
+load_name load.I32Load = codes "i32_load"
+load_name load.I64Load = codes "i64_load"
+load_name load.I32Load8S = codes "i32_load8_s"
+load_name load.I32Load8U = codes "i32_load8_u"
+load_name load.I32Load16S = codes "i32_load16_s"
+load_name load.I32Load16U = codes "i32_load16_u"
+load_name load.I64Load8S = codes "i64_load8_s"
+load_name load.I64Load8U = codes "i64_load8_u"
+load_name load.I64Load16S = codes "i64_load16_s"
+load_name load.I64Load16U = codes "i64_load16_u"
+load_name load.I64Load32S = codes "i64_load32_s"
+load_name load.I64Load32U = codes "i64_load32_u"
+
+abbrev pub store_name : StoreOp → List ℕ
+store_name store.I32Store = codes "i32_store"
+store_name store.I64Store = codes "i64_store"
+store_name store.I32Store8 = codes "i32_store8"
+store_name store.I32Store16 = codes "i32_store16"
+store_name store.I64Store8 = codes "i64_store8"
+store_name store.I64Store16 = codes "i64_store16"
+store_name store.I64Store32 = codes "i64_store32"

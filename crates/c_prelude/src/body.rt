@@ -1,0 +1,110 @@
+// The parts of a helper by its form: operands, local variables, sizes of stages, and tables.
+ghost use Rattle.std.specs.Prelude.{◌≡◌};
+ghost use Rattle.c_prelude.specs.Helpers as of;
+
+use crate::number_tables::{
+    CLZ_STAGE, COUNT_END, CTZ_STAGE, DIV_S, DIV_U, EXTEND_S, GE_S, GT_S, LE_S, LT_S, POPCNT_END,
+    POPCNT_STAGE, REM_S, REM_U, ROTL, ROTR, SHR_S,
+};
+use crate::piece::Piece;
+use crate::rows::{Form, Row};
+use c_tree::CType;
+use w2c_base::ValType;
+
+/// The type of C whose numbers are those of a type.
+pub fn c_type(ty: ValType) -> CType
+    ensures { result ≡ of.c_type ty }
+{
+    match ty {
+        ValType::I32 => CType::U32,
+        ValType::I64 => CType::U64,
+    }
+}
+
+/// The type of the operands.
+pub fn operand_type(row: Row) -> CType
+    ensures { result ≡ of.operand_type row }
+{
+    match row.form {
+        Form::ExtendS => CType::U32,
+        _ => c_type(row.ty),
+    }
+}
+
+/// The names of the operands, of one letter each.
+pub fn operand_names(form: Form) -> &'static [u8]
+    ensures { result.now ≡ of.operand_names form }
+{
+    match form {
+        Form::Clz | Form::Ctz | Form::Popcnt | Form::ExtendS => b"x",
+        _ => b"xy",
+    }
+}
+
+/// The names of the local variables.
+pub fn local_names(form: Form) -> &'static [u8]
+    ensures { result.now ≡ of.local_names form }
+{
+    match form {
+        Form::ShrS => b"s",
+        Form::Clz | Form::Ctz => b"nt",
+        _ => b"",
+    }
+}
+
+/// The type of the result: comparisons give 0 or 1.
+pub fn result_type(row: Row) -> CType
+    ensures { result ≡ of.result_type row }
+{
+    match row.form {
+        Form::LtS | Form::GtS | Form::LeS | Form::GeS => CType::U32,
+        _ => c_type(row.ty),
+    }
+}
+
+/// The sizes of the stages, in bits.
+pub fn sizes(row: Row) -> &'static [u32]
+    ensures { result.now ≡ of.sizes_of row }
+{
+    match (row.form, row.ty) {
+        (Form::Clz | Form::Ctz, ValType::I32) => &[16, 8, 4, 2, 1],
+        (Form::Clz | Form::Ctz, ValType::I64) => &[32, 16, 8, 4, 2, 1],
+        (Form::Popcnt, ValType::I32) => &[1, 2, 4, 8, 16],
+        (Form::Popcnt, ValType::I64) => &[1, 2, 4, 8, 16, 32],
+        _ => &[],
+    }
+}
+
+/// The pieces of each stage.
+pub fn stage(form: Form) -> &'static [Piece]
+    ensures { result.now ≡ of.stage_of form }
+{
+    match form {
+        Form::Clz => &CLZ_STAGE,
+        Form::Ctz => &CTZ_STAGE,
+        Form::Popcnt => &POPCNT_STAGE,
+        _ => &[],
+    }
+}
+
+/// The pieces behind the stages.
+pub fn end(form: Form) -> &'static [Piece]
+    ensures { result.now ≡ of.end_of form }
+{
+    match form {
+        Form::DivS => &DIV_S,
+        Form::DivU => &DIV_U,
+        Form::RemS => &REM_S,
+        Form::RemU => &REM_U,
+        Form::ShrS => &SHR_S,
+        Form::Rotl => &ROTL,
+        Form::Rotr => &ROTR,
+        Form::Clz | Form::Ctz => &COUNT_END,
+        Form::Popcnt => &POPCNT_END,
+        Form::LtS => &LT_S,
+        Form::GtS => &GT_S,
+        Form::LeS => &LE_S,
+        Form::GeS => &GE_S,
+        Form::ExtendS => &EXTEND_S,
+    }
+}

@@ -1,0 +1,174 @@
+// The builder of a body: it places pieces one behind another.
+ghost use Rattle.std.specs.Prelude.{◌≡◌, ◌∷◌, OnOk};
+ghost use Rattle.c_tree.specs.View.{expr_of, stmt_of};
+ghost use Rattle.c_prelude.specs.declared.piece.Piece.TheVariants as piece;
+ghost use Rattle.c_prelude.specs.Pieces.{top, below_top, with_stack, with_stmt, with_call, placed, all_placed, staged, made_by, nothing_made};
+
+use crate::parts::{cast_to, letter, literal, named, number_in, operation, primitive_name, trap};
+use crate::piece::{Cast, Piece, Setting};
+use c_tree::{Arg, Args, COp, Callee, Expr, Name, Num, Stmt, Stmts};
+use std::alloc::Global;
+use std::mem;
+use w2c_base::{Memory, ValType};
+
+/// What pieces made so far: expressions, the arguments of the next call, and statements.
+#[derive(Drop)]
+pub struct Builder {
+    pub alloc: Global,
+    pub stack: Vec<Expr>,
+    pub args: Args,
+    pub stmts: Stmts,
+}
+
+impl Builder {
+    /// Nothing yet. It takes no memory.
+    pub fn new(alloc: Global) -> Builder
+        ensures { made_by result ≡ nothing_made }
+    {
+        Builder {
+            alloc,
+            stack: Vec::new(alloc),
+            args: Args::new(alloc),
+            stmts: Stmts::new(alloc),
+        }
+    }
+
+    /// The statements.
+    pub fn finish(self) -> Stmts
+        ensures { result ≡ self.stmts }
+    {
+        let Builder { stmts, .. } = self;
+        stmts
+    }
+
+    /// Places pieces once for each size.
+    pub fn place_staged(
+        &mut self,
+        ty: ValType,
+        sizes: &[u32],
+        pieces: &[Piece],
+    ) -> Result<(), Memory>
+        ensures { OnOk result (made_by self.new ≡ staged ty sizes.now (made_by self.old) pieces.now) }
+    {
+        for size in sizes {
+            self.place_all(Setting { ty, size: *size }, pieces)?;
+        }
+        Ok(())
+    }
+
+    /// Places pieces in order.
+    pub fn place_all(&mut self, setting: Setting, pieces: &[Piece]) -> Result<(), Memory>
+        ensures { OnOk result (made_by self.new ≡ all_placed setting.ty setting.size (made_by self.old) pieces.now) }
+    {
+        for piece in pieces {
+            self.place(setting, *piece)?;
+        }
+        Ok(())
+    }
+
+    fn place(&mut self, setting: Setting, piece: Piece) -> Result<(), Memory>
+        ensures { OnOk result (made_by self.new ≡ placed setting.ty setting.size (made_by self.old) piece) }
+    {
+        let alloc = self.alloc;
+        let ty = setting.ty;
+        match piece {
+            Piece::Name(c) => self.push(Expr::Name(letter(alloc, c)?)),
+            Piece::Number(n) => self.push(literal(ty, number_in(setting, n))),
+            Piece::Long(n) => self.push(Expr::Num(Num::N64(number_in(setting, n)))),
+            Piece::Op(op) => self.operate(ty, op),
+            Piece::Cast(cast) => self.cast(setting, cast),
+            Piece::Arg => self.pass(ty),
+            Piece::Get(c, primitive) => {
+                let target = letter(alloc, c)?;
+                self.call(Some(target), primitive_name(setting.size, primitive))
+            }
+            Piece::Do(primitive) => self.call(None, primitive_name(setting.size, primitive)),
+            Piece::Set(c) => self.assign(ty, c),
+            Piece::If(op, c) => self.branch(ty, op, c),
+            Piece::Label(c) => self.add(Stmt::Label(letter(alloc, c)?)),
+            Piece::Return => {
+                let e = self.take(ty);
+                self.add(Stmt::Return(Arg::Value(e)))
+            }
+            Piece::ReturnNone => self.add(Stmt::ReturnNone),
+            Piece::Trap(kind) => self.add(trap(alloc, kind)?),
+        }
+    }
+
+    fn push(&mut self, e: Expr) -> Result<(), Memory>
+        ensures { OnOk result (made_by self.new ≡ with_stack (made_by self.old) (expr_of e ∷ (made_by self.old).stack)) }
+    {
+        self.stack.push(e)?;
+        Ok(())
+    }
+
+    // The uppermost expression, or 0 where there is none.
+    fn take(&mut self, ty: ValType) -> Expr
+        ensures value { expr_of result ≡ top ty (made_by self.old).stack }
+        ensures rest { made_by self.new ≡ with_stack (made_by self.old) (below_top (made_by self.old).stack) }
+        ensures alloc { self.new.alloc ≡ self.old.alloc }
+    {
+        match self.stack.pop() {
+            Some(e) => e,
+            None => literal(ty, 0),
+        }
+    }
+
+    fn add(&mut self, s: Stmt) -> Result<(), Memory>
+        ensures { OnOk result (made_by self.new ≡ with_stmt (made_by self.old) (made_by self.old).stack (stmt_of s)) }
+    {
+        self.stmts.push(s)
+    }
+
+    // An operator on the two uppermost expressions.
+    fn operate(&mut self, ty: ValType, op: COp) -> Result<(), Memory>
+        ensures { OnOk result (made_by self.new ≡ placed ty 0 (made_by self.old) (piece.Op op)) }
+    {
+        let right = self.take(ty);
+        let left = self.take(ty);
+        self.push(operation(self.alloc, op, left, right)?)
+    }
+
+    // The uppermost expression in another type.
+    fn cast(&mut self, setting: Setting, cast: Cast) -> Result<(), Memory>
+        ensures { OnOk result (made_by self.new ≡ placed setting.ty setting.size (made_by self.old) (piece.Cast cast)) }
+    {
+        let e = self.take(setting.ty);
+        self.push(cast_to(self.alloc, setting, cast, e)?)
+    }
+
+    // The uppermost expression becomes the next argument.
+    fn pass(&mut self, ty: ValType) -> Result<(), Memory>
+        ensures { OnOk result (made_by self.new ≡ placed ty 0 (made_by self.old) piece.Arg) }
+    {
+        let e = self.take(ty);
+        self.args.push(Arg::Value(e))
+    }
+
+    fn assign(&mut self, ty: ValType, c: u8) -> Result<(), Memory>
+        ensures { OnOk result (made_by self.new ≡ placed ty 0 (made_by self.old) (piece.Set c)) }
+    {
+        let e = self.take(ty);
+        let name = letter(self.alloc, c)?;
+        self.add(Stmt::Set(name, Arg::Value(e)))
+    }
+
+    // Goes to a label where the two uppermost expressions compare so.
+    fn branch(&mut self, ty: ValType, op: COp, c: u8) -> Result<(), Memory>
+        ensures { OnOk result (made_by self.new ≡ placed ty 0 (made_by self.old) (piece.If op c)) }
+    {
+        let right = self.take(ty);
+        let left = self.take(ty);
+        let label = letter(self.alloc, c)?;
+        self.add(Stmt::If(op, left, right, label))
+    }
+
+    // A call of a function of the runtime with the arguments so far.
+    fn call(&mut self, target: Option<Name>, name: &[u8]) -> Result<(), Memory>
+        ensures { OnOk result (made_by self.new ≡ with_call (made_by self.old) target name.now) }
+    {
+        let callee = Callee::Named(named(self.alloc, name)?);
+        let args = mem::replace(&mut self.args, Args::new(self.alloc));
+        self.add(Stmt::Call(target, callee, args))
+    }
+}

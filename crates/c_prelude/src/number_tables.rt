@@ -1,0 +1,332 @@
+// The bodies of the helpers of numbers as tables of pieces, each with the C text that it makes at 32 bits. A
+// `return` that no run reaches stands behind a last trap, so that C sees each path end.
+use crate::piece::{Cast, Number, Piece};
+use c_tree::COp;
+use w2c_base::TrapKind;
+
+// return (u32)((x + 2147483648u) < (y + 2147483648u));
+pub const LT_S: [Piece; 9] = [
+    Piece::Name(b'x'),
+    Piece::Number(Number::Half), // half a turn on, numbers are in signed order
+    Piece::Op(COp::Add),
+    Piece::Name(b'y'),
+    Piece::Number(Number::Half), // and so is the other
+    Piece::Op(COp::Add),
+    Piece::Op(COp::Lt),
+    Piece::Cast(Cast::To32),
+    Piece::Return,
+];
+
+// return (u32)((x + 2147483648u) > (y + 2147483648u));
+pub const GT_S: [Piece; 9] = [
+    Piece::Name(b'x'),
+    Piece::Number(Number::Half),
+    Piece::Op(COp::Add),
+    Piece::Name(b'y'),
+    Piece::Number(Number::Half),
+    Piece::Op(COp::Add),
+    Piece::Op(COp::Gt),
+    Piece::Cast(Cast::To32),
+    Piece::Return,
+];
+
+// return (u32)((x + 2147483648u) <= (y + 2147483648u));
+pub const LE_S: [Piece; 9] = [
+    Piece::Name(b'x'),
+    Piece::Number(Number::Half),
+    Piece::Op(COp::Add),
+    Piece::Name(b'y'),
+    Piece::Number(Number::Half),
+    Piece::Op(COp::Add),
+    Piece::Op(COp::Le),
+    Piece::Cast(Cast::To32),
+    Piece::Return,
+];
+
+// return (u32)((x + 2147483648u) >= (y + 2147483648u));
+pub const GE_S: [Piece; 9] = [
+    Piece::Name(b'x'),
+    Piece::Number(Number::Half),
+    Piece::Op(COp::Add),
+    Piece::Name(b'y'),
+    Piece::Number(Number::Half),
+    Piece::Op(COp::Add),
+    Piece::Op(COp::Ge),
+    Piece::Cast(Cast::To32),
+    Piece::Return,
+];
+
+// if (y == 0u) goto T; return (x / y); T: w2c_trap(3u); return 0u;
+pub const DIV_U: [Piece; 11] = [
+    Piece::Name(b'y'),
+    Piece::Number(Number::Zero),
+    Piece::If(COp::Eq, b'T'),
+    Piece::Name(b'x'),
+    Piece::Name(b'y'),
+    Piece::Op(COp::Div),
+    Piece::Return,
+    Piece::Label(b'T'),
+    Piece::Trap(TrapKind::DivByZero),
+    Piece::Number(Number::Zero),
+    Piece::Return,
+];
+
+// if (y == 0u) goto T; return (x % y); T: w2c_trap(3u); return 0u;
+pub const REM_U: [Piece; 11] = [
+    Piece::Name(b'y'),
+    Piece::Number(Number::Zero),
+    Piece::If(COp::Eq, b'T'),
+    Piece::Name(b'x'),
+    Piece::Name(b'y'),
+    Piece::Op(COp::Rem),
+    Piece::Return,
+    Piece::Label(b'T'),
+    Piece::Trap(TrapKind::DivByZero),
+    Piece::Number(Number::Zero),
+    Piece::Return,
+];
+
+// if (y == 0u) goto T; if (x >= 2147483648u) goto N; if (y >= 2147483648u) goto P; return (x / y);
+// P: return (0u - (x / (0u - y)));
+// N: if (y >= 2147483648u) goto M; return (0u - ((0u - x) / y));
+// M: if (y != 4294967295u) goto D; if (x == 2147483648u) goto U;
+// D: return ((0u - x) / (0u - y));
+// T: w2c_trap(3u); U: w2c_trap(4u); return 0u;
+pub const DIV_S: [Piece; 56] = [
+    Piece::Name(b'y'),
+    Piece::Number(Number::Zero),
+    Piece::If(COp::Eq, b'T'),
+    Piece::Name(b'x'),
+    Piece::Number(Number::Half),
+    Piece::If(COp::Ge, b'N'),
+    Piece::Name(b'y'),
+    Piece::Number(Number::Half),
+    Piece::If(COp::Ge, b'P'),
+    Piece::Name(b'x'),
+    Piece::Name(b'y'),
+    Piece::Op(COp::Div),
+    Piece::Return,
+    Piece::Label(b'P'),
+    Piece::Number(Number::Zero),
+    Piece::Name(b'x'),
+    Piece::Number(Number::Zero),
+    Piece::Name(b'y'),
+    Piece::Op(COp::Sub),
+    Piece::Op(COp::Div),
+    Piece::Op(COp::Sub),
+    Piece::Return,
+    Piece::Label(b'N'),
+    Piece::Name(b'y'),
+    Piece::Number(Number::Half),
+    Piece::If(COp::Ge, b'M'),
+    Piece::Number(Number::Zero),
+    Piece::Number(Number::Zero),
+    Piece::Name(b'x'),
+    Piece::Op(COp::Sub),
+    Piece::Name(b'y'),
+    Piece::Op(COp::Div),
+    Piece::Op(COp::Sub),
+    Piece::Return,
+    Piece::Label(b'M'),
+    Piece::Name(b'y'),
+    Piece::Number(Number::Greatest),
+    Piece::If(COp::Ne, b'D'),
+    Piece::Name(b'x'),
+    Piece::Number(Number::Half),
+    Piece::If(COp::Eq, b'U'),
+    Piece::Label(b'D'),
+    Piece::Number(Number::Zero),
+    Piece::Name(b'x'),
+    Piece::Op(COp::Sub),
+    Piece::Number(Number::Zero),
+    Piece::Name(b'y'),
+    Piece::Op(COp::Sub),
+    Piece::Op(COp::Div),
+    Piece::Return,
+    Piece::Label(b'T'),
+    Piece::Trap(TrapKind::DivByZero),
+    Piece::Label(b'U'),
+    Piece::Trap(TrapKind::IntOverflow),
+    Piece::Number(Number::Zero),
+    Piece::Return,
+];
+
+// if (y == 0u) goto T; if (y < 2147483648u) goto P; y = (0u - y);
+// P: if (x >= 2147483648u) goto N; return (x % y);
+// N: return (0u - ((0u - x) % y)); T: w2c_trap(3u); return 0u;
+pub const REM_S: [Piece; 31] = [
+    Piece::Name(b'y'),
+    Piece::Number(Number::Zero),
+    Piece::If(COp::Eq, b'T'),
+    Piece::Name(b'y'),
+    Piece::Number(Number::Half),
+    Piece::If(COp::Lt, b'P'),
+    Piece::Number(Number::Zero),
+    Piece::Name(b'y'),
+    Piece::Op(COp::Sub),
+    Piece::Set(b'y'),
+    Piece::Label(b'P'),
+    Piece::Name(b'x'),
+    Piece::Number(Number::Half),
+    Piece::If(COp::Ge, b'N'),
+    Piece::Name(b'x'),
+    Piece::Name(b'y'),
+    Piece::Op(COp::Rem),
+    Piece::Return,
+    Piece::Label(b'N'),
+    Piece::Number(Number::Zero),
+    Piece::Number(Number::Zero),
+    Piece::Name(b'x'),
+    Piece::Op(COp::Sub),
+    Piece::Name(b'y'),
+    Piece::Op(COp::Rem),
+    Piece::Op(COp::Sub),
+    Piece::Return,
+    Piece::Label(b'T'),
+    Piece::Trap(TrapKind::DivByZero),
+    Piece::Number(Number::Zero),
+    Piece::Return,
+];
+
+// y = (y % 32u); s = (0u - (x >> 31u)); return (((x ^ s) >> y) ^ s);
+pub const SHR_S: [Piece; 18] = [
+    Piece::Name(b'y'),
+    Piece::Number(Number::Bits), // a shift's count is taken modulo the width
+    Piece::Op(COp::Rem),
+    Piece::Set(b'y'),
+    Piece::Number(Number::Zero),
+    Piece::Name(b'x'),
+    Piece::Number(Number::LastBit),
+    Piece::Op(COp::Shr),
+    Piece::Op(COp::Sub),
+    Piece::Set(b's'),
+    Piece::Name(b'x'),
+    Piece::Name(b's'),
+    Piece::Op(COp::Xor),
+    Piece::Name(b'y'),
+    Piece::Op(COp::Shr),
+    Piece::Name(b's'),
+    Piece::Op(COp::Xor),
+    Piece::Return,
+];
+
+// y = (y % 32u); return ((x << y) | (x >> ((32u - y) % 32u)));
+pub const ROTL: [Piece; 16] = [
+    Piece::Name(b'y'),
+    Piece::Number(Number::Bits),
+    Piece::Op(COp::Rem),
+    Piece::Set(b'y'),
+    Piece::Name(b'x'),
+    Piece::Name(b'y'),
+    Piece::Op(COp::Shl),
+    Piece::Name(b'x'),
+    Piece::Number(Number::Bits),
+    Piece::Name(b'y'),
+    Piece::Op(COp::Sub),
+    Piece::Number(Number::Bits),
+    Piece::Op(COp::Rem),
+    Piece::Op(COp::Shr),
+    Piece::Op(COp::Or),
+    Piece::Return,
+];
+
+// y = (y % 32u); return ((x << ((32u - y) % 32u)) | (x >> y));
+pub const ROTR: [Piece; 16] = [
+    Piece::Name(b'y'),
+    Piece::Number(Number::Bits),
+    Piece::Op(COp::Rem),
+    Piece::Set(b'y'),
+    Piece::Name(b'x'),
+    Piece::Number(Number::Bits),
+    Piece::Name(b'y'),
+    Piece::Op(COp::Sub),
+    Piece::Number(Number::Bits),
+    Piece::Op(COp::Rem),
+    Piece::Op(COp::Shl),
+    Piece::Name(b'x'),
+    Piece::Name(b'y'),
+    Piece::Op(COp::Shr),
+    Piece::Op(COp::Or),
+    Piece::Return,
+];
+
+// for 16, 8, 4, 2 and 1 bits: t = ((u32)(x < 65536u) * 16u); n = (n + t); x = (x << t);
+pub const CLZ_STAGE: [Piece; 15] = [
+    Piece::Name(b'x'),
+    Piece::Number(Number::High),
+    Piece::Op(COp::Lt),
+    Piece::Cast(Cast::Flag),
+    Piece::Number(Number::Size),
+    Piece::Op(COp::Mul),
+    Piece::Set(b't'),
+    Piece::Name(b'n'),
+    Piece::Name(b't'),
+    Piece::Op(COp::Add),
+    Piece::Set(b'n'),
+    Piece::Name(b'x'),
+    Piece::Name(b't'),
+    Piece::Op(COp::Shl),
+    Piece::Set(b'x'),
+];
+
+// for 16, 8, 4, 2 and 1 bits: t = ((u32)((x % 65536u) == 0u) * 16u); n = (n + t); x = (x >> t);
+pub const CTZ_STAGE: [Piece; 17] = [
+    Piece::Name(b'x'),
+    Piece::Number(Number::Block),
+    Piece::Op(COp::Rem),
+    Piece::Number(Number::Zero),
+    Piece::Op(COp::Eq),
+    Piece::Cast(Cast::Flag),
+    Piece::Number(Number::Size),
+    Piece::Op(COp::Mul),
+    Piece::Set(b't'),
+    Piece::Name(b'n'),
+    Piece::Name(b't'),
+    Piece::Op(COp::Add),
+    Piece::Set(b'n'),
+    Piece::Name(b'x'),
+    Piece::Name(b't'),
+    Piece::Op(COp::Shr),
+    Piece::Set(b'x'),
+];
+
+// return (n + (u32)(x == 0u));
+pub const COUNT_END: [Piece; 7] = [
+    Piece::Name(b'n'),
+    Piece::Name(b'x'),
+    Piece::Number(Number::Zero),
+    Piece::Op(COp::Eq),
+    Piece::Cast(Cast::Flag),
+    Piece::Op(COp::Add), // one more where no bit is set
+    Piece::Return,
+];
+
+// for 1, 2, 4, 8 and 16 bits: x = ((x & 1431655765u) + ((x >> 1u) & 1431655765u));
+pub const POPCNT_STAGE: [Piece; 10] = [
+    Piece::Name(b'x'),
+    Piece::Number(Number::Mask),
+    Piece::Op(COp::And),
+    Piece::Name(b'x'),
+    Piece::Number(Number::Size),
+    Piece::Op(COp::Shr),
+    Piece::Number(Number::Mask),
+    Piece::Op(COp::And),
+    Piece::Op(COp::Add),
+    Piece::Set(b'x'),
+];
+
+// return x;
+pub const POPCNT_END: [Piece; 2] = [Piece::Name(b'x'), Piece::Return];
+
+// return ((((u64)x % 4294967296ull) ^ 2147483648ull) - 2147483648ull);
+pub const EXTEND_S: [Piece; 9] = [
+    Piece::Name(b'x'),
+    Piece::Cast(Cast::To64),
+    Piece::Number(Number::Block),
+    Piece::Op(COp::Rem),
+    Piece::Number(Number::Sign),
+    Piece::Op(COp::Xor),
+    Piece::Number(Number::Sign),
+    Piece::Op(COp::Sub),
+    Piece::Return,
+];

@@ -1,0 +1,129 @@
+// The bodies of the helpers of memories and tables as tables of pieces, each with the C text that it makes. A
+// `return` that no run reaches stands behind a last trap, so that C sees each path end.
+use crate::piece::{Cast, Number, Piece, Primitive};
+use c_tree::COp;
+use w2c_base::TrapKind;
+
+// a = ((u64)b + (u64)o); n = w2c_mem_len(m); if ((a + 4ull) > n) goto T;
+pub const ACCESS: [Piece; 14] = [
+    Piece::Name(b'b'),
+    Piece::Cast(Cast::To64), // the base
+    Piece::Name(b'o'), // the offset
+    Piece::Cast(Cast::To64), // in 64 bits, so that no sum wraps
+    Piece::Op(COp::Add),
+    Piece::Set(b'a'),
+    Piece::Name(b'm'),
+    Piece::Arg,
+    Piece::Get(b'n', Primitive::MemLen),
+    Piece::Name(b'a'),
+    Piece::Long(Number::Bytes),
+    Piece::Op(COp::Add),
+    Piece::Name(b'n'),
+    Piece::If(COp::Gt, b'T'),
+];
+
+// v = w2c_get4(m, a); return v; T: w2c_trap(2u); return 0u;
+pub const LOAD: [Piece; 12] = [
+    Piece::Name(b'm'),
+    Piece::Arg,
+    Piece::Name(b'a'),
+    Piece::Arg,
+    Piece::Get(b'v', Primitive::Get),
+    Piece::Name(b'v'),
+    Piece::Cast(Cast::Widen),
+    Piece::Return,
+    Piece::Label(b'T'),
+    Piece::Trap(TrapKind::MemoryOut),
+    Piece::Number(Number::Zero),
+    Piece::Return,
+];
+
+// v = w2c_get1(m, a); return (((v % 256u) ^ 128u) - 128u); T: w2c_trap(2u); return 0u;
+pub const LOAD_S: [Piece; 18] = [
+    Piece::Name(b'm'),
+    Piece::Arg,
+    Piece::Name(b'a'),
+    Piece::Arg,
+    Piece::Get(b'v', Primitive::Get),
+    Piece::Name(b'v'),
+    Piece::Cast(Cast::Widen),
+    Piece::Number(Number::Block),
+    Piece::Op(COp::Rem),
+    Piece::Number(Number::Sign), // the sign is turned
+    Piece::Op(COp::Xor),
+    Piece::Number(Number::Sign), // and its weight taken off
+    Piece::Op(COp::Sub),
+    Piece::Return,
+    Piece::Label(b'T'),
+    Piece::Trap(TrapKind::MemoryOut),
+    Piece::Number(Number::Zero),
+    Piece::Return,
+];
+
+// w2c_put4(m, a, v); return; T: w2c_trap(2u);
+pub const STORE: [Piece; 11] = [
+    Piece::Name(b'm'),
+    Piece::Arg,
+    Piece::Name(b'a'),
+    Piece::Arg,
+    Piece::Name(b'v'),
+    Piece::Cast(Cast::Narrow),
+    Piece::Arg,
+    Piece::Do(Primitive::Put),
+    Piece::ReturnNone,
+    Piece::Label(b'T'),
+    Piece::Trap(TrapKind::MemoryOut),
+];
+
+// n = w2c_mem_len(m); return (u32)(n / 65536ull);
+pub const SIZE: [Piece; 8] = [
+    Piece::Name(b'm'),
+    Piece::Arg,
+    Piece::Get(b'n', Primitive::MemLen),
+    Piece::Name(b'n'),
+    Piece::Long(Number::Page),
+    Piece::Op(COp::Div),
+    Piece::Cast(Cast::To32),
+    Piece::Return,
+];
+
+// k = (u64)i; n = w2c_tab_len(t); if (k >= n) goto A;
+// g = w2c_tab_sig(t, k); if (g == 0ull) goto B; if (g != s) goto C; f = w2c_tab_fn(t, k); return f;
+// A: w2c_trap(5u); B: w2c_trap(6u); C: w2c_trap(7u); return f;
+pub const ELEMENT: [Piece; 35] = [
+    Piece::Name(b'i'),
+    Piece::Cast(Cast::To64),
+    Piece::Set(b'k'),
+    Piece::Name(b't'),
+    Piece::Arg,
+    Piece::Get(b'n', Primitive::TabLen),
+    Piece::Name(b'k'),
+    Piece::Name(b'n'),
+    Piece::If(COp::Ge, b'A'),
+    Piece::Name(b't'),
+    Piece::Arg,
+    Piece::Name(b'k'),
+    Piece::Arg,
+    Piece::Get(b'g', Primitive::TabSig),
+    Piece::Name(b'g'),
+    Piece::Long(Number::Zero),
+    Piece::If(COp::Eq, b'B'),
+    Piece::Name(b'g'),
+    Piece::Name(b's'), // the signature number that is wanted
+    Piece::If(COp::Ne, b'C'),
+    Piece::Name(b't'),
+    Piece::Arg,
+    Piece::Name(b'k'),
+    Piece::Arg,
+    Piece::Get(b'f', Primitive::TabFn),
+    Piece::Name(b'f'),
+    Piece::Return,
+    Piece::Label(b'A'),
+    Piece::Trap(TrapKind::TableOut),
+    Piece::Label(b'B'),
+    Piece::Trap(TrapKind::Empty),
+    Piece::Label(b'C'),
+    Piece::Trap(TrapKind::Signature),
+    Piece::Name(b'f'),
+    Piece::Return,
+];
