@@ -28,7 +28,7 @@ impl Page {
         ensures { IfOk result (λ page. page ≡ record { text = fixed_text tok.Include; last = kind.Fixed tok.Include }) }
     {
         let mut text = Bytes::new(alloc);
-        text.extend(fixed_text(Tok::Include))?;
+        text.extend(Tok::Include.text())?;
         Ok(Page {
             text,
             last: Kind::Fixed(Tok::Include),
@@ -49,7 +49,7 @@ impl Page {
     pub fn fixed(&mut self, t: Tok) -> Result<(), Memory>
         ensures { OnOk result (self.new ≡ printed self.old (Fixed t)) }
     {
-        self.put(Kind::Fixed(t), fixed_text(t))
+        self.put(Kind::Fixed(t), t.text())
     }
 
     #[tactic(auto, unfolding(crate::specs::Page::printed))]
@@ -158,55 +158,4 @@ fn begins_list(kind: Kind) -> bool
     ensures { result ≡ begins_list kind }
 {
     matches!(kind, Kind::Fixed(Tok::LeftParen | Tok::LeftBracket))
-}
-
-/// The text of a key word, of a sign and of the include line.
-fn fixed_text(t: Tok) -> &'static [u8]
-    ensures { result.now ≡ fixed_text t }
-{
-    match t {
-        Tok::Include => b"#include \"w2c_rt.h\"\n",
-        Tok::End | Tok::Name | Tok::Plain => b"",
-        Tok::WordStatic => b"static",
-        Tok::WordConst => b"const",
-        Tok::WordVoid => b"void",
-        Tok::WordU8 => b"u8",
-        Tok::WordU32 => b"u32",
-        Tok::WordU64 => b"u64",
-        Tok::WordW2cMem => b"w2c_mem",
-        Tok::WordW2cTab => b"w2c_tab",
-        Tok::WordW2cFn => b"w2c_fn",
-        Tok::WordGoto => b"goto",
-        Tok::WordIf => b"if",
-        Tok::WordSwitch => b"switch",
-        Tok::WordCase => b"case",
-        Tok::WordDefault => b"default",
-        Tok::WordReturn => b"return",
-        Tok::LeftParen => b"(",
-        Tok::RightParen => b")",
-        Tok::LeftBrace => b"{",
-        Tok::RightBrace => b"}",
-        Tok::LeftBracket => b"[",
-        Tok::RightBracket => b"]",
-        Tok::Semicolon => b";",
-        Tok::Comma => b",",
-        Tok::Colon => b":",
-        Tok::Assign => b"=",
-        Tok::Star => b"*",
-        Tok::Amp => b"&",
-        Tok::Plus => b"+",
-        Tok::Minus => b"-",
-        Tok::Slash => b"/",
-        Tok::Percent => b"%",
-        Tok::Bar => b"|",
-        Tok::Caret => b"^",
-        Tok::ShiftLeft => b"<<",
-        Tok::ShiftRight => b">>",
-        Tok::Equal => b"==",
-        Tok::NotEqual => b"!=",
-        Tok::Less => b"<",
-        Tok::LessEqual => b"<=",
-        Tok::Greater => b">",
-        Tok::GreaterEqual => b">=",
-    }
 }

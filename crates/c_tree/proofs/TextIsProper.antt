@@ -11,7 +11,7 @@ use Rattle.c_tree.specs.WellFormed.{IsName}
 use Rattle.c_tree.proofs.Proper.{IsProper, is_fixed}
 use Rattle.c_tree.proofs.Laid.{tokens_from}
 
-abbrev IsGood : Token → Type 0
+abbrev pub IsGood : Token → Type 0
 IsGood t = IsProper t ⊎ (t ≡ Wrong)
 
 choose : (b : Bool) (x y : Token) → (b ≡ true → IsGood x) → (b ≡ false → IsGood y) → IsGood (cond b x y)
@@ -64,7 +64,7 @@ good_run ds rest = choose (are_digits ds) _ _
 
 -- ---- whole texts
 
-abbrev GoodFront : Front → Type 0
+abbrev pub GoodFront : Front → Type 0
 GoodFront (Gap k) = Unit {0}
 GoodFront (Begins t k) = IsGood t
 
@@ -88,7 +88,7 @@ good_sign_front b (c ∷ rest) =
     choose_front ((b == 47) && (c == 42)) _ _ (λ _. good_comment (comment_end rest))
     (λ _. good_longer (two_sign b c) (one_sign b) (good_sign long_signs (b ∷ c ∷ []) longs_fixed) (good_sign short_signs (b ∷ []) shorts_fixed))
 
-good_front : (b : ℕ) (rest : List ℕ) → GoodFront (front b rest)
+pub good_front : (b : ℕ) (rest : List ℕ) → GoodFront (front b rest)
 good_front b rest =
     choose_front (is_blank b) _ _ (λ _. tt) (λ _. choose_front (is_letter b) _ _ (λ l. good_word b (run is_word_byte rest) l (run_passes is_word_byte rest)) (λ _.
     choose_front (is_digit b) _ _ (λ _. good_run (run is_digit (b ∷ run is_word_byte rest)) (past is_digit (b ∷ run is_word_byte rest))) (λ _.

@@ -12,7 +12,7 @@ use std::marker::Model;
 use w2c_base::{Memory, Sequence};
 
 /// How many expressions may stand inside one another.
-const DEPTH: usize = 100;
+pub const DEPTH: usize = 100;
 
 /// A unit: its items in order, without the include line in front of them.
 #[derive(Drop)]

@@ -1,0 +1,4 @@
+pub mod Runs
+pub mod Scanned
+pub mod Value
+pub mod Words

@@ -1,0 +1,8 @@
+use Rattle.std.proofs.Common.{[], ◌∷◌, ap, ◌∙◌}
+use Rattle.c_tree.specs.Text.{short_signs}
+use Rattle.c_lex.specs.Fixed.{sign_of}
+use Rattle.c_lex.proofs.Words.{sign_is}
+use Rattle.c_lex.proofs.front.one_sign.Goals as goal
+
+pub returns : goal.returns
+returns c = c.sign.ensures ∙ (ap sign_of c.find.ensures ∙ sign_is short_signs (c.args.byte ∷ []))

@@ -1,0 +1,4 @@
+pub mod Fixed
+pub mod Front
+pub mod Cursor
+pub mod Reading

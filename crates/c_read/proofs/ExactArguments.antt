@@ -1,0 +1,134 @@
+-- Arguments, calls and right sides.
+use Rattle.std.proofs.Common.{◌≡◌, ℕ, zero, suc, false, List, [], ◌∷◌, ◌++◌, refl, append_assoc}
+use Rattle.c_tree.specs.declared.token.Tok.TheVariants as tok
+use Rattle.c_tree.specs.declared.token.Part.TheVariants as part
+use Rattle.c_tree.specs.declared.token.Kind.{Kind}
+use Rattle.c_tree.specs.declared.token.Kind.TheVariants as kind
+use Rattle.c_tree.specs.Tree as tree
+use Rattle.c_tree.specs.Tokens.{Token, Fixed, Named, kind_of}
+use Rattle.c_tree.specs.Text.{Lexeme}
+use Rattle.c_tree.specs.Trees.{arg_tokens, type_tokens, callee_tokens, separated}
+use Rattle.c_tree.specs.Grammar.{Symbol, One, Of, Becomes, move, first}
+use Rattle.c_lex.specs.Reading.{and_then, next_kind, unexpected}
+use Rattle.c_read.specs.Lists.{is_comma}
+use Rattle.c_read.specs.Expressions.{expr}
+use Rattle.c_read.specs.Arguments.{agroup, agroup_by, argument_by, argument_in, argument, next_argument, more_arguments, arguments, arguments_by, Called, pointer_type, through, Right, Gives, Calls, rname, rname_by, rstar, rstar_by, rgroup, rgroup_by, right_in, right_by}
+use Rattle.c_read.proofs.Exact.{Exact, Proper, done, next, then_all, mapped, open_part, no_part}
+use Rattle.c_read.proofs.ExactTokens.{text, named, number_exact}
+use Rattle.c_read.proofs.ExactLists.{Tail, tail}
+use Rattle.c_read.proofs.ExactExpressions.{ctype_exact, types_exact, index_exact, group_exact, expr_exact}
+
+-- ---- arguments
+
+agroup_exact : (d : ℕ) (ls : List Lexeme) → Proper ls → Exact (Fixed tok.LeftParen ∷ []) arg_tokens (Of part.InAgroup d ∷ []) ls (agroup d ls)
+unfolding agroup next_kind
+agroup_exact d ls proper = by (kind_of (first ls).token) refl
+  where
+    by : (k : Kind) → kind_of (first ls).token ≡ k → Exact (Fixed tok.LeftParen ∷ []) arg_tokens (Of part.InAgroup d ∷ []) ls (agroup_by d k ls)
+    by (kind.Fixed tok.WordW2cFn) e = open_part (rw e refl) (text refl proper (λ l1 p1. text refl p1 (λ l2 p2. named p2 (λ n l3 p3. done refl))))
+    by _ e = open_part (rw e refl) (mapped tree.Value (λ x. refl) (group_exact d (expr d) ls (expr_exact d) proper))
+
+argument_level : (d : ℕ) (ls : List Lexeme) → Proper ls → Exact [] arg_tokens (Of part.InArgument (suc d) ∷ []) ls (argument_in d ls)
+unfolding argument_in next_kind unexpected
+argument_level d ls proper = by (kind_of (first ls).token) refl
+  where
+    by : (k : Kind) → kind_of (first ls).token ≡ k → Exact [] arg_tokens (Of part.InArgument (suc d) ∷ []) ls (argument_by d k ls)
+    by (kind.Fixed tok.Amp) e = open_part (rw e refl) (text refl proper (λ l1 p1. named p1 (λ n l2 p2. done refl)))
+    by (kind.Fixed tok.LeftParen) e = open_part (rw e refl) (text refl proper (λ l1 p1. agroup_exact d l1 p1))
+    by kind.Name e = open_part (rw e refl) (named proper (λ n l1 p1. mapped tree.Value (λ x. refl) (index_exact d (expr d) n l1 (expr_exact d) p1)))
+    by (kind.Number s) e = open_part (rw e refl) (next proper (number_exact d ls proper) (λ v l1 p1. done refl))
+    by _ e = no_part (rw e refl)
+
+pub argument_exact : (d : ℕ) (ls : List Lexeme) → Proper ls → Exact [] arg_tokens (Of part.InArgument d ∷ []) ls (argument d ls)
+unfolding argument
+argument_exact zero ls proper = no_part refl
+argument_exact (suc d) ls proper = argument_level d ls proper
+
+arguments_tail : (d : ℕ) → Tail (Of part.InAtail d) (Of part.InArgument d ∷ [])
+arguments_tail d = record { more = λ l e. rw e refl; ends = by }
+  where
+    by : (l : Lexeme) (k : Kind) → kind_of l.token ≡ k → is_comma k ≡ false → move (Of part.InAtail d) l ≡ Becomes []
+    by l (kind.Fixed tok.Comma) e off = absurd cc
+    by l _ e off = rw e refl
+
+some_arguments : (d : ℕ) (ls : List Lexeme) → Proper ls → Exact [] (separated arg_tokens) (Of part.InArgument d ∷ Of part.InAtail d ∷ []) ls (and_then (argument d ls) (λ x m. more_arguments d x m))
+unfolding more_arguments next_argument
+some_arguments d ls proper = next proper (argument_exact d ls proper) (λ x l1 p1. tail (arguments_tail d) (argument_exact d) p1)
+
+pub arguments_exact : (d : ℕ) (ls : List Lexeme) → Proper ls → Exact [] (separated arg_tokens) (Of part.InArguments d ∷ []) ls (arguments d ls)
+unfolding arguments next_kind
+arguments_exact d ls proper = by (kind_of (first ls).token) refl
+  where
+    by : (k : Kind) → kind_of (first ls).token ≡ k → Exact [] (separated arg_tokens) (Of part.InArguments d ∷ []) ls (arguments_by d k ls)
+    by (kind.Fixed tok.RightParen) e = open_part (rw e refl) (done refl)
+    by _ e = open_part (rw e refl) (some_arguments d ls proper)
+
+-- ---- calls
+
+-- ( type ( * ) ( types ) )
+abbrev pub pointer_tokens : tree.FuncType → List Token
+pointer_tokens t = Fixed tok.LeftParen ∷ (type_tokens t.result ++ (Fixed tok.LeftParen ∷ Fixed tok.Star ∷ Fixed tok.RightParen ∷ Fixed tok.LeftParen ∷ (separated type_tokens t.params ++ Fixed tok.RightParen ∷ Fixed tok.RightParen ∷ [])))
+
+abbrev pub called_tokens : Called → List Token
+called_tokens c = callee_tokens c.callee ++ (Fixed tok.LeftParen ∷ (separated arg_tokens c.args ++ Fixed tok.RightParen ∷ []))
+
+abbrev pointer_symbols : ℕ → List Symbol
+pointer_symbols d = One tok.LeftParen ∷ Of part.InType d ∷ One tok.LeftParen ∷ One tok.Star ∷ One tok.RightParen ∷ One tok.LeftParen ∷ Of part.InTypes d ∷ One tok.RightParen ∷ One tok.RightParen ∷ []
+
+abbrev argument_symbols : ℕ → List Symbol
+argument_symbols d = One tok.Name ∷ One tok.RightParen ∷ One tok.LeftParen ∷ Of part.InArguments d ∷ One tok.RightParen ∷ []
+
+pointer_exact : (d : ℕ) (ls : List Lexeme) → Proper ls → Exact [] pointer_tokens (pointer_symbols d) ls (pointer_type ls)
+unfolding pointer_type
+pointer_exact d ls proper =
+    text refl proper (λ l1 p1. next p1 (ctype_exact d l1 p1) (λ t l2 p2. text refl p2 (λ l3 p3. text refl p3 (λ l4 p4. text refl p4 (λ l5 p5. text refl p5 (λ l6 p6.
+    next p6 (types_exact d l6 p6) (λ ts l7 p7. text refl p7 (λ l8 p8. text refl p8 (λ l9 p9. done (simp append_assoc))))))))))
+
+-- behind a parenthesis and a star
+pub through_exact : (d : ℕ) (ls : List Lexeme) → Proper ls → Exact (Fixed tok.LeftParen ∷ Fixed tok.Star ∷ []) called_tokens (Of part.InThrough d ∷ []) ls (through d ls)
+unfolding through
+through_exact d ls proper =
+    open_part refl (then_all (pointer_symbols d) (argument_symbols d) proper (pointer_exact d ls proper) (λ t l1 p1.
+    named p1 (λ n l2 p2. text refl p2 (λ l3 p3. text refl p3 (λ l4 p4. next p4 (arguments_exact d l4 p4) (λ xs l5 p5. text refl p5 (λ l6 p6. done (simp append_assoc))))))))
+
+-- ---- right sides
+
+abbrev pub right_tokens : Right → List Token
+right_tokens (Gives a) = arg_tokens a
+right_tokens (Calls c) = called_tokens c
+
+rname_exact : (d : ℕ) (f : List ℕ) (ls : List Lexeme) → Proper ls → Exact (Named f ∷ []) right_tokens (Of part.InRname d ∷ []) ls (rname d f ls)
+unfolding rname next_kind
+rname_exact d f ls proper = by (kind_of (first ls).token) refl
+  where
+    by : (k : Kind) → kind_of (first ls).token ≡ k → Exact (Named f ∷ []) right_tokens (Of part.InRname d ∷ []) ls (rname_by d f k ls)
+    by (kind.Fixed tok.LeftBracket) e = open_part (rw e refl) (text refl proper (λ l1 p1. next p1 (expr_exact d l1 p1) (λ i l2 p2. text refl p2 (λ l3 p3. done refl))))
+    by (kind.Fixed tok.LeftParen) e = open_part (rw e refl) (text refl proper (λ l1 p1. next p1 (arguments_exact d l1 p1) (λ xs l2 p2. text refl p2 (λ l3 p3. done refl))))
+    by _ e = open_part (rw e refl) (done refl)
+
+rstar_exact : (d : ℕ) (ls : List Lexeme) → Proper ls → Exact (Fixed tok.LeftParen ∷ Fixed tok.Star ∷ []) right_tokens (Of part.InRstar d ∷ []) ls (rstar d ls)
+unfolding rstar next_kind
+rstar_exact d ls proper = by (kind_of (first ls).token) refl
+  where
+    by : (k : Kind) → kind_of (first ls).token ≡ k → Exact (Fixed tok.LeftParen ∷ Fixed tok.Star ∷ []) right_tokens (Of part.InRstar d ∷ []) ls (rstar_by d k ls)
+    by kind.Name e = open_part (rw e refl) (named proper (λ n l1 p1. text refl p1 (λ l2 p2. done refl)))
+    by _ e = open_part (rw e refl) (mapped Calls (λ x. refl) (through_exact d ls proper))
+
+rgroup_exact : (d : ℕ) (ls : List Lexeme) → Proper ls → Exact (Fixed tok.LeftParen ∷ []) right_tokens (Of part.InRgroup d ∷ []) ls (rgroup d ls)
+unfolding rgroup next_kind
+rgroup_exact d ls proper = by (kind_of (first ls).token) refl
+  where
+    by : (k : Kind) → kind_of (first ls).token ≡ k → Exact (Fixed tok.LeftParen ∷ []) right_tokens (Of part.InRgroup d ∷ []) ls (rgroup_by d k ls)
+    by (kind.Fixed tok.Star) e = open_part (rw e refl) (text refl proper (λ l1 p1. rstar_exact d l1 p1))
+    by _ e = open_part (rw e refl) (mapped Gives (λ x. refl) (agroup_exact d ls proper))
+
+pub right_exact : (d : ℕ) (ls : List Lexeme) → Proper ls → Exact [] right_tokens (Of part.InRight (suc d) ∷ []) ls (right_in d ls)
+unfolding right_in next_kind unexpected
+right_exact d ls proper = by (kind_of (first ls).token) refl
+  where
+    by : (k : Kind) → kind_of (first ls).token ≡ k → Exact [] right_tokens (Of part.InRight (suc d) ∷ []) ls (right_by d k ls)
+    by kind.Name e = open_part (rw e refl) (named proper (λ f l1 p1. rname_exact d f l1 p1))
+    by (kind.Number s) e = open_part (rw e refl) (next proper (number_exact d ls proper) (λ v l1 p1. done refl))
+    by (kind.Fixed tok.Amp) e = open_part (rw e refl) (text refl proper (λ l1 p1. named p1 (λ m l2 p2. done refl)))
+    by (kind.Fixed tok.LeftParen) e = open_part (rw e refl) (text refl proper (λ l1 p1. rgroup_exact d l1 p1))
+    by _ e = no_part (rw e refl)

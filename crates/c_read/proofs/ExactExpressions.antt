@@ -1,0 +1,129 @@
+-- Operators, types and expressions.
+use Rattle.std.proofs.Common.{◌≡◌, ℕ, zero, suc, List, [], ◌∷◌, false, refl, append_assoc}
+use Rattle.c_tree.specs.declared.token.Tok.{Tok}
+use Rattle.c_tree.specs.declared.token.Tok.TheVariants as tok
+use Rattle.c_tree.specs.declared.token.Part.TheVariants as part
+use Rattle.c_tree.specs.declared.token.Kind.{Kind}
+use Rattle.c_tree.specs.declared.token.Kind.TheVariants as kind
+use Rattle.c_tree.specs.declared.tree.CType.{CType}
+use Rattle.c_tree.specs.declared.tree.CType.TheVariants as type
+use Rattle.c_tree.specs.Tree as tree
+use Rattle.c_tree.specs.Tokens.{Fixed, Named, kind_of}
+use Rattle.c_tree.specs.Text.{Lexeme}
+use Rattle.c_tree.specs.Trees.{op_token, expr_tokens, type_tokens, separated}
+use Rattle.c_tree.specs.Grammar.{Of, Becomes, move, first}
+use Rattle.c_lex.specs.Reading.{Parser, next_kind, unexpected}
+use Rattle.c_read.specs.Expressions.{op_of, taken_op, operator, operator_by, index, index_by, group, group_by, expr_by, expr_of_parts, expr}
+use Rattle.c_read.specs.Lists.{is_comma}
+use Rattle.c_read.specs.Types.{star, star_by, ctype, ctype_by, next_type, more_types, types}
+use Rattle.c_read.proofs.Exact.{Exact, Proper, done, next, open_part, no_part}
+use Rattle.c_read.proofs.ExactTokens.{text, named, number_exact}
+use Rattle.c_read.proofs.ExactLists.{Tail, tail}
+
+-- ---- operators
+
+op_exact : (d : ℕ) (t : Tok) (ls : List Lexeme) → kind_of (first ls).token ≡ kind.Fixed t → Proper ls → Exact [] (λ o. op_token o ∷ []) (Of part.InOperator d ∷ []) ls (taken_op t (op_of t) ls)
+unfolding unexpected
+op_exact d tok.Plus ls e proper = open_part (rw e refl) (text refl proper (λ l1 p1. done refl))
+op_exact d tok.Minus ls e proper = open_part (rw e refl) (text refl proper (λ l1 p1. done refl))
+op_exact d tok.Star ls e proper = open_part (rw e refl) (text refl proper (λ l1 p1. done refl))
+op_exact d tok.Slash ls e proper = open_part (rw e refl) (text refl proper (λ l1 p1. done refl))
+op_exact d tok.Percent ls e proper = open_part (rw e refl) (text refl proper (λ l1 p1. done refl))
+op_exact d tok.Amp ls e proper = open_part (rw e refl) (text refl proper (λ l1 p1. done refl))
+op_exact d tok.Bar ls e proper = open_part (rw e refl) (text refl proper (λ l1 p1. done refl))
+op_exact d tok.Caret ls e proper = open_part (rw e refl) (text refl proper (λ l1 p1. done refl))
+op_exact d tok.ShiftLeft ls e proper = open_part (rw e refl) (text refl proper (λ l1 p1. done refl))
+op_exact d tok.ShiftRight ls e proper = open_part (rw e refl) (text refl proper (λ l1 p1. done refl))
+op_exact d tok.Equal ls e proper = open_part (rw e refl) (text refl proper (λ l1 p1. done refl))
+op_exact d tok.NotEqual ls e proper = open_part (rw e refl) (text refl proper (λ l1 p1. done refl))
+op_exact d tok.Less ls e proper = open_part (rw e refl) (text refl proper (λ l1 p1. done refl))
+op_exact d tok.LessEqual ls e proper = open_part (rw e refl) (text refl proper (λ l1 p1. done refl))
+op_exact d tok.Greater ls e proper = open_part (rw e refl) (text refl proper (λ l1 p1. done refl))
+op_exact d tok.GreaterEqual ls e proper = open_part (rw e refl) (text refl proper (λ l1 p1. done refl))
+op_exact d _ ls e proper = no_part (rw e refl)
+
+pub operator_exact : (d : ℕ) (ls : List Lexeme) → Proper ls → Exact [] (λ o. op_token o ∷ []) (Of part.InOperator d ∷ []) ls (operator ls)
+unfolding operator next_kind unexpected
+operator_exact d ls proper = by (kind_of (first ls).token) refl
+  where
+    by : (k : Kind) → kind_of (first ls).token ≡ k → Exact [] (λ o. op_token o ∷ []) (Of part.InOperator d ∷ []) ls (operator_by k ls)
+    by (kind.Fixed t) e = op_exact d t ls e proper
+    by _ e = no_part (rw e refl)
+
+-- ---- types
+
+star_exact : (d : ℕ) (itself pointer : CType) (t : Tok) (ls : List Lexeme) → type_tokens itself ≡ Fixed t ∷ [] → type_tokens pointer ≡ Fixed t ∷ Fixed tok.Star ∷ [] → Proper ls
+    → Exact (Fixed t ∷ []) type_tokens (Of part.InStar d ∷ []) ls (star itself pointer ls)
+unfolding star next_kind
+star_exact d itself pointer t ls one two proper = by (kind_of (first ls).token) refl
+  where
+    by : (k : Kind) → kind_of (first ls).token ≡ k → Exact (Fixed t ∷ []) type_tokens (Of part.InStar d ∷ []) ls (star_by itself pointer k ls)
+    by (kind.Fixed tok.Star) e = open_part (rw e refl) (text refl proper (λ l1 p1. done two))
+    by _ e = open_part (rw e refl) (done one)
+
+pub ctype_exact : (d : ℕ) (ls : List Lexeme) → Proper ls → Exact [] type_tokens (Of part.InType d ∷ []) ls (ctype ls)
+unfolding ctype next_kind unexpected
+ctype_exact d ls proper = by (kind_of (first ls).token) refl
+  where
+    by : (k : Kind) → kind_of (first ls).token ≡ k → Exact [] type_tokens (Of part.InType d ∷ []) ls (ctype_by k ls)
+    by (kind.Fixed tok.WordVoid) e = open_part (rw e refl) (text refl proper (λ l1 p1. done refl))
+    by (kind.Fixed tok.WordU32) e = open_part (rw e refl) (text refl proper (λ l1 p1. star_exact d type.U32 type.PtrU32 tok.WordU32 l1 refl refl p1))
+    by (kind.Fixed tok.WordU64) e = open_part (rw e refl) (text refl proper (λ l1 p1. star_exact d type.U64 type.PtrU64 tok.WordU64 l1 refl refl p1))
+    by (kind.Fixed tok.WordW2cMem) e = open_part (rw e refl) (text refl proper (λ l1 p1. star_exact d type.Mem type.PtrMem tok.WordW2cMem l1 refl refl p1))
+    by (kind.Fixed tok.WordW2cTab) e = open_part (rw e refl) (text refl proper (λ l1 p1. star_exact d type.Tab type.PtrTab tok.WordW2cTab l1 refl refl p1))
+    by (kind.Fixed tok.WordW2cFn) e = open_part (rw e refl) (text refl proper (λ l1 p1. done refl))
+    by _ e = no_part (rw e refl)
+
+types_tail : (d : ℕ) → Tail (Of part.InTtail d) (Of part.InType d ∷ [])
+types_tail d = record { more = λ l e. rw e refl; ends = by }
+  where
+    by : (l : Lexeme) (k : Kind) → kind_of l.token ≡ k → is_comma k ≡ false → move (Of part.InTtail d) l ≡ Becomes []
+    by l (kind.Fixed tok.Comma) e off = absurd cc
+    by l _ e off = rw e refl
+
+pub types_exact : (d : ℕ) (ls : List Lexeme) → Proper ls → Exact [] (separated type_tokens) (Of part.InTypes d ∷ []) ls (types ls)
+unfolding types more_types next_type
+types_exact d ls proper = open_part refl (next proper (ctype_exact d ls proper) (λ t l1 p1. tail (types_tail d) (ctype_exact d) p1))
+
+-- ---- expressions
+
+abbrev pub ExprExact : ℕ → Parser tree.Expr → Type 0
+ExprExact d inner = (ls : List Lexeme) → Proper ls → Exact [] expr_tokens (Of part.InExpr d ∷ []) ls (inner ls)
+
+pub index_exact : (d : ℕ) (inner : Parser tree.Expr) (n : List ℕ) (ls : List Lexeme) → ExprExact d inner → Proper ls → Exact (Named n ∷ []) expr_tokens (Of part.InIndex d ∷ []) ls (index inner n ls)
+unfolding index next_kind
+index_exact d inner n ls within proper = by (kind_of (first ls).token) refl
+  where
+    by : (k : Kind) → kind_of (first ls).token ≡ k → Exact (Named n ∷ []) expr_tokens (Of part.InIndex d ∷ []) ls (index_by inner n k ls)
+    by (kind.Fixed tok.LeftBracket) e = open_part (rw e refl)
+        (text refl proper (λ l1 p1. next p1 (within l1 p1) (λ i l2 p2. text refl p2 (λ l3 p3. done refl))))
+    by _ e = open_part (rw e refl) (done refl)
+
+pub group_exact : (d : ℕ) (inner : Parser tree.Expr) (ls : List Lexeme) → ExprExact d inner → Proper ls → Exact (Fixed tok.LeftParen ∷ []) expr_tokens (Of part.InGroup d ∷ []) ls (group inner ls)
+unfolding group next_kind
+group_exact d inner ls within proper = by (kind_of (first ls).token) refl
+  where
+    by : (k : Kind) → kind_of (first ls).token ≡ k → Exact (Fixed tok.LeftParen ∷ []) expr_tokens (Of part.InGroup d ∷ []) ls (group_by inner k ls)
+    by (kind.Fixed tok.WordU32) e = open_part (rw e refl)
+        (text refl proper (λ l1 p1. text refl p1 (λ l2 p2. next p2 (within l2 p2) (λ x l3 p3. done refl))))
+    by (kind.Fixed tok.WordU64) e = open_part (rw e refl)
+        (text refl proper (λ l1 p1. text refl p1 (λ l2 p2. next p2 (within l2 p2) (λ x l3 p3. done refl))))
+    by (kind.Fixed tok.Star) e = open_part (rw e refl)
+        (text refl proper (λ l1 p1. named p1 (λ n l2 p2. text refl p2 (λ l3 p3. done refl))))
+    by _ e = open_part (rw e refl)
+        (next proper (within ls proper) (λ a l1 p1. next p1 (operator_exact d l1 p1) (λ o l2 p2. next p2 (within l2 p2) (λ b l3 p3. text refl p3 (λ l4 p4. done (simp append_assoc))))))
+
+level_exact : (d : ℕ) (inner : Parser tree.Expr) (ls : List Lexeme) → ExprExact d inner → Proper ls → Exact [] expr_tokens (Of part.InExpr (suc d) ∷ []) ls (expr_of_parts inner ls)
+unfolding expr_of_parts next_kind unexpected
+level_exact d inner ls within proper = by (kind_of (first ls).token) refl
+  where
+    by : (k : Kind) → kind_of (first ls).token ≡ k → Exact [] expr_tokens (Of part.InExpr (suc d) ∷ []) ls (expr_by inner k ls)
+    by kind.Name e = open_part (rw e refl) (named proper (λ n l1 p1. index_exact d inner n l1 within p1))
+    by (kind.Number s) e = open_part (rw e refl) (next proper (number_exact d ls proper) (λ v l1 p1. done refl))
+    by (kind.Fixed tok.LeftParen) e = open_part (rw e refl) (text refl proper (λ l1 p1. group_exact d inner l1 within p1))
+    by _ e = no_part (rw e refl)
+
+pub expr_exact : (d : ℕ) → ExprExact d (expr d)
+unfolding expr
+expr_exact zero ls proper = no_part refl
+expr_exact (suc d) ls proper = level_exact d (expr d) ls (expr_exact d) proper

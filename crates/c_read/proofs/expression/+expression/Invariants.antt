@@ -1,0 +1,14 @@
+use Rattle.std.proofs.Common.{◌*◌, ◌+◌}
+use Rattle.c_read.proofs.expression.+expression.Given as goal
+
+abbrev pub decreases-expr : goal.decreases-expr
+decreases-expr l = 3 * l.room
+
+abbrev pub decreases-expr_of_parts : goal.decreases-expr_of_parts
+decreases-expr_of_parts l = 3 * l.room + 2
+
+abbrev pub decreases-group : goal.decreases-group
+decreases-group l = 3 * l.room + 1
+
+abbrev pub decreases-index : goal.decreases-index
+decreases-index l = 3 * l.room + 1

@@ -1,0 +1,148 @@
+// Calls through a name, and right sides.
+ghost use Rattle.std.specs.Prelude.{◌≡◌, ◌≤◌, length};
+ghost use Rattle.c_tree.specs.View.{func_type_of};
+ghost use Rattle.c_lex.specs.Reading.{Reads};
+ghost use Rattle.c_read.specs.Arguments as spec;
+ghost use Rattle.c_read.specs.Arguments.{called_of, right_of};
+
+use crate::argument::{agroup, arguments};
+use crate::ctype::{ctype, types};
+use crate::expression::expr;
+use c_lex::Cursor;
+use c_tree::{Arg, Args, CFuncType, CReadFault, Callee, Expr, Kind, Name, Part, Tok};
+use std::alloc::Global;
+
+/// What is called, and with which arguments.
+#[derive(Drop)]
+pub struct Called {
+    pub callee: Callee,
+    pub args: Args,
+}
+
+/// What is assigned to a name: an argument, or what a call gives.
+#[derive(Drop)]
+pub enum Right {
+    Gives(Arg),
+    Calls(Called),
+}
+
+/// The type of what is called through a name, from its parenthesis on.
+#[tactic(auto, unfolding(crate::specs::Arguments::pointer_type))]
+fn pointer_type(alloc: Global, cursor: &mut Cursor<'_>) -> Result<CFuncType, CReadFault>
+    ensures reads { Reads func_type_of (spec.pointer_type cursor.old) result cursor.new }
+    ensures kept { length cursor.new ≤ length cursor.old }
+{
+    cursor.expect(Tok::LeftParen)?;
+    let result = ctype(cursor)?;
+    cursor.expect(Tok::LeftParen)?;
+    cursor.expect(Tok::Star)?;
+    cursor.expect(Tok::RightParen)?;
+    cursor.expect(Tok::LeftParen)?;
+    let params = types(alloc, cursor)?;
+    cursor.expect(Tok::RightParen)?;
+    cursor.expect(Tok::RightParen)?;
+    Ok(CFuncType { params, result })
+}
+
+/// A call through a name, behind its parenthesis and star.
+#[tactic(auto, unfolding(crate::specs::Arguments::through))]
+pub fn through(alloc: Global, cursor: &mut Cursor<'_>, room: usize) -> Result<Called, CReadFault>
+    ensures reads { Reads called_of (spec.through room cursor.old) result cursor.new }
+    ensures kept { length cursor.new ≤ length cursor.old }
+{
+    let ty = pointer_type(alloc, cursor)?;
+    let name = cursor.name(alloc)?;
+    cursor.expect(Tok::RightParen)?;
+    cursor.expect(Tok::LeftParen)?;
+    let args = arguments(alloc, cursor, room)?;
+    cursor.expect(Tok::RightParen)?;
+    Ok(Called {
+        callee: Callee::Through(ty, name),
+        args,
+    })
+}
+
+/// What follows a name on a right side: an index, arguments, or nothing.
+#[tactic(auto, unfolding(crate::specs::Arguments::rname))]
+fn rname(
+    alloc: Global,
+    cursor: &mut Cursor<'_>,
+    room: usize,
+    name: Name,
+) -> Result<Right, CReadFault>
+    ensures reads { Reads right_of (spec.rname room name cursor.old) result cursor.new }
+    ensures kept { length cursor.new ≤ length cursor.old }
+{
+    match cursor.peek() {
+        Kind::Fixed(Tok::LeftBracket) => {
+            cursor.expect(Tok::LeftBracket)?;
+            let index = Box::new(alloc, expr(alloc, cursor, room)?)?;
+            cursor.expect(Tok::RightBracket)?;
+            Ok(Right::Gives(Arg::Value(Expr::At(name, index))))
+        }
+        Kind::Fixed(Tok::LeftParen) => {
+            cursor.expect(Tok::LeftParen)?;
+            let args = arguments(alloc, cursor, room)?;
+            cursor.expect(Tok::RightParen)?;
+            Ok(Right::Calls(Called {
+                callee: Callee::Named(name),
+                args,
+            }))
+        }
+        _ => Ok(Right::Gives(Arg::Value(Expr::Name(name)))),
+    }
+}
+
+/// What stands behind a parenthesis and a star: a name, or a call through one.
+#[tactic(auto, unfolding(crate::specs::Arguments::rstar))]
+fn rstar(alloc: Global, cursor: &mut Cursor<'_>, room: usize) -> Result<Right, CReadFault>
+    ensures reads { Reads right_of (spec.rstar room cursor.old) result cursor.new }
+    ensures kept { length cursor.new ≤ length cursor.old }
+{
+    match cursor.peek() {
+        Kind::Name => {
+            let name = cursor.name(alloc)?;
+            cursor.expect(Tok::RightParen)?;
+            Ok(Right::Gives(Arg::Value(Expr::Star(name))))
+        }
+        _ => Ok(Right::Calls(through(alloc, cursor, room)?)),
+    }
+}
+
+#[tactic(auto, unfolding(crate::specs::Arguments::rgroup))]
+fn rgroup(alloc: Global, cursor: &mut Cursor<'_>, room: usize) -> Result<Right, CReadFault>
+    ensures reads { Reads right_of (spec.rgroup room cursor.old) result cursor.new }
+    ensures kept { length cursor.new ≤ length cursor.old }
+{
+    match cursor.peek() {
+        Kind::Fixed(Tok::Star) => {
+            cursor.expect(Tok::Star)?;
+            rstar(alloc, cursor, room)
+        }
+        _ => Ok(Right::Gives(agroup(alloc, cursor, room)?)),
+    }
+}
+
+/// A right side, with room for so many expressions inside it.
+#[tactic(auto, unfolding(crate::specs::Arguments::right_in))]
+pub fn right_in(alloc: Global, cursor: &mut Cursor<'_>, room: usize) -> Result<Right, CReadFault>
+    ensures reads { Reads right_of (spec.right_in room cursor.old) result cursor.new }
+    ensures kept { length cursor.new ≤ length cursor.old }
+{
+    match cursor.peek() {
+        Kind::Name => {
+            let name = cursor.name(alloc)?;
+            rname(alloc, cursor, room, name)
+        }
+        Kind::Number(_) => Ok(Right::Gives(Arg::Value(Expr::Num(cursor.number()?)))),
+        Kind::Fixed(Tok::Amp) => {
+            cursor.expect(Tok::Amp)?;
+            Ok(Right::Gives(Arg::Address(cursor.name(alloc)?)))
+        }
+        Kind::Fixed(Tok::LeftParen) => {
+            cursor.expect(Tok::LeftParen)?;
+            rgroup(alloc, cursor, room)
+        }
+        _ => Err(cursor.refuse(Part::InRight)),
+    }
+}

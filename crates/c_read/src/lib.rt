@@ -1,0 +1,20 @@
+//! Text to units: the unit that a text spells, or its first faulty token.
+#![tactic(auto)]
+
+mod argument;
+mod call;
+mod ctype;
+mod expression;
+mod function;
+mod item;
+mod laws;
+mod statement;
+mod unit;
+
+pub use laws::{faults_are_of_tokens, one_fault, printed_units_are_read_again, unit_or_fault};
+pub use unit::read_unit;
+
+#[cfg(test)]
+mod fault_tests;
+#[cfg(test)]
+mod unit_tests;
