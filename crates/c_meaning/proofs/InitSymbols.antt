@@ -7,6 +7,7 @@ use Rattle.std.proofs.lemmas.Slice.Eq.{bytes_eq-Decides}
 use Rattle.w2c_mangle.specs.Escaping.{stays, hexadecimal_digit, escaped_byte, escaped}
 use Rattle.w2c_mangle.specs.Symbols.{init_symbol_of}
 use Rattle.c_meaning.specs.Linking.{unescaped, hexadecimal_value, is_init_symbol}
+use Rattle.c_meaning.proofs.Lookups.{bytes_equal}
 
 -- a byte that is no Z stays
 kept : (b : ℕ) (text : List ℕ) → (b == 90) ≡ false → unescaped (b ∷ text) ≡ b ∷ unescaped text
@@ -46,9 +47,6 @@ between : (t : List ℕ) → take (length (codes "w2cZ_" ++ t ++ codes "Z_i") - 
 between t =
     let e : length (t ++ codes "Z_i") ≡ length t + 3 = length-append t (codes "Z_i") in
     take_at t (codes "Z_i") (length (codes "w2cZ_" ++ t ++ codes "Z_i") - 8) (omega arith)
-
-bytes_equal : (xs : List ℕ) → bytes_eq xs xs ≡ true
-bytes_equal xs = (bytes_eq-Decides xs xs).1 refl
 
 pub init_symbols_found : (n : List ℕ) → All (λ b. b < 256) n → is_init_symbol (init_symbol_of n) ≡ true
 init_symbols_found n small =

@@ -1,5 +1,6 @@
 pub mod InitSymbols
 pub mod Longer
+pub mod Lookups
 pub mod OnTheWay
 pub mod Ways
 pub mod Goes

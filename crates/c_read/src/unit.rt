@@ -8,9 +8,8 @@ ghost use Rattle.c_read.specs.Items as spec;
 
 use crate::item::item;
 use c_lex::Cursor;
-use c_tree::{CReadFault, Kind, Tok, Unit};
+use c_tree::{CReadFault, Kind, Tok, UNIT_BYTES, Unit};
 use std::alloc::Global;
-use w2c_base::UNIT_BYTES;
 
 fn not_end(kind: Kind) -> bool
     ensures { result ≡ spec.not_end kind }

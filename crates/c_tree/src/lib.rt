@@ -21,4 +21,6 @@ pub use tree::{
     Arg, Args, Body, CFuncType, COp, CType, CTypes, Callee, Cases, Expr, Func, Header, HeaderLines,
     Item, Locals, Name, Num, Params, Stmt, Stmts,
 };
-pub use unit::{DEPTH, Unit, one_unit, spelled_texts_have_no_fault, well_formed_units_are_spelled};
+pub use unit::{
+    DEPTH, UNIT_BYTES, Unit, one_unit, spelled_texts_have_no_fault, well_formed_units_are_spelled,
+};

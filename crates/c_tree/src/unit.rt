@@ -14,6 +14,9 @@ use w2c_base::{Memory, Sequence};
 /// How many expressions may stand inside one another.
 pub const DEPTH: usize = 100;
 
+/// Bytes of a text that is read as a unit.
+pub const UNIT_BYTES: usize = 67_108_864;
+
 /// A unit: its items in order, without the include line in front of them.
 #[derive(Drop)]
 pub struct Unit {

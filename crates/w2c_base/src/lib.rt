@@ -11,7 +11,7 @@ mod value;
 
 pub use limits::{
     ALL_LOCALS, BLOCK_DEPTH, FUNCTIONS, LOCALS, MEMORY_PAGES, MODULE_BYTES, NAME_LENGTH,
-    PARAMETERS, RESULTS, SET_BYTES, TABLE_LENGTH, UNIT_BYTES,
+    PARAMETERS, RESULTS, SET_BYTES, TABLE_LENGTH,
 };
 pub use memory::Memory;
 pub use sequence::{Bytes, Sequence, Types, Values};

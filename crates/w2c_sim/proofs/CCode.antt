@@ -16,7 +16,7 @@ use Rattle.c_meaning.specs.Step.{with_value, place_of, evaluate_arg, assign}
 use Rattle.c_meaning.specs.Run.{Pending, Progress, Going, go_on}
 use Rattle.w2c_sim.specs.Translation.{slot, sets_of, peak}
 use Rattle.w2c_sim.proofs.Constants.{stack_after}
-use Rattle.w2c_sim.proofs.Lookups.{named-with_named, named-with_another, is_some-with_named}
+use Rattle.c_meaning.proofs.Lookups.{named-with_named, named-with_another, is_some-with_named}
 use Rattle.c_meaning.specs.Reaches.{Reaches}
 use Rattle.c_meaning.proofs.Ways.{stays, step, join_one}
 use Rattle.w2c_sim.proofs.Units.{peak-from, slot-injective}

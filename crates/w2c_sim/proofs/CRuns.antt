@@ -27,7 +27,7 @@ use Rattle.w2c_mangle.specs.Symbols.{export_symbol_of, init_symbol_of}
 use Rattle.w2c_mangle.specs.declared.symbol.SymbolKind.TheVariants.{Func}
 use Rattle.w2c_sim.proofs.Constants.{value_of, one_value, last_phase, phase_from, phase_behind}
 use Rattle.w2c_sim.proofs.Units.{slot-among}
-use Rattle.w2c_sim.proofs.Lookups.{bytes_equal}
+use Rattle.c_meaning.proofs.Lookups.{bytes_equal}
 use Rattle.c_meaning.specs.Reaches.{Reaches}
 use Rattle.c_meaning.proofs.Ways.{stays, step, join, join_one, enough, short}
 use Rattle.w2c_sim.proofs.CCode.{Holds, HasSlots, at, assignments_reach}

@@ -1,7 +1,6 @@
 pub mod Names
 pub mod Units
 pub mod Constants
-pub mod Lookups
 pub mod WasmCode
 pub mod WasmRuns
 pub mod CCode

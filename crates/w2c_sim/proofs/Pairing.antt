@@ -23,7 +23,7 @@ use Rattle.w2c_sim.specs.Translation.{peak, unit_of_constant}
 use Rattle.w2c_sim.specs.Runs.{set_of, wasm_run_of, c_run_of}
 use Rattle.w2c_sim.specs.Simulation.{NeverStops, DoesTheSame, IsTranslation}
 use Rattle.w2c_sim.proofs.Constants.{value_of, last_phase, less_or_not}
-use Rattle.w2c_sim.proofs.Lookups.{bytes_differ}
+use Rattle.c_meaning.proofs.Lookups.{bytes_differ}
 use Rattle.w2c_sim.proofs.Units.{peak-small, length-code, constant}
 use Rattle.w2c_sim.proofs.WasmRuns.{wasm_run_enough, wasm_run_short}
 use Rattle.w2c_sim.proofs.CRuns.{AreSymbols, no_objects, c_run_enough, c_run_short}

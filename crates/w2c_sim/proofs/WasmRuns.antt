@@ -17,7 +17,7 @@ use Rattle.wasm_meaning.specs.Execution.{Normal, OutOfSteps, Called, Back, CallS
 use Rattle.wasm_meaning.specs.Run.{Outcome, ListedCall, called_func, CallExport, Planned, do_task, paid, then_run, run_tasks, WasmRun, Ended, Stopped, with_found}
 use Rattle.w2c_sim.specs.Runs.{set_of, wasm_run_of}
 use Rattle.w2c_sim.proofs.Constants.{value_of, one_value, last_phase, phase_from, phase_behind, less_or_not}
-use Rattle.w2c_sim.proofs.Lookups.{bytes_equal}
+use Rattle.c_meaning.proofs.Lookups.{bytes_equal}
 use Rattle.w2c_sim.proofs.WasmCode.{values, exec_enough, exec_short}
 
 -- ---- one call
