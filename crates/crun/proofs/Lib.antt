@@ -1,0 +1,13 @@
+pub mod BuiltParts
+pub mod Called
+pub mod ConstantTold
+pub mod Decided
+pub mod Ends
+pub mod Entries
+pub mod Fitting
+pub mod History
+pub mod Inits
+pub mod Never
+pub mod Signed
+pub mod SumsTold
+pub mod SymbolParts

@@ -1,0 +1,112 @@
+-- The functions of a constant unit, statement by statement: each state has a next one, or is the end.
+use Rattle.std.proofs.Common.{◌≡◌, ◌≢◌, ℕ, ◌+◌, ◌%◌, ◌^◌, inl, inr, Bool, true, false, List, [], ◌∷◌, ◌++◌, map, bytes_eq, codes, is_some, Option, Some, None, refl, sym, ap, ◌∙◌, subst}
+use Rattle.std.specs.Prelude.{option_map}
+use Rattle.std.specs.List.{AllByRecursion}
+use Rattle.w2c_base.specs.declared.value.Value.TheVariants.{I32}
+use Rattle.w2c_base.specs.Lookup.{if_found, named, with_named}
+use Rattle.c_tree.specs.Tree as tree
+use Rattle.c_tree.specs.ConstantUnit.{ConstantSet, SetsNumber, SetsSum, IsAmong, IsDeclared, body_name, names_of, no_params, set_stmt, u32_local}
+use Rattle.c_meaning.specs.State.{Name, CValue, Number, Vars, FuncAddress, UnitFunc, Machine, Running, Frame, State, Stuck}
+use Rattle.c_meaning.specs.Linking.{Program, Definition, definition_at, func_named}
+use Rattle.c_meaning.specs.Step.{Step, Next, Back, Stops, act, at_rest, begin, bind, call, call_named, depth_name, first_vars, locals_of, next, param_names, place_of, c_step}
+use Rattle.std.proofs.lemmas.Slice.Eq.{bytes_eq-Decides}
+use Rattle.c_meaning.proofs.Lookups.{named-with_named, named-with_another}
+
+-- a name holds a u32
+abbrev pub Holds : Vars → Name → Type 0
+Holds vars name = (v : ℕ) × (named name vars ≡ Some (Number (I32 v)))
+
+abbrev pub r_name : Name
+r_name = codes "r"
+
+abbrev pub return_r : tree.Stmt
+return_r = tree.Return (tree.Value (tree.Name r_name))
+
+abbrev pub call_body : tree.Stmt
+call_body = tree.Call (Some r_name) (tree.Called body_name) []
+
+-- what stays of a function while it runs
+pub data Good (names : List Name) (last : Name) : Bool → State → Type 0 where
+  InitFirst : (m : Machine) (r : Running) → r.rest ≡ tree.Null ∷ tree.ReturnNone ∷ [] → Good names last false (record { machine = m; running = r; below = [] })
+  InitLast : (m : Machine) (r : Running) → r.rest ≡ tree.ReturnNone ∷ [] → Good names last false (record { machine = m; running = r; below = [] })
+  ExportFirst : (m : Machine) (r : Running) (v : ℕ) → r.unit ≡ 0 → r.rest ≡ call_body ∷ return_r ∷ [] → r.vars ≡ (r_name, Number (I32 v)) ∷ [] → Good names last true (record { machine = m; running = r; below = [] })
+  ExportLast : (m : Machine) (r : Running) (v : ℕ) → r.rest ≡ return_r ∷ [] → r.vars ≡ (r_name, Number (I32 v)) ∷ [] → Good names last true (record { machine = m; running = r; below = [] })
+  InBody : (m : Machine) (r : Running) (sets : List ConstantSet) (waiting : Running) (v : ℕ) → r.rest ≡ map set_stmt sets ++ tree.Return (tree.Value (tree.Name last)) ∷ []
+      → AllByRecursion (IsDeclared names) sets → ((name : Name) → IsAmong name names → Holds r.vars name)
+      → waiting.rest ≡ return_r ∷ [] → waiting.vars ≡ (r_name, Number (I32 v)) ∷ []
+      → Good names last true (record { machine = m; running = r; below = record { target = Some r_name; running = waiting } ∷ [] })
+
+-- what a step of such a state comes to
+pub data Fine (names : List Name) (last : Name) : Bool → Step → Type 0 where
+  Goes : (gives : Bool) (s : State) → Good names last gives s → Fine names last gives (Next s)
+  EndsInit : (m : Machine) → Fine names last false (Back m None)
+  EndsExport : (m : Machine) (v : ℕ) → Fine names last true (Back m (Some (Number (I32 v))))
+
+-- another value for a name leaves each name one
+still_holds : (vars : Vars) (name other : Name) (n : ℕ) → Holds vars name → Holds vars other → Holds (with_named name (Number (I32 n)) vars) other
+still_holds vars name other n one two = go (bytes_eq name other) refl
+  where
+    go : (b : Bool) → bytes_eq name other ≡ b → Holds (with_named name (Number (I32 n)) vars) other
+    go true e =
+        let same : name ≡ other = (bytes_eq-Decides name other).0 e in
+        let there : is_some (named name vars) ≡ true = ap is_some one.1 in
+        (n, subst (λ (x : Name). named x (with_named name (Number (I32 n)) vars) ≡ Some (Number (I32 n))) same (named-with_named name (Number (I32 n)) vars there))
+    go false e =
+        let differ : other ≢ name = λ same. (let equal : bytes_eq name other ≡ true = (bytes_eq-Decides name other).1 (sym same) in absurd cc) in
+        (two.0, named-with_another other name (Number (I32 n)) vars differ ∙ two.1)
+
+-- the locals as they begin
+abbrev first_value : Name × ℕ → Name × CValue
+first_value variable = (variable.0, Number (I32 variable.1))
+
+locals_begin : (variables : List (Name × ℕ)) → locals_of (map u32_local variables) ≡ Some (map first_value variables)
+locals_begin [] = refl
+locals_begin (v ∷ variables) = ap (λ (vars : Option Vars). option_map (λ (vs : Vars). first_value v ∷ vs) vars) (locals_begin variables)
+
+begin_holding : (variables : List (Name × ℕ)) (name : Name) → IsAmong name (names_of variables) → Holds (map first_value variables) name
+begin_holding [] name among = absurd among
+begin_holding (v ∷ variables) name (inl same) = (v.1, (let e : bytes_eq v.0 name ≡ true = (bytes_eq-Decides v.0 name).1 (sym same) in rw e refl))
+begin_holding (v ∷ variables) name (inr among) = go (begin_holding variables name among) (bytes_eq v.0 name) refl
+  where
+    go : Holds (map first_value variables) name → (b : Bool) → bytes_eq v.0 name ≡ b → Holds (map first_value (v ∷ variables)) name
+    go behind true e = (v.1, rw e refl)
+    go behind false e = (behind.0, rw e behind.1)
+
+module _ (p : Program) (names : List Name) (last : Name) (sets : List ConstantSet) (variables : List (Name × ℕ)) (d : Definition)
+    (named_body : func_named p 0 body_name ≡ Some (UnitFunc 0 body_name)) (body_at : definition_at p 0 body_name ≡ Some d)
+    (params : d.func.params ≡ no_params) (locals : d.body.locals ≡ map u32_local variables) (stmts : d.body.stmts ≡ map set_stmt sets ++ tree.Return (tree.Value (tree.Name last)) ∷ [])
+    (names_are : names ≡ names_of variables) (variable_names : (name : Name) → IsAmong name names → bytes_eq name depth_name ≡ false) (last_is : IsAmong last names) (declared : AllByRecursion (IsDeclared names) sets) where
+  call_begins : (m : Machine) (r : Running) (v : ℕ) → r.rest ≡ call_body ∷ return_r ∷ [] → r.unit ≡ 0 → r.vars ≡ (r_name, Number (I32 v)) ∷ [] → Fine names last true (c_step p (record { machine = m; running = r; below = [] }))
+  call_begins m r v rest unit vars =
+      let waiting : Frame = record { target = Some r_name; running = at_rest r (return_r ∷ []) } in
+      let below : List Frame = waiting ∷ [] in
+      let vars_are : first_vars d [] ≡ Some (map first_value variables) =
+      ap (λ ps. if_found (bind (param_names ps) []) (λ params. option_map (λ locals. params ++ locals) (locals_of d.body.locals))) params
+      ∙ ap (λ ls. option_map (λ (locals : Vars). [] ++ locals) (locals_of ls)) locals
+      ∙ ap (option_map (λ (locals : Vars). [] ++ locals)) (locals_begin variables) in
+      let is : c_step p (record { machine = m; running = r; below = [] }) ≡ next m (record { unit = 0; item = d.item; stmts = d.body.stmts; rest = d.body.stmts; vars = map first_value variables }) below =
+      ap (λ ss. act p m r ss []) rest
+      ∙ ap (λ u. call_named p u body_name (place_of r (return_r ∷ [])) m [] below) unit
+      ∙ ap (λ (f : Option FuncAddress). elim f [ None ↦ Stops m Stuck | Some f ↦ call p f m [] below ]) named_body
+      ∙ ap (λ o. begin o 0 m [] below) body_at
+      ∙ ap (λ (o : Option Vars). elim o [ None ↦ Stops m Stuck | Some vars ↦ next m (record { unit = 0; item = d.item; stmts = d.body.stmts; rest = d.body.stmts; vars = vars }) below ]) vars_are in
+      subst (Fine names last true) (sym is) (Goes true _ (InBody m _ sets (at_rest r (return_r ∷ [])) v stmts declared
+      (λ name among. begin_holding variables name (subst (IsAmong name) names_are among)) refl vars))
+
+  pub fine : (gives : Bool) (s : State) → Good names last gives s → Fine names last gives (c_step p s)
+  fine gives s (InitFirst m r rest) = rw rest (Goes false _ (InitLast m _ refl))
+  fine gives s (InitLast m r rest) = rw rest (EndsInit m)
+  fine gives s (ExportLast m r v rest vars) = rw (rest, vars) (EndsExport m v)
+  fine gives s (ExportFirst m r v unit rest vars) = call_begins m r v rest unit vars
+  fine gives s (InBody m r [] waiting v rest all holds wrest wvars) =
+      let value = holds last last_is in
+      rw (rest, variable_names last last_is, value.1, wvars) (Goes true _ (ExportLast m _ value.0 wrest refl))
+  fine gives s (InBody m r (SetsNumber name n ∷ sets) waiting v rest all holds wrest wvars) =
+      let value = holds name all.0 in
+      rw (rest, variable_names name all.0, value.1) (Goes true _ (InBody m _ sets waiting v refl all.1 (λ other among. still_holds r.vars name other n value (holds other among)) wrest wvars))
+  fine gives s (InBody m r (SetsSum name a b ∷ sets) waiting v rest all holds wrest wvars) =
+      let value = holds name all.0.0 in
+      let x = holds a all.0.1 in
+      let y = holds b all.0.2 in
+      rw (rest, variable_names a all.0.1, x.1, variable_names b all.0.2, y.1, variable_names name all.0.0, value.1)
+      (Goes true _ (InBody m _ sets waiting v refl all.1 (λ other among. still_holds r.vars name other ((x.0 + y.0) % 2 ^ 32) value (holds other among)) wrest wvars))
