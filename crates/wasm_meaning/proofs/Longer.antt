@@ -11,7 +11,7 @@ use Rattle.w2c_base.specs.Lookup.{if_found}
 use Rattle.w2c_base.specs.Values.{types_of, equal_types, equal_func_types, is_result, zeros}
 use Rattle.w2c_base.specs.Run.{Reply, Gave, HostTrapped, Ask, Trail}
 use Rattle.wasm_tree.specs.Instructions.{Code, end_code, then_code, Kind, Otherwise, no_else, else_code, Unreachable, Nop, Return, Drop, Block, Loop, If, Br, BrIf, BrTable, Call, CallIndirect}
-use Rattle.wasm_tree.specs.Modules.{BodyEntry}
+use Rattle.wasm_tree.specs.declared.entries.BodyEntry.{BodyEntry}
 use Rattle.wasm_meaning.specs.LinkedSet.{LinkedSet, FuncAddress, ModuleFunc, HostFunc, func_at, table_at, type_at, func_type, body_of}
 use Rattle.wasm_meaning.specs.Store as store
 use Rattle.wasm_meaning.specs.Execution.{Stop, Trapped, Asks, OutOfSteps, Stuck, Result, Normal, Branch, Returned, Stops, Called, Back, CallStops, Calls, Done, Leaves, Faults, NoRule, spend, did, dropped, and_then, top, onto, leave, turn, turns, choose, pick, came_back, invoke, call, call_element, call_indirect, exec, exec_kind, exec_else, plain, gives_all, gives_top, gave, finish, enter, declared_locals, replied, call_within}

@@ -5,7 +5,11 @@ use Rattle.w2c_base.specs.declared.trap.TrapKind.{TrapKind}
 use Rattle.w2c_base.specs.declared.trap.TrapKind.TheVariants as trap
 use Rattle.w2c_base.specs.Lookup.{if_found}
 use Rattle.w2c_base.specs.Run.{Reply, Trail, Phase, Init}
-use Rattle.wasm_tree.specs.Modules.{Import, ImportKind, ImportFunc, ImportTable, ImportMemory, ImportGlobal, ElementEntry, SegmentEntry}
+use Rattle.wasm_tree.specs.declared.entries.Import.{Import}
+use Rattle.wasm_tree.specs.declared.entries.ImportKind.{ImportKind}
+use Rattle.wasm_tree.specs.declared.entries.ElementEntry.{ElementEntry}
+use Rattle.wasm_tree.specs.declared.entries.SegmentEntry.{SegmentEntry}
+use Rattle.wasm_tree.specs.declared.entries.ImportKind.TheVariants.{Func as ImportFunc, Table as ImportTable, Memory as ImportMemory, Global as ImportGlobal}
 use Rattle.wasm_meaning.specs.LinkedSet.{LinkedSet, as_table, as_memory, import_at, func_at, table_at, memory_at}
 use Rattle.wasm_meaning.specs.Store as store
 use Rattle.wasm_meaning.specs.Execution.{Trapped, Asks, OutOfSteps, Stuck, Called, Back, CallStops, call_within}

@@ -12,7 +12,8 @@ use Rattle.w2c_base.specs.Values.{bits, value, number_of, type_of, types_of, equ
 use Rattle.w2c_base.specs.Lookup.{if_found}
 use Rattle.w2c_base.specs.Run.{Reply, Gave, HostTrapped, Ask, Trail}
 use Rattle.wasm_tree.specs.Instructions.{Code, end_code, then_code, Kind, Otherwise, no_else, else_code, LoadOp, StoreOp, Unreachable, Nop, Return, Drop, Select, MemorySize, MemoryGrow, Block, Loop, If, Br, BrIf, BrTable, Call, CallIndirect, LocalGet, LocalSet, LocalTee, GlobalGet, GlobalSet, Load, Store, I32Const, I64Const, Eqz, Compare, Unary, Binary, I32WrapI64, I64ExtendI32S, I64ExtendI32U}
-use Rattle.wasm_tree.specs.Modules.{Run, BodyEntry}
+use Rattle.wasm_tree.specs.declared.entries.Run.{Run}
+use Rattle.wasm_tree.specs.declared.entries.BodyEntry.{BodyEntry}
 use Rattle.wasm_meaning.specs.Operators.{Answer, Gives, Traps, pattern_of, truth, extend_s, unary, binary, compare}
 use Rattle.wasm_meaning.specs.Memories.{load_access, store_access, load_number, store_number}
 use Rattle.wasm_meaning.specs.LinkedSet.{LinkedSet, FuncAddress, ModuleFunc, HostFunc, GlobalAddress, func_at, table_at, memory_at, global_at, type_at, func_type, body_of}

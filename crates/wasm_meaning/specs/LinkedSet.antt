@@ -7,7 +7,12 @@ use Rattle.w2c_base.specs.declared.value.ValType.{ValType}
 use Rattle.w2c_base.specs.declared.signature.FuncType.{FuncType}
 use Rattle.w2c_base.specs.Lookup.{if_found, at_index, named}
 use Rattle.w2c_base.specs.Run.{Host}
-use Rattle.wasm_tree.specs.Modules.{Module, Import, ImportFunc, ImportTable, ImportMemory, ImportGlobal, Export, ExportFunc, ExportTable, ExportMemory, ExportGlobal, BodyEntry}
+use Rattle.wasm_tree.specs.declared.tree.Module.{Module}
+use Rattle.wasm_tree.specs.declared.entries.Import.{Import}
+use Rattle.wasm_tree.specs.declared.entries.Export.{Export}
+use Rattle.wasm_tree.specs.declared.entries.BodyEntry.{BodyEntry}
+use Rattle.wasm_tree.specs.declared.entries.ImportKind.TheVariants.{Func as ImportFunc, Table as ImportTable, Memory as ImportMemory, Global as ImportGlobal}
+use Rattle.wasm_tree.specs.declared.entries.ExportKind.TheVariants.{Func as ExportFunc, Table as ExportTable, Memory as ExportMemory, Global as ExportGlobal}
 
 pub record NamedModule : Type 0 where
   pub name : List ℕ
@@ -82,7 +87,7 @@ offered hosts host_name name =
 -- what an import stands for: an export of an earlier module, or a host's function
 abbrev pub meaning_of : List Host → List Instance → Import → Option External
 meaning_of hosts earlier i =
-    option_or (exported earlier i.module_name i.field_name) (offered hosts i.module_name i.field_name)
+    option_or (exported earlier i.«module» i.field) (offered hosts i.«module» i.field)
 
 abbrev pub is_func_import : Import → Bool
 is_func_import i = elim i.kind [

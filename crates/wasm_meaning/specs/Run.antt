@@ -10,7 +10,13 @@ use Rattle.w2c_base.specs.Values.{types_of}
 use Rattle.w2c_base.specs.Lookup.{if_found, numbered}
 use Rattle.w2c_base.specs.Run.{Reply, Ask, Trail, Phase, Init, Call}
 use Rattle.wasm_tree.specs.Instructions.{Code, end_code, then_code, I32Const, I64Const, GlobalGet}
-use Rattle.wasm_tree.specs.Modules.{Module, Limits, Import, ImportFunc, ImportTable, ImportMemory, ImportGlobal, Start, ElementEntry, SegmentEntry}
+use Rattle.wasm_tree.specs.declared.tree.Module.{Module}
+use Rattle.wasm_tree.specs.declared.entries.Limits.{Limits}
+use Rattle.wasm_tree.specs.declared.entries.Import.{Import}
+use Rattle.wasm_tree.specs.declared.entries.Start.{Start}
+use Rattle.wasm_tree.specs.declared.entries.ElementEntry.{ElementEntry}
+use Rattle.wasm_tree.specs.declared.entries.SegmentEntry.{SegmentEntry}
+use Rattle.wasm_tree.specs.declared.entries.ImportKind.TheVariants.{Func as ImportFunc, Table as ImportTable, Memory as ImportMemory, Global as ImportGlobal}
 use Rattle.wasm_meaning.specs.Operators.{pattern_of}
 use Rattle.wasm_meaning.specs.LinkedSet.{LinkedSet, FuncAddress, as_func, as_table, as_memory, is_func_import, exported, instances, import_at, func_at, table_at, memory_at, global_at, func_type}
 use Rattle.wasm_meaning.specs.Store as store

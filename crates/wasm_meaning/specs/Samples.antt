@@ -5,7 +5,17 @@ use Rattle.w2c_base.specs.declared.value.ValType.TheVariants as type
 use Rattle.w2c_base.specs.declared.value.Value.{Value}
 use Rattle.w2c_base.specs.Run.{Host, Reply}
 use Rattle.wasm_tree.specs.Instructions.{Code, end_code, then_code, Kind, Add, Block, BrTable, Call, CallIndirect, MemoryGrow, LocalGet, GlobalGet, GlobalSet, I32Const, Binary}
-use Rattle.wasm_tree.specs.Modules.{Module, TypeEntry, Export, ExportFunc, ImportFunc, ElementEntry, BodyEntry, LimitsEntry, SegmentEntry, Start, Import, ImportTable, ImportGlobal, ExportTable, ExportGlobal}
+use Rattle.wasm_tree.specs.declared.tree.Module.{Module}
+use Rattle.wasm_tree.specs.declared.entries.TypeEntry.{TypeEntry}
+use Rattle.wasm_tree.specs.declared.entries.Export.{Export}
+use Rattle.wasm_tree.specs.declared.entries.ElementEntry.{ElementEntry}
+use Rattle.wasm_tree.specs.declared.entries.BodyEntry.{BodyEntry}
+use Rattle.wasm_tree.specs.declared.entries.LimitsEntry.{LimitsEntry}
+use Rattle.wasm_tree.specs.declared.entries.SegmentEntry.{SegmentEntry}
+use Rattle.wasm_tree.specs.declared.entries.Start.{Start}
+use Rattle.wasm_tree.specs.declared.entries.Import.{Import}
+use Rattle.wasm_tree.specs.declared.entries.ImportKind.TheVariants.{Func as ImportFunc, Table as ImportTable, Global as ImportGlobal}
+use Rattle.wasm_tree.specs.declared.entries.ExportKind.TheVariants.{Func as ExportFunc, Table as ExportTable, Global as ExportGlobal}
 use Rattle.wasm_meaning.specs.LinkedSet.{LinkedSet}
 use Rattle.wasm_meaning.specs.Store.{State}
 use Rattle.wasm_meaning.specs.Execution.{Result, exec, call_within}
@@ -133,7 +143,7 @@ host_ticks = with_funcs
     (export_func (codes "r") 1 ∷ [])
     (record {
       types = [];
-      imports = record { module_name = codes "env"; field_name = codes "tick"; kind = ImportFunc 0; place = 0 } ∷ [];
+      imports = record { «module» = codes "env"; field = codes "tick"; kind = ImportFunc 0; place = 0 } ∷ [];
       funcs = [];
       tables = [];
       memories = [];
@@ -177,8 +187,8 @@ exports_table max = only_tables (table_of 2 max ∷ []) [] [] None
 abbrev pub imports_table : ℕ → Option ℕ → Module
 imports_table min max = only_tables []
     (record {
-      module_name = codes "a";
-      field_name = codes "t";
+      «module» = codes "a";
+      field = codes "t";
       kind = ImportTable (table_of min max).limits;
       place = 0;
     } ∷ [])
@@ -257,8 +267,8 @@ imports_global start = with_funcs
     (export_func (codes "run") 1 ∷ export_func (codes "again") 0 ∷ [])
     (record {
       types = [];
-      imports = record { module_name = codes "a"; field_name = codes "g"; kind = ImportGlobal type.I32 true; place = 0 }
-          ∷ record { module_name = codes "a"; field_name = codes "inc"; kind = ImportFunc 0; place = 0 } ∷ [];
+      imports = record { «module» = codes "a"; field = codes "g"; kind = ImportGlobal type.I32 true; place = 0 }
+          ∷ record { «module» = codes "a"; field = codes "inc"; kind = ImportFunc 0; place = 0 } ∷ [];
       funcs = [];
       tables = [];
       memories = [];

@@ -1,1 +1,3 @@
 pub mod OneSpelling
+pub mod Lists
+pub mod ExactTable

@@ -1,11 +1,12 @@
 -- The tree of a module of one constant function, with the place of each entry in its file.
-use Rattle.std.specs.Prelude.{ℕ, ℤ, pos, ◌+◌, ◌^◌, ◌-ℤ◌, List, [], ◌∷◌, length, Option, Some, None, nat_lt, if◌then◌else◌}
+use Rattle.std.specs.Prelude.{ℕ, ℤ, pos, ◌+◌, ◌^◌, ◌-ℤ◌, List, [], ◌∷◌, length, Some, None, nat_lt, if◌then◌else◌}
 use Rattle.w2c_base.specs.declared.value.ValType.TheVariants as type
 use Rattle.wasm_tree.specs.declared.constant_module.ConstantInstr.{ConstantInstr}
 use Rattle.wasm_tree.specs.declared.constant_module.ConstantInstr.TheVariants as instr
 use Rattle.wasm_tree.specs.ConstantModule.{code_bytes}
 use Rattle.wasm_tree.specs.Instructions.{Code, end_code, then_code, I32Const, Binary, Add}
-use Rattle.wasm_tree.specs.Modules.{Module, ExportFunc}
+use Rattle.wasm_tree.specs.declared.tree.Module.{Module}
+use Rattle.wasm_tree.specs.declared.entries.ExportKind.TheVariants.{Func as ExportFunc}
 
 -- 32 bits read with a sign
 abbrev pub signed_reading : ℕ → ℤ

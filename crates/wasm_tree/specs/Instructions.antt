@@ -2,6 +2,7 @@
 -- A place is a byte offset in the file.
 use Rattle.std.specs.Prelude.{ℕ, ℤ, List, Option}
 use Rattle.w2c_base.specs.declared.value.ValType.{ValType}
+use Rattle.wasm_tree.specs.declared.code.MemArg.{MemArg}
 
 -- one operand, a number of the same type
 pub data UnaryOp : Type 0 where
@@ -22,11 +23,6 @@ pub data LoadOp : Type 0 where
 
 pub data StoreOp : Type 0 where
   I32Store I64Store I32Store8 I32Store16 I64Store8 I64Store16 I64Store32 : StoreOp
-
--- an alignment's exponent, and an offset
-pub record MemArg : Type 0 where
-  pub align : ℕ
-  pub offset : ℕ
 
 mutual
   -- instructions in order, each with the place of its opcode

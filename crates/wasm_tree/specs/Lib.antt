@@ -1,4 +1,11 @@
+pub mod Appended
 pub mod ConstantModule
 pub mod ConstantTree
+pub mod InstructionTable
+pub mod Forms
 pub mod Instructions
-pub mod Modules
+pub mod Falls
+pub mod Size
+pub mod Stored
+pub mod Views
+pub mod Opcodes

@@ -1,7 +1,19 @@
-//! WebAssembly modules as trees. So far: modules of one exported function whose body is a
-//! constant expression of `i32.const` and `i32.add`, each number spelled in one byte.
+//! WebAssembly modules as trees, with the places of their entries and instructions in the file.
 #![tactic(auto)]
 
+mod code;
 mod constant_module;
+mod entries;
+mod instruction_table;
+mod tree;
 
+pub use code::{Code, ElsePart, Indexes, Instr, Kind, MemArg};
 pub use constant_module::{ConstantCode, ConstantInstr, ConstantModule, one_constant_module};
+pub use entries::{
+    BodyEntries, BodyEntry, ElementEntries, ElementEntry, Export, ExportKind, Exports, FuncEntries,
+    FuncEntry, FuncRef, FuncRefs, GlobalEntries, GlobalEntry, Import, ImportKind, Imports, Limits,
+    LimitsEntries, LimitsEntry, Run, Runs, SegmentEntries, SegmentEntry, Start, TypeEntries,
+    TypeEntry,
+};
+pub use instruction_table::the_instruction_table_is_exact;
+pub use tree::Module;

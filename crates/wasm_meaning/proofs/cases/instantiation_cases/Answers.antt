@@ -2,7 +2,7 @@ use Rattle.std.proofs.Common.{◌≡◌, ◌≢◌, ◌∙◌, ℕ, zero, suc, t
 use Rattle.std.specs.List.{AllByRecursion}
 use Rattle.std.proofs.lemmas.Slice.Eq.{bytes_eq-Decides}
 use Rattle.w2c_base.specs.declared.value.ValType.TheVariants.{I32}
-use Rattle.wasm_tree.specs.Modules.{Module}
+use Rattle.wasm_tree.specs.declared.tree.Module.{Module}
 use Rattle.wasm_meaning.specs.LinkedSet.{LinkedSet, Resolves, ModuleFunc, module_at}
 use Rattle.wasm_meaning.specs.Samples.{both, exports_global, imports_global}
 use Rattle.wasm_meaning.proofs.cases.instantiation_cases.Goals as goal

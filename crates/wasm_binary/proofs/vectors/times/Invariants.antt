@@ -1,0 +1,7 @@
+use Rattle.wasm_spelling.specs.Reading.{times_at}
+use Rattle.wasm_binary.specs.View.{at}
+use Rattle.wasm_binary.proofs.Loop.{Ahead}
+use Rattle.wasm_binary.proofs.vectors.times.Given as goal
+
+abbrev pub invariant-loop : goal.invariant-loop
+invariant-loop g l = Ahead g.E.Entry.reading l.count l.counter l.entries (at l.ahead) (times_at g.E.Entry.reading l.fn.count (at l.fn.rest))

@@ -1,0 +1,42 @@
+-- What closes instructions, and what opens them, as the reader returns them.
+use Rattle.std.specs.Prelude.{ℕ, Option, Some, None, ◌==◌, if◌then◌else◌}
+use Rattle.wasm_tree.specs.declared.code.Kind.{Kind as RustKind}
+use Rattle.wasm_tree.specs.Instructions.{Code, Kind}
+use Rattle.wasm_tree.specs.Views.{kind_tree}
+use Rattle.wasm_spelling.specs.At.{At}
+use Rattle.wasm_spelling.specs.Steps.{Head, a_block, a_loop, an_if}
+use Rattle.wasm_spelling.specs.Reading as reading
+use Rattle.wasm_binary.specs.declared.rest.Rest.{Rest}
+use Rattle.wasm_binary.specs.declared.code.Ender.{Ender}
+use Rattle.wasm_binary.specs.declared.code.Ender.TheVariants.{End, Else}
+use Rattle.wasm_binary.specs.declared.code.Opener.{Opener}
+use Rattle.wasm_binary.specs.declared.code.Opener.TheVariants as opener
+use Rattle.wasm_binary.specs.declared.code.Item.{Item}
+use Rattle.wasm_binary.specs.declared.code.Item.TheVariants.{Closed, One}
+use Rattle.wasm_binary.specs.View.{at}
+
+abbrev pub ender_of : Ender → reading.Ender
+ender_of (End place) = reading.by_end place
+ender_of (Else place) = reading.by_else place
+
+abbrev pub head_of_opener : Opener → Head
+head_of_opener opener.Block = a_block
+head_of_opener opener.Loop = a_loop
+head_of_opener opener.If = an_if
+
+abbrev pub item_of : Item → reading.Item
+item_of (Closed ender) = reading.closed (ender_of ender)
+item_of (One instr) = reading.one instr.place (kind_tree instr.kind)
+
+abbrev pub as_kind : RustKind × Rest → Kind × At
+as_kind x = (kind_tree x.0, at x.1)
+
+abbrev pub as_item : Item × Rest → reading.Item × At
+as_item x = (item_of x.0, at x.1)
+
+abbrev pub as_code : (Code × Ender) × Rest → (Code × reading.Ender) × At
+as_code x = ((x.0.0, ender_of x.0.1), at x.1)
+
+-- what a block's opcode begins
+abbrev pub opener_head : ℕ → Option Head
+opener_head op = if op == 0x02 then Some a_block else if op == 0x03 then Some a_loop else if op == 0x04 then Some an_if else None

@@ -1,0 +1,5 @@
+pub mod View
+pub mod Opcodes
+pub mod Enders
+pub mod Windows
+pub mod Sections

@@ -1,0 +1,348 @@
+// Instructions and expressions (WebAssembly Core 1.0, 5.4).
+ghost use Rattle.std.specs.Prelude.{◌≡◌, ◌==◌, ◌&&◌, false, true, option_map};
+ghost use Rattle.wasm_tree.specs.Instructions.{BrTable, CallIndirect, MemorySize, MemoryGrow, I32Const, I64Const};
+ghost use Rattle.wasm_tree.specs.InstructionTable.{labels, a_type, a_zero, an_i32, an_i64};
+ghost use Rattle.wasm_spelling.specs.Steps.{is_float as is_float_of, reads};
+ghost use Rattle.wasm_spelling.specs.Reading.{mem_arg_at, form_at, ender_place, block_of, if_closed, item_at, block_at, code_at, expression_at};
+ghost use Rattle.wasm_binary.specs.View.{Gives, at, seen};
+ghost use Rattle.wasm_binary.specs.Opcodes.{plain_at, fault_of, is_indexed, is_access};
+ghost use Rattle.wasm_binary.specs.Enders.{as_kind, as_item, as_code, ender_of, head_of_opener, opener_head};
+
+use crate::fields::{byte, exactly, number, signed32, signed64, zero};
+use crate::opcodes::{access, bare, indexed, takes_index, takes_mem_arg};
+use crate::rest::Rest;
+use crate::types::block_type;
+use crate::vectors::vector;
+use std::alloc::Global;
+use w2c_base::{BLOCK_DEPTH, ValType};
+use wasm_spelling::{Cause, ReadFault, Which};
+use wasm_tree::{Code, ElsePart, Instr, Kind, MemArg};
+
+/// What closes instructions, with its place.
+#[derive(Clone, Copy)]
+pub enum Ender {
+    End(u32),
+    Else(u32),
+}
+
+fn is_float(opcode: u8) -> bool
+    ensures { result ≡ is_float_of opcode }
+{
+    matches!(
+        opcode,
+        0x2a | 0x2b | 0x38 | 0x39 | 0x43 | 0x44 | 0x5b..=0x66 | 0x8b..=0xa6 | 0xa8..=0xab | 0xae..=0xbf
+    )
+}
+
+/// The fault of an opcode that begins no instruction.
+fn no_instruction(place: u32, opcode: u8) -> ReadFault
+    ensures { result ≡ fault_of place opcode }
+{
+    if is_float(opcode) {
+        ReadFault::Float(place)
+    } else {
+        ReadFault::Malformed(place, Cause::BadOpcode)
+    }
+}
+
+#[tactic(auto, unfolding(wasm_spelling::specs::Steps::reads, wasm_spelling::specs::Reading::mem_arg_at))]
+fn mem_arg(rest: Rest) -> Result<(MemArg, Rest), ReadFault>
+    ensures { Gives seen result (mem_arg_at (at rest.entry)) }
+{
+    let (align, rest) = number(rest)?;
+    let (offset, rest) = number(rest)?;
+    Ok((MemArg { align, offset }, rest))
+}
+
+#[tactic(auto, unfolding(wasm_spelling::specs::Steps::reads, wasm_spelling::specs::Reading::form_at))]
+fn branch_table(alloc: Global, rest: Rest) -> Result<(Kind, Rest), ReadFault>
+    ensures { Gives as_kind result (form_at (labels BrTable) (at rest.entry)) }
+{
+    let (targets, rest) = vector::<u32>(alloc, rest)?;
+    let (default, rest) = number(rest)?;
+    Ok((Kind::BrTable(targets, default), rest))
+}
+
+#[tactic(auto, unfolding(wasm_spelling::specs::Steps::reads, wasm_spelling::specs::Reading::form_at))]
+fn indirect_call(rest: Rest) -> Result<(Kind, Rest), ReadFault>
+    ensures { Gives as_kind result (form_at (a_type CallIndirect) (at rest.entry)) }
+{
+    let (type_index, rest) = number(rest)?;
+    let rest = zero(rest)?;
+    Ok((Kind::CallIndirect(type_index), rest))
+}
+
+#[tactic(auto, unfolding(wasm_spelling::specs::Steps::reads, wasm_spelling::specs::Reading::form_at))]
+fn memory_size(rest: Rest) -> Result<(Kind, Rest), ReadFault>
+    ensures { Gives as_kind result (form_at (a_zero MemorySize) (at rest.entry)) }
+{
+    let rest = exactly(0x00, Cause::ZeroByteExpected, rest)?;
+    Ok((Kind::MemorySize, rest))
+}
+
+#[tactic(auto, unfolding(wasm_spelling::specs::Steps::reads, wasm_spelling::specs::Reading::form_at))]
+fn memory_grow(rest: Rest) -> Result<(Kind, Rest), ReadFault>
+    ensures { Gives as_kind result (form_at (a_zero MemoryGrow) (at rest.entry)) }
+{
+    let rest = exactly(0x00, Cause::ZeroByteExpected, rest)?;
+    Ok((Kind::MemoryGrow, rest))
+}
+
+#[tactic(auto, unfolding(wasm_spelling::specs::Steps::reads, wasm_spelling::specs::Reading::form_at))]
+fn constant32(rest: Rest) -> Result<(Kind, Rest), ReadFault>
+    ensures { Gives as_kind result (form_at (an_i32 I32Const) (at rest.entry)) }
+{
+    let (constant, rest) = signed32(rest)?;
+    Ok((Kind::I32Const(constant), rest))
+}
+
+#[tactic(auto, unfolding(wasm_spelling::specs::Steps::reads, wasm_spelling::specs::Reading::form_at))]
+fn constant64(rest: Rest) -> Result<(Kind, Rest), ReadFault>
+    ensures { Gives as_kind result (form_at (an_i64 I64Const) (at rest.entry)) }
+{
+    let (constant, rest) = signed64(rest)?;
+    Ok((Kind::I64Const(constant), rest))
+}
+
+/// The instruction of an opcode that an index stands behind.
+fn with_index(place: u32, opcode: u8, rest: Rest) -> Result<(Kind, Rest), ReadFault>
+    requires { is_indexed opcode ≡ true }
+    ensures { Gives as_kind result (plain_at place opcode (at rest.entry)) }
+{
+    let (index, rest) = number(rest)?;
+    match indexed(opcode, index) {
+        Some(kind) => Ok((kind, rest)),
+        None => Err(no_instruction(place, opcode)),
+    }
+}
+
+/// The load or store of an opcode.
+fn with_mem_arg(place: u32, opcode: u8, rest: Rest) -> Result<(Kind, Rest), ReadFault>
+    requires { is_access opcode ≡ true }
+    ensures { Gives as_kind result (plain_at place opcode (at rest.entry)) }
+{
+    let (arg, rest) = mem_arg(rest)?;
+    match access(opcode, arg) {
+        Some(kind) => Ok((kind, rest)),
+        None => Err(no_instruction(place, opcode)),
+    }
+}
+
+/// The instruction of an opcode, which opens no block and closes none.
+fn instruction(alloc: Global, place: u32, opcode: u8, rest: Rest) -> Result<(Kind, Rest), ReadFault>
+    ensures { Gives as_kind result (plain_at place opcode (at rest.entry)) }
+{
+    if takes_index(opcode) {
+        return with_index(place, opcode, rest);
+    }
+    if takes_mem_arg(opcode) {
+        return with_mem_arg(place, opcode, rest);
+    }
+    if opcode == 0x0e {
+        return branch_table(alloc, rest);
+    }
+    if opcode == 0x11 {
+        return indirect_call(rest);
+    }
+    if opcode == 0x3f {
+        return memory_size(rest);
+    }
+    if opcode == 0x40 {
+        return memory_grow(rest);
+    }
+    if opcode == 0x41 {
+        return constant32(rest);
+    }
+    if opcode == 0x42 {
+        return constant64(rest);
+    }
+    match bare(opcode) {
+        Some(kind) => Ok((kind, rest)),
+        None => Err(no_instruction(place, opcode)),
+    }
+}
+
+impl Ender {
+    pub fn place(self) -> u32
+        ensures { result ≡ ender_place (ender_of self) }
+    {
+        match self {
+            Ender::End(place) => place,
+            Ender::Else(place) => place,
+        }
+    }
+}
+
+/// An instruction that opens a block.
+#[derive(Clone, Copy)]
+enum Opener {
+    Block,
+    Loop,
+    If,
+}
+
+fn opener_of(opcode: u8) -> Option<Opener>
+    ensures { option_map head_of_opener result ≡ opener_head opcode }
+{
+    match opcode {
+        0x02 => Some(Opener::Block),
+        0x03 => Some(Opener::Loop),
+        0x04 => Some(Opener::If),
+        _ => None,
+    }
+}
+
+fn is_else(opcode: u8, may_else: bool) -> bool
+    ensures { result ≡ ((opcode == 0x05) && may_else) }
+{
+    opcode == 0x05 && may_else
+}
+
+/// One more instruction, or what closes them.
+#[derive(Drop)]
+enum Item {
+    Closed(Ender),
+    One(Instr),
+}
+
+/// What stands behind a block's opcode, where in it so many more blocks may be opened.
+#[cycle(instructions)]
+#[tactic(auto, unfolding(wasm_spelling::specs::Steps::reads))]
+fn opened(alloc: Global, room: u32, opener: Opener, rest: Rest) -> Result<(Kind, Rest), ReadFault>
+    ensures { Gives as_kind result (block_of (λ may_else. code_at room may_else) (head_of_opener opener) (at rest.entry)) }
+{
+    let (result, rest) = block_type(rest)?;
+    match opener {
+        Opener::Block => {
+            let ((code, ender), rest) = instructions(alloc, room, false, rest)?;
+            let end_place = ender.place();
+            Ok((
+                Kind::Block {
+                    result,
+                    code,
+                    end_place,
+                },
+                rest,
+            ))
+        }
+        Opener::Loop => {
+            let ((code, ender), rest) = instructions(alloc, room, false, rest)?;
+            let end_place = ender.place();
+            Ok((
+                Kind::Loop {
+                    result,
+                    code,
+                    end_place,
+                },
+                rest,
+            ))
+        }
+        Opener::If => branches(alloc, room, result, rest),
+    }
+}
+
+/// The branches of an `if`.
+#[cycle(instructions)]
+#[tactic(auto, unfolding(wasm_spelling::specs::Steps::reads))]
+fn branches(
+    alloc: Global,
+    room: u32,
+    ty: Option<ValType>,
+    rest: Rest,
+) -> Result<(Kind, Rest), ReadFault>
+    ensures { Gives as_kind result (reads (code_at room true) (if_closed (code_at room false) ty) (at rest.entry)) }
+{
+    let ((first, ender), rest) = instructions(alloc, room, true, rest)?;
+    match ender {
+        Ender::End(end_place) => Ok((
+            Kind::If {
+                result: ty,
+                code: first,
+                otherwise: None,
+                end_place,
+            },
+            rest,
+        )),
+        Ender::Else(place) => {
+            let ((second, ender), rest) = instructions(alloc, room, false, rest)?;
+            let end_place = ender.place();
+            let otherwise = Some(ElsePart {
+                code: second,
+                place,
+            });
+            Ok((
+                Kind::If {
+                    result: ty,
+                    code: first,
+                    otherwise,
+                    end_place,
+                },
+                rest,
+            ))
+        }
+    }
+}
+
+/// One more instruction, or what closes them.
+#[cycle(instructions)]
+fn next_item(
+    alloc: Global,
+    room: u32,
+    may_else: bool,
+    rest: Rest,
+) -> Result<(Item, Rest), ReadFault>
+    ensures { Gives as_item result (item_at room may_else (block_at room) (at rest.entry)) }
+{
+    let place = rest.place;
+    let (opcode, rest) = byte(rest)?;
+    if opcode == 0x0b {
+        return Ok((Item::Closed(Ender::End(place)), rest));
+    }
+    if is_else(opcode, may_else) {
+        return Ok((Item::Closed(Ender::Else(place)), rest));
+    }
+    match opener_of(opcode) {
+        Some(opener) => {
+            if room == 0 {
+                return Err(ReadFault::Limit(place, Which::BlockDepth));
+            }
+            let (kind, rest) = opened(alloc, room - 1, opener, rest)?;
+            Ok((Item::One(Instr { place, kind }), rest))
+        }
+        None => {
+            let (kind, rest) = instruction(alloc, place, opcode, rest)?;
+            Ok((Item::One(Instr { place, kind }), rest))
+        }
+    }
+}
+
+/// The instructions up to what closes them, where so many blocks may be opened.
+#[cycle(instructions)]
+pub fn instructions(
+    alloc: Global,
+    room: u32,
+    may_else: bool,
+    rest: Rest,
+) -> Result<((Code, Ender), Rest), ReadFault>
+    ensures { Gives as_code result (code_at room may_else (at rest.entry)) }
+{
+    let mut code = Code::new(alloc);
+    let mut ahead = rest;
+    loop {
+        let (item, after) = next_item(alloc, room, may_else, ahead)?;
+        match item {
+            Item::Closed(ender) => return Ok(((code, ender), after)),
+            Item::One(instr) => code.push(instr)?,
+        }
+        ahead = after;
+    }
+}
+
+/// An expression, of which the end's place is not kept.
+#[tactic(auto, unfolding(wasm_spelling::specs::Steps::reads, wasm_spelling::specs::Reading::expression_at))]
+pub fn expression(alloc: Global, rest: Rest) -> Result<(Code, Rest), ReadFault>
+    ensures { Gives seen result (expression_at (at rest.entry)) }
+{
+    let ((code, _), rest) = instructions(alloc, BLOCK_DEPTH, false, rest)?;
+    Ok((code, rest))
+}

@@ -1,0 +1,21 @@
+//! The binary format of WebAssembly modules (WebAssembly Core 1.0, chapter 5): a module is read from
+//! its bytes, or their first fault is named.
+#![tactic(auto)]
+
+mod bodies;
+mod code;
+mod entries;
+mod fields;
+mod module;
+mod opcodes;
+mod rest;
+mod sections;
+mod types;
+mod vectors;
+mod windows;
+
+pub use module::read_module;
+pub use wasm_spelling::{Cause, ReadFault, Which};
+
+#[cfg(test)]
+mod tests;

@@ -1,0 +1,17 @@
+pub mod Tools
+pub mod Took
+pub mod Runs
+pub mod Leaves
+pub mod Vectors
+pub mod Windows
+pub mod Types
+pub mod Forms
+pub mod CodeTaken
+pub mod CodeAgain
+pub mod CodeFollows
+pub mod Entries
+pub mod Bodies
+pub mod Parts
+pub mod Sections
+pub mod SectionsAgain
+pub mod Whole

@@ -1,0 +1,11 @@
+//! The binary format of WebAssembly modules: which bytes spell a module, and the first fault of bytes
+//! that spell none (WebAssembly Core 1.0, chapter 5).
+#![tactic(auto)]
+
+mod cases;
+mod fault;
+mod laws;
+
+pub use cases::file_cases;
+pub use fault::{Cause, ReadFault, Which};
+pub use laws::each_file_has_one_reading;
