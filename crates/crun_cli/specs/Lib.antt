@@ -1,0 +1,10 @@
+pub mod CallsFile
+pub mod CommandLine
+pub mod Job
+pub mod Lines
+pub mod Numbers
+pub mod Parts
+pub mod RunLines
+pub mod Running
+pub mod Seen
+pub mod Stops

@@ -1,0 +1,27 @@
+-- What the program keeps, without where it lies in memory.
+use Rattle.std.specs.Prelude.{ℕ, List, map, Option, Some, None, option_map, string_bytes}
+use Rattle.c_meaning.specs.Linking.{SymbolCall}
+use Rattle.crun_cli.specs.declared.words.Line.{Line}
+use Rattle.crun_cli.specs.declared.call_line.NamedCall.{NamedCall}
+use Rattle.crun_cli.specs.declared.stop.Stop.{Stop}
+use Rattle.crun_cli.specs.declared.stop.Stop.TheVariants as stop
+use Rattle.crun_cli.specs.CommandLine as words
+use Rattle.crun_cli.specs.Lines as lines
+
+abbrev pub line_seen : Line → words.Line
+line_seen line = record { steps = line.steps; calls = string_bytes line.calls.now; unit = string_bytes line.unit.now }
+
+abbrev pub call_seen : NamedCall → SymbolCall
+call_seen call = record { symbol = call.symbol; args = call.args }
+
+abbrev pub calls_seen : List NamedCall → List SymbolCall
+calls_seen calls = map call_seen calls
+
+abbrev pub reason_of : Stop → lines.Reason
+reason_of stop.Usage = lines.Usage
+reason_of (stop.Unread name) = lines.Unread (string_bytes name)
+reason_of (stop.Refused name why) = lines.Refused (string_bytes name) why
+reason_of stop.CallsTooLong = lines.CallsTooLong
+reason_of (stop.CallsLine number) = lines.CallsLine number
+reason_of stop.Unwritten = lines.Unwritten
+reason_of stop.Memory = lines.WantOfMemory

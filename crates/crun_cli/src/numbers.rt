@@ -1,0 +1,51 @@
+// Numbers as words.
+ghost use Rattle.std.specs.Prelude.{◌≡◌, ◌≤◌, ◌^◌, IfSome, IfNone};
+ghost use Rattle.c_tree.specs.Grammar.{value_of};
+ghost use Rattle.crun_cli.specs.Numbers.{is_number as is_number_text, number_below};
+
+/// The number below 2^64 that 1 to 20 decimal digits write, with leading zeros or without. None for
+/// any other text.
+pub fn number(text: &[u8]) -> Option<u64>
+    ensures { result ≡ number_below (2 ^ 64) text.now }
+{
+    if !is_number(text) {
+        return None;
+    }
+    value(text)
+}
+
+/// The same below 2^32.
+pub fn number_32(text: &[u8]) -> Option<u32>
+    ensures { result ≡ number_below (2 ^ 32) text.now }
+{
+    let number = number(text)?;
+    if number > 0xffff_ffff {
+        return None;
+    }
+    Some(number as u32)
+}
+
+fn is_number(text: &[u8]) -> bool
+    ensures { result ≡ is_number_text text.now }
+{
+    !text.is_empty() && text.len() <= 20 && text.iter().all(|byte| byte.is_ascii_digit())
+}
+
+// The number that digits write, where it is below 2^64.
+#[tactic(auto, using(crate::proofs::Value::value_step, crate::proofs::Value::value_grows))]
+fn value(digits: &[u8]) -> Option<u64>
+    ensures some { IfSome result (λ n. n ≡ value_of 0 digits.now) }
+    ensures none { IfNone result (2 ^ 64 ≤ value_of 0 digits.now) }
+{
+    let mut n: u64 = 0;
+    for digit in digits {
+        let Some(tens) = n.checked_mul(10) else {
+            return None;
+        };
+        let Some(more) = tens.checked_add(u64::from(digit.saturating_sub(48))) else {
+            return None;
+        };
+        n = more;
+    }
+    Some(n)
+}

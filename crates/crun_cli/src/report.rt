@@ -1,0 +1,157 @@
+// The line on the error stream, and the status.
+ghost use Rattle.std.specs.Prelude.{◌≡◌, ◌⊎◌, ◌++◌, codes, IfOk, OnOk, string_bytes};
+ghost use Rattle.std.specs.Fmt.{decimal};
+ghost use Rattle.w2c_io.specs.Telling.{Says, SaysPart};
+ghost use Rattle.crun_cli.specs.Lines.{cause_text, error_line, part_text, reason_text, status_of, token_text, wanted_text};
+ghost use Rattle.crun_cli.specs.Seen.{reason_of};
+
+use crate::stop::{Cause, Stop};
+use c_tree::{Part, Tok, Wanted};
+use itoa::Buffer;
+use std::alloc::Global;
+use w2c_base::{Bytes, Memory};
+use w2c_io::{Sink, WriteAnswer};
+
+/// Says why the program stops, and gives the status.
+pub fn report<E: Sink>(alloc: Global, stop: &Stop, err: &mut E) -> u8
+    ensures status { (result ≡ status_of (reason_of stop.now)) ⊎ (result ≡ 5) }
+    ensures says { Says (E.told err.old) (E.told err.new) (E.faults err.old) (E.faults err.new) (error_line (reason_of stop.now)) ⊎ (result ≡ 5) }
+    ensures part { SaysPart (E.told err.old) (E.told err.new) (error_line (reason_of stop.now)) }
+{
+    let Ok(line) = error_text(alloc, stop) else {
+        return 5;
+    };
+    match err.put(line.as_slice()) {
+        Ok(()) | Err(WriteAnswer::Failed) => status(stop),
+        Err(WriteAnswer::Memory) => 5,
+    }
+}
+
+fn status(stop: &Stop) -> u8
+    ensures { result ≡ status_of (reason_of stop.now) }
+{
+    match stop {
+        Stop::Usage | Stop::CallsTooLong | Stop::CallsLine(_) => 2,
+        Stop::Unread(_) => 3,
+        Stop::Unwritten => 4,
+        Stop::Memory => 5,
+        Stop::Refused(_, _) => 6,
+    }
+}
+
+fn error_text(alloc: Global, stop: &Stop) -> Result<Bytes, Memory>
+    ensures { IfOk result (λ line. line ≡ error_line (reason_of stop.now)) }
+{
+    let mut line = Bytes::new(alloc);
+    line.extend(b"crun: ")?;
+    put_reason(&mut line, stop)?;
+    line.push(b'\n')?;
+    Ok(line)
+}
+
+fn put_reason(line: &mut Bytes, stop: &Stop) -> Result<(), Memory>
+    ensures { OnOk result (line.new ≡ line.old ++ reason_text (reason_of stop.now)) }
+{
+    match stop {
+        Stop::Usage => line.extend(b"bad command line"),
+        Stop::CallsTooLong => line.extend(b"calls file too long"),
+        Stop::CallsLine(number) => put_counted(line, b"calls line ", *number as u64),
+        Stop::Refused(name, cause) => put_cause(line, name, *cause),
+        Stop::Unread(name) => {
+            line.extend(name.as_bytes())?;
+            line.extend(b": read fault")
+        }
+        Stop::Unwritten => line.extend(b"write fault"),
+        Stop::Memory => line.extend(b"want of memory"),
+    }
+}
+
+fn put_cause(line: &mut Bytes, name: &String, cause: Cause) -> Result<(), Memory>
+    ensures { OnOk result (line.new ≡ line.old ++ (string_bytes name.now ++ codes ": " ++ cause_text cause)) }
+{
+    line.extend(name.as_bytes())?;
+    line.extend(b": ")?;
+    match cause {
+        Cause::TooLong => line.extend(b"unit too long"),
+        Cause::Unexpected(place, wanted) => {
+            put_counted(line, b"unexpected at ", place)?;
+            line.extend(b": wanted ")?;
+            line.extend(text_of_wanted(wanted))
+        }
+        Cause::NumberTooLarge(place) => put_counted(line, b"number too large at ", place),
+        Cause::TooDeep(place) => put_counted(line, b"too deep at ", place),
+        Cause::NotBuilt => line.extend(b"not built"),
+    }
+}
+
+fn put_counted(line: &mut Bytes, text: &[u8], number: u64) -> Result<(), Memory>
+    ensures { OnOk result (line.new ≡ line.old ++ (text.now ++ decimal number)) }
+{
+    let mut buffer = Buffer::new();
+    line.extend(text)?;
+    line.extend(buffer.format(number).as_bytes())
+}
+
+fn text_of_wanted(wanted: Wanted) -> &'static [u8]
+    ensures { result.now ≡ wanted_text wanted }
+{
+    match wanted {
+        Wanted::Token(token) => text_of_token(token),
+        Wanted::Part(part) => text_of_part(part),
+    }
+}
+
+fn text_of_token(token: Tok) -> &'static [u8]
+    ensures { result.now ≡ token_text token }
+{
+    match token {
+        Tok::Include => b"include line",
+        Tok::End => b"end",
+        Tok::Name => b"name",
+        Tok::Plain => b"plain number",
+        other => other.text(),
+    }
+}
+
+fn text_of_part(part: Part) -> &'static [u8]
+    ensures { result.now ≡ part_text part }
+{
+    match part {
+        Part::InUnit => b"unit",
+        Part::InItems => b"items",
+        Part::InItem => b"item",
+        Part::InInner => b"inner",
+        Part::InMore => b"more",
+        Part::InRest => b"rest",
+        Part::InType => b"type",
+        Part::InStar => b"star",
+        Part::InFunction => b"function",
+        Part::InParameters => b"parameters",
+        Part::InPname => b"pname",
+        Part::InPtail => b"ptail",
+        Part::InClose => b"close",
+        Part::InBody => b"body",
+        Part::InDeclaration => b"declaration",
+        Part::InStatements => b"statements",
+        Part::InStatement => b"statement",
+        Part::InAfter => b"after",
+        Part::InRight => b"right",
+        Part::InRname => b"rname",
+        Part::InRgroup => b"rgroup",
+        Part::InRstar => b"rstar",
+        Part::InThrough => b"through",
+        Part::InTypes => b"types",
+        Part::InTtail => b"ttail",
+        Part::InArguments => b"arguments",
+        Part::InArgument => b"argument",
+        Part::InAtail => b"atail",
+        Part::InAgroup => b"agroup",
+        Part::InResult => b"result",
+        Part::InCases => b"cases",
+        Part::InExpr => b"expr",
+        Part::InIndex => b"index",
+        Part::InGroup => b"group",
+        Part::InOperator => b"operator",
+        Part::InNumber => b"number",
+    }
+}

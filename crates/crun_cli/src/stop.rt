@@ -1,0 +1,60 @@
+// Why the program stops before it has run.
+ghost use Rattle.std.specs.Prelude.{◌≡◌};
+ghost use Rattle.crun_cli.specs.declared.stop.Stop.TheVariants.{Memory as WantOfMemory};
+
+use c_tree::Wanted;
+use std::alloc::{AllocError, AllocFailed};
+use w2c_base::Memory;
+
+/// Why a unit is refused. Places are byte offsets from 0.
+#[derive(Clone, Copy, Debug, PartialEq, Eq)]
+pub enum Cause {
+    /// The file has more bytes than a unit may have.
+    TooLong,
+    /// A token that fits nowhere, and what was wanted in its place.
+    Unexpected(u64, Wanted),
+    NumberTooLarge(u64),
+    TooDeep(u64),
+    /// It is not a unit of the form that is run so far.
+    NotBuilt,
+}
+
+/// Why the program stops before it has run, with the file's name.
+#[derive(Drop)]
+pub enum Stop {
+    /// The words have no reading.
+    Usage,
+    /// A file that is not read.
+    Unread(String),
+    Refused(String, Cause),
+    CallsTooLong,
+    /// A line of the calls file, counted from 1, that names no call.
+    CallsLine(usize),
+    /// A line of the run that is not written.
+    Unwritten,
+    Memory,
+}
+
+impl From<AllocError> for Stop {
+    ghost from_gives = { λ _ e. e ≡ WantOfMemory };
+
+    fn from(_: AllocError) -> Self {
+        Stop::Memory
+    }
+}
+
+impl<T: Drop> From<AllocFailed<T>> for Stop {
+    ghost from_gives = { λ _ e. e ≡ WantOfMemory };
+
+    fn from(_: AllocFailed<T>) -> Self {
+        Stop::Memory
+    }
+}
+
+impl From<Memory> for Stop {
+    ghost from_gives = { λ _ e. e ≡ WantOfMemory };
+
+    fn from(_: Memory) -> Self {
+        Stop::Memory
+    }
+}
