@@ -1,1 +1,12 @@
+pub mod Arguments
+pub mod Behind
+pub mod CallsRead
+pub mod Cuts
+pub mod Fronts
+pub mod JobFound
+pub mod JobLaws
+pub mod LineNames
+pub mod Printed
+pub mod TopLaws
 pub mod Value
+pub mod WorkLaws

@@ -23,7 +23,7 @@ argument_of _ word = None
 abbrev pub arguments_of : List CType → List (List ℕ) → Option (List Value)
 arguments_of types [] = Some []
 arguments_of [] (word ∷ words) = None
-arguments_of (t ∷ types) (word ∷ words) = elim argument_of t word [
+arguments_of (t ∷ types) (word ∷ words) = elim (argument_of t word) [
   | None ↦ None
   | Some v ↦ option_map (λ values. v ∷ values) (arguments_of types words)
 ]

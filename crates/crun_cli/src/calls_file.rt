@@ -1,6 +1,7 @@
 // The calls file: a call a line.
 ghost use Rattle.std.specs.Prelude.{IfOk, IfErr};
 ghost use Rattle.c_tree.specs.View.{unit_of};
+ghost use Rattle.crun.specs.Built.{IsBuilt};
 ghost use Rattle.crun_cli.specs.CallsFile.{lines_in, AreCalls};
 ghost use Rattle.crun_cli.specs.Seen.{calls_seen, reason_of};
 ghost use Rattle.crun_cli.specs.Stops.{StopsCalls};
@@ -18,13 +19,14 @@ pub type Calls = Sequence<NamedCall>;
 /// The calls that the lines of a text name, in order; empty lines are passed over. The first line
 /// that is not empty and names no call is refused by its number.
 pub fn read_calls(alloc: Global, linked: &Linked, text: &[u8]) -> Result<Calls, Stop>
+    requires built { IsBuilt (unit_of linked.now) }
     ensures calls { IfOk result (λ calls. AreCalls (unit_of linked.now) (lines_in text.now) (calls_seen calls)) }
     ensures stop { IfErr result (λ stop. StopsCalls (unit_of linked.now) (lines_in text.now) (reason_of stop)) }
 {
     let mut calls = Calls::new(alloc);
     let mut number = 0;
     let mut rest = Some(text);
-    'lines: while let Some(text) = rest {
+    'more: while let Some(text) = rest {
         let (line, behind) = cut(text, b'\n');
         number += 1;
         if !line.is_empty() {

@@ -3,6 +3,7 @@
 
 mod call_line;
 mod calls_file;
+mod law;
 mod linking;
 mod numbers;
 mod parts;
@@ -18,6 +19,7 @@ mod top;
 mod words;
 mod work;
 
+pub use law::one_job;
 use std::env;
 use std::process::ExitCode;
 pub use top::crun_top;

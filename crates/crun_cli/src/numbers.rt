@@ -1,5 +1,7 @@
 // Numbers as words.
 ghost use Rattle.std.specs.Prelude.{◌≡◌, ◌≤◌, ◌^◌, IfSome, IfNone};
+ghost use Rattle.std.specs.List.{list_all};
+ghost use Rattle.std.specs.Char.{is_ascii_digit};
 ghost use Rattle.c_tree.specs.Grammar.{value_of};
 ghost use Rattle.crun_cli.specs.Numbers.{is_number as is_number_text, number_below};
 
@@ -28,7 +30,19 @@ pub fn number_32(text: &[u8]) -> Option<u32>
 fn is_number(text: &[u8]) -> bool
     ensures { result ≡ is_number_text text.now }
 {
-    !text.is_empty() && text.len() <= 20 && text.iter().all(|byte| byte.is_ascii_digit())
+    !text.is_empty() && text.len() <= 20 && are_digits(text)
+}
+
+fn are_digits(text: &[u8]) -> bool
+    ensures { result ≡ list_all is_ascii_digit text.now }
+{
+    text.iter().all(|byte| is_digit(*byte))
+}
+
+fn is_digit(byte: u8) -> bool
+    ensures { result ≡ is_ascii_digit byte }
+{
+    byte.is_ascii_digit()
 }
 
 // The number that digits write, where it is below 2^64.

@@ -1,5 +1,5 @@
 // From the words of a command line to a unit and the calls that are to be run.
-ghost use Rattle.std.specs.Prelude.{◌≡◌, ◌≤◌, true, All, IfOk, IfErr};
+ghost use Rattle.std.specs.Prelude.{◌≡◌, ◌≤◌, true, All, OnOk, IfOk, IfErr};
 ghost use Rattle.w2c_io.specs.Telling.{Tells};
 ghost use Rattle.c_tree.specs.View.{unit_of};
 ghost use Rattle.c_meaning.specs.Linking.{fits};
@@ -7,7 +7,7 @@ ghost use Rattle.c_machine.specs.Threads.{alone};
 ghost use Rattle.crun_cli.specs.CommandLine.{texts};
 ghost use Rattle.crun_cli.specs.Job.{IsJob, Run};
 ghost use Rattle.crun_cli.specs.Seen.{call_seen, calls_seen, reason_of};
-ghost use Rattle.crun_cli.specs.Stops.{StopsBefore};
+ghost use Rattle.crun_cli.specs.Stops.{HasReading, StopsBefore};
 
 use crate::calls_file::{Calls, read_calls};
 use crate::linking::link_text;
@@ -35,6 +35,7 @@ pub fn prepare<F: Files>(alloc: Global, words: &[String], files: &mut F) -> Resu
     ensures later { F.read_faults files.old ≤ F.read_faults files.new }
     ensures task { IfOk result (λ task. Tells (F.told files.old) (λ contents. IsJob (texts words.now) contents (Run (unit_of task.linked) (calls_seen task.calls) task.steps))) }
     ensures fit { IfOk result (λ task. All (λ call. fits (alone (unit_of task.linked)) (call_seen call) ≡ true) task.calls) }
+    ensures line { OnOk result (HasReading (texts words.now)) }
     ensures stop { IfErr result (λ stop. StopsBefore (texts words.now) (F.told files.old) (F.read_faults files.old) (F.read_faults files.new) (F.fault_name files.new) (reason_of stop)) }
 {
     let Some(line) = read_words(words) else {

@@ -137,6 +137,84 @@ fn refused_units(rt: HostRuntime) -> Result<(), Fail> {
     Ok(())
 }
 
+// The status over these files, and what it has written on the error stream.
+fn with_files(alloc: Global, files: &mut MemFiles) -> Result<(u8, MemSink), Fail> {
+    let words = words(alloc, &["--steps", "8", "--calls", "u.calls", "u.c"])?;
+    let mut out = MemSink::new(alloc);
+    let mut err = MemSink::new(alloc);
+    let status = crun_top(
+        alloc,
+        words.as_slice(),
+        files,
+        &mut out,
+        &mut err,
+        Vec::new(alloc),
+    );
+    Ok((status, err))
+}
+
+#[test]
+fn files_that_are_not_read(rt: HostRuntime) -> Result<(), Fail> {
+    let alloc = rt.alloc();
+    let mut files = MemFiles::new(alloc);
+    let (status, err) = with_files(alloc, &mut files)?;
+    assert!(rt; status == 3);
+    assert_eq!(rt; err.bytes(), b"crun: u.c: read fault\n".as_slice());
+    files.add("u.c", TWO_C.as_bytes())?;
+    let (status, err) = with_files(alloc, &mut files)?;
+    assert!(rt; status == 3);
+    assert_eq!(rt; err.bytes(), b"crun: u.calls: read fault\n".as_slice());
+    files.add("u.calls", b"two f\n")?;
+    files.fail(FileCall::Read, 5)?;
+    let (status, err) = with_files(alloc, &mut files)?;
+    assert!(rt; status == 3);
+    assert_eq!(rt; err.bytes(), b"crun: u.calls: read fault\n".as_slice());
+    Ok(())
+}
+
+#[test]
+fn a_calls_file_that_is_too_long(rt: HostRuntime) -> Result<(), Fail> {
+    let alloc = rt.alloc();
+    let mut text = Vec::new(alloc);
+    text.resize(1_048_576, b'\n')?;
+    let mut files = MemFiles::new(alloc);
+    files.add("u.c", TWO_C.as_bytes())?;
+    files.add("u.calls", text.as_slice())?;
+    let (status, _) = with_files(alloc, &mut files)?;
+    assert!(rt; status == 0);
+    text.push(b'\n')?;
+    files.add("u.calls", text.as_slice())?;
+    let (status, err) = with_files(alloc, &mut files)?;
+    assert!(rt; status == 2);
+    assert_eq!(rt; err.bytes(), b"crun: calls file too long\n".as_slice());
+    Ok(())
+}
+
+#[test]
+fn lines_that_are_not_written(rt: HostRuntime) -> Result<(), Fail> {
+    let alloc = rt.alloc();
+    let mut files = MemFiles::new(alloc);
+    files.add("u.c", TWO_C.as_bytes())?;
+    files.add("u.calls", b"two f\ntwo f\n")?;
+    let words = words(alloc, &["--steps", "100", "--calls", "u.calls", "u.c"])?;
+    let mut out = MemSink::new(alloc);
+    let mut err = MemSink::new(alloc);
+    out.fail(2)?;
+    err.fail(1)?;
+    let status = crun_top(
+        alloc,
+        words.as_slice(),
+        &mut files,
+        &mut out,
+        &mut err,
+        Vec::new(alloc),
+    );
+    assert!(rt; status == 4);
+    assert_eq!(rt; out.bytes(), b"call 1 = i32:42\ncall 2 =".as_slice());
+    assert_eq!(rt; err.bytes(), b"crun: wri".as_slice());
+    Ok(())
+}
+
 #[test]
 fn bad_command_lines(rt: HostRuntime) -> Result<(), Fail> {
     let alloc = rt.alloc();

@@ -1,0 +1,127 @@
+-- What the top call says, from why its work stopped or what it came to.
+use Rattle.std.proofs.Common.{◌≡◌, ◌⊎◌, inl, inr, ℕ, ◌≤◌, List, Option, Some, None, MatchOption, refl, sym, ap, ◌∙◌, subst, arith}
+use Rattle.w2c_io.specs.Contents.{Name, Contents, Told}
+use Rattle.w2c_io.specs.Causes.{Rose}
+use Rattle.w2c_io.specs.Telling.{Tells}
+use Rattle.crun_cli.specs.CommandLine.{line_of}
+use Rattle.crun_cli.specs.Job.{Answers, IsJob, IsJobOf, Job, Run, Stops}
+use Rattle.crun_cli.specs.Lines.{status_of, Reason, Usage, CallsTooLong, CallsLine, Refused, Unread, Unwritten, WantOfMemory}
+use Rattle.crun_cli.specs.Stops.{Faulted, HasReading, IsInput, IsRunStatus, Ran, RanPart, Refuses, StopsBefore, StopsWork}
+
+-- a status of a run is none of those by which the program stops
+pub run_apart : (status n : ℕ) → IsRunStatus status → status ≡ n → (n ≡ 2) ⊎ (n ≡ 3) ⊎ (n ≡ 4) ⊎ (n ≡ 5) ⊎ (n ≡ 6) → ⊥
+run_apart status n run same stop = omega (arith, run, same, stop)
+
+pub run_small : (status : ℕ) → IsRunStatus status → status ≤ 8
+run_small status run = omega (arith, run)
+
+pub run_complete : (words : List Name) (m : Contents) (old new : Option (List ℕ)) (status : ℕ) → Ran words m old new status → (status ≡ 5) ⊎ ((job : Job) × IsJob words m job × Answers job status)
+run_complete words m old new status (items, calls, steps, job, ran) = inr (Run items calls steps, job, ran.0)
+
+abbrev IsStatus : ℕ → Reason → Type 0
+IsStatus status why = (status ≡ status_of why) ⊎ (status ≡ 5)
+
+-- it is no status of a run
+pub stop_apart : (status : ℕ) (why : Reason) → IsStatus status why → IsRunStatus status → ⊥
+stop_apart status Usage is run = omega (arith, is, run)
+stop_apart status CallsTooLong is run = omega (arith, is, run)
+stop_apart status (CallsLine number) is run = omega (arith, is, run)
+stop_apart status (Refused file cause) is run = omega (arith, is, run)
+stop_apart status (Unread file) is run = omega (arith, is, run)
+stop_apart status Unwritten is run = omega (arith, is, run)
+stop_apart status WantOfMemory is run = omega (arith, is, run)
+
+pub stop_small : (status : ℕ) (why : Reason) → IsStatus status why → status ≤ 8
+stop_small status Usage is = omega (arith, is)
+stop_small status CallsTooLong is = omega (arith, is)
+stop_small status (CallsLine number) is = omega (arith, is)
+stop_small status (Refused file cause) is = omega (arith, is)
+stop_small status (Unread file) is = omega (arith, is)
+stop_small status Unwritten is = omega (arith, is)
+stop_small status WantOfMemory is = omega (arith, is)
+
+module _ (words : List Name) (told : Told) (reads reads' : ℕ) (named : Option Name) (old new : Option (List ℕ)) (faults faults' : ℕ) where
+  abbrev Stopped : Reason → Type 0
+  Stopped why = StopsWork words told reads reads' named old new faults faults' why
+
+  usage_job : (m : Contents) → line_of words ≡ None → IsJob words m (Stops Usage)
+  usage_job m none = subst (λ o. MatchOption o (Stops Usage ≡ Stops Usage) (λ l. IsJobOf l m (Stops Usage))) (sym none) refl
+
+  answered : (m : Contents) (why : Reason) (status : ℕ) → IsStatus status why → IsJob words m (Stops why) → (status ≡ 5) ⊎ ((job : Job) × IsJob words m job × Answers job status)
+  answered m why status (inl is) job = inr (Stops why, job, is)
+  answered m why status (inr five) job = inl five
+
+  pub stop_complete : (why : Reason) (status : ℕ) → Stopped why → IsStatus status why
+      → Tells told (λ m. (Rose reads reads' → ⊥) → (Rose faults faults' → ⊥) → (status ≡ 5) ⊎ ((job : Job) × IsJob words m job × Answers job status))
+  stop_complete Usage status stop is m tells read write = answered m Usage status is (usage_job m stop.0)
+  stop_complete CallsTooLong status stop is m tells read write = answered m CallsTooLong status is (stop.0.1 m tells)
+  stop_complete (CallsLine number) status stop is m tells read write = answered m (CallsLine number) status is (stop.0.1 m tells)
+  stop_complete (Refused file cause) status stop is m tells read write = answered m (Refused file cause) status is (stop.0.1 m tells)
+  stop_complete (Unread file) status stop is m tells read write = by_cause stop.0.1
+    where
+      by_cause : Faulted file reads reads' named ⊎ ((contents : Contents) × (told ≡ Some contents) × IsJob words contents (Stops (Unread file))) → (status ≡ 5) ⊎ ((job : Job) × IsJob words m job × Answers job status)
+      by_cause (inl faulted) = absurd (read faulted.rose)
+      by_cause (inr (contents, is_told, job)) =
+          let same : contents ≡ m = (let both = sym is_told ∙ tells in cc) in
+          answered m (Unread file) status is (subst (λ c. IsJob words c (Stops (Unread file))) same job)
+  stop_complete Unwritten status stop is m tells read write = absurd (write stop.0)
+  stop_complete WantOfMemory status stop is m tells read write = inl (omega (arith, is))
+
+  pub stop_refused : (why : Reason) (status : ℕ) → Stopped why → IsStatus status why → (status ≡ 2) ⊎ (status ≡ 6) → (status_of why ≡ status) × Refuses words told why
+  stop_refused Usage status stop is came = (omega (arith, is, came), stop.0)
+  stop_refused CallsTooLong status stop is came = (omega (arith, is, came), stop.0)
+  stop_refused (CallsLine number) status stop is came = (omega (arith, is, came), stop.0)
+  stop_refused (Refused file cause) status stop is came = (omega (arith, is, came), stop.0)
+  stop_refused (Unread file) status stop is came = absurd (omega (arith, is, came))
+  stop_refused Unwritten status stop is came = absurd (omega (arith, is, came))
+  stop_refused WantOfMemory status stop is came = absurd (omega (arith, is, came))
+
+  pub stop_usage : (why : Reason) (status : ℕ) → Stopped why → IsStatus status why → line_of words ≡ None → (status ≡ 2) ⊎ (status ≡ 5)
+  stop_usage Usage status stop is none = is
+  stop_usage CallsTooLong status stop is none = absurd (stop.0.0 none)
+  stop_usage (CallsLine number) status stop is none = absurd (stop.0.0 none)
+  stop_usage (Refused file cause) status stop is none = absurd (subst (IsInput file) none stop.0.0)
+  stop_usage (Unread file) status stop is none = absurd (subst (IsInput file) none stop.0.0)
+  stop_usage Unwritten status stop is none = absurd (stop.1 none)
+  stop_usage WantOfMemory status stop is none = inr (omega (arith, is))
+
+  -- a file is not read
+  abbrev IsUnread : Reason → Type 0
+  IsUnread why = (file : Name) × (why ≡ Unread file) × IsInput file (line_of words)
+      × (Faulted file reads reads' named ⊎ ((m : Contents) × (told ≡ Some m) × IsJob words m (Stops (Unread file))))
+
+  pub stop_unread : (why : Reason) (status : ℕ) → Stopped why → IsStatus status why → status ≡ 3 → IsUnread why
+  stop_unread Usage status stop is came = absurd (omega (arith, is, came))
+  stop_unread CallsTooLong status stop is came = absurd (omega (arith, is, came))
+  stop_unread (CallsLine number) status stop is came = absurd (omega (arith, is, came))
+  stop_unread (Refused file cause) status stop is came = absurd (omega (arith, is, came))
+  stop_unread (Unread file) status stop is came = (file, refl, stop.0)
+  stop_unread Unwritten status stop is came = absurd (omega (arith, is, came))
+  stop_unread WantOfMemory status stop is came = absurd (omega (arith, is, came))
+
+  pub stop_unwritten : (why : Reason) (status : ℕ) → Stopped why → IsStatus status why → status ≡ 4 → (why ≡ Unwritten) × Rose faults faults'
+  stop_unwritten Usage status stop is came = absurd (omega (arith, is, came))
+  stop_unwritten CallsTooLong status stop is came = absurd (omega (arith, is, came))
+  stop_unwritten (CallsLine number) status stop is came = absurd (omega (arith, is, came))
+  stop_unwritten (Refused file cause) status stop is came = absurd (omega (arith, is, came))
+  stop_unwritten (Unread file) status stop is came = absurd (omega (arith, is, came))
+  stop_unwritten Unwritten status stop is came = (refl, stop.0)
+  stop_unwritten WantOfMemory status stop is came = absurd (omega (arith, is, came))
+
+  pub stop_nothing : (why : Reason) (status : ℕ) → Stopped why → IsStatus status why → (status ≡ 2) ⊎ (status ≡ 3) ⊎ (status ≡ 6) → new ≡ old
+  stop_nothing Usage status stop is came = stop.1
+  stop_nothing CallsTooLong status stop is came = stop.1
+  stop_nothing (CallsLine number) status stop is came = stop.1
+  stop_nothing (Refused file cause) status stop is came = stop.1
+  stop_nothing (Unread file) status stop is came = stop.1
+  stop_nothing Unwritten status stop is came = absurd (omega (arith, is, came))
+  stop_nothing WantOfMemory status stop is came = absurd (omega (arith, is, came))
+
+  pub stop_part : (why : Reason) → Stopped why → Tells told (λ m. RanPart words m old new)
+  stop_part Usage stop m tells = inl stop.1
+  stop_part CallsTooLong stop m tells = inl stop.1
+  stop_part (CallsLine number) stop m tells = inl stop.1
+  stop_part (Refused file cause) stop m tells = inl stop.1
+  stop_part (Unread file) stop m tells = inl stop.1
+  stop_part Unwritten stop m tells = stop.2 m tells
+  stop_part WantOfMemory stop m tells = stop m tells
