@@ -42,15 +42,16 @@ argument_is type.FnPtr word v e = absurd cc
 pub arguments_are : (types : List CType) (words : List (List ℕ)) (values : List Value) → arguments_of types words ≡ Some values → AreArguments words values
 arguments_are types [] values e = subst (AreArguments []) (some_is [] values e) tt
 arguments_are [] (word ∷ words) values e = absurd cc
-arguments_are (t ∷ types) (word ∷ words) values e = by_first (argument_of t word) refl e
+arguments_are (t ∷ types) (word ∷ words) values e = by_first (arguments_are types words) (argument_of t word) refl e
   where
-    by_rest : (v : Value) (rest : Option (List Value)) → IsArgument word v → arguments_of types words ≡ rest → option_map (λ vs. v ∷ vs) rest ≡ Some values → AreArguments (word ∷ words) values
-    by_rest v None first is e = absurd cc
-    by_rest v (Some vs) first is e = subst (AreArguments (word ∷ words)) (some_is (v ∷ vs) values e) (first, arguments_are types words vs is)
+    by_rest : ((vs : List Value) → arguments_of types words ≡ Some vs → AreArguments words vs) → (v : Value) (rest : Option (List Value)) → IsArgument word v → arguments_of types words ≡ rest → option_map (λ vs. v ∷ vs) rest ≡ Some values → AreArguments (word ∷ words) values
+    by_rest others v None first is e = absurd cc
+    by_rest others v (Some vs) first is e = subst (AreArguments (word ∷ words)) (some_is (v ∷ vs) values e) (first, others vs is)
 
-    by_first : (found : Option Value) → argument_of t word ≡ found → elim found [ None ↦ None | Some v ↦ option_map (λ vs. v ∷ vs) (arguments_of types words) ] ≡ Some values → AreArguments (word ∷ words) values
-    by_first None is e = absurd cc
-    by_first (Some v) is e = by_rest v (arguments_of types words) (argument_is t word v is) refl e
+    by_first : ((vs : List Value) → arguments_of types words ≡ Some vs → AreArguments words vs) → (found : Option Value) → argument_of t word ≡ found
+        → elim found [ None ↦ None | Some v ↦ option_map (λ vs. v ∷ vs) (arguments_of types words) ] ≡ Some values → AreArguments (word ∷ words) values
+    by_first others None is e = absurd cc
+    by_first others (Some v) is e = by_rest others v (arguments_of types words) (argument_is t word v is) refl e
 
 pub both_true : (a b : Bool) → (a && b) ≡ true → (a ≡ true) × (b ≡ true)
 both_true true b e = (refl, e)
@@ -90,7 +91,8 @@ of_types [] (word ∷ words) (v ∷ values) are fit = absurd cc
 of_types (t ∷ types) (word ∷ words) (v ∷ values) (first, others) fit =
     let both = both_true _ _ fit in
     let found : argument_of t word ≡ Some v = ap (λ u. argument_of u word) (same_type t v both.0) ∙ argument_of_value word v first in
-    rw (found, of_types types words values others both.1) refl
+    ap (λ o. elim o [ None ↦ None | Some v ↦ option_map (λ vs. v ∷ vs) (arguments_of types words) ]) found
+    ∙ ap (option_map (λ vs. v ∷ vs)) (of_types types words values others both.1)
 
 -- values that words write and that fit are found
 pub arguments_only : (types : List CType) (words : List (List ℕ)) (values : List Value) → AreArguments words values → equal_c_types types (c_params_of (types_of values)) ≡ true → arguments_of types words ≡ Some values

@@ -97,7 +97,7 @@ module _ (p : Program) (more : List Entry) where
 
 -- entries of a longer list of calls
 
-zip_from : {A : Type 0} (k : ℕ) (xs ys : List A) → zip (range_with_len k (length (xs ++ ys))) (xs ++ ys) ≡ zip (range_with_len k (length xs)) xs ++ zip (range_with_len (k + length xs) (length ys)) ys
+pub zip_from : {A : Type 0} (k : ℕ) (xs ys : List A) → zip (range_with_len k (length (xs ++ ys))) (xs ++ ys) ≡ zip (range_with_len k (length xs)) xs ++ zip (range_with_len (k + length xs) (length ys)) ys
 zip_from k [] ys = let e : k ≡ k + 0 = omega arith in ap (λ n. zip (range_with_len n (length ys)) ys) e
 zip_from k (x ∷ xs) ys =
     let e : k + 1 + length xs ≡ k + suc (length xs) = omega arith in

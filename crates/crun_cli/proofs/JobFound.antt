@@ -59,7 +59,7 @@ module _ (words : List Name) (line : Line) (is : line_of words ≡ Some line) wh
           by_cause : Faulted line.calls mid after named ⊎ ((contents : Contents) × (told ≡ Some contents) × (get contents line.calls ≡ None))
               → Faulted file before after named ⊎ ((contents : Contents) × (told ≡ Some contents) × IsJob words contents (Stops (Unread file)))
           by_cause (inl faulted) = inl (subst (λ n. Faulted n before after named) (sym name) (later line.calls faulted))
-          by_cause (inr (m, tells, none)) = inr (missing file m tells (inr (name, (unit, unit_is m tells, unit_fits), none)))
+          by_cause (inr (m, tells, none)) = inr (missing file m tells (inr (name, ((unit, unit_is m tells, unit_fits), none))))
       calls_unread before mid after named CallsTooLong later (long, longer) =
           (has_reading, stop_told CallsTooLong (λ m tells. ((unit, unit_is m tells, unit_fits), longer m tells)))
       calls_unread before mid after named (Refused file why) later (long, longer) = (let apart : CallsTooLong ≡ Refused file why = long in absurd cc)

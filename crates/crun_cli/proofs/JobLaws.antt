@@ -1,5 +1,5 @@
 -- Words ask for at most one job.
-use Rattle.std.proofs.Common.{◌≡◌, ◌≢◌, ◌⊎◌, inl, inr, ℕ, ◌+◌, ◌<◌, ◌≤◌, true, List, [], ◌∷◌, ◌++◌, length, Option, Some, None, MatchOption, refl, sym, ap, ◌∙◌, subst, arith}
+use Rattle.std.proofs.Common.{◌≡◌, ◌≢◌, ◌⊎◌, inl, inr, ℕ, suc, ◌+◌, ◌<◌, ◌≤◌, true, List, [], ◌∷◌, ◌++◌, length, Option, Some, None, MatchOption, refl, sym, ap, ◌∙◌, subst, arith}
 use Rattle.std.specs.FinMap.{get}
 use Rattle.w2c_base.specs.declared.value.Value.{Value}
 use Rattle.w2c_io.specs.Contents.{Name, Contents}
@@ -18,7 +18,7 @@ use Rattle.crun.specs.Signatures.{signature_in}
 use Rattle.crun_cli.specs.declared.stop.Cause.{Cause}
 use Rattle.crun_cli.specs.declared.stop.Cause.TheVariants as cause
 use Rattle.crun_cli.specs.CommandLine.{Line, line_of}
-use Rattle.crun_cli.specs.CallsFile.{lines_in, words_in, AreArguments, AreCalls, IsFirstRefused, IsRefusedLine, Names}
+use Rattle.crun_cli.specs.CallsFile.{lines_in, words_in, AreArguments, AreCalls, IsFirstRefused, IsRefusedLine, IsSymbolOf, Names}
 use Rattle.crun_cli.specs.Job.{most_calls_bytes, most_unit_bytes, Holds, IsJob, IsJobOf, IsLonger, IsRefusedText, IsUnitText, Job, Run, Stops}
 use Rattle.crun_cli.specs.Lines.{Reason, Usage, CallsTooLong, CallsLine, Refused, Unread, Unwritten, WantOfMemory}
 use Rattle.crun_cli.proofs.Arguments.{arguments_only}
@@ -30,6 +30,7 @@ module _ (items : List tree.Item) (built : IsBuilt items) where
   one_call : (line : List ℕ) (a b : SymbolCall) → Names items line a → Names items line b → a ≡ b
   one_call line a b first second = by_type (signature_in items a.symbol) refl
     where
+      words_of_b : IsSymbolOf first.module_word first.export_word b.symbol × AreArguments first.words b.args
       words_of_b = names_words items line first.module_word first.export_word first.words b first.text second
 
       by_type : (o : Option tree.FuncType) → signature_in items a.symbol ≡ o → a ≡ b
@@ -72,16 +73,16 @@ module _ (items : List tree.Item) (built : IsBuilt items) where
 
   same_length : (front front' : List (List ℕ)) (line line' : List ℕ) (rest rest' : List (List ℕ)) (cs cs' : List SymbolCall) → front ++ line ∷ rest ≡ front' ++ line' ∷ rest'
       → AreCalls items front cs → AreCalls items front' cs' → IsRefusedLine items line → IsRefusedLine items line' → length front ≡ length front'
-  same_length [] [] line line' rest rest' cs cs' e are are' no no' = refl
-  same_length [] (x ∷ front') line line' rest rest' cs cs' e are are' no no' =
-      absurd (first_names x front' cs' are' (subst (IsRefusedLine items) (parts_same line x rest (front' ++ line' ∷ rest') e).0 no))
-  same_length (x ∷ front) [] line line' rest rest' cs cs' e are are' no no' =
-      absurd (first_names x front cs are (subst (IsRefusedLine items) (sym (parts_same x line' (front ++ line ∷ rest) rest' e).0) no'))
-  same_length (x ∷ front) (y ∷ front') line line' rest rest' cs cs' e are are' no no' =
+  same_length [] [] line line' rest rest' cs cs' e are are' refused refused' = refl
+  same_length [] (x ∷ front') line line' rest rest' cs cs' e are are' refused refused' =
+      absurd (first_names x front' cs' are' (subst (IsRefusedLine items) (parts_same line x rest (front' ++ line' ∷ rest') e).0 refused))
+  same_length (x ∷ front) [] line line' rest rest' cs cs' e are are' refused refused' =
+      absurd (first_names x front cs are (subst (IsRefusedLine items) (sym (parts_same x line' (front ++ line ∷ rest) rest' e).0) refused'))
+  same_length (x ∷ front) (y ∷ front') line line' rest rest' cs cs' e are are' refused refused' =
       let both = parts_same x y (front ++ line ∷ rest) (front' ++ line' ∷ rest') e in
       let others = calls_behind x front cs are in
       let others' = calls_behind y front' cs' are' in
-      ap (λ n. n + 1) (same_length front front' line line' rest rest' others.0 others'.0 both.1 others.1 others'.1 no no')
+      ap (λ n. suc n) (same_length front front' line line' rest rest' others.0 others'.0 both.1 others.1 others'.1 refused refused')
 
   one_number : (lines : List (List ℕ)) (k n : ℕ) → IsFirstRefused items lines k → IsFirstRefused items lines n → k ≡ n
   one_number lines k n a b =
@@ -93,10 +94,10 @@ same_fault : (text : List ℕ) (f g : CReadFault) → CUpto text f → CUpto tex
 same_fault text f g a b = stops_once a b
 
 spelled_apart : (text : List ℕ) (items : List tree.Item) (why : Cause) → CSpells items text → IsBuilt items → IsRefusedText text why → ⊥
-spelled_apart text items cause.TooLong spells built no = no
-spelled_apart text items (cause.Unexpected place wanted) spells built no = no_fault items text (fault.Unexpected place wanted) spells no
-spelled_apart text items (cause.NumberTooLarge place) spells built no = no_fault items text (fault.NumberTooLarge place) spells no
-spelled_apart text items (cause.TooDeep place) spells built no = no_fault items text (fault.TooDeep place) spells no
+spelled_apart text items cause.TooLong spells built refused = refused
+spelled_apart text items (cause.Unexpected place wanted) spells built refused = no_fault items text (fault.Unexpected place wanted) spells refused
+spelled_apart text items (cause.NumberTooLarge place) spells built refused = no_fault items text (fault.NumberTooLarge place) spells refused
+spelled_apart text items (cause.TooDeep place) spells built refused = no_fault items text (fault.TooDeep place) spells refused
 spelled_apart text items cause.NotBuilt spells built (others, spelled, not_built) = not_built (subst IsBuilt (one_unit items others text spells spelled) built)
 
 -- the cause that a fault is refused by
@@ -112,14 +113,14 @@ abbrev IsSeen : List ℕ → Cause → Type 0
 IsSeen text why = ((why ≡ cause.NotBuilt) × ((items : List tree.Item) × CSpells items text)) ⊎ ((f : CReadFault) × CUpto text f × (why ≡ cause_of f))
 
 seen : (text : List ℕ) (why : Cause) → IsRefusedText text why → IsSeen text why
-seen text cause.TooLong no = absurd no
-seen text (cause.Unexpected place wanted) no = inr (fault.Unexpected place wanted, no, refl)
-seen text (cause.NumberTooLarge place) no = inr (fault.NumberTooLarge place, no, refl)
-seen text (cause.TooDeep place) no = inr (fault.TooDeep place, no, refl)
-seen text cause.NotBuilt (items, spells, no) = inl (refl, (items, spells))
+seen text cause.TooLong refused = absurd refused
+seen text (cause.Unexpected place wanted) refused = inr (fault.Unexpected place wanted, refused, refl)
+seen text (cause.NumberTooLarge place) refused = inr (fault.NumberTooLarge place, refused, refl)
+seen text (cause.TooDeep place) refused = inr (fault.TooDeep place, refused, refl)
+seen text cause.NotBuilt (items, spells, refused) = inl (refl, (items, spells))
 
 one_cause : (text : List ℕ) (a b : Cause) → IsRefusedText text a → IsRefusedText text b → a ≡ b
-one_cause text a b no no' = by_seen (seen text a no) (seen text b no')
+one_cause text a b refused refused' = by_seen (seen text a refused) (seen text b refused')
   where
     by_seen : IsSeen text a → IsSeen text b → a ≡ b
     by_seen (inl (is, (items, spells))) (inl (is', other)) = is ∙ sym is'
@@ -135,9 +136,9 @@ IsTextJob line unit calls job =
     ⊎ ((items : List tree.Item) × IsUnitText unit items × (((k : ℕ) × (job ≡ Stops (CallsLine k)) × IsFirstRefused items (lines_in calls) k) ⊎ ((cs : List SymbolCall) × (job ≡ Run items cs line.steps) × AreCalls items (lines_in calls) cs)))
 
 one_of_text : (line : Line) (unit calls : List ℕ) (a b : Job) → IsTextJob line unit calls a → IsTextJob line unit calls b → a ≡ b
-one_of_text line unit calls a b (inl (why, is, no)) (inl (why', is', no')) = is ∙ ap (λ w. Stops (Refused line.unit w)) (one_cause unit why why' no no') ∙ sym is'
-one_of_text line unit calls a b (inl (why, is, no)) (inr (items, unit_is, other)) = absurd (spelled_apart unit items why unit_is.0 unit_is.1 no)
-one_of_text line unit calls a b (inr (items, unit_is, other)) (inl (why, is, no)) = absurd (spelled_apart unit items why unit_is.0 unit_is.1 no)
+one_of_text line unit calls a b (inl (why, is, refused)) (inl (why', is', refused')) = is ∙ ap (λ w. Stops (Refused line.unit w)) (one_cause unit why why' refused refused') ∙ sym is'
+one_of_text line unit calls a b (inl (why, is, refused)) (inr (items, unit_is, other)) = absurd (spelled_apart unit items why unit_is.0 unit_is.1 refused)
+one_of_text line unit calls a b (inr (items, unit_is, other)) (inl (why, is, refused)) = absurd (spelled_apart unit items why unit_is.0 unit_is.1 refused)
 one_of_text line unit calls a b (inr (items, unit_is, one)) (inr (items', unit_is', other)) = by_both one other'
   where
     same : items' ≡ items
@@ -186,10 +187,10 @@ module _ (line : Line) (m : Contents) where
   stage (Stops (Unread file)) (inr (name, (unit, none))) = inr (inr (inl (ap (λ f. Stops (Unread f)) name, unit, none)))
   stage (Stops CallsTooLong) (unit, longer) = inr (inr (inr (inl (refl, unit, longer))))
   stage (Stops (Refused file cause.TooLong)) (name, longer) = inr (inl (ap (λ f. Stops (Refused f cause.TooLong)) name, longer))
-  stage (Stops (Refused file (cause.Unexpected place wanted))) (name, (unit, calls, holds, no)) = inr (inr (inr (inr (unit, calls, holds, inl (cause.Unexpected place wanted, ap (λ f. Stops (Refused f (cause.Unexpected place wanted))) name, no)))))
-  stage (Stops (Refused file (cause.NumberTooLarge place))) (name, (unit, calls, holds, no)) = inr (inr (inr (inr (unit, calls, holds, inl (cause.NumberTooLarge place, ap (λ f. Stops (Refused f (cause.NumberTooLarge place))) name, no)))))
-  stage (Stops (Refused file (cause.TooDeep place))) (name, (unit, calls, holds, no)) = inr (inr (inr (inr (unit, calls, holds, inl (cause.TooDeep place, ap (λ f. Stops (Refused f (cause.TooDeep place))) name, no)))))
-  stage (Stops (Refused file cause.NotBuilt)) (name, (unit, calls, holds, no)) = inr (inr (inr (inr (unit, calls, holds, inl (cause.NotBuilt, ap (λ f. Stops (Refused f cause.NotBuilt)) name, no)))))
+  stage (Stops (Refused file (cause.Unexpected place wanted))) (name, (unit, calls, holds, refused)) = inr (inr (inr (inr (unit, calls, holds, inl (cause.Unexpected place wanted, ap (λ f. Stops (Refused f (cause.Unexpected place wanted))) name, refused)))))
+  stage (Stops (Refused file (cause.NumberTooLarge place))) (name, (unit, calls, holds, refused)) = inr (inr (inr (inr (unit, calls, holds, inl (cause.NumberTooLarge place, ap (λ f. Stops (Refused f (cause.NumberTooLarge place))) name, refused)))))
+  stage (Stops (Refused file (cause.TooDeep place))) (name, (unit, calls, holds, refused)) = inr (inr (inr (inr (unit, calls, holds, inl (cause.TooDeep place, ap (λ f. Stops (Refused f (cause.TooDeep place))) name, refused)))))
+  stage (Stops (Refused file cause.NotBuilt)) (name, (unit, calls, holds, refused)) = inr (inr (inr (inr (unit, calls, holds, inl (cause.NotBuilt, ap (λ f. Stops (Refused f cause.NotBuilt)) name, refused)))))
   stage (Stops (CallsLine number)) (unit, calls, items, holds, unit_is, first) = inr (inr (inr (inr (unit, calls, holds, inr (items, unit_is, inl (number, refl, first))))))
   stage (Stops Unwritten) is = absurd is
   stage (Stops WantOfMemory) is = absurd is
@@ -201,26 +202,26 @@ module _ (line : Line) (m : Contents) where
   one_stage a b (inl x) (inr (inl y)) = absurd (subst (IsLonger most_unit_bytes) x.1 y.1)
   one_stage a b (inl x) (inr (inr (inl y))) = absurd (none_apart unit_file y.1.0 x.1 y.1.1)
   one_stage a b (inl x) (inr (inr (inr (inl y)))) = absurd (none_apart unit_file y.1.0 x.1 y.1.1)
-  one_stage a b (inl x) (inr (inr (inr (inr y)))) = absurd (none_apart unit_file y.0 x.1 y.2.0.unit_is)
+  one_stage a b (inl x) (inr (inr (inr (inr y)))) = absurd (none_apart unit_file y.0 x.1 y.2.unit_is)
   one_stage a b (inr (inl x)) (inl y) = absurd (subst (IsLonger most_unit_bytes) y.1 x.1)
   one_stage a b (inr (inl x)) (inr (inl y)) = x.0 ∙ sym y.0
   one_stage a b (inr (inl x)) (inr (inr (inl y))) = absurd (longer_apart most_unit_bytes unit_file y.1.0 y.1.1 y.1.2 x.1)
   one_stage a b (inr (inl x)) (inr (inr (inr (inl y)))) = absurd (longer_apart most_unit_bytes unit_file y.1.0 y.1.1 y.1.2 x.1)
-  one_stage a b (inr (inl x)) (inr (inr (inr (inr y)))) = absurd (longer_apart most_unit_bytes unit_file y.0 y.2.0.unit_is y.2.0.unit_fits x.1)
+  one_stage a b (inr (inl x)) (inr (inr (inr (inr y)))) = absurd (longer_apart most_unit_bytes unit_file y.0 y.2.unit_is y.2.unit_fits x.1)
   one_stage a b (inr (inr (inl x))) (inl y) = absurd (none_apart unit_file x.1.0 y.1 x.1.1)
   one_stage a b (inr (inr (inl x))) (inr (inl y)) = absurd (longer_apart most_unit_bytes unit_file x.1.0 x.1.1 x.1.2 y.1)
   one_stage a b (inr (inr (inl x))) (inr (inr (inl y))) = x.0 ∙ sym y.0
   one_stage a b (inr (inr (inl x))) (inr (inr (inr (inl y)))) = absurd (subst (IsLonger most_calls_bytes) x.2 y.2)
-  one_stage a b (inr (inr (inl x))) (inr (inr (inr (inr y)))) = absurd (none_apart calls_file y.1 x.2 y.2.0.calls_is)
+  one_stage a b (inr (inr (inl x))) (inr (inr (inr (inr y)))) = absurd (none_apart calls_file y.1 x.2 y.2.calls_is)
   one_stage a b (inr (inr (inr (inl x)))) (inl y) = absurd (none_apart unit_file x.1.0 y.1 x.1.1)
   one_stage a b (inr (inr (inr (inl x)))) (inr (inl y)) = absurd (longer_apart most_unit_bytes unit_file x.1.0 x.1.1 x.1.2 y.1)
   one_stage a b (inr (inr (inr (inl x)))) (inr (inr (inl y))) = absurd (subst (IsLonger most_calls_bytes) y.2 x.2)
   one_stage a b (inr (inr (inr (inl x)))) (inr (inr (inr (inl y)))) = x.0 ∙ sym y.0
-  one_stage a b (inr (inr (inr (inl x)))) (inr (inr (inr (inr y)))) = absurd (longer_apart most_calls_bytes calls_file y.1 y.2.0.calls_is y.2.0.calls_fits x.2)
-  one_stage a b (inr (inr (inr (inr x)))) (inl y) = absurd (none_apart unit_file x.0 y.1 x.2.0.unit_is)
-  one_stage a b (inr (inr (inr (inr x)))) (inr (inl y)) = absurd (longer_apart most_unit_bytes unit_file x.0 x.2.0.unit_is x.2.0.unit_fits y.1)
-  one_stage a b (inr (inr (inr (inr x)))) (inr (inr (inl y))) = absurd (none_apart calls_file x.1 y.2 x.2.0.calls_is)
-  one_stage a b (inr (inr (inr (inr x)))) (inr (inr (inr (inl y)))) = absurd (longer_apart most_calls_bytes calls_file x.1 x.2.0.calls_is x.2.0.calls_fits y.2)
+  one_stage a b (inr (inr (inr (inl x)))) (inr (inr (inr (inr y)))) = absurd (longer_apart most_calls_bytes calls_file y.1 y.2.calls_is y.2.calls_fits x.2)
+  one_stage a b (inr (inr (inr (inr x)))) (inl y) = absurd (none_apart unit_file x.0 y.1 x.2.unit_is)
+  one_stage a b (inr (inr (inr (inr x)))) (inr (inl y)) = absurd (longer_apart most_unit_bytes unit_file x.0 x.2.unit_is x.2.unit_fits y.1)
+  one_stage a b (inr (inr (inr (inr x)))) (inr (inr (inl y))) = absurd (none_apart calls_file x.1 y.2 x.2.calls_is)
+  one_stage a b (inr (inr (inr (inr x)))) (inr (inr (inr (inl y)))) = absurd (longer_apart most_calls_bytes calls_file x.1 x.2.calls_is x.2.calls_fits y.2)
   one_stage a b (inr (inr (inr (inr (unit, calls, holds, text))))) (inr (inr (inr (inr (unit', calls', holds', text'))))) =
       let units = some_same unit_file unit' unit holds'.unit_is holds.unit_is in
       let both = some_same calls_file calls' calls holds'.calls_is holds.calls_is in

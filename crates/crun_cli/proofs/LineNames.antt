@@ -1,6 +1,7 @@
 -- Two words name one symbol at most, and a line one call.
-use Rattle.std.proofs.Common.{◌≡◌, ◌≢◌, ◌⊎◌, inl, inr, ℕ, ◌<◌, Bool, true, false, ◌&&◌, List, [], ◌∷◌, ◌++◌, length, codes, Option, Some, None, refl, sym, ap, ◌∙◌, subst, arith}
+use Rattle.std.proofs.Common.{◌≡◌, ◌≢◌, ◌⊎◌, inl, inr, ℕ, ◌<◌, Bool, true, false, ◌&&◌, List, [], ◌∷◌, ◌++◌, length, codes, IfNone, Option, Some, None, refl, sym, ap, ◌∙◌, subst, arith}
 use Rattle.std.specs.Prelude.{option_map}
+use Rattle.std.specs.Str.{bytes_eq}
 use Rattle.w2c_base.specs.declared.value.Value.{Value}
 use Rattle.w2c_base.specs.Values.{types_of}
 use Rattle.w2c_mangle.specs.declared.symbol.SymbolKind.TheVariants.{Func}
@@ -102,3 +103,32 @@ module _ (items : List tree.Item) (built : IsBuilt items) (line m x symbol : Lis
       let same : call.args ≡ args = (let both = sym (has_arguments ty found) ∙ are in cc) in
       subst (λ s. fits (alone items) (record { symbol = s; args = args }) ≡ true) same_symbol
       (subst (λ a. fits (alone items) (record { symbol = call.symbol; args = a }) ≡ true) same names.fits)
+
+-- ---- refusals of words
+
+-- a module's word is not empty
+pub no_module : (m x symbol : List ℕ) → length m ≡ 0 → IsSymbolOf m x symbol → ⊥
+no_module m x symbol empty is = by_name is.module_name is.module_is_there (sym (ap length is.module_is) ∙ empty)
+  where
+    by_name : (name : List ℕ) → 0 < length name → length (escaped name) ≡ 0 → ⊥
+    by_name [] some none = omega (arith, some)
+    by_name (b ∷ name) some none = elim (escaped_byte-cases b) [
+      | inl p ↦ let same : length (b ∷ escaped name) ≡ 0 = sym (ap (λ l. length (l ++ escaped name)) p.1) ∙ none in omega (arith, same)
+      | inr p ↦ let same : length (z_escape b ++ escaped name) ≡ 0 = sym (ap (λ l. length (l ++ escaped name)) p.1) ∙ none in omega (arith, same)
+    ]
+
+-- words that are escapes of no names
+pub no_name : (m x symbol : List ℕ) → ((name : List ℕ) → IsBytes name → escaped name ≡ m → ⊥) → IsSymbolOf m x symbol → ⊥
+no_name m x symbol none is = none is.module_name is.module_bytes (sym is.module_is)
+
+pub no_export : (m x symbol : List ℕ) → ((name : List ℕ) → IsBytes name → word_of_name name ≡ x → ⊥) → IsSymbolOf m x symbol → ⊥
+no_export m x symbol none is = none is.export_name is.export_bytes (sym is.export_is)
+
+-- a word that is not Z and the escape of no name is the word of none
+not_z : (word : List ℕ) → bytes_eq word (codes "Z") ≡ false → word ≡ codes "Z" → ⊥
+not_z word differs is = (let both : bytes_eq (codes "Z") (codes "Z") ≡ false = subst (λ w. bytes_eq w (codes "Z") ≡ false) is differs in cc)
+
+pub none_escapes : (found : Option (List ℕ)) (word : List ℕ) → bytes_eq word (codes "Z") ≡ false → IfNone found ((name : List ℕ) → IsBytes name → escaped name ≡ word → ⊥)
+    → IfNone found ((name : List ℕ) → IsBytes name → word_of_name name ≡ word → ⊥)
+none_escapes None word differs none = λ name bytes is. none name bytes (word_is_escape word name (not_z word differs) is)
+none_escapes (Some n) word differs none = tt

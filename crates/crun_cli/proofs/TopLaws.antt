@@ -95,7 +95,7 @@ module _ (words : List Name) (told : Told) (reads reads' : ℕ) (named : Option 
   stop_unread CallsTooLong status stop is came = absurd (omega (arith, is, came))
   stop_unread (CallsLine number) status stop is came = absurd (omega (arith, is, came))
   stop_unread (Refused file cause) status stop is came = absurd (omega (arith, is, came))
-  stop_unread (Unread file) status stop is came = (file, refl, stop.0)
+  stop_unread (Unread file) status stop is came = (file, refl, stop.0.0, stop.0.1)
   stop_unread Unwritten status stop is came = absurd (omega (arith, is, came))
   stop_unread WantOfMemory status stop is came = absurd (omega (arith, is, came))
 
@@ -107,6 +107,16 @@ module _ (words : List Name) (told : Told) (reads reads' : ℕ) (named : Option 
   stop_unwritten (Unread file) status stop is came = absurd (omega (arith, is, came))
   stop_unwritten Unwritten status stop is came = (refl, stop.0)
   stop_unwritten WantOfMemory status stop is came = absurd (omega (arith, is, came))
+
+  -- and the line says so
+  pub write_fault : (Says : Reason → Type 0) (why : Reason) (status : ℕ) → Stopped why → IsStatus status why → Says why ⊎ (status ≡ 5) → status ≡ 4 → Rose faults faults' × Says Unwritten
+  write_fault Says why status stop is says came =
+      let found = stop_unwritten why status stop is came in
+      (found.1, subst Says found.0 (said says))
+    where
+      said : Says why ⊎ (status ≡ 5) → Says why
+      said (inl line) = line
+      said (inr five) = absurd (omega (arith, five, came))
 
   pub stop_nothing : (why : Reason) (status : ℕ) → Stopped why → IsStatus status why → (status ≡ 2) ⊎ (status ≡ 3) ⊎ (status ≡ 6) → new ≡ old
   stop_nothing Usage status stop is came = stop.1

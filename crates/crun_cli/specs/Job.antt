@@ -1,6 +1,6 @@
 -- What a command line asks for, over what the files hold: a run, or the first refusal, in the order
 -- of the words, the unit's file, the calls file, the unit's text, and the lines of the calls file.
-use Rattle.std.specs.Prelude.{◌≡◌, ◌⊎◌, ◌<◌, ◌≤◌, ℕ, List, length, Option, Some, None, MatchOption, ⊥}
+use Rattle.std.specs.Prelude.{◌≡◌, ◌⊎◌, ◌<◌, ◌≤◌, ℕ, List, [], length, Option, Some, None, MatchOption}
 use Rattle.std.specs.FinMap.{get}
 use Rattle.w2c_io.specs.Contents.{Name, Contents}
 use Rattle.c_tree.specs.declared.token.CReadFault.TheVariants as fault

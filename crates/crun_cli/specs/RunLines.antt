@@ -1,5 +1,5 @@
 -- The lines that a run prints: one for each call that ended, and one for what did not end.
-use Rattle.std.specs.Prelude.{◌≡◌, ℕ, ◌+◌, List, [], ◌∷◌, ◌++◌, flat_map, codes, Option, Some, None, ⊥}
+use Rattle.std.specs.Prelude.{◌≡◌, ℕ, ◌+◌, List, [], ◌∷◌, ◌++◌, flat_map, codes, Option, Some, None}
 use Rattle.std.specs.Fmt.{decimal}
 use Rattle.w2c_base.specs.declared.value.Value.{Value}
 use Rattle.w2c_base.specs.declared.value.Value.TheVariants.{I32, I64}
@@ -21,7 +21,7 @@ phase_text (Call k) = codes "call " ++ decimal (k + 1)
 
 -- a call that ended, by its number from 0, with its value
 abbrev pub ended_line : ℕ × Option Value → List ℕ
-ended_line entry = phase_text (Call entry.0) ++ codes " = " ++ value_text entry.1 ++ codes "\n"
+ended_line entry = phase_text (Call entry.0) ++ (codes " = " ++ value_text entry.1 ++ codes "\n")
 
 abbrev pub place_text : Place → List ℕ
 place_text place = codes " unit " ++ decimal place.unit ++ codes " item " ++ decimal place.item ++ codes " statement " ++ decimal place.statement

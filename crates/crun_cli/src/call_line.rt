@@ -1,5 +1,5 @@
 // A line of the calls file.
-ghost use Rattle.std.specs.Prelude.{◌≡◌, List, ℕ, IfOk, IfSome, IfNone, ⊥};
+ghost use Rattle.std.specs.Prelude.{◌≡◌, List, ℕ, IfOk, IfSome, IfNone};
 ghost use Rattle.c_tree.specs.View.{unit_of};
 ghost use Rattle.c_meaning.specs.Linking.{SymbolCall};
 ghost use Rattle.crun_cli.specs.CallsFile.{IsSymbolOf, Names};
@@ -99,7 +99,8 @@ fn export_name_of(alloc: Global, word: &[u8]) -> Result<Option<Bytes>, Memory>
     if word.is_empty() {
         return Ok(None);
     }
-    name_of(alloc, word)
+    let found = name_of(alloc, word)?;
+    Ok(found)
 }
 
 // The arguments that words write for parameters, the first for the first; None where one of them
@@ -109,7 +110,7 @@ fn arguments(
     params: &[CType],
     words: Option<&[u8]>,
 ) -> Result<Option<Values>, Memory>
-    ensures { IfOk result (λ found. found ≡ arguments_of params.now (parts_behind 32 words)) }
+    ensures { IfOk result (λ found. found ≡ arguments_of params.now (parts_behind 32 words.entry)) }
 {
     let mut values = Values::new(alloc);
     let mut rest = words;

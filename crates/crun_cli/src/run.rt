@@ -1,5 +1,5 @@
 // Runs the init functions and the calls, and prints a line for each call.
-ghost use Rattle.std.specs.Prelude.{◌≡◌, ◌≤◌, ◌∷◌, ◌++◌, [], true, List, ℕ, Option, None, All, IfOk, IfErr, IfSome, OnOk, IsErrOf};
+ghost use Rattle.std.specs.Prelude.{◌≡◌, ◌<◌, ◌≤◌, ◌^◌, ◌∷◌, ◌++◌, [], true, List, ℕ, length, Option, None, All, IfOk, IfErr, IfSome, OnOk, IsErrOf};
 ghost use Rattle.w2c_io.specs.declared.answers.WriteAnswer.TheVariants as writing;
 ghost use Rattle.w2c_io.specs.Contents.{extended};
 ghost use Rattle.w2c_io.specs.Causes.{Rose};
@@ -33,14 +33,37 @@ pub fn run<H: HostModule, O: Sink>(
 ) -> Result<u8, Stop>
     requires hosts { hosts.items ≡ [] }
     requires fit { All (λ call. fits (alone (unit_of task.linked)) (call_seen call) ≡ true) task.calls }
-    ensures ran { IfOk result (HasRun (unit_of task.entry.linked) (calls_seen task.entry.calls) task.entry.steps (O.told out.old) (O.told out.new)) }
-    ensures stop { IfErr result (λ stop. StopsRunning (unit_of task.entry.linked) (calls_seen task.entry.calls) task.entry.steps (O.told out.old) (O.told out.new) (O.faults out.old) (O.faults out.new) (reason_of stop)) }
+    ensures ran { IfOk result (HasRun (unit_of task.linked) (calls_seen task.calls) task.steps (O.told out.old) (O.told out.new)) }
+    ensures stop { IfErr result (λ stop. StopsRunning (unit_of task.linked) (calls_seen task.calls) task.steps (O.told out.old) (O.told out.new) (O.faults out.old) (O.faults out.new) (reason_of stop)) }
     ensures later { O.faults out.old ≤ O.faults out.new }
 {
     let calls = task.calls;
-    let mut session = Session::start(alloc, task.linked, hosts, task.steps)?;
-    match run_inits(alloc, &mut session, out) {
-        Ok(None) => run_calls(alloc, &mut session, calls.as_slice(), out),
+    let Ok(mut session) = Session::start(alloc, task.linked, hosts, task.steps) else {
+        return Err(Stop::Memory);
+    };
+    let came = run_session(alloc, &mut session, calls.as_slice(), out);
+    session.close();
+    came
+}
+
+// The same with a session that has run nothing.
+fn run_session<H: HostModule, O: Sink>(
+    alloc: Global,
+    session: &mut Session<H>,
+    calls: &[NamedCall],
+    out: &mut O,
+) -> Result<u8, Stop>
+    requires fresh { phase_of session.old.standing ≡ phases.Fresh }
+    requires fit { All (λ call. fits (alone (unit_of session.old.unit)) (call_seen call) ≡ true) calls.now }
+    ensures ran { IfOk result (HasRun (unit_of session.old.unit) (calls_seen calls.now) session.old.steps (O.told out.old) (O.told out.new)) }
+    ensures stop { IfErr result (λ stop. StopsRunning (unit_of session.old.unit) (calls_seen calls.now) session.old.steps (O.told out.old) (O.told out.new) (O.faults out.old) (O.faults out.new) (reason_of stop)) }
+    ensures later { O.faults out.old ≤ O.faults out.new }
+{
+    match run_inits(alloc, session, out) {
+        Ok(None) => match run_calls(alloc, session, calls, out) {
+            Ok(status) => Ok(status),
+            Err(stop) => Err(stop),
+        },
         Ok(Some(status)) => Ok(status),
         Err(stop) => Err(stop),
     }
@@ -65,8 +88,10 @@ fn run_inits<H: HostModule, O: Sink>(
         return Ok(None);
     };
     let line = outcome_line(alloc, b"init ", session.inits_run() as u64, outcome)?;
-    put(line.as_slice(), out)?;
-    Ok(Some(status))
+    match put(line.as_slice(), out) {
+        Ok(()) => Ok(Some(status)),
+        Err(stop) => Err(stop),
+    }
 }
 
 // Runs calls, behind those that the session stands behind.
@@ -85,8 +110,10 @@ fn run_calls<H: HostModule, O: Sink>(
     ensures later { O.faults out.old ≤ O.faults out.new }
 {
     for (index, call) in calls.iter().enumerate() {
-        if let Some(status) = run_call(alloc, session, index, call, out)? {
-            return Ok(status);
+        match run_call(alloc, session, index, call, out) {
+            Ok(None) => {}
+            Ok(Some(status)) => return Ok(status),
+            Err(stop) => return Err(stop),
         }
     }
     Ok(0)
@@ -118,9 +145,13 @@ fn run_call<H: HostModule, O: Sink>(
         Ok(outcome) => outcome,
         Err(_) => return Err(Stop::Memory),
     };
-    let line = outcome_line(alloc, b"call ", index as u64 + 1, outcome)?;
-    put(line.as_slice(), out)?;
-    Ok(status(outcome))
+    let Ok(line) = outcome_line(alloc, b"call ", index as u64 + 1, outcome) else {
+        return Err(Stop::Memory);
+    };
+    match put(line.as_slice(), out) {
+        Ok(()) => Ok(status(outcome)),
+        Err(stop) => Err(stop),
+    }
 }
 
 fn put<O: Sink>(line: &[u8], out: &mut O) -> Result<(), Stop>

@@ -1,5 +1,5 @@
 // The top call: all that the program does.
-ghost use Rattle.std.specs.Prelude.{◌≡◌, ◌⊎◌, ◌≤◌, ⊥, [], List, ℕ};
+ghost use Rattle.std.specs.Prelude.{◌≡◌, ◌⊎◌, ◌≤◌, [], List, ℕ};
 ghost use Rattle.w2c_io.specs.Contents.{Name, Contents};
 ghost use Rattle.w2c_io.specs.Causes.{Rose};
 ghost use Rattle.w2c_io.specs.Telling.{Tells, Says, SaysPart};

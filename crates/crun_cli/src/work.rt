@@ -32,7 +32,10 @@ pub fn work<F: Files, O: Sink, H: HostModule>(
         (O.told out.old) (O.told out.new) (O.faults out.old) (O.faults out.new) (reason_of stop)) }
 {
     match prepare(alloc, words, files) {
-        Ok(task) => run(alloc, task, hosts, out),
+        Ok(task) => match run(alloc, task, hosts, out) {
+            Ok(status) => Ok(status),
+            Err(stop) => Err(stop),
+        },
         Err(stop) => Err(stop),
     }
 }
