@@ -168,10 +168,12 @@ fn is_refused(alloc: Global, bytes: &[u8], reason: &str) -> Result<bool, Fail> {
     let mut err = MemSink::new(alloc);
     files.add("two.wasm", bytes)?;
     let line = format!(in alloc; "wasm2c: two.wasm: {reason}\n")?;
-    Ok(wasm2c_top(alloc, words.as_slice(), &mut files, &mut err) == 1
-        && err.bytes() == line.as_bytes()
-        && files.get("two.c").is_none()
-        && files.get("two.h").is_none())
+    Ok(
+        wasm2c_top(alloc, words.as_slice(), &mut files, &mut err) == 1
+            && err.bytes() == line.as_bytes()
+            && files.get("two.c").is_none()
+            && files.get("two.h").is_none(),
+    )
 }
 
 // A module whose body has so many blocks, each inside the one before; from 43 to 5,000.
@@ -200,6 +202,10 @@ fn push_size(bytes: &mut Vec<u8>, size: usize) -> Result<(), Fail> {
     Ok(())
 }
 
+fn zeros(alloc: Global, count: usize) -> Result<Vec<u8>, Fail> {
+    Ok(vec![in alloc; 0u8; count]?)
+}
+
 #[test]
 fn reasons_of_refused_files(rt: HostRuntime) -> Result<(), Fail> {
     let alloc = rt.alloc();
@@ -208,7 +214,8 @@ fn reasons_of_refused_files(rt: HostRuntime) -> Result<(), Fail> {
     let float = b"\0asm\x01\0\0\0\x01\x05\x01\x60\0\x01\x7D";
     let deep = nested(alloc, 500)?;
     let too_deep = nested(alloc, 501)?;
-    let zeros = vec![in alloc; 0u8; 8_388_609]?;
+    let most = zeros(alloc, 8_388_608)?;
+    let more = zeros(alloc, 8_388_609)?;
     let rows: [(&[u8], &str); 9] = [
         (&TWO[..7], "malformed at 7: unexpected end"),
         (unused_bits.as_slice(), "malformed at 32: unused bits"),
@@ -217,8 +224,8 @@ fn reasons_of_refused_files(rt: HostRuntime) -> Result<(), Fail> {
         (&TWO[..8], "not built"),
         (deep.as_slice(), "not built"),
         (too_deep.as_slice(), "limit at 1025: block depth"),
-        (&zeros[..8_388_608], "malformed at 1: bad magic"),
-        (zeros.as_slice(), "limit at 8388608: module bytes"),
+        (most.as_slice(), "malformed at 1: bad magic"),
+        (more.as_slice(), "limit at 8388608: module bytes"),
     ];
     for (bytes, reason) in rows {
         assert!(rt; is_refused(alloc, bytes, reason)?);
