@@ -1,14 +1,9 @@
 -- Bytes are refused for at most one reason, and a module that is translated for none.
-use Rattle.std.proofs.Common.{◌≡◌, ◌≢◌, ◌⊎◌, ℕ, ◌<◌, ◌≤◌, List, length, Option, Some, MatchOption, refl, sym, ◌∙◌, ap, subst, inl, inr, arith}
-use Rattle.wasm_tree.specs.declared.constant_module.ConstantInstr.{ConstantInstr}
-use Rattle.wasm_tree.specs.declared.tree.Module.{Module}
-use Rattle.wasm_tree.specs.ConstantModule.{IsConstantModule}
+use Rattle.std.proofs.Common.{◌≡◌, ◌≢◌, ◌⊎◌, ℕ, ◌≤◌, List, length, Option, Some, MatchOption, refl, sym, ◌∙◌, subst, inl, inr, arith}
 use Rattle.wasm_tree.specs.ConstantTree.{tree_of_constant}
 use Rattle.wasm_spelling.specs.declared.fault.ReadFault.{ReadFault}
 use Rattle.wasm_spelling.specs.declared.fault.ReadFault.TheVariants as fault
-use Rattle.wasm_spelling.specs.declared.fault.Which.TheVariants.{ModuleBytes}
 use Rattle.wasm_spelling.specs.Limits.{most_module_bytes}
-use Rattle.wasm_spelling.specs.ModuleFields.{Spells}
 use Rattle.wasm_spelling.specs.Table.{Upto}
 use Rattle.wasm_spelling.proofs.ConstantSpelled.{constant_spelled_tree}
 use Rattle.wasm_spelling.proofs.Whole.{one_first, not_both}
