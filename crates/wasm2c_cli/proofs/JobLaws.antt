@@ -4,13 +4,15 @@ use Rattle.std.specs.FinMap.{get}
 use Rattle.w2c_io.specs.Contents.{Name, Contents}
 use Rattle.wasm_tree.specs.ConstantModule.{IsConstantModule}
 use Rattle.wasm_tree.proofs.OneSpelling.{one_spelling}
-use Rattle.wasm2c_cli.specs.declared.stop.Cause.TheVariants.{NotBuilt}
+use Rattle.wasm2c_cli.specs.declared.stop.Reason.{Reason}
 use Rattle.wasm2c_cli.specs.CommandLine.{Line, header_name_of, line_of, runtime_of}
 use Rattle.w2c_sim.specs.Headers.{header_of}
 use Rattle.w2c_sim.specs.Translation.{text_of}
-use Rattle.wasm2c_cli.specs.Job.{Job, Usage, Missing, Refused, Write, IsBuilt, IsJobOf, IsJob, IsOtherJob, Translates}
+use Rattle.wasm2c_cli.specs.Job.{Job, Usage, Missing, Refused, Write, IsJobOf, IsJob, IsOtherJob, Translates}
+use Rattle.wasm2c_cli.specs.Reasons.{IsRefused}
 use Rattle.wasm2c_cli.specs.Runtime.{runtime_files}
 use Rattle.wasm2c_cli.specs.Standing.{file_names, AreDistinct, IsOneOf}
+use Rattle.wasm2c_cli.proofs.ReasonLaws.{built_not_refused, one_reason}
 use Rattle.wasm2c_cli.proofs.HeaderName.{is_apart, h_is_not_c, output_is_c_file}
 
 -- a file is not there and there, or has two contents
@@ -24,10 +26,14 @@ same_bytes contents file other bytes others held held' same =
     let both : ◌≡◌ {A = Option (List ℕ)} (Some bytes) (Some others) = sym held ∙ ap (get contents) same ∙ held' in
     cc
 
--- a module is translated, and is none
-refused_translated : (line : Line) (contents : Contents) (file : Name) (bytes : List ℕ) (files : List (Name × List ℕ)) → file ≡ line.input → get contents file ≡ Some bytes → (IsBuilt bytes → ⊥) → Translates line contents files → ⊥
-refused_translated line contents file bytes files of_input held none t =
-    none (t.name, t.code, subst (λ (b : List ℕ). IsConstantModule b t.name t.code) (same_bytes contents line.input file t.bytes bytes t.held held (sym of_input)) t.built)
+-- a file is translated and refused
+refused_translated : (line : Line) (contents : Contents) (file : Name) (bytes : List ℕ) (reason : Reason) (files : List (Name × List ℕ)) → file ≡ line.input → get contents file ≡ Some bytes → IsRefused bytes reason → Translates line contents files → ⊥
+refused_translated line contents file bytes reason files of_input held refused t =
+    built_not_refused bytes reason (t.name, t.code, subst (λ (b : List ℕ). IsConstantModule b t.name t.code) (same_bytes contents line.input file t.bytes bytes t.held held (sym of_input)) t.built) refused
+
+same_reason : (contents : Contents) (file other : Name) (bytes others : List ℕ) (reason r : Reason) → get contents file ≡ Some bytes → get contents other ≡ Some others → file ≡ other → IsRefused bytes reason → IsRefused others r → reason ≡ r
+same_reason contents file other bytes others reason r held held' same refused refused' =
+    one_reason bytes reason r refused (subst (λ (b : List ℕ). IsRefused b r) (sym (same_bytes contents file other bytes others held held' same)) refused')
 
 same_files : (line : Line) (contents : Contents) (files others : List (Name × List ℕ)) → Translates line contents files → Translates line contents others → files ≡ others
 same_files line contents files others t u =
@@ -39,15 +45,18 @@ one_of_line : (line : Line) (contents : Contents) (job other : Job) → IsJobOf 
 one_of_line line contents Usage other p q = absurd p
 one_of_line line contents (Missing file) Usage p q = absurd q
 one_of_line line contents (Missing file) (Missing other) p q = λ i. Missing ((p.0 ∙ sym q.0) i)
-one_of_line line contents (Missing file) (Refused other NotBuilt) p q = absurd (absent contents file other q.1.0 p.1 q.1.1 (p.0 ∙ sym q.0))
+one_of_line line contents (Missing file) (Refused other reason) p q = absurd (absent contents file other q.1.0 p.1 q.1.1 (p.0 ∙ sym q.0))
 one_of_line line contents (Missing file) (Write files) p q = absurd (absent contents file line.input q.bytes p.1 q.held p.0)
-one_of_line line contents (Refused file NotBuilt) Usage p q = absurd q
-one_of_line line contents (Refused file NotBuilt) (Missing other) p q = absurd (absent contents other file p.1.0 q.1 p.1.1 (q.0 ∙ sym p.0))
-one_of_line line contents (Refused file NotBuilt) (Refused other NotBuilt) p q = λ i. Refused ((p.0 ∙ sym q.0) i) NotBuilt
-one_of_line line contents (Refused file NotBuilt) (Write files) p q = absurd (refused_translated line contents file p.1.0 files p.0 p.1.1 p.1.2 q)
+one_of_line line contents (Refused file reason) Usage p q = absurd q
+one_of_line line contents (Refused file reason) (Missing other) p q = absurd (absent contents other file p.1.0 q.1 p.1.1 (q.0 ∙ sym p.0))
+one_of_line line contents (Refused file reason) (Refused other r) p q =
+    let same = p.0 ∙ sym q.0 in
+    let reasons = same_reason contents file other p.1.0 q.1.0 reason r p.1.1 q.1.1 same p.1.2 q.1.2 in
+    λ i. Refused (same i) (reasons i)
+one_of_line line contents (Refused file reason) (Write files) p q = absurd (refused_translated line contents file p.1.0 reason files p.0 p.1.1 p.1.2 q)
 one_of_line line contents (Write files) Usage p q = absurd q
 one_of_line line contents (Write files) (Missing other) p q = absurd (absent contents other line.input p.bytes q.1 p.held q.0)
-one_of_line line contents (Write files) (Refused other NotBuilt) p q = absurd (refused_translated line contents other q.1.0 files q.0 q.1.1 q.1.2 p)
+one_of_line line contents (Write files) (Refused other reason) p q = absurd (refused_translated line contents other q.1.0 reason files q.0 q.1.1 q.1.2 p)
 one_of_line line contents (Write files) (Write others) p q = λ i. Write (same_files line contents files others p q i)
 
 by_line : (line : Option Line) (dir : Option Name) (contents : Contents) (job other : Job) → MatchOption line (IsOtherJob dir job) (λ l. IsJobOf l contents job) → MatchOption line (IsOtherJob dir other) (λ l. IsJobOf l contents other) → job ≡ other

@@ -1,6 +1,7 @@
 pub mod Decoding
 pub mod HeaderName
 pub mod ModuleName
+pub mod ReasonLaws
 pub mod WriteLaws
 pub mod WorkLaws
 pub mod JobLaws

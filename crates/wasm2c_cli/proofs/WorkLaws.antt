@@ -10,7 +10,6 @@ use Rattle.wasm_tree.specs.declared.constant_module.ConstantInstr.{ConstantInstr
 use Rattle.w2c_sim.specs.Headers.{header_of}
 use Rattle.w2c_sim.specs.Simulation.{IsTranslation}
 use Rattle.w2c_sim.specs.Translation.{text_of}
-use Rattle.wasm2c_cli.specs.declared.stop.Cause.TheVariants.{NotBuilt}
 use Rattle.wasm2c_cli.specs.declared.stop.Stop.{Stop}
 use Rattle.wasm2c_cli.specs.declared.stop.Stop.TheVariants as stops
 use Rattle.wasm2c_cli.specs.CommandLine.{Line, header_name_of, line_of, runtime_of}
@@ -35,8 +34,8 @@ reading_stops_work words line old new r r' w w' named (stops.Unread name) is sam
   ],
   same,
 )
-reading_stops_work words line old new r r' w w' named (stops.Refused name NotBuilt) is same (of_input, why) = (
-  λ contents told. let held = why contents told in is_job words line contents (Refused (string_bytes name) NotBuilt) is (of_input, (held.0, ap (get contents) of_input ∙ held.1, held.2)),
+reading_stops_work words line old new r r' w w' named (stops.Refused name reason) is same (of_input, why) = (
+  λ contents told. let held = why contents told in is_job words line contents (Refused (string_bytes name) reason) is (of_input, (held.0, ap (get contents) of_input ∙ held.1, held.2)),
   same,
   no_usage words line is,
 )

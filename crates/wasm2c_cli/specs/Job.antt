@@ -4,9 +4,9 @@ use Rattle.std.specs.FinMap.{get}
 use Rattle.w2c_io.specs.Contents.{Name, Contents}
 use Rattle.wasm_tree.specs.ConstantModule.{IsConstantModule}
 use Rattle.wasm_tree.specs.declared.constant_module.ConstantInstr.{ConstantInstr}
-use Rattle.wasm2c_cli.specs.declared.stop.Cause.{Cause}
-use Rattle.wasm2c_cli.specs.declared.stop.Cause.TheVariants.{NotBuilt}
+use Rattle.wasm2c_cli.specs.declared.stop.Reason.{Reason}
 use Rattle.wasm2c_cli.specs.CommandLine.{Line, header_name_of, line_of, runtime_of}
+use Rattle.wasm2c_cli.specs.Reasons.{IsRefused}
 use Rattle.wasm2c_cli.specs.Runtime.{runtime_files}
 use Rattle.w2c_sim.specs.Headers.{header_of}
 use Rattle.w2c_sim.specs.Translation.{text_of}
@@ -14,12 +14,8 @@ use Rattle.w2c_sim.specs.Translation.{text_of}
 pub data Job : Type 0 where
   Usage : Job
   Missing : (file : Name) → Job
-  Refused : (file : Name) (cause : Cause) → Job
+  Refused : (file : Name) (reason : Reason) → Job
   Write : (files : List (Name × List ℕ)) → Job
-
--- a file's bytes are a module that is translated
-abbrev pub IsBuilt : List ℕ → Type 0
-IsBuilt bytes = (name : List ℕ) × (code : List ConstantInstr) × IsConstantModule bytes name code
 
 -- what is made of a line and a module: the C file, then the header
 abbrev pub Makes : Line → List ℕ → List ConstantInstr → List (Name × List ℕ) → Type 0
@@ -39,7 +35,7 @@ pub record Translates (line : Line) (contents : Contents) (files : List (Name ×
 abbrev pub IsJobOf : Line → Contents → Job → Type 0
 IsJobOf line contents Usage = ⊥
 IsJobOf line contents (Missing file) = (file ≡ line.input) × (get contents file ≡ None)
-IsJobOf line contents (Refused file NotBuilt) = (file ≡ line.input) × ((bytes : List ℕ) × (get contents file ≡ Some bytes) × (IsBuilt bytes → ⊥))
+IsJobOf line contents (Refused file reason) = (file ≡ line.input) × ((bytes : List ℕ) × (get contents file ≡ Some bytes) × IsRefused bytes reason)
 IsJobOf line contents (Write files) = Translates line contents files
 
 -- what words ask for that name no file to translate: the runtime's files, or usage

@@ -1,6 +1,7 @@
 pub mod CommandLine
 pub mod Job
 pub mod Lines
+pub mod Reasons
 pub mod Runtime
 pub mod Seen
 pub mod SeenOutputs

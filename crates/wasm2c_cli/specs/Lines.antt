@@ -1,19 +1,23 @@
 -- The one line on the error stream, and the status that goes with it.
-use Rattle.std.specs.Prelude.{ℕ, List, ◌++◌, codes, string_bytes}
+use Rattle.std.specs.Prelude.{ℕ, List, ◌++◌, codes, decimal, string_bytes}
 use Rattle.w2c_io.specs.Contents.{Name}
-use Rattle.wasm2c_cli.specs.declared.stop.Cause.{Cause}
-use Rattle.wasm2c_cli.specs.declared.stop.Cause.TheVariants as causes
+use Rattle.wasm_spelling.specs.FaultTexts.{cause_text, which_text}
+use Rattle.wasm2c_cli.specs.declared.stop.Reason.{Reason}
+use Rattle.wasm2c_cli.specs.declared.stop.Reason.TheVariants.{Malformed, Float, Limit, NotBuilt}
 use Rattle.wasm2c_cli.specs.declared.stop.Stop.{Stop}
 use Rattle.wasm2c_cli.specs.declared.stop.Stop.TheVariants as stops
 
-abbrev pub cause_text : Cause → List ℕ
-cause_text causes.NotBuilt = codes "not built"
+abbrev pub reason_text : Reason → List ℕ
+reason_text (Malformed place cause) = codes "malformed at " ++ decimal place ++ codes ": " ++ cause_text cause
+reason_text (Float place) = codes "float at " ++ decimal place
+reason_text (Limit place which) = codes "limit at " ++ decimal place ++ codes ": " ++ which_text which
+reason_text NotBuilt = codes "not built"
 
 abbrev pub usage_line : List ℕ
 usage_line = codes "wasm2c: bad command line\n"
 
-abbrev pub refused_line : Name → Cause → List ℕ
-refused_line name cause = codes "wasm2c: " ++ name ++ codes ": " ++ cause_text cause ++ codes "\n"
+abbrev pub refused_line : Name → Reason → List ℕ
+refused_line name reason = codes "wasm2c: " ++ name ++ codes ": " ++ reason_text reason ++ codes "\n"
 
 abbrev pub read_line : Name → List ℕ
 read_line name = codes "wasm2c: " ++ name ++ codes ": read fault\n"
@@ -26,14 +30,14 @@ memory_line = codes "wasm2c: want of memory\n"
 
 abbrev pub line_for : Stop → List ℕ
 line_for stops.Usage = usage_line
-line_for (stops.Refused name cause) = refused_line (string_bytes name) cause
+line_for (stops.Refused name reason) = refused_line (string_bytes name) reason
 line_for (stops.Unread name) = read_line (string_bytes name)
 line_for (stops.Unwritten name) = write_line (string_bytes name)
 line_for stops.Memory = memory_line
 
 abbrev pub status_of : Stop → ℕ
 status_of stops.Usage = 2
-status_of (stops.Refused name cause) = 1
+status_of (stops.Refused name reason) = 1
 status_of (stops.Unread name) = 3
 status_of (stops.Unwritten name) = 4
 status_of stops.Memory = 5

@@ -9,11 +9,11 @@ use Rattle.wasm_tree.specs.ConstantModule.{IsConstantModule}
 use Rattle.wasm_tree.specs.declared.constant_module.ConstantInstr.{ConstantInstr}
 use Rattle.w2c_sim.specs.Headers.{header_of}
 use Rattle.w2c_sim.specs.Simulation.{IsTranslation}
-use Rattle.wasm2c_cli.specs.declared.stop.Cause.TheVariants.{NotBuilt}
 use Rattle.wasm2c_cli.specs.declared.stop.Stop.{Stop}
 use Rattle.wasm2c_cli.specs.declared.stop.Stop.TheVariants as stops
 use Rattle.wasm2c_cli.specs.CommandLine.{Line, header_name_of, line_of, runtime_of}
-use Rattle.wasm2c_cli.specs.Job.{Missing, Refused, Write, IsBuilt, IsJob}
+use Rattle.wasm2c_cli.specs.Job.{Missing, Refused, Write, IsJob}
+use Rattle.wasm2c_cli.specs.Reasons.{IsRefused}
 use Rattle.wasm2c_cli.specs.Runtime.{runtime_files}
 use Rattle.wasm2c_cli.specs.Standing.{IsOneOf, file_names, written, Stands, StandsAt}
 
@@ -22,10 +22,10 @@ pub record Faulted (name : Name) (before after : ℕ) (fault_name : Option Name)
   pub rose : Rose before after
   pub named : fault_name ≡ Some name
 
--- why no bytes were read; a file that is too long is no module
+-- why no module was read
 abbrev pub StopsReading : Told → Name → ℕ → ℕ → Option Name → Stop → Type 0
 StopsReading told file before after named (stops.Unread name) = (string_bytes name ≡ file) × (Faulted file before after named ⊎ ((contents : Contents) × (told ≡ Some contents) × (get contents file ≡ None)))
-StopsReading told file before after named (stops.Refused name NotBuilt) = (string_bytes name ≡ file) × Tells told (λ contents. (bytes : List ℕ) × (get contents file ≡ Some bytes) × (IsBuilt bytes → ⊥))
+StopsReading told file before after named (stops.Refused name reason) = (string_bytes name ≡ file) × Tells told (λ contents. (bytes : List ℕ) × (get contents file ≡ Some bytes) × IsRefused bytes reason)
 StopsReading told file before after named stops.Memory = Unit {0}
 StopsReading told file before after named stops.Usage = ⊥
 StopsReading told file before after named (stops.Unwritten name) = ⊥
@@ -35,7 +35,7 @@ abbrev pub StopsWriting : Told → Told → List (Name × List ℕ) → ℕ → 
 StopsWriting old new files before after named (stops.Unwritten name) = IsOneOf (string_bytes name) (file_names files) × Faulted (string_bytes name) before after named × StandsAt old new files (string_bytes name)
 StopsWriting old new files before after named stops.Memory = Stands old new files
 StopsWriting old new files before after named (stops.Unread name) = ⊥
-StopsWriting old new files before after named (stops.Refused name cause) = ⊥
+StopsWriting old new files before after named (stops.Refused name reason) = ⊥
 StopsWriting old new files before after named stops.Usage = ⊥
 
 -- the file that the words say is to be read
@@ -56,7 +56,7 @@ HasReading words = line_of words ≡ None → runtime_of words ≡ None → ⊥
 -- where nothing was written, the same file is current
 abbrev pub KeepsCurrent : Option Name → Option Name → Stop → Type 0
 KeepsCurrent old new stops.Usage = new ≡ old
-KeepsCurrent old new (stops.Refused name cause) = new ≡ old
+KeepsCurrent old new (stops.Refused name reason) = new ≡ old
 KeepsCurrent old new (stops.Unread name) = new ≡ old
 KeepsCurrent old new (stops.Unwritten name) = Unit {0}
 KeepsCurrent old new stops.Memory = Unit {0}
@@ -93,7 +93,7 @@ StandsOfJob words contents old new = (new ≡ old) ⊎ ((files : List (Name × L
 -- why the work stopped
 abbrev pub StopsWork : List Name → Told → Told → ℕ → ℕ → ℕ → ℕ → Option Name → Stop → Type 0
 StopsWork words old new reads reads' writes writes' named stops.Usage = (line_of words ≡ None) × (runtime_of words ≡ None) × (new ≡ old)
-StopsWork words old new reads reads' writes writes' named (stops.Refused name cause) = Tells old (λ contents. IsJob words contents (Refused (string_bytes name) cause)) × (new ≡ old) × HasReading words
+StopsWork words old new reads reads' writes writes' named (stops.Refused name reason) = Tells old (λ contents. IsJob words contents (Refused (string_bytes name) reason)) × (new ≡ old) × HasReading words
 StopsWork words old new reads reads' writes writes' named (stops.Unread name) =
     IsInput (string_bytes name) (line_of words) × (Faulted (string_bytes name) reads reads' named ⊎ ((contents : Contents) × (old ≡ Some contents) × IsJob words contents (Missing (string_bytes name)))) × (new ≡ old)
 StopsWork words old new reads reads' writes writes' named (stops.Unwritten name) =

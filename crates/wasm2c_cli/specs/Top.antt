@@ -5,5 +5,5 @@ use Rattle.wasm2c_cli.specs.Job.{Job, Usage, Missing, Refused, Write}
 abbrev pub Answers : Job → ℕ → Type 0
 Answers Usage status = status ≡ 2
 Answers (Missing file) status = status ≡ 3
-Answers (Refused file cause) status = status ≡ 1
+Answers (Refused file reason) status = status ≡ 1
 Answers (Write files) status = status ≡ 0

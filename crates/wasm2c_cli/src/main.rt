@@ -5,6 +5,7 @@ mod constant_reader;
 mod law;
 mod module_name;
 mod reading;
+mod refusal;
 mod report;
 mod runtime;
 mod stop;

@@ -1,16 +1,21 @@
 // Reads the file that a line names, and the module that it spells.
-ghost use Rattle.std.specs.Prelude.{◌≡◌, ◌≤◌, ℕ, List, Some, IfOk, IfErr, string_bytes};
+ghost use Rattle.std.specs.Prelude.{◌≡◌, ◌≤◌, ℕ, List, Some, IfOk, IfErr, length, string_bytes};
 ghost use Rattle.std.specs.FinMap.{get};
 ghost use Rattle.w2c_io.specs.Telling.{Tells};
 ghost use Rattle.wasm_tree.specs.ConstantModule.{IsConstantModule};
+ghost use Rattle.wasm_spelling.specs.declared.fault.Which.TheVariants.{ModuleBytes};
+ghost use Rattle.wasm2c_cli.specs.declared.stop.Reason.TheVariants.{Limit};
+ghost use Rattle.wasm2c_cli.specs.Reasons.{Refuses};
 ghost use Rattle.wasm2c_cli.specs.Stops.{StopsReading};
 ghost use Rattle.w2c_sim.specs.Translation.{IsSpelledModule};
 
 use crate::constant_reader::{ReadRefusal, read_constant_module};
-use crate::stop::{Cause, Stop};
+use crate::refusal::Refusal;
+use crate::stop::{Reason, Stop};
 use std::alloc::Global;
 use w2c_base::{Bytes, MODULE_BYTES};
 use w2c_io::{Files, ReadAnswer};
+use wasm_binary::{Which, read_module as read_tree};
 use wasm_tree::ConstantModule;
 
 /// The module that a file spells.
@@ -33,10 +38,29 @@ pub fn read_module<F: Files>(
         Ok(bytes) => bytes,
         Err(stop) => return Err(stop),
     };
-    match read_constant_module(alloc, bytes.as_slice()) {
+    match module_of(alloc, bytes.as_slice()) {
         Ok(module) => Ok(module),
-        Err(ReadRefusal::NotBuilt) => Err(Stop::Refused(name.clone()?, Cause::NotBuilt)),
-        Err(ReadRefusal::Memory) => Err(Stop::Memory),
+        Err(refusal) => match refusal.reason() {
+            Some(reason) => Err(Stop::Refused(name.clone()?, reason)),
+            None => Err(Stop::Memory),
+        },
+    }
+}
+
+// The module that bytes spell, where it is of the form that is translated.
+fn module_of(alloc: Global, bytes: &[u8]) -> Result<ConstantModule, Refusal>
+    requires { length bytes.now ≤ 8388608 }
+    ensures found { IfOk result (λ m. IsConstantModule bytes.now m.name m.code) }
+    ensures refused { IfErr result (Refuses bytes.now) }
+{
+    match read_tree(alloc, bytes) {
+        Ok(tree) => drop(tree),
+        Err(fault) => return Err(Refusal::by(fault)),
+    }
+    match read_constant_module(alloc, bytes) {
+        Ok(module) => Ok(module),
+        Err(ReadRefusal::NotBuilt) => Err(Refusal::NotBuilt),
+        Err(ReadRefusal::Memory) => Err(Refusal::Memory),
     }
 }
 
@@ -46,6 +70,7 @@ fn read_file<F: Files>(alloc: Global, name: &String, files: &mut F) -> Result<By
     ensures writes { F.write_faults files.new ≡ F.write_faults files.old }
     ensures later { F.read_faults files.old ≤ F.read_faults files.new }
     ensures bytes { IfOk result (λ bytes. Tells (F.told files.old) (λ contents. get contents (string_bytes name.now) ≡ Some bytes)) }
+    ensures fits { IfOk result (λ bytes. length bytes ≤ 8388608) }
     ensures stop { IfErr result (StopsReading (F.told files.old) (string_bytes name.now)
         (F.read_faults files.old) (F.read_faults files.new) (F.fault_name files.new)) }
 {
@@ -53,7 +78,13 @@ fn read_file<F: Files>(alloc: Global, name: &String, files: &mut F) -> Result<By
         Ok(bytes) => Ok(bytes),
         Err(ReadAnswer::Absent) => Err(Stop::Unread(name.clone()?)),
         Err(ReadAnswer::Failed) => Err(Stop::Unread(name.clone()?)),
-        Err(ReadAnswer::TooLong) => Err(Stop::Refused(name.clone()?, Cause::NotBuilt)),
+        Err(ReadAnswer::TooLong) => Err(Stop::Refused(name.clone()?, too_long())),
         Err(ReadAnswer::Memory) => Err(Stop::Memory),
     }
+}
+
+fn too_long() -> Reason
+    ensures { result ≡ Limit 8388608 ModuleBytes }
+{
+    Reason::Limit(MODULE_BYTES as u32, Which::ModuleBytes)
 }

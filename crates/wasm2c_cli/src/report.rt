@@ -1,9 +1,10 @@
 // The line on the error stream, and the status.
-ghost use Rattle.std.specs.Prelude.{◌≡◌, ◌⊎◌, ◌++◌, codes, IfOk, string_bytes};
+ghost use Rattle.std.specs.Prelude.{◌≡◌, ◌⊎◌, ◌++◌, codes, decimal, IfOk, OnOk, string_bytes};
 ghost use Rattle.w2c_io.specs.Telling.{Says, SaysPart};
-ghost use Rattle.wasm2c_cli.specs.Lines.{cause_text, line_for, status_of};
+ghost use Rattle.wasm2c_cli.specs.Lines.{line_for, reason_text, refused_line, status_of};
 
-use crate::stop::{Cause, Stop};
+use crate::stop::{Reason, Stop};
+use itoa::Buffer;
 use std::alloc::{AllocError, Global};
 use w2c_io::{Sink, WriteAnswer};
 
@@ -39,20 +40,52 @@ fn line_text(alloc: Global, stop: &Stop) -> Result<String, AllocError>
 {
     match stop {
         Stop::Usage => String::from_str(alloc, "wasm2c: bad command line\n"),
-        Stop::Refused(name, cause) => refused_text(alloc, name, *cause),
+        Stop::Refused(name, reason) => refused_text(alloc, name, *reason),
         Stop::Unread(name) => named_text(alloc, name, ": read fault\n"),
         Stop::Unwritten(name) => named_text(alloc, name, ": write fault\n"),
         Stop::Memory => String::from_str(alloc, "wasm2c: want of memory\n"),
     }
 }
 
-fn refused_text(alloc: Global, name: &String, cause: Cause) -> Result<String, AllocError>
-    ensures { IfOk result (λ line. string_bytes line ≡ codes "wasm2c: " ++ string_bytes name.now ++ codes ": " ++ cause_text cause ++ codes "\n") }
+fn refused_text(alloc: Global, name: &String, reason: Reason) -> Result<String, AllocError>
+    ensures { IfOk result (λ line. string_bytes line ≡ refused_line (string_bytes name.now) reason) }
 {
     let mut line = named_text(alloc, name, ": ")?;
-    line.push_str(text_of(cause))?;
+    push_reason(&mut line, reason)?;
     line.push_str("\n")?;
     Ok(line)
+}
+
+fn push_reason(line: &mut String, reason: Reason) -> Result<(), AllocError>
+    ensures { OnOk result (string_bytes line.new ≡ string_bytes line.old ++ reason_text reason) }
+{
+    match reason {
+        Reason::Malformed(place, cause) => {
+            push_place(line, "malformed at ", place)?;
+            push_why(line, cause.text())
+        }
+        Reason::Float(place) => push_place(line, "float at ", place),
+        Reason::Limit(place, which) => {
+            push_place(line, "limit at ", place)?;
+            push_why(line, which.text())
+        }
+        Reason::NotBuilt => line.push_str("not built"),
+    }
+}
+
+fn push_place(line: &mut String, what: &str, place: u32) -> Result<(), AllocError>
+    ensures { OnOk result (string_bytes line.new ≡ string_bytes line.old ++ (what.now ++ decimal place)) }
+{
+    let mut buffer = Buffer::new();
+    line.push_str(what)?;
+    line.push_str(buffer.format(place))
+}
+
+fn push_why(line: &mut String, why: &str) -> Result<(), AllocError>
+    ensures { OnOk result (string_bytes line.new ≡ string_bytes line.old ++ (codes ": " ++ why.now)) }
+{
+    line.push_str(": ")?;
+    line.push_str(why)
 }
 
 fn named_text(alloc: Global, name: &String, end: &str) -> Result<String, AllocError>
@@ -62,12 +95,4 @@ fn named_text(alloc: Global, name: &String, end: &str) -> Result<String, AllocEr
     line.push_str(name.as_str())?;
     line.push_str(end)?;
     Ok(line)
-}
-
-fn text_of(cause: Cause) -> &'static str
-    ensures { result.now ≡ cause_text cause }
-{
-    match cause {
-        Cause::NotBuilt => "not built",
-    }
 }

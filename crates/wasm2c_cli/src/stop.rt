@@ -4,11 +4,18 @@ ghost use Rattle.wasm2c_cli.specs.declared.stop.Stop.TheVariants.{Memory as Want
 
 use std::alloc::{AllocError, AllocFailed};
 use w2c_base::Memory;
+use wasm_binary::{Cause, Which};
 
 /// Why a file is refused.
 #[derive(Clone, Copy, Debug, PartialEq, Eq)]
-pub enum Cause {
-    /// It is not a module of the form that is translated so far.
+pub enum Reason {
+    /// What is wrong with the field at this place.
+    Malformed(u32, Cause),
+    /// A floating-point type or instruction stands at this place.
+    Float(u32),
+    /// The limit that is passed at this place.
+    Limit(u32, Which),
+    /// It spells a module, and none of the form that is translated so far.
     NotBuilt,
 }
 
@@ -16,7 +23,7 @@ pub enum Cause {
 #[derive(Drop)]
 pub enum Stop {
     Usage,
-    Refused(String, Cause),
+    Refused(String, Reason),
     Unread(String),
     Unwritten(String),
     Memory,

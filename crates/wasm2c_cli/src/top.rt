@@ -4,7 +4,7 @@ ghost use Rattle.w2c_io.specs.Contents.{Name, Contents};
 ghost use Rattle.w2c_io.specs.Causes.{Rose};
 ghost use Rattle.w2c_io.specs.Telling.{Tells, Says, SaysPart};
 ghost use Rattle.w2c_sim.specs.Simulation.{Backward, Forward, NeverStops};
-ghost use Rattle.wasm2c_cli.specs.declared.stop.Cause.{Cause};
+ghost use Rattle.wasm2c_cli.specs.declared.stop.Reason.{Reason};
 ghost use Rattle.wasm2c_cli.specs.declared.stop.Stop.{Stop as AnyStop};
 ghost use Rattle.wasm2c_cli.specs.CommandLine.{line_of, runtime_of, texts};
 ghost use Rattle.wasm2c_cli.specs.Job.{IsJob, Job, Missing, Refused, Write};
@@ -45,9 +45,9 @@ pub fn wasm2c_top<F: Files, E: Sink>(
     ensures silent { result ≡ 0 → E.told err.new ≡ E.told err.old }
 
     // Status 1 to 4: when each comes, and the line on the error stream.
-    ensures refused { result ≡ 1 → (file : Name) × (cause : Cause)
-        × Tells (F.told files.old) (λ m. IsJob (texts words.now) m (Refused file cause))
-        × Says (E.told err.old) (E.told err.new) (E.faults err.old) (E.faults err.new) (refused_line file cause) }
+    ensures refused { result ≡ 1 → (file : Name) × (reason : Reason)
+        × Tells (F.told files.old) (λ m. IsJob (texts words.now) m (Refused file reason))
+        × Says (E.told err.old) (E.told err.new) (E.faults err.old) (E.faults err.new) (refused_line file reason) }
     ensures usage { result ≡ 2 → (line_of (texts words.now) ≡ None) × (runtime_of (texts words.now) ≡ None)
         × Says (E.told err.old) (E.told err.new) (E.faults err.old) (E.faults err.new) usage_line }
     ensures usage_always { line_of (texts words.now) ≡ None → runtime_of (texts words.now) ≡ None → (result ≡ 2) ⊎ (result ≡ 5) }

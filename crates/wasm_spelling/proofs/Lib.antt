@@ -15,3 +15,4 @@ pub mod Parts
 pub mod Sections
 pub mod SectionsAgain
 pub mod Whole
+pub mod ConstantSpelled

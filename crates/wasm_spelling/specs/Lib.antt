@@ -1,4 +1,5 @@
 pub mod At
+pub mod FaultTexts
 pub mod Fields
 pub mod Limits
 pub mod ModuleFields

@@ -1,5 +1,6 @@
 // Why a module could not be read.
 ghost use Rattle.std.specs.Prelude.{◌≡◌};
+ghost use Rattle.wasm_spelling.specs.FaultTexts.{cause_text, which_text};
 ghost use Rattle.wasm_spelling.specs.declared.fault.ReadFault.TheVariants.{Memory as memory_wanted};
 
 use std::alloc::{AllocError, AllocFailed};
@@ -30,6 +31,36 @@ pub enum Cause {
     ZeroByteExpected,
 }
 
+impl Cause {
+    /// Its text, as the line of a refused file has it.
+    pub fn text(&self) -> &'static str
+        ensures { result.now ≡ cause_text self.now }
+    {
+        match self {
+            Cause::UnexpectedEnd => "unexpected end",
+            Cause::IntegerTooLong => "integer too long",
+            Cause::UnusedBits => "unused bits",
+            Cause::BadMagic => "bad magic",
+            Cause::BadVersion => "bad version",
+            Cause::BadSectionId => "bad section id",
+            Cause::SectionOrder => "section order",
+            Cause::CountDiffers => "count differs",
+            Cause::SizePastEnd => "size past end",
+            Cause::SectionNotUsedUp => "section not used up",
+            Cause::BodyNotUsedUp => "body not used up",
+            Cause::BadUTF8 => "bad UTF-8",
+            Cause::BadForm => "bad form",
+            Cause::BadTypeCode => "bad type code",
+            Cause::BadKind => "bad kind",
+            Cause::BadElementType => "bad element type",
+            Cause::BadLimitsFlag => "bad limits flag",
+            Cause::BadMutability => "bad mutability",
+            Cause::BadOpcode => "bad opcode",
+            Cause::ZeroByteExpected => "zero byte expected",
+        }
+    }
+}
+
 /// A limit that is passed.
 #[derive(Clone, Copy, Debug, PartialEq, Eq)]
 pub enum Which {
@@ -44,6 +75,27 @@ pub enum Which {
     BlockDepth,
     MemoryPages,
     TableLength,
+}
+
+impl Which {
+    /// Its text, as the line of a refused file has it.
+    pub fn text(&self) -> &'static str
+        ensures { result.now ≡ which_text self.now }
+    {
+        match self {
+            Which::ModuleBytes => "module bytes",
+            Which::SetBytes => "set bytes",
+            Which::Parameters => "parameters",
+            Which::Results => "results",
+            Which::NameLength => "name length",
+            Which::Functions => "functions",
+            Which::Locals => "locals",
+            Which::AllLocals => "all locals",
+            Which::BlockDepth => "block depth",
+            Which::MemoryPages => "memory pages",
+            Which::TableLength => "table length",
+        }
+    }
 }
 
 /// The first fault of a module's bytes, with its place: the first byte of the field that is not spelled
@@ -77,5 +129,18 @@ impl<T: Drop> From<AllocFailed<T>> for ReadFault {
 
     fn from(_: AllocFailed<T>) -> ReadFault {
         ReadFault::Memory
+    }
+}
+
+#[cfg(test)]
+mod tests {
+    use crate::{Cause, Which};
+    use std::test::Fail;
+
+    #[test]
+    fn texts(rt: HostRuntime) -> Result<(), Fail> {
+        assert_eq!(rt; Cause::BadUTF8.text(), "bad UTF-8");
+        assert_eq!(rt; Which::AllLocals.text(), "all locals");
+        Ok(())
     }
 }

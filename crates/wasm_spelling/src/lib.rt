@@ -8,4 +8,4 @@ mod laws;
 
 pub use cases::file_cases;
 pub use fault::{Cause, ReadFault, Which};
-pub use laws::each_file_has_one_reading;
+pub use laws::{constant_modules_are_spelled, each_file_has_one_reading};
