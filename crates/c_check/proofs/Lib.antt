@@ -1,3 +1,4 @@
+pub mod Behind
 pub mod Clashes
 pub mod Distinct
 pub mod DistinctNumbers

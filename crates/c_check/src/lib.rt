@@ -8,6 +8,7 @@ mod items;
 mod names;
 mod ours;
 mod pass;
+mod progress;
 mod shapes;
 mod statements;
 

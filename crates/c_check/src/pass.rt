@@ -7,9 +7,9 @@ ghost use Rattle.c_scope.specs.ScopeOf.{scope_of};
 ghost use Rattle.c_check.specs.Broken.{broken_at};
 ghost use Rattle.c_check.specs.FirstRule.{func_in};
 
-use crate::declarations::{Earlier, enter_first};
 use crate::items::item_rule;
-use crate::names::{declared_names, defined_name, defined_names, label_name, label_names, put};
+use crate::names::{label_name, label_names, put};
+use crate::progress::Progress;
 use crate::statements::stmt_rule;
 use c_scope::{FileScope, NameTable, Scope, own_table, own_variables};
 use c_tree::{Body, Func, Item};
@@ -48,7 +48,6 @@ fn broken_in_statements(alloc: Global, s: &Scope, item: usize) -> Result<Option<
 }
 
 /// The first rule that a statement of an item breaks. The item is the last that is declared.
-
 fn broken_in_item_body(
     alloc: Global,
     file: &FileScope,
@@ -111,12 +110,9 @@ fn broken_in_definition(
 pub fn first_broken(alloc: Global, items: &[Item]) -> Result<Option<Broken>, Memory>
     ensures { IfOk result (λ r. option_map broken_at r ≡ first_in_items (map item_of items.now) 0) }
 {
-    let names = declared_names(alloc, items)?;
-    let defined = defined_names(alloc, items)?;
-    let mut earlier = Earlier::new(alloc);
-    let mut file = FileScope::new(alloc, items);
+    let mut progress = Progress::new(alloc, items)?;
     for (i, item) in items.iter().enumerate() {
-        match item_rule(alloc, &file, &names, &defined, &earlier, item)? {
+        match item_rule(alloc, &progress, item)? {
             Some(rule) => {
                 return Ok(Some(Broken {
                     item: i,
@@ -126,10 +122,8 @@ pub fn first_broken(alloc: Global, items: &[Item]) -> Result<Option<Broken>, Mem
             }
             None => {}
         }
-        enter_first(alloc, &mut earlier.first, item)?;
-        put(alloc, &mut earlier.defined, defined_name(item))?;
-        file = file.behind_next(alloc)?;
-        match broken_in_item_body(alloc, &file, i, item)? {
+        progress = progress.behind_next(alloc, item)?;
+        match broken_in_item_body(alloc, &progress.file, i, item)? {
             Some(broken) => return Ok(Some(broken)),
             None => {}
         }
