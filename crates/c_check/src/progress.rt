@@ -16,7 +16,6 @@ use w2c_base::Memory;
 
 /// The scope in front of an item, with the names that the whole unit declares and defines, and the
 /// earlier declarations, none of which clash.
-#[derive(Drop)]
 pub struct Progress<'a> {
     pub file: FileScope<'a>,
     pub names: NameTable<()>,
@@ -26,6 +25,18 @@ pub struct Progress<'a> {
     ghost defined_known: { Knows defined (defined_of (map item_of file.items.now)) },
     ghost earlier_known: { Knows earlier.defined (defined_of (declared file)) },
     ghost kept: { none_clash (declared file) ≡ true },
+}
+
+// By hand, so that each place which drops it is proved by one call.
+impl Drop for Progress<'_> {
+    fn drop(self) {
+        let Progress {
+            file: _,
+            names: _,
+            defined: _,
+            earlier: _,
+        } = self;
+    }
 }
 
 impl<'a> Progress<'a> {
