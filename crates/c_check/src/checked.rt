@@ -21,6 +21,10 @@ pub enum CheckRefusal {
 }
 
 impl From<Memory> for CheckRefusal {
+    ghost use Rattle.c_check.specs.declared.checked.CheckRefusal.TheVariants as refusal;
+
+    ghost from_gives = { λ _ e. e ≡ refusal.Memory };
+
     fn from(_: Memory) -> Self {
         CheckRefusal::Memory
     }

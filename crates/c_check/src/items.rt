@@ -15,11 +15,7 @@ use w2c_base::Memory;
 
 /// The first rule that an item breaks by itself, a parameter or a local variable.
 #[tactic(auto, unfolding(crate::specs::FirstRule::item_breaks))]
-pub fn item_rule(
-    alloc: Global,
-    progress: &Progress,
-    item: &Item,
-) -> Result<Option<u32>, Memory>
+pub fn item_rule(alloc: Global, progress: &Progress, item: &Item) -> Result<Option<u32>, Memory>
     requires { FindsFirst progress.now.earlier.first (declared progress.now.file) }
     ensures { IfOk result (λ r. r ≡ item_breaks (item_place progress.now.file item.now)) }
 {
