@@ -11,5 +11,7 @@ mod pass;
 mod progress;
 mod shapes;
 mod statements;
+#[cfg(test)]
+mod tests;
 
 pub use checked::{CheckRefusal, CheckedUnit};
