@@ -5,6 +5,8 @@
 mod agreement;
 mod ctype;
 mod known;
+#[cfg(test)]
+mod tests;
 mod typed;
 mod typing;
 

@@ -60,13 +60,7 @@ fn number_type(t: Typing) -> Option<CType>
     ensures { result ≡ number_type (typing t) }
 {
     match t {
-        Typing::HasType(t) => {
-            if is_number_type(t) {
-                Some(t)
-            } else {
-                None
-            }
-        }
+        Typing::HasType(t) => { if is_number_type(t) { Some(t) } else { None } }
         Typing::Compares | Typing::IsElement | Typing::IllTyped => None,
     }
 }
@@ -82,13 +76,7 @@ fn same(left: Option<CType>, right: Option<CType>) -> Option<CType>
     ensures { result ≡ if_found left (λ t. if_found right (λ u. if same_type t u then Some t else None)) }
 {
     match (left, right) {
-        (Some(t), Some(u)) => {
-            if same_type(t, u) {
-                Some(t)
-            } else {
-                None
-            }
-        }
+        (Some(t), Some(u)) => { if same_type(t, u) { Some(t) } else { None } }
         (Some(_), None) | (None, _) => None,
     }
 }
