@@ -9,6 +9,7 @@ ghost use Rattle.crun.specs.Signatures.{signature_in};
 
 use crate::constant::is_built;
 use crate::signatures::{Signatures, takes};
+use c_check::CheckedUnit;
 use c_machine::Tables;
 use c_tree::{CFuncType, Unit};
 use std::alloc::Global;
@@ -38,7 +39,7 @@ impl From<Memory> for SingleRefusal {
 /// of its functions of external linkage. Contracts see it as the unit's items.
 #[derive(Drop)]
 pub struct Linked {
-    unit: Unit,
+    unit: CheckedUnit,
     tables: Tables,
     signatures: Signatures,
 }
@@ -63,18 +64,18 @@ impl Model for Linked {
 }
 
 impl Linked {
-    /// One unit, linked with nothing else. `NotBuilt` where it is not of a form that is run, and
-    /// only there.
-    pub fn single(alloc: Global, unit: Unit) -> Result<Linked, SingleRefusal>
+    /// One checked unit, linked with nothing else. `NotBuilt` where it is not of a form that is run,
+    /// and only there.
+    pub fn single(alloc: Global, unit: CheckedUnit) -> Result<Linked, SingleRefusal>
         ensures linked { IfOk result (λ l. l ≡ unit) }
         ensures built { IfOk result (λ l. IsBuilt (unit_of l)) }
         ensures not_built { IsErrOf result SingleRefusal.NotBuilt → IsBuilt (unit_of unit) → ⊥ }
     {
-        if !is_built(alloc, &unit)? {
+        if !is_built(alloc, unit.unit())? {
             return Err(SingleRefusal::NotBuilt);
         }
-        let tables = Tables::new(alloc, &unit)?;
-        let signatures = Signatures::new(alloc, unit.as_slice())?;
+        let tables = Tables::new(alloc, unit.unit())?;
+        let signatures = Signatures::new(alloc, unit.unit().as_slice())?;
         Ok(Linked {
             unit,
             tables,
@@ -87,7 +88,7 @@ impl Linked {
         ensures same { result.now ≡ self.now }
         ensures built { IsBuilt (unit_of self.now) }
     {
-        &self.unit
+        self.unit.unit()
     }
 
     /// The tables of the unit's names.

@@ -2,6 +2,7 @@
 ghost use Rattle.std.specs.Prelude.{◌≡◌, []};
 
 use crate::{BoxedHost, HostModule, Kept, Linked, Outcome, Phase, Session, SingleRefusal, Stop};
+use c_check::CheckedUnit;
 use c_tree::{
     Arg, Args, Body, COp, CType, Callee, Expr, Func, Item, Locals, Name, Num, Params, Stmt, Stmts,
     Unit,
@@ -102,6 +103,14 @@ fn unit(alloc: Global, symbol: &[u8]) -> Result<Unit, Memory> {
     Ok(unit)
 }
 
+// A unit that is checked.
+fn checked(alloc: Global, unit: Unit) -> Result<CheckedUnit, Fail> {
+    if !unit.formed() {
+        return Err("no text spells the unit".into());
+    }
+    Ok(CheckedUnit::check(alloc, unit)?)
+}
+
 // What the init function and a call of the export come to with so many statements in all. None
 // where the export does not fit.
 fn outcomes<H: HostModule>(
@@ -111,7 +120,7 @@ fn outcomes<H: HostModule>(
 ) -> Result<Option<(Outcome, Result<Outcome, Stop>)>, Fail>
     requires { hosts.items ≡ [] }
 {
-    let linked = Linked::single(alloc, unit(alloc, EXPORT)?)?;
+    let linked = Linked::single(alloc, checked(alloc, unit(alloc, EXPORT)?)?)?;
     if !linked.fits(EXPORT, &[]) {
         return Ok(None);
     }
@@ -164,7 +173,7 @@ fn shown_twice<H: HostModule>(
 ) -> Result<((Phase, usize, usize), (Phase, usize, usize), usize), Fail>
     requires { hosts.items ≡ [] }
 {
-    let linked = Linked::single(alloc, unit(alloc, EXPORT)?)?;
+    let linked = Linked::single(alloc, checked(alloc, unit(alloc, EXPORT)?)?)?;
     let mut session = Session::start(alloc, linked, hosts, 2)?;
     let before = shown(&session);
     session.init()?;
@@ -182,7 +191,7 @@ fn a_session_is_ready_behind_its_init_function(rt: HostRuntime) -> Result<(), Fa
 #[test]
 fn a_unit_shows_its_external_functions(rt: HostRuntime) -> Result<(), Fail> {
     let alloc = rt.alloc();
-    let linked = Linked::single(alloc, unit(alloc, EXPORT)?)?;
+    let linked = Linked::single(alloc, checked(alloc, unit(alloc, EXPORT)?)?)?;
     let ty = linked.signature(EXPORT).ok_or("no function")?;
     assert_eq!(rt; ty.result, CType::U32);
     assert_eq!(rt; ty.params.as_slice(), [CType::Void].as_slice());
@@ -197,9 +206,9 @@ fn a_unit_shows_its_external_functions(rt: HostRuntime) -> Result<(), Fail> {
 #[test]
 fn other_units_are_refused(rt: HostRuntime) -> Result<(), Fail> {
     let alloc = rt.alloc();
-    let refusal = Linked::single(alloc, unit(alloc, INIT)?).err();
+    let refusal = Linked::single(alloc, checked(alloc, unit(alloc, b"w2cZ_twoZ_vZ_f")?)?).err();
     assert_eq!(rt; refusal, Some(SingleRefusal::NotBuilt));
-    let refusal = Linked::single(alloc, Unit::new(alloc)).err();
+    let refusal = Linked::single(alloc, checked(alloc, Unit::new(alloc))?).err();
     assert_eq!(rt; refusal, Some(SingleRefusal::NotBuilt));
     Ok(())
 }

@@ -1,0 +1,96 @@
+-- Sets of names, and tests of all items of a list.
+use Rattle.std.proofs.Common.{◌≡◌, ℕ, zero, suc, ◌+◌, ◌<◌, ◌≤◌, Bool, true, false, ◌&&◌, ◌||◌, if◌then◌else◌, List, [], ◌∷◌, ◌++◌, length, get_or, take, map, bytes_eq, is_some, Option, Some, None, refl, sym, ap, ◌∙◌, arith}
+use Rattle.std.specs.Prelude.{filter_map, not}
+use Rattle.std.specs.List.{list_all, list_any, cons_option}
+use Rattle.std.proofs.lemmas.List.{length-map}
+use Rattle.w2c_base.specs.Lookup.{named}
+use Rattle.c_tree.specs.declared.tree.CType.{CType}
+use Rattle.c_tree.specs.Tree as tree
+use Rattle.c_tree.specs.Scope.{name_of}
+use Rattle.c_tree.specs.Rules.{has_body, defines, hides_none}
+use Rattle.c_scope.specs.declared.own.Variable.{Variable}
+use Rattle.c_scope.specs.Own.{variable_pair}
+use Rattle.c_scope.proofs.NameTables.{either_way}
+use Rattle.c_scope.proofs.NextItem.{knows_next}
+use Rattle.c_check.specs.UnitNames.{defined_of, names_of}
+
+pub or_nothing : (b : Bool) → (b || false) ≡ b
+or_nothing true = refl
+or_nothing false = refl
+
+pub all_mapped : {A B : Type 0} (p : B → Bool) (view : A → B) (xs : List A) → list_all p (map view xs) ≡ list_all (λ x. p (view x)) xs
+all_mapped p view [] = refl
+all_mapped p view (x ∷ xs) = ap (λ b. p (view x) && b) (all_mapped p view xs)
+
+-- a set behind one more item that may name something, and behind all
+pub knows_put : {A B C : Type 0} (view : A → B) (of : B → Option (List ℕ)) (xs : List A) (i : ℕ) (x : A) → i < length xs → x ≡ get_or xs i x → (before after : List (List ℕ × C)) (o : Option (List ℕ)) → o ≡ of (view x)
+    → ((q : List ℕ) → is_some (named q after) ≡ (is_some (named q before) || list_any (bytes_eq q) (filter_map (λ (m : Option (List ℕ)). m) (o ∷ []))))
+    → ((q : List ℕ) → is_some (named q before) ≡ list_any (bytes_eq q) (filter_map of (take i (map view xs))))
+    → (q : List ℕ) → is_some (named q after) ≡ list_any (bytes_eq q) (filter_map of (take (i + 1) (map view xs)))
+knows_put view of xs i x lt is before after o e grown so_far =
+    knows_next view of xs i x lt is before after (λ q. grown q ∙ ap (λ (m : Option (List ℕ)). is_some (named q before) || list_any (bytes_eq q) (filter_map (λ (m' : Option (List ℕ)). m') (m ∷ []))) e) so_far
+
+pub knows_all : {A B C : Type 0} (view : A → B) (of : B → Option (List ℕ)) (xs : List A) (i : ℕ) (set : List (List ℕ × C)) → length xs ≤ i
+    → ((q : List ℕ) → is_some (named q set) ≡ list_any (bytes_eq q) (filter_map of (take i (map view xs))))
+    → (q : List ℕ) → is_some (named q set) ≡ list_any (bytes_eq q) (filter_map of (map view xs))
+knows_all view of xs i set past so_far q = so_far q ∙ ap (λ ys. list_any (bytes_eq q) (filter_map of ys)) (whole (map view xs) i (let e : length (map view xs) ≡ length xs = simp length-map in omega arith))
+  where
+    whole : {B : Type 0} (ys : List B) (n : ℕ) → length ys ≤ n → take n ys ≡ ys
+    whole [] zero le = refl
+    whole [] (suc n) le = refl
+    whole (y ∷ ys) zero le = absurd (omega arith)
+    whole (y ∷ ys) (suc n) le = ap (λ zs. y ∷ zs) (whole ys n (omega arith))
+
+-- a test by the set is one by the list
+pub all_same : {A : Type 0} (p q : A → Bool) (xs : List A) → ((x : A) → p x ≡ q x) → list_all p xs ≡ list_all q xs
+all_same p q [] e = refl
+all_same p q (x ∷ xs) e = ap (λ b. b && list_all p xs) (e x) ∙ ap (λ b. q x && b) (all_same p q xs e)
+
+-- the names of variables
+pub names_of_pairs : (vs : List Variable) → map (λ (v : Variable). v.name.now) vs ≡ map (λ (p : List ℕ × CType). p.0) (map variable_pair vs)
+names_of_pairs [] = refl
+names_of_pairs (v ∷ vs) = ap (λ zs. v.name.now ∷ zs) (names_of_pairs vs)
+
+pub defined_front : (q : List ℕ) (x : tree.Item) (items : List tree.Item) → list_any (bytes_eq q) (defined_of (x ∷ items)) ≡ ((bytes_eq (name_of x) q && has_body x) || list_any (bytes_eq q) (defined_of items))
+defined_front q x items = go (has_body x) (bytes_eq (name_of x) q) (either_way q (name_of x))
+  where
+    front : (b : Bool) → bytes_eq q (name_of x) ≡ b → (bytes_eq q (name_of x) || list_any (bytes_eq q) (defined_of items)) ≡ ((b && true) || list_any (bytes_eq q) (defined_of items))
+    front true e = ap (λ c. c || list_any (bytes_eq q) (defined_of items)) e
+    front false e = ap (λ c. c || list_any (bytes_eq q) (defined_of items)) e
+
+    go : (h b : Bool) → bytes_eq q (name_of x) ≡ b → list_any (bytes_eq q) (cons_option (if h then Some (name_of x) else None) (defined_of items)) ≡ ((b && h) || list_any (bytes_eq q) (defined_of items))
+    go true b e = front b e
+    go false true e = refl
+    go false false e = refl
+
+pub defines_among : (q : List ℕ) (items : List tree.Item) → list_any (bytes_eq q) (defined_of items) ≡ list_any (defines q) items
+defines_among q [] = refl
+defines_among q (x ∷ items) = defined_front q x items ∙ ap (λ b. (bytes_eq (name_of x) q && has_body x) || b) (defines_among q items)
+
+pub names_listed : (items : List tree.Item) → names_of items ≡ map name_of items
+names_listed [] = refl
+names_listed (x ∷ items) = ap (λ zs. name_of x ∷ zs) (names_listed items)
+
+-- names that are in no set of a unit's names hide none of it
+pub hides : {C : Type 0} (set : List (List ℕ × C)) (unit : List tree.Item) (own : List Variable) (names : List (List ℕ)) → ((q : List ℕ) → is_some (named q set) ≡ list_any (bytes_eq q) (names_of unit))
+    → map (λ (v : Variable). v.name.now) own ≡ names → list_all (λ (v : Variable). not (is_some (named v.name.now set))) own ≡ hides_none unit names
+hides set unit own names knows same =
+    all_same (λ (v : Variable). not (is_some (named v.name.now set))) (λ (v : Variable). not (list_any (bytes_eq v.name.now) (map name_of unit))) own
+    (λ v. ap not (knows v.name.now ∙ ap (list_any (bytes_eq v.name.now)) (names_listed unit)))
+    ∙ sym (all_mapped (λ n. not (list_any (bytes_eq n) (map name_of unit))) (λ (v : Variable). v.name.now) own)
+    ∙ ap (hides_none unit) same
+
+pub all_push : {A : Type 0} (p : A → Bool) (xs ys : List A) → list_all p (xs ++ ys) ≡ (list_all p xs && list_all p ys)
+all_push p [] ys = refl
+all_push p (x ∷ xs) ys = go (p x) (all_push p xs ys)
+  where
+    go : (b : Bool) → list_all p (xs ++ ys) ≡ (list_all p xs && list_all p ys) → (b && list_all p (xs ++ ys)) ≡ ((b && list_all p xs) && list_all p ys)
+    go true behind = behind
+    go false behind = refl
+
+pub all_one : {A : Type 0} (p : A → Bool) (x : A) → list_all p (x ∷ []) ≡ p x
+all_one p x = go (p x)
+  where
+    go : (b : Bool) → (b && true) ≡ b
+    go true = refl
+    go false = refl

@@ -1,0 +1,8 @@
+use Rattle.std.proofs.Common.{map, take}
+use Rattle.c_tree.specs.View.{item_of}
+use Rattle.c_check.specs.UnitNames.{names_of}
+use Rattle.c_scope.specs.Tables.{Knows}
+use Rattle.c_check.proofs.names.declared_names.Given as goal
+
+abbrev pub invariant-loop-item : goal.invariant-loop-item
+invariant-loop-item l = Knows l.set (names_of (take l.item-index (map item_of l.items)))

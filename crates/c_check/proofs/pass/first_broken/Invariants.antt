@@ -1,0 +1,12 @@
+use Rattle.std.proofs.Common.{◌≡◌, map}
+use Rattle.c_tree.specs.View.{item_of}
+use Rattle.c_scope.specs.FileItems.{declared}
+use Rattle.c_check.specs.FirstRule.{first_in_items}
+use Rattle.c_check.specs.UnitNames.{FindsFirst}
+use Rattle.c_check.proofs.pass.first_broken.Given as goal
+
+abbrev pub invariant-loop-i : goal.invariant-loop-i
+invariant-loop-i l =
+    (first_in_items (map item_of l.items) l.i ≡ first_in_items (map item_of l.items) 0)
+    × (l.progress.file.items.now ≡ l.items) × (l.progress.file.count ≡ l.i)
+    × FindsFirst l.progress.earlier.first (declared l.progress.file)

@@ -1,0 +1,5 @@
+pub mod FirstRule
+pub mod UnitNames
+pub mod Places
+pub mod Broken
+pub mod Refusals

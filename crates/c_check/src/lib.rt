@@ -1,0 +1,17 @@
+//! Whether a unit keeps the rules of the C subset, and the first that it breaks.
+#![tactic(auto)]
+
+mod cases;
+mod checked;
+mod declarations;
+mod items;
+mod names;
+mod ours;
+mod pass;
+mod progress;
+mod shapes;
+mod statements;
+#[cfg(test)]
+mod tests;
+
+pub use checked::{CheckRefusal, CheckedUnit};

@@ -1,0 +1,4 @@
+pub mod NameTables
+pub mod Lookups
+pub mod Steps
+pub mod NextItem

@@ -1,0 +1,7 @@
+use Rattle.std.proofs.Common.{map, drop}
+use Rattle.c_scope.specs.Own.{variable_pair}
+use Rattle.c_scope.proofs.Steps.{Enters}
+use Rattle.c_scope.proofs.own.own_table.Given as goal
+
+abbrev pub invariant-loop-variable : goal.invariant-loop-variable
+invariant-loop-variable l = Enters l.table (map variable_pair (drop l.variable-index l.variables)) (map variable_pair l.variables)

@@ -1,0 +1,19 @@
+//! What the names of a unit stand for at a place of its text: tables by which each is found
+//! without a search.
+#![tactic(auto)]
+
+mod file_scope;
+mod name_table;
+mod own;
+mod runtime;
+mod scope;
+mod signature;
+#[cfg(test)]
+mod tests;
+
+pub use file_scope::FileScope;
+pub use name_table::NameTable;
+pub use own::{Variable, own_table, own_variables};
+pub use runtime::Primitive;
+pub use scope::Scope;
+pub use signature::Signature;

@@ -1,0 +1,11 @@
+// The type of what a call calls.
+use crate::runtime::Primitive;
+use c_tree::{CFuncType, Func};
+
+/// The type of a function: by its declaration, by the runtime, or as a call writes it.
+#[derive(Clone, Copy)]
+pub enum Signature<'a> {
+    Declared(&'a Func),
+    Runtime(Primitive),
+    Written(&'a CFuncType),
+}

@@ -1,0 +1,20 @@
+//! The types of expressions, and what statements ask of names and types: that the names are known,
+//! that expressions have a type, and that assignments, calls and results agree.
+#![tactic(auto)]
+
+mod agreement;
+mod ctype;
+mod known;
+#[cfg(test)]
+mod tests;
+mod typed;
+mod typing;
+
+pub use agreement::types_agree;
+pub use ctype::{
+    Typed, is_number_type, is_object_type, is_result_type, is_value_type, is_void, proper_types,
+    same_type,
+};
+pub use known::names_are_known;
+pub use typed::stmt_is_typed;
+pub use typing::{Typing, type_of, typing_of};
