@@ -73,6 +73,7 @@ fn function_of(item: &Item) -> Option<&Func>
     }
 }
 
+/// The same for a function: none without a body.
 fn broken_in_function(
     alloc: Global,
     file: &FileScope,
@@ -88,6 +89,7 @@ fn broken_in_function(
     }
 }
 
+/// The same for a function with its body.
 fn broken_in_definition(
     alloc: Global,
     file: &FileScope,
