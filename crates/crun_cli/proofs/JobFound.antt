@@ -77,6 +77,7 @@ module _ (words : List Name) (line : Line) (is : line_of words ≡ Some line) wh
         refuses m tells (cause.Unexpected place wanted) refused = (unit, calls, holds m tells, refused)
         refuses m tells (cause.NumberTooLarge place) refused = (unit, calls, holds m tells, refused)
         refuses m tells (cause.TooDeep place) refused = (unit, calls, holds m tells, refused)
+        refuses m tells (cause.Rule item statement rule) refused = (unit, calls, holds m tells, refused)
         refuses m tells cause.NotBuilt refused = (unit, calls, holds m tells, refused)
 
         -- the unit's text is refused

@@ -8,6 +8,7 @@ use Rattle.c_tree.specs.declared.token.CReadFault.TheVariants as fault
 use Rattle.c_tree.specs.declared.token.Wanted.{Wanted}
 use Rattle.c_tree.specs.Tree as tree
 use Rattle.c_tree.specs.Spelled.{CSpells, CUpto}
+use Rattle.c_tree.specs.FirstBroken.{first_broken, BrokenAt, KeepsRules}
 use Rattle.c_tree.proofs.OneUnit.{one_unit}
 use Rattle.c_tree.proofs.NoFault.{no_fault}
 use Rattle.c_read.proofs.Once.{stops_once}
@@ -93,12 +94,15 @@ module _ (items : List tree.Item) (built : IsBuilt items) where
 same_fault : (text : List ℕ) (f g : CReadFault) → CUpto text f → CUpto text g → f ≡ g
 same_fault text f g a b = stops_once a b
 
-spelled_apart : (text : List ℕ) (items : List tree.Item) (why : Cause) → CSpells items text → IsBuilt items → IsRefusedText text why → ⊥
-spelled_apart text items cause.TooLong spells built refused = refused
-spelled_apart text items (cause.Unexpected place wanted) spells built refused = no_fault items text (fault.Unexpected place wanted) spells refused
-spelled_apart text items (cause.NumberTooLarge place) spells built refused = no_fault items text (fault.NumberTooLarge place) spells refused
-spelled_apart text items (cause.TooDeep place) spells built refused = no_fault items text (fault.TooDeep place) spells refused
-spelled_apart text items cause.NotBuilt spells built (others, spelled, not_built) = not_built (subst IsBuilt (one_unit items others text spells spelled) built)
+spelled_apart : (text : List ℕ) (items : List tree.Item) (why : Cause) → CSpells items text → KeepsRules items → IsBuilt items → IsRefusedText text why → ⊥
+spelled_apart text items cause.TooLong spells keeps built refused = refused
+spelled_apart text items (cause.Unexpected place wanted) spells keeps built refused = no_fault items text (fault.Unexpected place wanted) spells refused
+spelled_apart text items (cause.NumberTooLarge place) spells keeps built refused = no_fault items text (fault.NumberTooLarge place) spells refused
+spelled_apart text items (cause.TooDeep place) spells keeps built refused = no_fault items text (fault.TooDeep place) spells refused
+spelled_apart text items (cause.Rule item statement rule) spells keeps built (others, spelled, broken) =
+    let same = one_unit items others text spells spelled in
+    (let both : ◌≡◌ {A = Option BrokenAt} None (Some (record { item = item; statement = statement; rule = rule })) = sym keeps ∙ ap first_broken same ∙ broken in cc)
+spelled_apart text items cause.NotBuilt spells keeps built (others, spelled, kept, not_built) = not_built (subst IsBuilt (one_unit items others text spells spelled) built)
 
 -- the cause that a fault is refused by
 abbrev cause_of : CReadFault → Cause
@@ -108,24 +112,30 @@ cause_of (fault.TooDeep place) = cause.TooDeep place
 cause_of fault.UnitTooLong = cause.TooLong
 cause_of fault.Memory = cause.TooLong
 
--- a refused text spells a unit that is not built, or has a fault
+-- the cause of a unit that is spelled: its first broken rule, else that it is not built
+abbrev cause_of_rule : Option BrokenAt → Cause
+cause_of_rule None = cause.NotBuilt
+cause_of_rule (Some at) = cause.Rule at.item at.statement at.rule
+
+-- a refused text spells a unit, or has a fault
 abbrev IsSeen : List ℕ → Cause → Type 0
-IsSeen text why = ((why ≡ cause.NotBuilt) × ((items : List tree.Item) × CSpells items text)) ⊎ ((f : CReadFault) × CUpto text f × (why ≡ cause_of f))
+IsSeen text why = ((items : List tree.Item) × CSpells items text × (why ≡ cause_of_rule (first_broken items))) ⊎ ((f : CReadFault) × CUpto text f × (why ≡ cause_of f))
 
 seen : (text : List ℕ) (why : Cause) → IsRefusedText text why → IsSeen text why
 seen text cause.TooLong refused = absurd refused
 seen text (cause.Unexpected place wanted) refused = inr (fault.Unexpected place wanted, refused, refl)
 seen text (cause.NumberTooLarge place) refused = inr (fault.NumberTooLarge place, refused, refl)
 seen text (cause.TooDeep place) refused = inr (fault.TooDeep place, refused, refl)
-seen text cause.NotBuilt (items, spells, refused) = inl (refl, (items, spells))
+seen text (cause.Rule item statement rule) (items, spells, broken) = inl (items, spells, sym (ap cause_of_rule broken))
+seen text cause.NotBuilt (items, spells, keeps, not_built) = inl (items, spells, sym (ap cause_of_rule keeps))
 
 one_cause : (text : List ℕ) (a b : Cause) → IsRefusedText text a → IsRefusedText text b → a ≡ b
 one_cause text a b refused refused' = by_seen (seen text a refused) (seen text b refused')
   where
     by_seen : IsSeen text a → IsSeen text b → a ≡ b
-    by_seen (inl (is, (items, spells))) (inl (is', other)) = is ∙ sym is'
-    by_seen (inl (is, (items, spells))) (inr (f, upto, is')) = absurd (no_fault items text f spells upto)
-    by_seen (inr (f, upto, is)) (inl (is', (items, spells))) = absurd (no_fault items text f spells upto)
+    by_seen (inl (items, spells, is)) (inl (others, spells', is')) = is ∙ ap (λ us. cause_of_rule (first_broken us)) (one_unit items others text spells spells') ∙ sym is'
+    by_seen (inl (items, spells, is)) (inr (f, upto, is')) = absurd (no_fault items text f spells upto)
+    by_seen (inr (f, upto, is)) (inl (items, spells, is')) = absurd (no_fault items text f spells upto)
     by_seen (inr (f, upto, is)) (inr (g, upto', is')) = is ∙ ap cause_of (same_fault text f g upto upto') ∙ sym is'
 
 -- ---- a line's job, by what its files come to
@@ -137,8 +147,8 @@ IsTextJob line unit calls job =
 
 one_of_text : (line : Line) (unit calls : List ℕ) (a b : Job) → IsTextJob line unit calls a → IsTextJob line unit calls b → a ≡ b
 one_of_text line unit calls a b (inl (why, is, refused)) (inl (why', is', refused')) = is ∙ ap (λ w. Stops (Refused line.unit w)) (one_cause unit why why' refused refused') ∙ sym is'
-one_of_text line unit calls a b (inl (why, is, refused)) (inr (items, unit_is, other)) = absurd (spelled_apart unit items why unit_is.0 unit_is.1 refused)
-one_of_text line unit calls a b (inr (items, unit_is, other)) (inl (why, is, refused)) = absurd (spelled_apart unit items why unit_is.0 unit_is.1 refused)
+one_of_text line unit calls a b (inl (why, is, refused)) (inr (items, unit_is, other)) = absurd (spelled_apart unit items why unit_is.0 unit_is.1 unit_is.2 refused)
+one_of_text line unit calls a b (inr (items, unit_is, other)) (inl (why, is, refused)) = absurd (spelled_apart unit items why unit_is.0 unit_is.1 unit_is.2 refused)
 one_of_text line unit calls a b (inr (items, unit_is, one)) (inr (items', unit_is', other)) = by_both one other'
   where
     same : items' ≡ items
@@ -151,10 +161,10 @@ one_of_text line unit calls a b (inr (items, unit_is, one)) (inr (items', unit_i
     other' = subst (λ us. IsOne us b) same other
 
     by_both : IsOne items a → IsOne items b → a ≡ b
-    by_both (inl (k, is, first)) (inl (n, is', first')) = is ∙ ap (λ i. Stops (CallsLine i)) (one_number items unit_is.1 (lines_in calls) k n first first') ∙ sym is'
-    by_both (inl (k, is, first)) (inr (cs, is', are)) = absurd (refused_apart items unit_is.1 (lines_in calls) k cs first are)
-    by_both (inr (cs, is, are)) (inl (k, is', first)) = absurd (refused_apart items unit_is.1 (lines_in calls) k cs first are)
-    by_both (inr (cs, is, are)) (inr (ds, is', are')) = is ∙ ap (λ l. Run items l line.steps) (one_calls items unit_is.1 (lines_in calls) cs ds are are') ∙ sym is'
+    by_both (inl (k, is, first)) (inl (n, is', first')) = is ∙ ap (λ i. Stops (CallsLine i)) (one_number items unit_is.2 (lines_in calls) k n first first') ∙ sym is'
+    by_both (inl (k, is, first)) (inr (cs, is', are)) = absurd (refused_apart items unit_is.2 (lines_in calls) k cs first are)
+    by_both (inr (cs, is, are)) (inl (k, is', first)) = absurd (refused_apart items unit_is.2 (lines_in calls) k cs first are)
+    by_both (inr (cs, is, are)) (inr (ds, is', are')) = is ∙ ap (λ l. Run items l line.steps) (one_calls items unit_is.2 (lines_in calls) cs ds are are') ∙ sym is'
 
 none_apart : (o : Option (List ℕ)) (text : List ℕ) → o ≡ None → o ≡ Some text → ⊥
 none_apart o text none some = (let both : None ≡ Some text = sym none ∙ some in cc)
@@ -190,6 +200,7 @@ module _ (line : Line) (m : Contents) where
   stage (Stops (Refused file (cause.Unexpected place wanted))) (name, (unit, calls, holds, refused)) = inr (inr (inr (inr (unit, calls, holds, inl (cause.Unexpected place wanted, ap (λ f. Stops (Refused f (cause.Unexpected place wanted))) name, refused)))))
   stage (Stops (Refused file (cause.NumberTooLarge place))) (name, (unit, calls, holds, refused)) = inr (inr (inr (inr (unit, calls, holds, inl (cause.NumberTooLarge place, ap (λ f. Stops (Refused f (cause.NumberTooLarge place))) name, refused)))))
   stage (Stops (Refused file (cause.TooDeep place))) (name, (unit, calls, holds, refused)) = inr (inr (inr (inr (unit, calls, holds, inl (cause.TooDeep place, ap (λ f. Stops (Refused f (cause.TooDeep place))) name, refused)))))
+  stage (Stops (Refused file (cause.Rule item statement rule))) (name, (unit, calls, holds, refused)) = inr (inr (inr (inr (unit, calls, holds, inl (cause.Rule item statement rule, ap (λ f. Stops (Refused f (cause.Rule item statement rule))) name, refused)))))
   stage (Stops (Refused file cause.NotBuilt)) (name, (unit, calls, holds, refused)) = inr (inr (inr (inr (unit, calls, holds, inl (cause.NotBuilt, ap (λ f. Stops (Refused f cause.NotBuilt)) name, refused)))))
   stage (Stops (CallsLine number)) (unit, calls, items, holds, unit_is, first) = inr (inr (inr (inr (unit, calls, holds, inr (items, unit_is, inl (number, refl, first))))))
   stage (Stops Unwritten) is = absurd is

@@ -5,6 +5,7 @@ pub mod Cuts
 pub mod Fronts
 pub mod JobFound
 pub mod JobLaws
+pub mod Kept
 pub mod LineNames
 pub mod Printed
 pub mod TopLaws

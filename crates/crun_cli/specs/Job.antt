@@ -6,6 +6,7 @@ use Rattle.w2c_io.specs.Contents.{Name, Contents}
 use Rattle.c_tree.specs.declared.token.CReadFault.TheVariants as fault
 use Rattle.c_tree.specs.Tree as tree
 use Rattle.c_tree.specs.Spelled.{CSpells, CUpto}
+use Rattle.c_tree.specs.FirstBroken.{first_broken, KeepsRules}
 use Rattle.c_meaning.specs.Linking.{SymbolCall}
 use Rattle.c_meaning.specs.Run.{CRun, c_run}
 use Rattle.c_machine.specs.Threads.{alone}
@@ -38,11 +39,12 @@ IsRefusedText text cause.TooLong = ⊥
 IsRefusedText text (cause.Unexpected place wanted) = CUpto text (fault.Unexpected place wanted)
 IsRefusedText text (cause.NumberTooLarge place) = CUpto text (fault.NumberTooLarge place)
 IsRefusedText text (cause.TooDeep place) = CUpto text (fault.TooDeep place)
-IsRefusedText text cause.NotBuilt = (items : List tree.Item) × CSpells items text × (IsBuilt items → ⊥)
+IsRefusedText text (cause.Rule item statement rule) = (items : List tree.Item) × CSpells items text × (first_broken items ≡ Some (record { item = item; statement = statement; rule = rule }))
+IsRefusedText text cause.NotBuilt = (items : List tree.Item) × CSpells items text × KeepsRules items × (IsBuilt items → ⊥)
 
--- the text spells this unit, which can be run
+-- the text spells this unit, which keeps the rules and can be run
 abbrev pub IsUnitText : List ℕ → List tree.Item → Type 0
-IsUnitText text items = CSpells items text × IsBuilt items
+IsUnitText text items = CSpells items text × KeepsRules items × IsBuilt items
 
 -- the files hold these texts, which are not too long
 pub record Holds (line : Line) (contents : Contents) (unit calls : List ℕ) : Type 0 where
@@ -69,6 +71,7 @@ IsRefusedUnit line contents cause.TooLong = IsLonger most_unit_bytes (get conten
 IsRefusedUnit line contents (cause.Unexpected place wanted) = RefusesText line contents (cause.Unexpected place wanted)
 IsRefusedUnit line contents (cause.NumberTooLarge place) = RefusesText line contents (cause.NumberTooLarge place)
 IsRefusedUnit line contents (cause.TooDeep place) = RefusesText line contents (cause.TooDeep place)
+IsRefusedUnit line contents (cause.Rule item statement rule) = RefusesText line contents (cause.Rule item statement rule)
 IsRefusedUnit line contents cause.NotBuilt = RefusesText line contents cause.NotBuilt
 
 -- the unit is read, and this holds of its items and the lines of the calls file

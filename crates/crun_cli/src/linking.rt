@@ -9,12 +9,13 @@ ghost use Rattle.crun_cli.specs.Seen.{reason_of};
 ghost use Rattle.crun_cli.specs.Stops.{StopsLinking};
 
 use crate::stop::{Cause, Stop};
+use c_check::{CheckRefusal, CheckedUnit};
 use c_read::read_unit;
 use c_tree::CReadFault;
 use crun::{Linked, SingleRefusal};
 use std::alloc::Global;
 
-/// The unit that a file's text spells, linked alone.
+/// The unit that a file's text spells and that keeps the rules, linked alone.
 pub fn link_text(alloc: Global, name: &String, text: &[u8]) -> Result<Linked, Stop>
     requires { length text.now ≤ most_unit_bytes }
     ensures unit { IfOk result (λ linked. IsUnitText text.now (unit_of linked)) }
@@ -24,7 +25,14 @@ pub fn link_text(alloc: Global, name: &String, text: &[u8]) -> Result<Linked, St
         Ok(unit) => unit,
         Err(fault) => return Err(stop_of_fault(name, fault)),
     };
-    match Linked::single(alloc, unit) {
+    let checked = match CheckedUnit::check(alloc, unit) {
+        Ok(checked) => checked,
+        Err(CheckRefusal::Rule(item, statement, rule)) => {
+            return Err(refused(name, Cause::Rule(item, statement, rule)));
+        }
+        Err(CheckRefusal::Memory) => return Err(Stop::Memory),
+    };
+    match Linked::single(alloc, checked) {
         Ok(linked) => Ok(linked),
         Err(SingleRefusal::NotBuilt) => Err(Stop::Refused(name.clone()?, Cause::NotBuilt)),
         Err(SingleRefusal::Memory) => Err(Stop::Memory),

@@ -2,6 +2,7 @@
 ghost use Rattle.std.specs.Prelude.{◌≡◌, ◌⊎◌, ◌++◌, codes, IfOk, OnOk, string_bytes};
 ghost use Rattle.std.specs.Fmt.{decimal};
 ghost use Rattle.w2c_io.specs.Telling.{Says, SaysPart};
+ghost use Rattle.crun_cli.specs.declared.stop.Cause.TheVariants as WhichCause;
 ghost use Rattle.crun_cli.specs.Lines.{cause_text, error_line, part_text, reason_text, status_of, token_text, wanted_text};
 ghost use Rattle.crun_cli.specs.Seen.{reason_of};
 
@@ -80,8 +81,17 @@ fn put_cause(line: &mut Bytes, name: &String, cause: Cause) -> Result<(), Memory
         }
         Cause::NumberTooLarge(place) => put_counted(line, b"number too large at ", place),
         Cause::TooDeep(place) => put_counted(line, b"too deep at ", place),
+        Cause::Rule(item, statement, rule) => put_rule(line, item, statement, rule),
         Cause::NotBuilt => line.extend(b"not built"),
     }
+}
+
+fn put_rule(line: &mut Bytes, item: usize, statement: usize, rule: u32) -> Result<(), Memory>
+    ensures { OnOk result (line.new ≡ line.old ++ cause_text (WhichCause.Rule item statement rule)) }
+{
+    put_counted(line, b"rule ", u64::from(rule))?;
+    put_counted(line, b" item ", item as u64)?;
+    put_counted(line, b" statement ", statement as u64)
 }
 
 fn put_counted(line: &mut Bytes, text: &[u8], number: u64) -> Result<(), Memory>

@@ -15,6 +15,9 @@ pub enum Cause {
     Unexpected(u64, Wanted),
     NumberTooLarge(u64),
     TooDeep(u64),
+    /// The first rule of the subset that it breaks: the item from 0, in it the statement from 1, or
+    /// 0 for the item itself, its parameters and its local variables, and the rule's number.
+    Rule(usize, usize, u32),
     /// It is not a unit of the form that is run so far.
     NotBuilt,
 }

@@ -111,6 +111,10 @@ fn refused_units(rt: HostRuntime) -> Result<(), Fail> {
     let rows = [
         (DIVIDES_C, "crun: u.c: not built\n"),
         (
+            "#include \"w2c_rt.h\"\nvoid w2cZ_uZ_i(void) { goto L9; }",
+            "crun: u.c: rule 7 item 0 statement 1\n",
+        ),
+        (
             "#include \"w2c_rt.h\"\nfloat x;",
             "crun: u.c: unexpected at 20: wanted item\n",
         ),
