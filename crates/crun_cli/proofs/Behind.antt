@@ -3,8 +3,7 @@ use Rattle.std.proofs.Common.{◌≡◌, ◌≢◌, ◌⊎◌, inl, inr, ℕ, �
 use Rattle.std.proofs.lemmas.List.{drop-map, length-map, length-take-le, take_at}
 use Rattle.w2c_base.specs.declared.value.Value.{Value}
 use Rattle.w2c_base.specs.Run.{Phase, Init, Call}
-use Rattle.w2c_io.specs.Contents.{extended, IsPrefix}
-use Rattle.w2c_io.specs.Causes.{Rose}
+use Rattle.w2c_io.specs.Contents.{extended}
 use Rattle.w2c_io.specs.Telling.{SaysPart}
 use Rattle.w2c_io.proofs.Telling.{rose_from}
 use Rattle.c_tree.specs.Tree as tree
@@ -22,7 +21,7 @@ use Rattle.crun_cli.specs.Lines.{Reason, Unwritten, WantOfMemory, Usage, Unread,
 use Rattle.crun_cli.specs.RunLines.{lines_of, HasStatus}
 use Rattle.crun_cli.specs.Running.{status_of_outcome, Behind}
 use Rattle.crun_cli.specs.Stops.{HasRun, StopsPutting, StopsRunning}
-use Rattle.crun_cli.proofs.Printed.{all_the_same, count_more, ends_or_not, extended_by_none, extended_twice, init_line, line_more, line_of_phase, lines_stay, no_count, no_lines, part_of_all, says_nothing, status_is, IsEnd}
+use Rattle.crun_cli.proofs.Printed.{all_the_same, count_more, ends_or_not, extended_by_none, extended_twice, init_line, line_more, line_of_phase, lines_stay, no_count, no_lines, part_of_all, status_is, IsEnd}
 
 -- a status that is none is that of an end
 pub end_of_none : (o : Outcome) → status_of_outcome o ≡ None → IsEnd o

@@ -7,11 +7,11 @@ use Rattle.std.specs.List.{range_with_len, AllByRecursion}
 use Rattle.w2c_base.specs.declared.value.Value.{Value}
 use Rattle.w2c_base.specs.Lookup.{numbered}
 use Rattle.w2c_base.specs.Run.{Phase, Init, Call, Reply}
-use Rattle.c_meaning.specs.State.{FuncAddress, CValue, Number, Pointer, FuncPointer, Machine, State, Stop, Stuck}
+use Rattle.c_meaning.specs.State.{FuncAddress, CValue, Number, Pointer, FuncPointer, Machine, Stop, Stuck}
 use Rattle.c_meaning.specs.Linking.{Program, SymbolCall, called_func, init_functions}
 use Rattle.c_meaning.specs.Machine.{fresh}
 use Rattle.c_meaning.specs.Step.{Step, Next, Back, Stops, call, c_step}
-use Rattle.c_meaning.specs.Run.{CRun, Outcome, Ended, Stopped, OutOfSteps, Entry, Pending, Progress, Going, Over, over, begun, begin_entry, came_back, go_on, after, run_of, c_start, c_run, entries_of}
+use Rattle.c_meaning.specs.Run.{CRun, Ended, Stopped, OutOfSteps, Entry, Pending, Progress, Going, Over, over, begun, begin_entry, came_back, go_on, after, run_of, c_start, c_run, entries_of}
 use Rattle.c_meaning.proofs.Longer.{after_sum}
 
 -- the same with more entries behind

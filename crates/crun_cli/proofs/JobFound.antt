@@ -1,5 +1,5 @@
 -- The job of words, from what each step of the program finds.
-use Rattle.std.proofs.Common.{◌≡◌, ◌⊎◌, inl, inr, ℕ, ◌≤◌, ◌<◌, List, length, Option, Some, None, MatchOption, refl, sym, ap, ◌∙◌, subst}
+use Rattle.std.proofs.Common.{◌≡◌, ◌⊎◌, inl, inr, ℕ, ◌≤◌, List, length, Option, Some, None, MatchOption, refl, sym, ◌∙◌, subst}
 use Rattle.std.specs.FinMap.{get}
 use Rattle.w2c_io.specs.Contents.{Name, Contents, Told}
 use Rattle.w2c_io.specs.Telling.{Tells}
@@ -9,9 +9,9 @@ use Rattle.crun_cli.specs.declared.stop.Cause.{Cause}
 use Rattle.crun_cli.specs.declared.stop.Cause.TheVariants as cause
 use Rattle.crun_cli.specs.CommandLine.{Line, line_of}
 use Rattle.crun_cli.specs.CallsFile.{lines_in, AreCalls}
-use Rattle.crun_cli.specs.Job.{most_calls_bytes, most_unit_bytes, BehindUnit, Holds, IsJob, IsJobOf, IsLonger, IsRefusedText, IsRefusedUnit, IsStopOf, IsUnitText, Job, Run, Stops}
+use Rattle.crun_cli.specs.Job.{most_calls_bytes, most_unit_bytes, Holds, IsJob, IsJobOf, IsRefusedText, IsRefusedUnit, IsStopOf, IsUnitText, Job, Run, Stops}
 use Rattle.crun_cli.specs.Lines.{Reason, Usage, CallsTooLong, CallsLine, Refused, Unread, Unwritten, WantOfMemory}
-use Rattle.crun_cli.specs.Stops.{Faulted, HasReading, IsInput, Refuses, StopsBefore, StopsCalls, StopsLinking, StopsReading}
+use Rattle.crun_cli.specs.Stops.{Faulted, HasReading, IsInput, StopsBefore, StopsCalls, StopsLinking, StopsReading}
 
 module _ (words : List Name) (line : Line) (is : line_of words ≡ Some line) where
   pub job_of_line : (m : Contents) (job : Job) → IsJobOf line m job → IsJob words m job

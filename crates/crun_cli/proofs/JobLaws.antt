@@ -1,11 +1,9 @@
 -- Words ask for at most one job.
-use Rattle.std.proofs.Common.{◌≡◌, ◌≢◌, ◌⊎◌, inl, inr, ℕ, suc, ◌+◌, ◌<◌, ◌≤◌, true, List, [], ◌∷◌, ◌++◌, length, Option, Some, None, MatchOption, refl, sym, ap, ◌∙◌, subst, arith}
+use Rattle.std.proofs.Common.{◌≡◌, ◌⊎◌, inl, inr, ℕ, suc, ◌+◌, ◌<◌, ◌≤◌, List, [], ◌∷◌, ◌++◌, length, Option, Some, None, MatchOption, refl, sym, ap, ◌∙◌, subst, arith}
 use Rattle.std.specs.FinMap.{get}
-use Rattle.w2c_base.specs.declared.value.Value.{Value}
 use Rattle.w2c_io.specs.Contents.{Name, Contents}
 use Rattle.c_tree.specs.declared.token.CReadFault.{CReadFault}
 use Rattle.c_tree.specs.declared.token.CReadFault.TheVariants as fault
-use Rattle.c_tree.specs.declared.token.Wanted.{Wanted}
 use Rattle.c_tree.specs.Tree as tree
 use Rattle.c_tree.specs.Spelled.{CSpells, CUpto}
 use Rattle.c_tree.specs.FirstBroken.{first_broken, BrokenAt, KeepsRules}
@@ -13,16 +11,14 @@ use Rattle.c_tree.proofs.OneUnit.{one_unit}
 use Rattle.c_tree.proofs.NoFault.{no_fault}
 use Rattle.c_read.proofs.Once.{stops_once}
 use Rattle.c_meaning.specs.Linking.{fits, SymbolCall}
-use Rattle.c_machine.specs.Threads.{alone}
 use Rattle.crun.specs.Built.{IsBuilt}
 use Rattle.crun.specs.Signatures.{signature_in}
 use Rattle.crun_cli.specs.declared.stop.Cause.{Cause}
 use Rattle.crun_cli.specs.declared.stop.Cause.TheVariants as cause
 use Rattle.crun_cli.specs.CommandLine.{Line, line_of}
-use Rattle.crun_cli.specs.CallsFile.{lines_in, words_in, AreArguments, AreCalls, IsFirstRefused, IsRefusedLine, IsSymbolOf, Names}
+use Rattle.crun_cli.specs.CallsFile.{lines_in, AreArguments, AreCalls, IsFirstRefused, IsRefusedLine, IsSymbolOf, Names}
 use Rattle.crun_cli.specs.Job.{most_calls_bytes, most_unit_bytes, Holds, IsJob, IsJobOf, IsLonger, IsRefusedText, IsUnitText, Job, Run, Stops}
-use Rattle.crun_cli.specs.Lines.{Reason, Usage, CallsTooLong, CallsLine, Refused, Unread, Unwritten, WantOfMemory}
-use Rattle.crun_cli.proofs.Arguments.{arguments_only}
+use Rattle.crun_cli.specs.Lines.{Usage, CallsTooLong, CallsLine, Refused, Unread, Unwritten, WantOfMemory}
 use Rattle.crun_cli.proofs.LineNames.{fit_has_type, has_arguments, names_words, one_symbol}
 
 -- ---- a line names one call, and lines one list of them

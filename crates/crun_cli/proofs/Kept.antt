@@ -1,5 +1,5 @@
 -- A unit that breaks no rule keeps them.
-use Rattle.std.proofs.Common.{◌≡◌, ℕ, List, [], ◌∷◌, slice_get, None, refl, arith}
+use Rattle.std.proofs.Common.{◌≡◌, List, [], ◌∷◌, slice_get, None, refl, arith}
 use Rattle.std.specs.List.{Contains}
 use Rattle.c_tree.specs.Tree as tree
 use Rattle.c_tree.specs.FirstBroken.{broken_rules, BrokenAt, BrokenRule, KeepsRules}

@@ -1,11 +1,10 @@
 -- Two words name one symbol at most, and a line one call.
-use Rattle.std.proofs.Common.{◌≡◌, ◌≢◌, ◌⊎◌, inl, inr, ℕ, ◌<◌, Bool, true, false, ◌&&◌, List, [], ◌∷◌, ◌++◌, length, codes, IfNone, Option, Some, None, refl, sym, ap, ◌∙◌, subst, arith}
-use Rattle.std.specs.Prelude.{option_map}
+use Rattle.std.proofs.Common.{◌≡◌, inl, inr, ℕ, ◌<◌, true, false, List, [], ◌∷◌, ◌++◌, length, codes, IfNone, Option, Some, None, refl, sym, ap, ◌∙◌, subst, arith}
 use Rattle.std.specs.Str.{bytes_eq}
 use Rattle.w2c_base.specs.declared.value.Value.{Value}
 use Rattle.w2c_base.specs.Values.{types_of}
 use Rattle.w2c_mangle.specs.declared.symbol.SymbolKind.TheVariants.{Func}
-use Rattle.w2c_mangle.specs.Escaping.{escaped, escaped_byte, stays}
+use Rattle.w2c_mangle.specs.Escaping.{escaped}
 use Rattle.w2c_mangle.specs.Symbols.{export_symbol_of}
 use Rattle.w2c_mangle.proofs.EscapedNames.{escaped-injective, escaped_byte-cases, stays-not_Z, z_escape}
 use Rattle.c_tree.specs.Tree as tree
@@ -16,7 +15,7 @@ use Rattle.crun.specs.Signatures.{signature_in, takes}
 use Rattle.crun.proofs.Fitting.{built_fits, takes_if_any}
 use Rattle.crun_cli.specs.CallsFile.{word_of_name, words_in, AreArguments, IsSymbolOf, Names}
 use Rattle.crun_cli.specs.Parts.{arguments_of}
-use Rattle.crun_cli.proofs.Arguments.{arguments_are, arguments_only, both_true}
+use Rattle.crun_cli.proofs.Arguments.{arguments_only, both_true}
 
 -- no escape is the word Z
 escaped_apart : (name : List ℕ) → escaped name ≡ codes "Z" → ⊥

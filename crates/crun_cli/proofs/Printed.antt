@@ -1,8 +1,7 @@
 -- The lines of a run with one call more, and of a longer one.
-use Rattle.std.proofs.Common.{◌≡◌, ◌≢◌, ◌⊎◌, inl, inr, ℕ, ◌+◌, List, [], ◌∷◌, ◌++◌, length, length-append, append_assoc, codes, Option, Some, None, refl, sym, ap, ◌∙◌, subst, arith}
+use Rattle.std.proofs.Common.{◌≡◌, ◌≢◌, ◌⊎◌, inl, inr, ℕ, ◌+◌, List, [], ◌∷◌, ◌++◌, length, length-append, append_assoc, Option, Some, None, refl, sym, ap, ◌∙◌, subst, arith}
 use Rattle.std.specs.Prelude.{flat_map, zip}
 use Rattle.std.specs.List.{range_with_len}
-use Rattle.std.specs.Fmt.{decimal}
 use Rattle.std.proofs.lemmas.List.{append-nil}
 use Rattle.std.proofs.lemmas.Grind.{flat_map-append}
 use Rattle.w2c_base.specs.declared.value.Value.{Value}
@@ -13,7 +12,7 @@ use Rattle.w2c_io.specs.Telling.{SaysPart}
 use Rattle.c_tree.specs.Tree as tree
 use Rattle.c_meaning.specs.State.{Trapped, Undefined}
 use Rattle.c_meaning.specs.Linking.{SymbolCall}
-use Rattle.c_meaning.specs.Run.{CRun, Ended, Outcome as CameTo, OutOfSteps, Stopped}
+use Rattle.c_meaning.specs.Run.{CRun, Ended, OutOfSteps, Stopped}
 use Rattle.c_machine.specs.Threads.{alone}
 use Rattle.crun.specs.declared.outcome.Outcome.{Outcome}
 use Rattle.crun.specs.declared.outcome.Outcome.TheVariants as outcome

@@ -1,6 +1,6 @@
 -- Why the work stopped, from why it was not begun or why the run was left.
-use Rattle.std.proofs.Common.{◌≡◌, ◌⊎◌, inl, inr, ℕ, List, Option, Some, None, refl, sym, ap, ◌∙◌, subst, arith}
-use Rattle.w2c_io.specs.Contents.{Name, Contents, Told}
+use Rattle.std.proofs.Common.{inl, inr, ℕ, List, Option, refl}
+use Rattle.w2c_io.specs.Contents.{Name, Told}
 use Rattle.w2c_io.specs.Telling.{Tells}
 use Rattle.c_tree.specs.Tree as tree
 use Rattle.c_meaning.specs.Linking.{SymbolCall}
@@ -9,7 +9,7 @@ use Rattle.c_meaning.specs.Run.{Ended, Outcome, OutOfSteps, Stopped}
 use Rattle.crun_cli.specs.Job.{IsJob, Run, run_of}
 use Rattle.crun_cli.specs.Lines.{Reason, Usage, CallsTooLong, CallsLine, Refused, Unread, Unwritten, WantOfMemory}
 use Rattle.crun_cli.specs.RunLines.{HasStatus}
-use Rattle.crun_cli.specs.Stops.{HasReading, HasRun, IsRunStatus, Ran, RanPart, StopsBefore, StopsRunning, StopsWork}
+use Rattle.crun_cli.specs.Stops.{HasReading, HasRun, IsRunStatus, Ran, StopsBefore, StopsRunning, StopsWork}
 
 pub before_work : (words : List Name) (told : Told) (reads reads' : ℕ) (named : Option Name) (old : Option (List ℕ)) (faults : ℕ) (why : Reason)
     → StopsBefore words told reads reads' named why → StopsWork words told reads reads' named old old faults faults why

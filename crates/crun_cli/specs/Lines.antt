@@ -77,7 +77,7 @@ cause_text cause.TooLong = codes "unit too long"
 cause_text (cause.Unexpected place what) = codes "unexpected at " ++ decimal place ++ codes ": wanted " ++ wanted_text what
 cause_text (cause.NumberTooLarge place) = codes "number too large at " ++ decimal place
 cause_text (cause.TooDeep place) = codes "too deep at " ++ decimal place
-cause_text (cause.Rule item statement rule) = codes "rule " ++ decimal rule ++ codes " item " ++ decimal item ++ codes " statement " ++ decimal statement
+cause_text (cause.Rule item statement rule) = codes "rule " ++ decimal rule ++ (codes " item " ++ decimal item) ++ (codes " statement " ++ decimal statement)
 cause_text cause.NotBuilt = codes "not built"
 
 abbrev pub reason_text : Reason → List ℕ

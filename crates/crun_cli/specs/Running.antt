@@ -1,8 +1,6 @@
 -- Where a session and its lines stand in the middle of a run, and the text of one outcome.
 use Rattle.std.specs.Prelude.{◌≡◌, ℕ, List, ◌++◌, length, codes, Option, Some, None}
-use Rattle.std.specs.Fmt.{decimal}
 use Rattle.w2c_io.specs.Contents.{extended}
-use Rattle.c_tree.specs.Tree as tree
 use Rattle.c_tree.specs.View.{unit_of}
 use Rattle.c_meaning.specs.State.{Trapped, Undefined}
 use Rattle.c_meaning.specs.Linking.{SymbolCall}

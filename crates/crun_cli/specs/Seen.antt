@@ -1,5 +1,5 @@
 -- What the program keeps, without where it lies in memory.
-use Rattle.std.specs.Prelude.{ℕ, List, map, Option, Some, None, option_map, string_bytes}
+use Rattle.std.specs.Prelude.{List, map, string_bytes}
 use Rattle.c_meaning.specs.Linking.{SymbolCall}
 use Rattle.crun_cli.specs.declared.words.Line.{Line}
 use Rattle.crun_cli.specs.declared.call_line.NamedCall.{NamedCall}

@@ -1,5 +1,5 @@
 -- Why each step of the program stops.
-use Rattle.std.specs.Prelude.{◌≡◌, ◌⊎◌, ◌≤◌, ℕ, List, Option, Some, None}
+use Rattle.std.specs.Prelude.{◌≡◌, ◌⊎◌, ℕ, List, Option, Some, None}
 use Rattle.w2c_io.specs.Contents.{Name, Contents, Told}
 use Rattle.w2c_io.specs.Causes.{Rose}
 use Rattle.w2c_io.specs.Telling.{Tells, SaysPart}

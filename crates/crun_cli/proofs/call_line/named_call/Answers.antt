@@ -1,9 +1,9 @@
-use Rattle.std.proofs.Common.{◌≡◌, ◌∷◌, ℕ, List, Option, Some, None, IfNone, IfSome, true, false, sym, ap, ◌∙◌, subst, rules}
+use Rattle.std.proofs.Common.{◌≡◌, ◌∷◌, ℕ, List, Option, Some, None, IfNone, IfSome, true, sym, ap, ◌∙◌, subst, rules}
 use Rattle.std.specs.Prelude.{option_map, option_copied}
 use Rattle.w2c_base.specs.declared.value.Value.{Value}
 use Rattle.c_tree.specs.Tree as tree
 use Rattle.c_tree.specs.View.{func_type_of, unit_of}
-use Rattle.c_meaning.specs.Linking.{fits, SymbolCall}
+use Rattle.c_meaning.specs.Linking.{fits}
 use Rattle.c_machine.specs.Threads.{alone}
 use Rattle.crun.specs.Signatures.{signature_in}
 use Rattle.crun_cli.specs.CallsFile.{words_in, IsSymbolOf}

@@ -1,6 +1,5 @@
-use Rattle.std.proofs.Common.{◌≡◌, ◌++◌, ◌∷◌, [], ◌<◌, length, IfSome, IfNone, subst, rules, arith}
+use Rattle.std.proofs.Common.{◌≡◌, ◌++◌, ◌∷◌, [], ◌<◌, length, IfSome, subst, rules}
 use Rattle.c_tree.specs.View.{unit_of}
-use Rattle.c_meaning.specs.Linking.{SymbolCall}
 use Rattle.crun_cli.specs.CallsFile.{Names}
 use Rattle.crun_cli.specs.Seen.{call_seen, calls_seen}
 use Rattle.crun_cli.proofs.CallsRead.{calls_push_line, calls_skip_line, count_next, lines_next, short_next}

@@ -1,4 +1,4 @@
-use Rattle.std.proofs.Common.{Some, None, sym, ◌∙◌}
+use Rattle.std.proofs.Common.{sym, ◌∙◌}
 use Rattle.crun_cli.proofs.Cuts.{parts_none, parts_some}
 use Rattle.crun_cli.proofs.parts.cut.Goals as goal
 

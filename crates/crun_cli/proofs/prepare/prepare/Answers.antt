@@ -1,19 +1,15 @@
-use Rattle.std.proofs.Common.{◌≡◌, ◌≤◌, ◌<◌, true, ℕ, List, length, slice_index_or, Some, sym, ap, ◌∙◌, subst}
+use Rattle.std.proofs.Common.{◌≡◌, Some, sym, ap, ◌∙◌, subst}
 use Rattle.std.specs.Prelude.{option_map}
 use Rattle.std.specs.FinMap.{get}
-use Rattle.w2c_io.specs.Contents.{Name}
 use Rattle.w2c_io.specs.Telling.{Tells}
 use Rattle.w2c_io.proofs.Telling.{rose_from}
 use Rattle.c_tree.specs.View.{unit_of}
-use Rattle.c_meaning.specs.Linking.{fits}
-use Rattle.c_machine.specs.Threads.{alone}
-use Rattle.crun_cli.specs.declared.stop.Cause.TheVariants.{TooLong}
 use Rattle.crun_cli.specs.CommandLine.{Line, line_of, texts}
 use Rattle.crun_cli.specs.CallsFile.{lines_in, AreCalls}
-use Rattle.crun_cli.specs.Job.{most_calls_bytes, most_unit_bytes, IsUnitText}
-use Rattle.crun_cli.specs.Lines.{CallsTooLong, Refused}
+use Rattle.crun_cli.specs.Job.{most_calls_bytes, IsUnitText}
+use Rattle.crun_cli.specs.Lines.{CallsTooLong}
 use Rattle.crun_cli.specs.Seen.{calls_seen, line_seen, reason_of}
-use Rattle.crun_cli.specs.Stops.{Faulted, StopsCalls, StopsLinking, StopsReading}
+use Rattle.crun_cli.specs.Stops.{StopsCalls, StopsLinking, StopsReading}
 use Rattle.crun_cli.proofs.CallsRead.{calls_fit}
 use Rattle.crun_cli.proofs.JobFound.{calls_unread, line_refused, run_found, text_refused, unit_unread}
 use Rattle.crun_cli.proofs.prepare.prepare.Goals as goal

@@ -1,4 +1,4 @@
-use Rattle.std.proofs.Common.{◌≡◌, ◌<◌, ℕ, true, length, slice_index_or, IfErr, sym, ap, ◌∙◌, subst, rules}
+use Rattle.std.proofs.Common.{◌≡◌, ◌<◌, ℕ, true, length, slice_index_or, IfErr, sym, subst}
 use Rattle.c_tree.specs.View.{unit_of}
 use Rattle.c_meaning.specs.Linking.{fits}
 use Rattle.c_machine.specs.Threads.{alone}

@@ -1,4 +1,4 @@
-use Rattle.std.proofs.Common.{◌≡◌, ◌++◌, ◌∷◌, [], ℕ, List, length, rules, Option, Some, None, IfSome, refl, sym, ap, ◌∙◌, subst}
+use Rattle.std.proofs.Common.{◌≡◌, ◌++◌, ◌∷◌, [], ℕ, List, length, rules, Option, Some, None, IfSome, sym, ap, ◌∙◌, subst}
 use Rattle.w2c_base.specs.Run.{Call}
 use Rattle.c_tree.specs.View.{unit_of}
 use Rattle.c_meaning.specs.Linking.{SymbolCall}

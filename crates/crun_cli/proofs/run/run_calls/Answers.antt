@@ -1,4 +1,4 @@
-use Rattle.std.proofs.Common.{◌≡◌, ◌+◌, ◌<◌, ◌≤◌, ◌∷◌, ◌++◌, [], ℕ, List, Option, IfSome, take, drop, length, refl, sym, ap, ◌∙◌, subst, arith}
+use Rattle.std.proofs.Common.{◌≡◌, ◌+◌, ◌<◌, ◌∷◌, ◌++◌, ℕ, List, Option, IfSome, take, drop, length, sym, ◌∙◌, subst, arith}
 use Rattle.c_tree.specs.View.{unit_of}
 use Rattle.c_meaning.specs.Linking.{SymbolCall}
 use Rattle.crun_cli.specs.Running.{Behind}

@@ -1,6 +1,5 @@
-use Rattle.std.proofs.Common.{◌≡◌, [], ℕ, List, rules, Option, Some, None, sym, ◌∙◌}
+use Rattle.std.proofs.Common.{◌≡◌, [], rules, Some, None, ◌∙◌}
 use Rattle.w2c_base.specs.Run.{Init}
-use Rattle.crun.specs.declared.outcome.Standing.TheVariants as standing
 use Rattle.crun_cli.specs.Running.{status_of_outcome}
 use Rattle.crun_cli.specs.Seen.{reason_of}
 use Rattle.crun_cli.proofs.Behind.{inits_behind, inits_put_stops, inits_stop, ready_of_end}

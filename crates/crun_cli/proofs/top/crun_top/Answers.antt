@@ -1,9 +1,8 @@
-use Rattle.std.proofs.Common.{◌≡◌}
 use Rattle.w2c_io.specs.Telling.{Says}
 use Rattle.crun_cli.specs.CommandLine.{texts}
 use Rattle.crun_cli.specs.Lines.{error_line}
 use Rattle.crun_cli.specs.Seen.{reason_of}
-use Rattle.crun_cli.proofs.TopLaws.{stop_complete, write_fault}
+use Rattle.crun_cli.proofs.TopLaws.{stop_complete, stop_part, write_fault}
 use Rattle.crun_cli.proofs.top.crun_top.Goals as goal
 
 pub returns-in-Err-clause-complete : goal.returns-in-Err-clause-complete
@@ -19,3 +18,9 @@ returns-in-Err-clause-write_fault g c = λ four.
     write_fault (texts c.args.words.now) (files.told c.args.files.now) (files.read_faults c.args.files.now) (files.read_faults c.work.new.files) (files.fault_name c.work.new.files)
     (g.O.Sink.told c.args.out.now) (g.O.Sink.told c.work.new.out) (g.O.Sink.faults c.args.out.now) (g.O.Sink.faults c.work.new.out) (λ why. Says (err.told c.args.err.now) (err.told c.report.new.err) (err.faults c.args.err.now) (err.faults c.report.new.err) (error_line why))
     (reason_of c.in-Err.stop) c.report.result c.in-Err.ensures.stop c.report.ensures.status c.report.ensures.says four
+
+pub returns-in-Err-clause-part : goal.returns-in-Err-clause-part
+returns-in-Err-clause-part g c = λ status.
+    let files = g.F.Files in
+    stop_part (texts c.args.words.now) (files.told c.args.files.now) (files.read_faults c.args.files.now) (files.read_faults c.work.new.files) (files.fault_name c.work.new.files)
+    (g.O.Sink.told c.args.out.now) (g.O.Sink.told c.work.new.out) (g.O.Sink.faults c.args.out.now) (g.O.Sink.faults c.work.new.out) (reason_of c.in-Err.stop) c.in-Err.ensures.stop
