@@ -1,7 +1,6 @@
 -- The items behind one more, of which none clash.
-use Rattle.std.proofs.Common.{◌≡◌, ℕ, ◌+◌, ◌<◌, true, List, [], ◌∷◌, length, get_or, map, take, Option, None, sym, ap, ◌∙◌}
+use Rattle.std.proofs.Common.{◌≡◌, ℕ, ◌+◌, ◌<◌, true, List, length, get_or, map, take, Option, None, sym, ap, ◌∙◌}
 use Rattle.c_tree.specs.declared.tree.Item.{Item}
-use Rattle.c_tree.specs.Tree as tree
 use Rattle.c_tree.specs.View.{item_of}
 use Rattle.c_scope.proofs.NextItem.{take_next}
 use Rattle.c_check.specs.FirstRule.{item_breaks}

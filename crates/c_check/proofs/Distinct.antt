@@ -1,11 +1,10 @@
 -- Lists without two equal items, from the end on.
-use Rattle.std.proofs.Common.{◌≡◌, ℕ, zero, suc, ◌+◌, ◌<◌, Bool, true, false, ◌&&◌, ◌||◌, if◌then◌else◌, List, [], ◌∷◌, length, get_or, drop, map, bytes_eq, is_some, Option, Some, None, refl, sym, ap, ◌∙◌, subst, add-one, arith}
+use Rattle.std.proofs.Common.{◌≡◌, ℕ, zero, suc, ◌+◌, Bool, true, false, ◌&&◌, ◌||◌, if◌then◌else◌, List, [], ◌∷◌, drop, bytes_eq, is_some, Option, Some, None, refl, sym, ap, ◌∙◌, add-one}
 use Rattle.std.specs.Prelude.{not, slice_get}
 use Rattle.std.specs.Option.{option_or}
 use Rattle.std.specs.List.{list_any}
 use Rattle.w2c_base.specs.Lookup.{named}
 use Rattle.c_tree.specs.Rules.{are_distinct}
-use Rattle.c_tree.proofs.Tested.{at_front}
 use Rattle.c_scope.proofs.NameTables.{either_way}
 
 -- the list from an item on

@@ -1,5 +1,5 @@
 -- The first broken rule, from one statement or item to the next.
-use Rattle.std.proofs.Common.{◌≡◌, ℕ, ◌+◌, ◌<◌, ◌≤◌, Bool, true, false, if◌then◌else◌, List, ◌∷◌, [], ◌++◌, length, get_or, drop, map, take, Option, Some, None, refl, sym, ap, ◌∙◌}
+use Rattle.std.proofs.Common.{◌≡◌, ℕ, ◌+◌, ◌<◌, ◌≤◌, Bool, true, false, if◌then◌else◌, List, [], length, get_or, drop, map, take, Option, Some, None, refl, sym, ap, ◌∙◌}
 use Rattle.std.specs.Prelude.{option_map, slice_get, flat_map}
 use Rattle.w2c_base.specs.Lookup.{numbered}
 use Rattle.c_tree.specs.declared.tree.Stmt.{Stmt}
@@ -7,9 +7,9 @@ use Rattle.c_tree.specs.declared.tree.Item.{Item}
 use Rattle.c_tree.specs.Tree as tree
 use Rattle.c_tree.specs.View.{item_of, stmt_of}
 use Rattle.c_tree.specs.Scope.{Scope}
-use Rattle.c_tree.specs.Rules.{Place, StmtPlace, item_rules, stmt_rules, is_declared_once}
-use Rattle.c_tree.specs.FirstBroken.{BrokenAt, broken_of, broken_in_stmt, broken_in_body, broken_in_item, broken_rules, first_broken}
-use Rattle.c_check.specs.FirstRule.{first_rule, stmt_breaks, item_breaks, first_in_stmts, first_in_body, first_in_items, func_in}
+use Rattle.c_tree.specs.Rules.{Place, item_rules, stmt_rules, is_declared_once}
+use Rattle.c_tree.specs.FirstBroken.{BrokenAt, broken_of, broken_in_stmt, broken_in_body, broken_in_item, first_broken}
+use Rattle.c_check.specs.FirstRule.{stmt_breaks, item_breaks, first_in_stmts, first_in_body, first_in_items, func_in}
 use Rattle.c_check.proofs.FirstOf as first
 
 -- ---- statements

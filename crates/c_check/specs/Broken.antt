@@ -1,6 +1,4 @@
 -- The first broken rule in a body and in a unit.
-use Rattle.std.specs.Prelude.{ℕ, List, map, Option, slice_get, option_map}
-use Rattle.c_tree.specs.Tree as tree
 use Rattle.c_tree.specs.FirstBroken.{BrokenAt}
 use Rattle.c_check.specs.declared.pass.Broken.{Broken}
 

@@ -1,9 +1,8 @@
 -- Places of a unit at which rules are asked.
-use Rattle.std.specs.Prelude.{ℕ, List, [], map, false, None}
+use Rattle.std.specs.Prelude.{ℕ, [], map, false, None}
 use Rattle.c_tree.specs.declared.tree.CType.TheVariants as type
 use Rattle.c_tree.specs.declared.tree.Item.{Item}
 use Rattle.c_tree.specs.declared.tree.Stmt.{Stmt}
-use Rattle.c_tree.specs.Tree as tree
 use Rattle.c_tree.specs.View.{item_of, stmt_of}
 use Rattle.c_tree.specs.Rules.{Place, StmtPlace}
 use Rattle.c_tree.specs.Scope as place

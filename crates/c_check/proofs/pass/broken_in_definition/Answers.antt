@@ -1,4 +1,4 @@
-use Rattle.std.proofs.Common.{◌≡◌, ◌+◌, map, take, Option, Some, None, sym, ap, ◌∙◌}
+use Rattle.std.proofs.Common.{map, take, Option, ap, ◌∙◌}
 use Rattle.w2c_base.specs.Lookup.{named}
 use Rattle.c_tree.specs.declared.tree.Body.{Body}
 use Rattle.c_tree.specs.View.{item_of, func_of, body_of, maybe_body_of}

@@ -1,4 +1,4 @@
-use Rattle.std.proofs.Common.{◌≡◌, map, IfOk, Option, sym, subst}
+use Rattle.std.proofs.Common.{◌≡◌, map, IfOk, sym, subst}
 use Rattle.std.specs.Prelude.{option_map}
 use Rattle.c_tree.specs.Tree as tree
 use Rattle.c_tree.specs.View.{item_of, func_of}

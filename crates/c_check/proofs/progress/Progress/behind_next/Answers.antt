@@ -1,4 +1,4 @@
-use Rattle.std.proofs.Common.{◌≡◌, ◌+◌, List, map, take, bytes_eq, sym, ap, ◌∙◌}
+use Rattle.std.proofs.Common.{List, map, bytes_eq, sym, ap, ◌∙◌}
 use Rattle.std.specs.List.{list_any}
 use Rattle.std.specs.Borrow.{Bor}
 use Rattle.w2c_base.specs.Lookup.{named}
