@@ -1,35 +1,38 @@
 #!/bin/sh
-# Refuses each request for memory in turn while a module as a linker writes it is read: first by read_module alone,
-# then by the whole program, which refuses it as not built. Runs growths.rt.txt in place of main, by `rt try`, which
-# proves nothing. Each answer must be want of memory, with status 5 and no file written, up to the first run in
-# which nothing was refused. Needs the Rattle kit's command rt; a run takes some seconds.
+# Refuses each request for memory in turn while wasm2c reads a module as a linker writes it, which is not built.
+# Each run but the last must end with 5, write no file and say that memory was wanting, or nothing; in the last run
+# nothing was refused. Needs the Rattle kit's command rt where the program is not built yet, gcc and python3.
 set -e
 here=$(cd "$(dirname "$0")" && pwd)
+program=$here/../../bin/wasm2c
 work=$(mktemp -d)
 trap 'rm -rf "$work"' EXIT
-cp "$here/../../crates.txt" "$work/"
-mkdir "$work/crates"
-for crate in "$here"/../../crates/*; do
-    name=$(basename "$crate")
-    mkdir "$work/crates/$name"
-    for part in src specs proofs; do
-        if [ -d "$crate/$part" ]; then
-            cp -R "$crate/$part" "$work/crates/$name/"
-        fi
-    done
-done
-cd "$work/crates/wasm2c_cli"
-cp "$here/growths.rt.txt" src/main.rt
-rm -f src/tests.rt src/law.rt
+gcc -O2 -shared -fPIC -o "$work/refuse.so" "$here/refuse.c" -ldl
+"$program" >/dev/null 2>&1 || true
+mkdir "$work/files"
+cd "$work/files"
+python3 -c '
+open("real.wasm", "wb").write(bytes.fromhex("0061736D0100000001060160017F017F030201000405017001010105030100020608017F0141808804"
+    "0B070E02066D656D6F72790200016600000A1A011801017F230041106B2201200036020C200128020C20006C0B000B046E616D65010401000166"))'
 n=1
-while [ $n -le 200 ]; do
-    rt try --fail-alloc $n >"$work/log" 2>&1 || true
-    line=$(grep -E '^(reader: |before |program: )' "$work/log" | sort -u)
-    echo "$n: $line"
-    case $line in
-        'program: status 1, files written: false') echo "all refused"; exit 0 ;;
-        'reader: want of memory' | 'before the program' | 'program: status 5, files written: false') ;;
-        *) cat "$work/log"; exit 1 ;;
+while [ $n -le 1000 ]; do
+    status=0
+    REFUSE=$n LD_PRELOAD=$work/refuse.so "$here/../../crates/wasm2c_cli/out/wasm2c_cli" real.wasm -o real.c 2>"$work/line" || status=$?
+    line=$(cat "$work/line")
+    if [ "$(ls)" != real.wasm ]; then
+        echo "request $n: a file was written"
+        exit 1
+    fi
+    case "$status $line" in
+        '5 ' | '5 wasm2c: want of memory') ;;
+        '1 wasm2c: real.wasm: not built')
+            echo "each of $((n - 1)) requests was refused: status 5, no file written"
+            exit 0
+            ;;
+        *)
+            echo "request $n: status $status, $line"
+            exit 1
+            ;;
     esac
     n=$((n + 1))
 done

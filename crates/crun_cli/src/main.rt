@@ -21,6 +21,7 @@ mod work;
 
 pub use law::one_job;
 use std::env;
+use std::io::ErrorKind;
 use std::process::ExitCode;
 pub use top::crun_top;
 use w2c_io::{StdFiles, StdSink};
@@ -29,21 +30,26 @@ fn main(rt: HostRuntime) -> ExitCode {
     ExitCode::from(status(&rt))
 }
 
-// Arguments that are not text are a bad command line, as none are.
+// Arguments that are not text are a bad command line, as none are. Where memory is wanting for them, it is for a
+// line too.
 fn status(rt: &HostRuntime) -> u8 {
     let alloc = rt.alloc();
     let mut files = StdFiles::new(rt, alloc);
     let mut out = StdSink::out(rt);
     let mut err = StdSink::err(rt);
-    let words = words_of(rt).unwrap_or(Vec::new(alloc));
-    crun_top(
-        alloc,
-        words.as_slice(),
-        &mut files,
-        &mut out,
-        &mut err,
-        Vec::new(alloc),
-    )
+    let hosts = Vec::new(alloc);
+    match words_of(rt) {
+        Ok(words) => crun_top(
+            alloc,
+            words.as_slice(),
+            &mut files,
+            &mut out,
+            &mut err,
+            hosts,
+        ),
+        Err(e) if e.kind() == ErrorKind::OutOfMemory => 5,
+        Err(_) => crun_top(alloc, &[], &mut files, &mut out, &mut err, hosts),
+    }
 }
 
 fn words_of(rt: &HostRuntime) -> std::io::Result<Vec<String>> {
