@@ -11,15 +11,7 @@ top=$here/../..
 work=$(mktemp -d)
 trap 'rm -rf "$work"' EXIT
 names='w2c_base w2c_mangle wasm_tree wasm_meaning c_tree c_print c_meaning c_prelude'
-for name in $names; do
-    mkdir -p "$work/crates/$name"
-    for part in src specs proofs; do
-        if [ -d "$top/crates/$name/$part" ]; then
-            cp -R "$top/crates/$name/$part" "$work/crates/$name/"
-        fi
-    done
-    grep "^$name:" "$top/crates.txt" >>"$work/crates.txt"
-done
+sh "$here/../copy_crates.sh" "$work" $names
 mkdir -p "$work/crates/c_prelude_bench/src"
 cp "$here/main.rt.txt" "$work/crates/c_prelude_bench/src/main.rt"
 echo "c_prelude_bench: $names" >>"$work/crates.txt"

@@ -5,20 +5,11 @@
 # and about 4 GB of memory.
 set -e
 here=$(cd "$(dirname "$0")" && pwd)
-crates=$here/../../crates
 work=$(mktemp -d)
 trap 'rm -rf "$work"' EXIT
-for name in w2c_base w2c_mangle c_tree c_print c_lex c_read; do
-    mkdir -p "$work/crates/$name"
-    for part in src specs proofs; do
-        if [ -d "$crates/$name/$part" ]; then
-            cp -R "$crates/$name/$part" "$work/crates/$name/"
-        fi
-    done
-done
+sh "$here/../copy_crates.sh" "$work" w2c_base w2c_mangle c_tree c_print c_lex c_read
 mkdir -p "$work/crates/c_read_bench/src"
 cp "$here/main.rt.txt" "$work/crates/c_read_bench/src/main.rt"
-grep -E '^(w2c_base|w2c_mangle|c_tree|c_print|c_lex|c_read):' "$here/../../crates.txt" >"$work/crates.txt"
 echo 'c_read_bench: w2c_base c_tree c_read' >>"$work/crates.txt"
 cd "$work/crates/c_read_bench"
 rt run

@@ -4,20 +4,11 @@
 # the name of main.rt.txt. Needs the Rattle kit's command rt and about 2 GB of memory.
 set -e
 here=$(cd "$(dirname "$0")" && pwd)
-crates=$here/../../crates
 work=$(mktemp -d)
 trap 'rm -rf "$work"' EXIT
-for name in w2c_base lin_mem; do
-    mkdir -p "$work/crates/$name"
-    for part in src specs proofs; do
-        if [ -d "$crates/$name/$part" ]; then
-            cp -R "$crates/$name/$part" "$work/crates/$name/"
-        fi
-    done
-done
+sh "$here/../copy_crates.sh" "$work" w2c_base lin_mem
 mkdir -p "$work/crates/lin_mem_bench/src"
 cp "$here/main.rt.txt" "$work/crates/lin_mem_bench/src/main.rt"
-grep -E '^(w2c_base|lin_mem):' "$here/../../crates.txt" >"$work/crates.txt"
 echo 'lin_mem_bench: w2c_base lin_mem' >>"$work/crates.txt"
 cd "$work/crates/lin_mem_bench"
 rt run
