@@ -1,3 +1,4 @@
 pub mod OneSpelling
 pub mod Lists
 pub mod ExactTable
+pub mod Imports

@@ -1,8 +1,10 @@
+pub mod AccessWidths
 pub mod Appended
 pub mod ConstantModule
 pub mod ConstantTree
 pub mod InstructionTable
 pub mod Forms
+pub mod IndexSpaces
 pub mod Instructions
 pub mod Falls
 pub mod Size

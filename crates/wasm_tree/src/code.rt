@@ -201,6 +201,7 @@ impl Code {
         ensures ok { OnOk result (self.new ≡ self.old +> instr_tree item) }
         ensures err { OnErr result (self.new ≡ self.old) }
     {
+        make_room(&mut self.list)?;
         self.list.push(item)?;
         Ok(())
     }
@@ -226,6 +227,16 @@ impl Code {
     {
         self.list.as_slice()
     }
+}
+
+// Room for an instruction. Blocks of one are many, and a list would begin with room for four.
+fn make_room(list: &mut Vec<Instr>) -> Result<(), Memory>
+    ensures { list.new.items ≡ list.old.items }
+{
+    if list.is_empty() {
+        list.reserve_exact(1)?;
+    }
+    Ok(())
 }
 
 #[cfg(test)]

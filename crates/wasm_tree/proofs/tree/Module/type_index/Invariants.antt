@@ -1,0 +1,9 @@
+use Rattle.std.proofs.Common.{◌≡◌, ◌++◌, drop, map, slice_get}
+use Rattle.std.specs.List.{flat_map}
+use Rattle.wasm_tree.specs.IndexSpaces.{func_of_import, func_space}
+use Rattle.wasm_tree.proofs.tree.Module.type_index.Given as goal
+
+abbrev pub invariant-loop-import : goal.invariant-loop-import
+invariant-loop-import l =
+    slice_get (flat_map func_of_import (drop l.import-index l.import-items) ++ map (λ f. f.type_index) l.self.funcs) l.left
+    ≡ slice_get (func_space l.self) l.index

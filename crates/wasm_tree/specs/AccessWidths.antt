@@ -1,0 +1,26 @@
+-- How many bytes a load or a store has (WebAssembly Core 1.0, 2.4.4).
+use Rattle.std.specs.Prelude.{ℕ}
+use Rattle.wasm_tree.specs.Instructions.{LoadOp, I32Load, I64Load, I32Load8S, I32Load8U, I32Load16S, I32Load16U, I64Load8S, I64Load8U, I64Load16S, I64Load16U, I64Load32S, I64Load32U, StoreOp, I32Store, I64Store, I32Store8, I32Store16, I64Store8, I64Store16, I64Store32}
+
+abbrev pub load_width : LoadOp → ℕ
+load_width I32Load = 4
+load_width I64Load = 8
+load_width I32Load8S = 1
+load_width I32Load8U = 1
+load_width I32Load16S = 2
+load_width I32Load16U = 2
+load_width I64Load8S = 1
+load_width I64Load8U = 1
+load_width I64Load16S = 2
+load_width I64Load16U = 2
+load_width I64Load32S = 4
+load_width I64Load32U = 4
+
+abbrev pub store_width : StoreOp → ℕ
+store_width I32Store = 4
+store_width I64Store = 8
+store_width I32Store8 = 1
+store_width I32Store16 = 2
+store_width I64Store8 = 1
+store_width I64Store16 = 2
+store_width I64Store32 = 4

@@ -1,0 +1,12 @@
+use Rattle.std.proofs.Common.{◌≡◌, ◌≤◌, take}
+use Rattle.wasm_spelling.specs.ModuleFields.{bodies}
+use Rattle.wasm_writing.specs.Drafts.{Puts}
+use Rattle.wasm_writing.proofs.BodyLemmas.{all_of}
+use Rattle.wasm_writing.proofs.bodies.bodies.Given as goal
+
+abbrev pub invariant-loop-entry : goal.invariant-loop-entry
+invariant-loop-entry l = record {
+  puts : Puts (bodies 0 (take l.entry-index l.bodies)) l.initial.draft l.draft;
+  sum : l.all_locals ≡ all_of (take l.entry-index l.bodies);
+  most : l.all_locals ≤ 1000000;
+}

@@ -1,0 +1,11 @@
+use Rattle.std.proofs.Common.{w64, subst}
+use Rattle.std.proofs.lemmas.Int.{to_z-of_z}
+use Rattle.w2c_base.specs.SpelledNumber.{SpellsSigned}
+use Rattle.leb_bytes.specs.Shortest.{IsShortest}
+use Rattle.wasm_writing.proofs.Pieces.{signed_field, puts_piece}
+use Rattle.wasm_writing.proofs.draft.Draft.signed64.Goals as goal
+
+pub returns : goal.returns
+returns c =
+    puts_piece _ _ _ _
+    (signed_field 64 c.args.n _ (subst (IsShortest (SpellsSigned 64) _) (to_z-of_z w64 c.args.n c.ranges.n) c.write_s64-length.ensures.shortest)) c.take.ensures

@@ -1,0 +1,7 @@
+pub mod Aside
+pub mod Drafts
+pub mod Codes
+pub mod ShortFile
+pub mod Bodies
+pub mod Parts
+pub mod Places

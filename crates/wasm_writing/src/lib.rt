@@ -1,0 +1,17 @@
+//! The shortest file of a module (WebAssembly Core 1.0, chapter 5), and whether a module has a file.
+#![tactic(auto, using(crate::proofs::Pieces::makes_here, crate::proofs::Pieces::fits_here))]
+
+mod bodies;
+mod code;
+mod draft;
+mod entries;
+mod module;
+mod opcodes;
+mod sections;
+mod types;
+mod vectors;
+
+pub use module::{Formed, write_module};
+
+#[cfg(test)]
+mod tests;
