@@ -1,7 +1,8 @@
 #!/bin/sh
-# Refuses each request for memory in turn while wasm2c reads a module as a linker writes it, which is not built.
-# Each run but the last must end with 5, write no file and say that memory was wanting, or nothing; in the last run
-# nothing was refused. Needs the Rattle kit's command rt where the program is not built yet, gcc and python3.
+# Refuses each request for memory in turn while wasm2c reads and checks a module as a linker writes it, which is not
+# built. Each run must write no file, and end with 5 and say that memory was wanting, or nothing; or, where a smaller
+# request stood in for the one that was refused, end as ever. In the last run nothing was refused. Needs the Rattle
+# kit's command rt where the program is not built yet, gcc and python3.
 set -e
 here=$(cd "$(dirname "$0")" && pwd)
 program=$here/../../bin/wasm2c
@@ -15,9 +16,11 @@ python3 -c '
 open("real.wasm", "wb").write(bytes.fromhex("0061736D0100000001060160017F017F030201000405017001010105030100020608017F0141808804"
     "0B070E02066D656D6F72790200016600000A1A011801017F230041106B2201200036020C200128020C20006C0B000B046E616D65010401000166"))'
 n=1
+as_ever=0
 while [ $n -le 1000 ]; do
     status=0
-    REFUSE=$n LD_PRELOAD=$work/refuse.so "$here/../../crates/wasm2c_cli/out/wasm2c_cli" real.wasm -o real.c 2>"$work/line" || status=$?
+    rm -f "$work/mark"
+    REFUSE=$n MARK=$work/mark LD_PRELOAD=$work/refuse.so "$here/../../crates/wasm2c_cli/out/wasm2c_cli" real.wasm -o real.c 2>"$work/line" || status=$?
     line=$(cat "$work/line")
     if [ "$(ls)" != real.wasm ]; then
         echo "request $n: a file was written"
@@ -26,8 +29,11 @@ while [ $n -le 1000 ]; do
     case "$status $line" in
         '5 ' | '5 wasm2c: want of memory') ;;
         '1 wasm2c: real.wasm: not built')
-            echo "each of $((n - 1)) requests was refused: status 5, no file written"
-            exit 0
+            if [ ! -e "$work/mark" ]; then
+                echo "each of $((n - 1)) requests was refused: status 5 at $((n - 1 - as_ever)), as ever at $as_ever, no file written"
+                exit 0
+            fi
+            as_ever=$((as_ever + 1))
             ;;
         *)
             echo "request $n: status $status, $line"

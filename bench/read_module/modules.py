@@ -1,6 +1,6 @@
-# Writes modules of nearly 8,388,608 bytes: one as compilers write them, which a validator takes, the same with
-# its last instruction broken, and two that make trees as large as any: a row of instructions of a byte, and
-# nested blocks.
+# Writes modules of nearly 8,388,608 bytes: one as compilers write them, which a validator takes, and two that make trees
+# as large as any, a row of instructions of a byte and nested blocks; and each of them with its last byte broken, which
+# is read to its end and not checked.
 import sys
 
 MOST = 8388608
@@ -55,13 +55,13 @@ def nested(n):
     return module([b"\0" + (b"\x02\x40" * 500 + b"\x01" + b"\x0B" * 500) * n + b"\x41\x00\x0B"])
 
 
-accepted = most(lambda n: module([LOOP] * n), 99999)
 files = {
-    "accepted.wasm": accepted,
-    "refused.wasm": accepted[:-1] + b"\x06",
-    "small.wasm": most(lambda n: module([b"\0" + b"\x01" * n + b"\x41\x00\x0B"]), MOST),
-    "nested.wasm": most(nested, MOST // 1500),
+    "loops": most(lambda n: module([LOOP] * n), 99999),
+    "small": most(lambda n: module([b"\0" + b"\x01" * n + b"\x41\x00\x0B"]), MOST),
+    "nested": most(nested, MOST // 1500),
 }
 for name, text in files.items():
-    with open(sys.argv[1] + "/" + name, "wb") as file:
+    with open(sys.argv[1] + "/" + name + ".wasm", "wb") as file:
         file.write(text)
+    with open(sys.argv[1] + "/" + name + "_broken.wasm", "wb") as file:
+        file.write(text[:-1] + b"\x06")

@@ -1,8 +1,10 @@
-/* Lets the request for memory of the number in REFUSE fail, counted from 1. */
+/* Lets the request for memory of the number in REFUSE fail, counted from 1, and then makes the file that MARK names. */
 #define _GNU_SOURCE
 #include <dlfcn.h>
 #include <errno.h>
+#include <fcntl.h>
 #include <stdlib.h>
+#include <unistd.h>
 
 static long asked, refused;
 
@@ -12,7 +14,10 @@ static int is_refused(void) {
         refused = number ? atol(number) : -1;
     }
     asked++;
-    return asked == refused;
+    if (asked != refused) return 0;
+    const char *mark = getenv("MARK");
+    if (mark) close(open(mark, O_CREAT | O_WRONLY, 0600));
+    return 1;
 }
 
 void *malloc(size_t size) {

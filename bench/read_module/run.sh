@@ -1,6 +1,6 @@
 #!/bin/sh
 # Times wasm2c on modules of nearly 8,388,608 bytes that modules.py writes: processor time and most memory of the whole
-# program, which reads the file, reads the module, and refuses it. Where Debian's wabt is installed, its
+# program, which reads the file, reads the module, checks it where it is one, and refuses it. Where Debian's wabt is installed, its
 # wasm-validate stands beside it on the same files. Needs the Rattle kit's command rt where the program is not built
 # yet, and python3.
 set -e
@@ -19,7 +19,7 @@ def run(command, size):
     _, _, use = os.wait4(child.pid, 0)
     return f"{use.ru_utime + use.ru_stime:.2f} s, {use.ru_maxrss * 1024 / size:.0f} bytes of memory a byte: {out}"
 
-for name in ["accepted", "refused", "small", "nested"]:
+for name in ["loops", "loops_broken", "small", "small_broken", "nested", "nested_broken"]:
     path = name + ".wasm"
     size = os.path.getsize(path)
     print(f"{path}, {size} bytes")

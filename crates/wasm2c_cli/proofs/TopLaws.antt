@@ -1,12 +1,14 @@
 -- What the stop of the work says of the status, and of what stands.
-use Rattle.std.proofs.Common.{◌≡◌, ◌⊎◌, ℕ, List, refl, sym, ◌∙◌, subst, Option, Some, None, MatchOption, string_bytes, inl, inr}
+use Rattle.std.proofs.Common.{◌≡◌, ◌⊎◌, ℕ, List, refl, sym, ◌∙◌, subst, Option, Some, None, MatchOption, string_bytes, inl, inr, arith}
 use Rattle.w2c_io.specs.Contents.{Name, Contents, Told}
 use Rattle.w2c_io.specs.Causes.{Rose}
+use Rattle.w2c_io.specs.Telling.{Tells, Says}
+use Rattle.wasm2c_cli.specs.declared.stop.Reason.{Reason}
 use Rattle.wasm2c_cli.specs.declared.stop.Stop.{Stop}
 use Rattle.wasm2c_cli.specs.declared.stop.Stop.TheVariants as stops
 use Rattle.wasm2c_cli.specs.CommandLine.{Line, line_of, runtime_of}
 use Rattle.wasm2c_cli.specs.Job.{Job, Usage, Missing, Refused, IsJobOf, IsJob, IsOtherJob}
-use Rattle.wasm2c_cli.specs.Lines.{status_of}
+use Rattle.wasm2c_cli.specs.Lines.{line_for, refused_line, status_of}
 use Rattle.wasm2c_cli.specs.Stops.{StandsOfJob, StopsWork, WritesUnit, WritesUnitThat}
 use Rattle.w2c_sim.specs.Simulation.{Backward, Forward, NeverStops}
 use Rattle.wasm2c_cli.specs.Top.{Answers}
@@ -34,6 +36,22 @@ pub stop_complete : (words : List Name) (old new : Told) (r r' w w' : ℕ) (name
     → (contents : Contents) → old ≡ Some contents → (Rose r r' → ⊥) → (Rose w w' → ⊥) → (status ≡ 5) ⊎ ((job : Job) × IsJob words contents job × Answers job status)
 stop_complete words old new r r' w w' named status stop why (inl is) = stop_answers words old new r r' w w' named status stop why is
 stop_complete words old new r r' w w' named status stop why (inr five) = λ contents told no_reads no_writes. inl five
+
+-- status 1: the job is a refusal, and its line was said
+module _ (said said' : Option (List ℕ)) (faults faults' status : ℕ) (one : status ≡ 1) where
+  line_said : (line : List ℕ) → Says said said' faults faults' line ⊎ (status ≡ 5) → Says said said' faults faults' line
+  line_said line (inl says) = says
+  line_said line (inr five) = absurd (omega (arith, five, one))
+
+  pub stop_refused : (words : List Name) (old new : Told) (r r' w w' : ℕ) (named : Option Name) (stop : Stop) → StopsWork words old new r r' w w' named stop → (status ≡ status_of stop) ⊎ (status ≡ 5)
+      → (status ≡ status_of stop → Says said said' faults faults' (line_for stop) ⊎ (status ≡ 5))
+      → (file : Name) × (reason : Reason) × Tells old (λ contents. IsJob words contents (Refused file reason)) × Says said said' faults faults' (refused_line file reason)
+  stop_refused words old new r r' w w' named (stops.Refused file reason) why (inl is) says = (string_bytes file, reason, why.0, line_said (refused_line (string_bytes file) reason) (says is))
+  stop_refused words old new r r' w w' named stops.Usage why (inl is) says = absurd (omega (arith, is, one))
+  stop_refused words old new r r' w w' named (stops.Unread file) why (inl is) says = absurd (omega (arith, is, one))
+  stop_refused words old new r r' w w' named (stops.Unwritten file) why (inl is) says = absurd (omega (arith, is, one))
+  stop_refused words old new r r' w w' named stops.Memory why (inl is) says = absurd (omega (arith, is, one))
+  stop_refused words old new r r' w w' named stop why (inr five) says = absurd (omega (arith, five, one))
 
 -- nothing has changed, or some of the job's files stand
 pub stop_stands : (words : List Name) (old new : Told) (r r' w w' : ℕ) (named : Option Name) (stop : Stop) → StopsWork words old new r r' w w' named stop → (contents : Contents) → old ≡ Some contents → StandsOfJob words contents old new

@@ -17,6 +17,7 @@ use w2c_base::{Bytes, MODULE_BYTES};
 use w2c_io::{Files, ReadAnswer};
 use wasm_binary::{Which, read_module as read_tree};
 use wasm_tree::ConstantModule;
+use wasm_valid::ValidModule;
 
 /// The module that a file spells.
 pub fn read_module<F: Files>(
@@ -47,15 +48,19 @@ pub fn read_module<F: Files>(
     }
 }
 
-// The module that bytes spell, where it is of the form that is translated.
+// The module that bytes spell, where it is valid and of the form that is translated.
 fn module_of(alloc: Global, bytes: &[u8]) -> Result<ConstantModule, Refusal>
     requires { length bytes.now ≤ 8388608 }
     ensures found { IfOk result (λ m. IsConstantModule bytes.now m.name m.code) }
     ensures refused { IfErr result (Refuses bytes.now) }
 {
-    match read_tree(alloc, bytes) {
-        Ok(tree) => drop(tree),
+    let tree = match read_tree(alloc, bytes) {
+        Ok(tree) => tree,
         Err(fault) => return Err(Refusal::by(fault)),
+    };
+    match ValidModule::check(alloc, tree) {
+        Ok(checked) => drop(checked),
+        Err(refusal) => return Err(Refusal::by_rule(refusal)),
     }
     match read_constant_module(alloc, bytes) {
         Ok(module) => Ok(module),

@@ -69,6 +69,10 @@ fn push_reason(line: &mut String, reason: Reason) -> Result<(), AllocError>
             push_place(line, "limit at ", place)?;
             push_why(line, which.text())
         }
+        Reason::Invalid(place, cause) => {
+            push_place(line, "invalid at ", place)?;
+            push_why(line, cause.text())
+        }
         Reason::NotBuilt => line.push_str("not built"),
     }
 }

@@ -5,6 +5,7 @@ ghost use Rattle.wasm2c_cli.specs.declared.stop.Stop.TheVariants.{Memory as Want
 use std::alloc::{AllocError, AllocFailed};
 use w2c_base::Memory;
 use wasm_binary::{Cause, Which};
+use wasm_valid::ValidCause;
 
 /// Why a file is refused.
 #[derive(Clone, Copy, Debug, PartialEq, Eq)]
@@ -15,7 +16,9 @@ pub enum Reason {
     Float(u32),
     /// The limit that is passed at this place.
     Limit(u32, Which),
-    /// It spells a module, and none of the form that is translated so far.
+    /// It spells a module that is not valid: the first fault of the typing rules, at this place.
+    Invalid(u32, ValidCause),
+    /// It spells a valid module, and none of the form that is translated so far.
     NotBuilt,
 }
 

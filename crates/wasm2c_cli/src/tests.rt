@@ -154,10 +154,6 @@ fn other_modules_are_not_built(rt: HostRuntime) -> Result<(), Fail> {
         b"\0asm\x01\0\0\0\x01\x07\x01\x60\x02\x7F\x7F\x01\x7F\x03\x02\x01\0\x07\x07\x01\x03add\0\0\x0A\x09\x01\x07\0\x20\0\x20\x01\x6A\x0B";
     assert_eq!(rt; status_of(alloc, add, &mut err)?, 1);
     assert_eq!(rt; err.bytes(), b"wasm2c: two.wasm: not built\n".as_slice());
-    let one_operand = with_code(alloc, b"\x0A\x07\x01\x05\0\x41\x28\x6A\x0B")?;
-    assert_eq!(rt; status_of(alloc, one_operand.as_slice(), &mut err)?, 1);
-    let two_operands = with_code(alloc, b"\x0A\x08\x01\x06\0\x41\x28\x41\x02\x0B")?;
-    assert_eq!(rt; status_of(alloc, two_operands.as_slice(), &mut err)?, 1);
     Ok(())
 }
 
@@ -174,6 +170,23 @@ fn is_refused(alloc: Global, bytes: &[u8], reason: &str) -> Result<bool, Fail> {
             && files.get("two.c").is_none()
             && files.get("two.h").is_none(),
     )
+}
+
+#[test]
+fn modules_that_are_not_valid(rt: HostRuntime) -> Result<(), Fail> {
+    let alloc = rt.alloc();
+    let one_operand = with_code(alloc, b"\x0A\x07\x01\x05\0\x41\x28\x6A\x0B")?;
+    let two_operands = with_code(alloc, b"\x0A\x08\x01\x06\0\x41\x28\x41\x02\x0B")?;
+    let other_type = with_code(alloc, b"\x0A\x06\x01\x04\0\x42\x28\x0B")?;
+    let rows: [(&[u8], &str); 3] = [
+        (one_operand.as_slice(), "invalid at 33: type mismatch"),
+        (two_operands.as_slice(), "invalid at 35: type mismatch"),
+        (other_type.as_slice(), "invalid at 33: type mismatch"),
+    ];
+    for (bytes, reason) in rows {
+        assert!(rt; is_refused(alloc, bytes, reason)?);
+    }
+    Ok(())
 }
 
 // A module whose body has so many blocks, each inside the one before; from 43 to 5,000.

@@ -1,0 +1,17 @@
+pub mod ClosedBodies
+pub mod Exact
+pub mod Completions
+pub mod FirstFaults
+pub mod Verdicts
+pub mod ConstantModules
+pub mod Files
+pub mod Piles
+pub mod Needs
+pub mod CodeSizes
+pub mod RunLists
+pub mod RunBlocks
+pub mod Entered
+pub mod ModuleRows
+pub mod Names
+pub mod Shapes
+pub mod EnteredBodies

@@ -1,0 +1,45 @@
+-- The rows of faults outside the bodies, entered one behind another, are all of them.
+use Rattle.std.proofs.Common.{◌≡◌, List, [], ◌++◌, Option, sym, ap, ◌∙◌}
+use Rattle.std.specs.List.{flat_map}
+use Rattle.std.proofs.lemmas.Grind.{flat_map-append}
+use Rattle.wasm_tree.specs.declared.tree.Module.{Module}
+use Rattle.wasm_tree.specs.IndexSpaces.{table_space, memory_space}
+use Rattle.wasm_valid.specs.declared.fault.Fault.{Fault}
+use Rattle.wasm_valid.specs.declared.fault.ValidCause.TheVariants as cause
+use Rattle.wasm_valid.specs.Entered.{entered}
+use Rattle.wasm_valid.specs.ModuleFaults.{module_faults, unknown_types, too_many, min_above_max, too_many_pages, expressions, constant_expected, unknown_global, type_mismatch, unknown_export, duplicate_exports, start_faults, unknown_segments, unknown_elements}
+use Rattle.wasm_valid.proofs.Entered.{entered-append}
+
+-- from what was kept before to what is kept behind these faults
+pub record Enters (before : Option Fault) (faults : List Fault) (behind : Option Fault) : Type 0 where
+  pub kept : behind ≡ entered before faults
+
+infixr 5 ◌then◌
+◌then◌ : {a b c : Option Fault} {xs ys : List Fault} → Enters a xs b → Enters b ys c → Enters a (xs ++ ys) c
+◌then◌ {a} {b} {c} {xs} {ys} first second = record {
+  kept = second.kept ∙ ap (λ found. entered found ys) first.kept ∙ sym (entered-append a xs ys);
+}
+
+both : {A : Type 0} (f : A → List Fault) (xs ys : List A) (a b : Option Fault) → Enters a (flat_map f xs ++ flat_map f ys) b → Enters a (flat_map f (xs ++ ys)) b
+both f xs ys a b e = record { kept = e.kept ∙ ap (entered a) (sym (flat_map-append f xs ys)) }
+
+pub all_rows : (m : Module) (a b c d e f g h i j k l n o p : Option Fault)
+    → Enters a (unknown_types m) b
+    → Enters b (too_many cause.TooManyTables (table_space m)) c
+    → Enters c (too_many cause.TooManyMemories (memory_space m)) d
+    → Enters d (flat_map min_above_max (table_space m)) e
+    → Enters e (flat_map min_above_max (memory_space m)) f
+    → Enters f (flat_map too_many_pages (memory_space m)) g
+    → Enters g (flat_map constant_expected (expressions m)) h
+    → Enters h (flat_map unknown_global (expressions m)) i
+    → Enters i (flat_map type_mismatch (expressions m)) j
+    → Enters j (flat_map (unknown_export m) m.exports) k
+    → Enters k (duplicate_exports [] m.exports) l
+    → Enters l (start_faults m m.start) n
+    → Enters n (unknown_segments m) o
+    → Enters o (unknown_elements m) p
+    → Enters a (module_faults m) p
+unfolding module_faults
+all_rows m a b c d e f g h i j k l n o p types tables memories table_sizes memory_sizes pages constants globals mismatches exports names start segments elements =
+    types then (tables then memories) then both min_above_max (table_space m) (memory_space m) d f (table_sizes then memory_sizes)
+    then pages then constants then globals then mismatches then exports then names then start then segments then elements

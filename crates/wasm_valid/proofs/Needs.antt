@@ -1,0 +1,65 @@
+-- The needs of an instruction, met and unmet; and instructions that go by their row.
+use Rattle.std.proofs.Common.{◌≡◌, ℕ, ◌^◌, ◌<◌, ◌≤◌, Bool, true, false, not, is_some, is_none, nat_le, List, [], ◌∷◌, Option, Some, None, Result, slice_get, refl, sym, ap, ◌∙◌}
+use Rattle.std.proofs.Math.Pow.{pow_mono, pow-lt}
+use Rattle.std.proofs.lemmas.Bool.{le-leb, lt-leb}
+use Rattle.wasm_tree.specs.declared.code.Kind.{Kind as RustKind}
+use Rattle.wasm_tree.specs.declared.code.Kind.TheVariants as kind
+use Rattle.wasm_tree.specs.Views.{kind_tree}
+use Rattle.wasm_valid.specs.declared.fault.ValidCause.TheVariants as cause
+use Rattle.wasm_valid.specs.declared.stop.Stop.{Stop}
+use Rattle.wasm_valid.specs.declared.numeric.Needs.TheVariants.{Access}
+use Rattle.wasm_valid.specs.Context.{Context, Labels}
+use Rattle.wasm_valid.specs.Checker.{Operands, when, has_memory, step}
+use Rattle.wasm_valid.specs.BodyFault.{first_cause, cause_of, misaligned}
+use Rattle.wasm_valid.specs.Needs.{where_met, unmet, row_step, row_cause}
+use Rattle.wasm_valid.specs.Plain.{Plain}
+
+not_none : {A : Type 0} (o : Option A) → is_some o ≡ true → is_none o ≡ false
+not_none None e = cc
+not_none (Some a) e = refl
+
+when_true : (b : Bool) (r : Option Operands) → b ≡ true → when b r ≡ r
+when_true b r e = ap (λ t. when t r) e
+
+pub fits_met : (c : Context) (align most : ℕ) → has_memory c ≡ true → align ≤ most
+    → ((r : Option Operands) → where_met c (Access align most) r ≡ r) × (first_cause (unmet c (Access align most)) ≡ cause.TypeMismatch)
+fits_met c align most there le =
+    let fits : nat_le (2 ^ align) (2 ^ most) ≡ true = le-leb (2 ^ align) (2 ^ most) (pow_mono le) in (
+      (λ r. when_true (has_memory c) (when (nat_le (2 ^ align) (2 ^ most)) r) there ∙ when_true (nat_le (2 ^ align) (2 ^ most)) r fits),
+      ap (λ b. first_cause ((b, cause.UnknownMemory) ∷ misaligned align (2 ^ most) ∷ [])) (not_none (slice_get c.memories 0) there)
+          ∙ ap (λ b. first_cause ((not b, cause.Alignment) ∷ [])) fits,
+    )
+
+pub misfits_unmet : (c : Context) (align most : ℕ) → has_memory c ≡ true → most < align
+    → ((r : Option Operands) → where_met c (Access align most) r ≡ None) × (cause.Alignment ≡ first_cause (unmet c (Access align most)))
+misfits_unmet c align most there less =
+    let fits : nat_le (2 ^ align) (2 ^ most) ≡ false = lt-leb (2 ^ align) (2 ^ most) (pow-lt less) in (
+      (λ r. when_true (has_memory c) (when (nat_le (2 ^ align) (2 ^ most)) r) there ∙ ap (λ t. when t r) fits),
+      sym
+          (ap (λ b. first_cause ((b, cause.UnknownMemory) ∷ misaligned align (2 ^ most) ∷ [])) (not_none (slice_get c.memories 0) there)
+          ∙ ap (λ b. first_cause ((not b, cause.Alignment) ∷ [])) fits),
+    )
+
+-- an instruction that is none of those with a rule of their own
+pub plain_by_row : (c : Context) (labels : Labels) (k : RustKind) (result : Result Unit Stop) (s new : Operands)
+    → (k ≡ kind.Unreachable → ⊥) → ((i : ℕ) → k ≡ kind.Br i → ⊥) → ((i : ℕ) → k ≡ kind.BrIf i → ⊥)
+    → ((is : List ℕ) (i : ℕ) → k ≡ kind.BrTable is i → ⊥) → (k ≡ kind.Return → ⊥) → ((i : ℕ) → k ≡ kind.Call i → ⊥)
+    → ((i : ℕ) → k ≡ kind.CallIndirect i → ⊥) → (k ≡ kind.Drop → ⊥) → (k ≡ kind.Select → ⊥) → ((i : ℕ) → k ≡ kind.LocalGet i → ⊥)
+    → ((i : ℕ) → k ≡ kind.LocalSet i → ⊥) → ((i : ℕ) → k ≡ kind.LocalTee i → ⊥) → ((i : ℕ) → k ≡ kind.GlobalGet i → ⊥)
+    → ((i : ℕ) → k ≡ kind.GlobalSet i → ⊥)
+    → Plain result (row_step c (kind_tree k) s) (row_cause c (kind_tree k)) new → Plain result (step c labels (kind_tree k) s) (cause_of c labels (kind_tree k)) new
+plain_by_row c labels kind.Unreachable result s new a _ _ _ _ _ _ _ _ _ _ _ _ _ p = absurd (a refl)
+plain_by_row c labels (kind.Br i) result s new _ a _ _ _ _ _ _ _ _ _ _ _ _ p = absurd (a i refl)
+plain_by_row c labels (kind.BrIf i) result s new _ _ a _ _ _ _ _ _ _ _ _ _ _ p = absurd (a i refl)
+plain_by_row c labels (kind.BrTable is i) result s new _ _ _ a _ _ _ _ _ _ _ _ _ _ p = absurd (a is i refl)
+plain_by_row c labels kind.Return result s new _ _ _ _ a _ _ _ _ _ _ _ _ _ p = absurd (a refl)
+plain_by_row c labels (kind.Call i) result s new _ _ _ _ _ a _ _ _ _ _ _ _ _ p = absurd (a i refl)
+plain_by_row c labels (kind.CallIndirect i) result s new _ _ _ _ _ _ a _ _ _ _ _ _ _ p = absurd (a i refl)
+plain_by_row c labels kind.Drop result s new _ _ _ _ _ _ _ a _ _ _ _ _ _ p = absurd (a refl)
+plain_by_row c labels kind.Select result s new _ _ _ _ _ _ _ _ a _ _ _ _ _ p = absurd (a refl)
+plain_by_row c labels (kind.LocalGet i) result s new _ _ _ _ _ _ _ _ _ a _ _ _ _ p = absurd (a i refl)
+plain_by_row c labels (kind.LocalSet i) result s new _ _ _ _ _ _ _ _ _ _ a _ _ _ p = absurd (a i refl)
+plain_by_row c labels (kind.LocalTee i) result s new _ _ _ _ _ _ _ _ _ _ _ a _ _ p = absurd (a i refl)
+plain_by_row c labels (kind.GlobalGet i) result s new _ _ _ _ _ _ _ _ _ _ _ _ a _ p = absurd (a i refl)
+plain_by_row c labels (kind.GlobalSet i) result s new _ _ _ _ _ _ _ _ _ _ _ _ _ a p = absurd (a i refl)
+plain_by_row c labels k result s new _ _ _ _ _ _ _ _ _ _ _ _ _ _ p = p

@@ -1,0 +1,47 @@
+-- Operands in memory, one more and one less.
+use Rattle.std.proofs.Common.{◌≡◌, ℕ, zero, suc, ◌+◌, ◌<◌, ◌≤◌, List, [], ◌∷◌, ◌++◌, length, drop, Option, Some, None, Bool, true, false, refl, sym, ap, ◌∙◌, arith}
+use Rattle.wasm_valid.specs.declared.operand.Operand.{Operand}
+use Rattle.wasm_valid.specs.Checker.{Operands, nothing, on, empties}
+use Rattle.wasm_valid.specs.Shown.{pile, popped, bottom}
+use Rattle.std.proofs.lemmas.List.{at_drop_all}
+
+pile_push : (xs : List Operand) (x : Operand) (s : Operands) → pile (xs ++ x ∷ []) s ≡ on x (pile xs s)
+pile_push [] x s = refl
+pile_push (y ∷ xs) x s = pile_push xs x (on y s)
+
+drop_push : (n : ℕ) (xs : List Operand) (x : Operand) → n ≤ length xs → drop n (xs ++ x ∷ []) ≡ drop n xs ++ x ∷ []
+drop_push zero xs x le = refl
+drop_push (suc n) [] x le = absurd (omega (arith, le))
+drop_push (suc n) (y ∷ xs) x le = drop_push n xs x (omega (arith, le))
+
+-- one more operand above the first n
+pub shown_push : (n : ℕ) (xs ys : List Operand) (x : Operand) (s : Operands) → n ≤ length xs → ys ≡ xs ++ x ∷ [] → pile (drop n ys) s ≡ on x (pile (drop n xs) s)
+shown_push n xs ys x s le e = ap (λ zs. pile (drop n zs) s) e ∙ ap (λ zs. pile zs s) (drop_push n xs x le) ∙ pile_push (drop n xs) x s
+
+-- one less, where there are more than n
+pub shown_pop : (n : ℕ) (xs ys : List Operand) (x : Operand) (s : Operands) → n < length xs → xs ≡ ys ++ x ∷ [] → popped (pile (drop n xs) s) ≡ Some (x, pile (drop n ys) s)
+shown_pop n xs ys x s less e =
+    let one : length (ys ++ x ∷ []) ≡ length ys + 1 = length_push ys in
+    let same : length xs ≡ length (ys ++ x ∷ []) = ap length e in
+    ap popped (shown_push n ys xs x s (omega (arith, less, one, same)) e)
+  where
+    length_push : (zs : List Operand) → length (zs ++ x ∷ []) ≡ length zs + 1
+    length_push [] = refl
+    length_push (z ∷ zs) = let e : length (zs ++ x ∷ []) ≡ length zs + 1 = length_push zs in omega (arith, e)
+
+-- nothing is left above the first n, or something
+pub emptied_pile : (n : ℕ) (xs : List Operand) (dead : Bool) → length xs ≤ n → empties (pile (drop n xs) (bottom dead)) ≡ Some nothing
+emptied_pile n xs dead past = at_drop_all (λ ys. empties (pile ys (bottom dead))) xs n past ∙ bottom_empties dead
+  where
+    bottom_empties : (d : Bool) → empties (bottom d) ≡ Some nothing
+    bottom_empties true = refl
+    bottom_empties false = refl
+
+pub filled_pile : (n : ℕ) (xs : List Operand) (s : Operands) → n < length xs → empties (pile (drop n xs) s) ≡ None
+filled_pile n [] s less = absurd (omega (arith, less))
+filled_pile zero (x ∷ xs) s less = full x xs s
+  where
+    full : (y : Operand) (ys : List Operand) (r : Operands) → empties (pile (y ∷ ys) r) ≡ None
+    full y [] r = refl
+    full y (z ∷ ys) r = full z ys (on y r)
+filled_pile (suc n) (x ∷ xs) s less = filled_pile n xs s (omega (arith, less))

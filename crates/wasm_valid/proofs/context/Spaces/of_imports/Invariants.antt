@@ -1,0 +1,14 @@
+use Rattle.std.proofs.Common.{◌≡◌, ◌++◌, drop}
+use Rattle.std.specs.List.{flat_map}
+use Rattle.wasm_tree.specs.IndexSpaces.{func_of_import, table_of_import, memory_of_import, global_of_import}
+use Rattle.wasm_valid.proofs.context.Spaces.of_imports.Given as goal
+
+-- what the imports so far brought, and what the others bring
+abbrev pub invariant-loop-import : goal.invariant-loop-import
+invariant-loop-import l = record {
+  types : l.spaces.types.now ≡ l.m.types;
+  funcs : l.spaces.funcs.items ++ flat_map func_of_import (drop l.import-index l.import-items) ≡ flat_map func_of_import l.m.imports;
+  tables : l.spaces.tables.items ++ flat_map table_of_import (drop l.import-index l.import-items) ≡ flat_map table_of_import l.m.imports;
+  memories : l.spaces.memories.items ++ flat_map memory_of_import (drop l.import-index l.import-items) ≡ flat_map memory_of_import l.m.imports;
+  globals : l.spaces.globals.items ++ flat_map global_of_import (drop l.import-index l.import-items) ≡ flat_map global_of_import l.m.imports;
+}

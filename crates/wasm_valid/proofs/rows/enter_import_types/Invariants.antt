@@ -1,0 +1,10 @@
+use Rattle.std.proofs.Common.{◌≡◌, drop}
+use Rattle.std.specs.List.{flat_map}
+use Rattle.wasm_valid.specs.Entered.{entered}
+use Rattle.wasm_valid.specs.ModuleFaults.{unknown_import_type}
+use Rattle.wasm_valid.proofs.rows.enter_import_types.Given as goal
+
+abbrev pub invariant-loop-import : goal.invariant-loop-import
+invariant-loop-import l =
+    entered l.first.found (flat_map (unknown_import_type l.m) (drop l.import-index l.m.imports))
+    ≡ entered l.initial.first.found (flat_map (unknown_import_type l.m) l.m.imports)

@@ -1,0 +1,10 @@
+use Rattle.std.proofs.Common.{◌≡◌, drop}
+use Rattle.std.specs.List.{flat_map}
+use Rattle.wasm_valid.specs.Entered.{entered}
+use Rattle.wasm_valid.specs.ModuleFaults.{min_above_max}
+use Rattle.wasm_valid.proofs.rows.enter_min_above_max.Given as goal
+
+abbrev pub invariant-loop-limits : goal.invariant-loop-limits
+invariant-loop-limits l =
+    entered l.first.found (flat_map min_above_max (drop l.limits-index l.all))
+    ≡ entered l.initial.first.found (flat_map min_above_max l.all)

@@ -1,0 +1,12 @@
+use Rattle.std.proofs.Common.{◌≡◌, drop}
+use Rattle.std.specs.List.{flat_map}
+use Rattle.wasm_valid.specs.Entered.{entered}
+use Rattle.wasm_tree.specs.IndexSpaces.{func_space}
+use Rattle.wasm_valid.specs.ModuleFaults.{fault_if, is_out}
+use Rattle.wasm_valid.specs.declared.fault.ValidCause.TheVariants as causes
+use Rattle.wasm_valid.proofs.rows.enter_unknown_elements.Given as goal
+
+abbrev pub invariant-loop-element : goal.invariant-loop-element
+invariant-loop-element l =
+    entered l.first.found (flat_map (λ e. flat_map (λ f. fault_if (is_out (func_space l.m) f.index) f.place causes.UnknownFunction) e.funcs) (drop l.element-index l.m.elements))
+    ≡ entered l.initial.first.found (flat_map (λ e. flat_map (λ f. fault_if (is_out (func_space l.m) f.index) f.place causes.UnknownFunction) e.funcs) l.m.elements)

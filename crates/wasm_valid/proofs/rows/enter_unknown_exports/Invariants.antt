@@ -1,0 +1,10 @@
+use Rattle.std.proofs.Common.{◌≡◌, drop}
+use Rattle.std.specs.List.{flat_map}
+use Rattle.wasm_valid.specs.Entered.{entered}
+use Rattle.wasm_valid.specs.ModuleFaults.{unknown_export}
+use Rattle.wasm_valid.proofs.rows.enter_unknown_exports.Given as goal
+
+abbrev pub invariant-loop-export : goal.invariant-loop-export
+invariant-loop-export l =
+    entered l.first.found (flat_map (unknown_export l.m) (drop l.export-index l.m.exports))
+    ≡ entered l.initial.first.found (flat_map (unknown_export l.m) l.m.exports)

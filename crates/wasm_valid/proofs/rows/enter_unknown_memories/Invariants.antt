@@ -1,0 +1,12 @@
+use Rattle.std.proofs.Common.{◌≡◌, drop}
+use Rattle.std.specs.List.{flat_map}
+use Rattle.wasm_valid.specs.Entered.{entered}
+use Rattle.wasm_tree.specs.IndexSpaces.{memory_space}
+use Rattle.wasm_valid.specs.ModuleFaults.{fault_if, is_no_first}
+use Rattle.wasm_valid.specs.declared.fault.ValidCause.TheVariants as causes
+use Rattle.wasm_valid.proofs.rows.enter_unknown_memories.Given as goal
+
+abbrev pub invariant-loop-segment : goal.invariant-loop-segment
+invariant-loop-segment l =
+    entered l.first.found (flat_map (λ s. fault_if (is_no_first (memory_space l.m) s.memory) s.place causes.UnknownMemory) (drop l.segment-index l.m.segments))
+    ≡ entered l.initial.first.found (flat_map (λ s. fault_if (is_no_first (memory_space l.m) s.memory) s.place causes.UnknownMemory) l.m.segments)

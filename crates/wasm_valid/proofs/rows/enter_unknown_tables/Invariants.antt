@@ -1,0 +1,12 @@
+use Rattle.std.proofs.Common.{◌≡◌, drop}
+use Rattle.std.specs.List.{flat_map}
+use Rattle.wasm_valid.specs.Entered.{entered}
+use Rattle.wasm_tree.specs.IndexSpaces.{table_space}
+use Rattle.wasm_valid.specs.ModuleFaults.{fault_if, is_no_first}
+use Rattle.wasm_valid.specs.declared.fault.ValidCause.TheVariants as causes
+use Rattle.wasm_valid.proofs.rows.enter_unknown_tables.Given as goal
+
+abbrev pub invariant-loop-element : goal.invariant-loop-element
+invariant-loop-element l =
+    entered l.first.found (flat_map (λ e. fault_if (is_no_first (table_space l.m) e.table) e.place causes.UnknownTable) (drop l.element-index l.m.elements))
+    ≡ entered l.initial.first.found (flat_map (λ e. fault_if (is_no_first (table_space l.m) e.table) e.place causes.UnknownTable) l.m.elements)

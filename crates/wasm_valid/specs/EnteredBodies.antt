@@ -1,0 +1,29 @@
+-- What is entered of bodies: the faults that they have.
+use Rattle.std.specs.Prelude.{◌≡◌, List, ◌++◌, Option, option_map}
+use Rattle.w2c_base.specs.declared.signature.FuncType.{FuncType}
+use Rattle.wasm_tree.specs.declared.tree.Module.{Module}
+use Rattle.wasm_tree.specs.declared.entries.FuncEntry.{FuncEntry}
+use Rattle.wasm_tree.specs.declared.entries.BodyEntry.{BodyEntry}
+use Rattle.wasm_tree.specs.IndexSpaces.{declared_locals}
+use Rattle.wasm_valid.specs.declared.fault.Fault.{Fault}
+use Rattle.wasm_valid.specs.declared.context.Spaces.{Spaces}
+use Rattle.wasm_valid.specs.Context.{Context}
+use Rattle.wasm_valid.specs.Verdict.{Bodies, FaultOfBody, FaultsOfBodies}
+use Rattle.wasm_valid.specs.Entered.{entered}
+use Rattle.wasm_valid.specs.Seen.{type_seen, context_seen}
+
+-- the context of a body of a function of this type
+abbrev pub typed_context_seen : Spaces → BodyEntry → FuncType → Context
+typed_context_seen s body ty = context_seen s (ty.params ++ declared_locals body.runs) ty.result
+
+-- the context of a function's body. None where the function has no type
+abbrev pub body_context_seen : Spaces → FuncEntry → BodyEntry → Option Context
+body_context_seen s func body = option_map (typed_context_seen s body) (type_seen s func.type_index)
+
+-- from the fault that was found before to the one behind: that of a body, where it has one
+abbrev pub EntersBody : Option Context → BodyEntry → Option Fault → Option Fault → Type 0
+EntersBody context body old new = (faults : List Fault) × FaultOfBody context body faults × (new ≡ entered old faults)
+
+-- those of bodies
+abbrev pub EntersBodies : Module → Bodies → Option Fault → Option Fault → Type 0
+EntersBodies m bodies old new = (faults : List Fault) × FaultsOfBodies m bodies faults × (new ≡ entered old faults)

@@ -1,0 +1,222 @@
+// The checker of bodies (WebAssembly Core 1.0, appendix 7.3.2).
+ghost use Rattle.std.specs.Prelude.{◌≡◌, ◌-◌, Option, ◌≤◌, take, vec_len, Ok, OnOk, IfOk};
+ghost use Rattle.wasm_tree.specs.Views.{kind_tree, otherwise_tree};
+ghost use Rattle.wasm_valid.specs.Seen.{context_seen};
+ghost use Rattle.wasm_valid.specs.Checker.{check, give, nothing, run, run_kind};
+ghost use Rattle.wasm_valid.specs.Checked.{Checked};
+ghost use Rattle.wasm_valid.specs.Shown.{shown, Keeps};
+ghost use Rattle.wasm_valid.specs.RanTo.{seen, labels_of, RanTo, all_placed, run_block, run_nested, run_branches, Stays, Untouched, Opened};
+
+use crate::context::Spaces;
+use crate::operands::{Height, OperandStack};
+use crate::plain::Surroundings;
+use crate::stop::Stop;
+use crate::{ValidCause, ValidRefusal};
+use std::alloc::Global;
+use w2c_base::{Memory, ValType};
+use wasm_tree::{BodyEntry, Code, ElsePart, Instr, Kind};
+
+/// Checks the body of a function that has these locals and this result. It is refused by its first faulty token.
+pub(crate) fn check_body(
+    alloc: Global,
+    spaces: &Spaces,
+    locals: &[ValType],
+    outcome: Option<ValType>,
+    body: &BodyEntry,
+) -> Result<(), ValidRefusal>
+    ensures { Checked result (check (context_seen spaces.now locals.now outcome) body.now.code body.now.end_place) }
+{
+    let around = Surroundings {
+        spaces,
+        locals,
+        result: outcome,
+    };
+    let mut blocks = OpenBlocks {
+        operands: OperandStack::new(alloc),
+        labels: Vec::new(alloc),
+    };
+    blocks.block(&around, Block::new(outcome, body.end_place), &body.code)
+}
+
+/// A block: what its label carries, its result, and the place of its `end`.
+#[derive(Clone, Copy)]
+struct Block {
+    label: Option<ValType>,
+    result: Option<ValType>,
+    end_place: u32,
+}
+
+impl Block {
+    // A block whose label carries its result.
+    fn new(outcome: Option<ValType>, end_place: u32) -> Block
+        ensures { result ≡ record { label = outcome; result = outcome; end_place = end_place } }
+    {
+        Block {
+            label: outcome,
+            result: outcome,
+            end_place,
+        }
+    }
+}
+
+// The refusal at a place.
+fn at_place(outcome: Result<(), Stop>, place: u32) -> Result<(), ValidRefusal>
+    ensures { result ≡ all_placed outcome place }
+{
+    match outcome {
+        Ok(()) => Ok(()),
+        Err(stop) => Err(stop.at(place)),
+    }
+}
+
+// Puts what a block leaves.
+fn put(outcome: Option<ValType>, operands: &mut OperandStack) -> Result<(), ValidRefusal>
+    ensures step { RanTo result (Ok (give outcome (shown operands.old))) (shown operands.new) }
+    ensures kept { OnOk result (Keeps operands.old operands.new) }
+{
+    match operands.push_value(outcome) {
+        Ok(()) => Ok(()),
+        Err(_) => Err(ValidRefusal::Memory),
+    }
+}
+
+/// The open blocks: their operands, and what their labels carry, the innermost last.
+#[derive(Drop)]
+struct OpenBlocks {
+    operands: OperandStack,
+    labels: Vec<Option<ValType>>,
+}
+
+impl OpenBlocks {
+    // One more block. It gives the height of the operands around it.
+    fn enter(&mut self, label: Option<ValType>) -> Result<Height, Memory>
+        ensures { IfOk result (λ outer. Opened label outer self.old self.new) }
+    {
+        self.labels.push(label)?;
+        Ok(self.operands.enter())
+    }
+
+    // The innermost block has ended.
+    fn leave(&mut self, outer: Height)
+        requires { outer.below ≤ vec_len self.old.operands.slots }
+        ensures labels { self.new.labels.items ≡ take (vec_len self.old.labels - 1) self.old.labels.items }
+        ensures slots { self.new.operands.slots.items ≡ self.old.operands.slots.items }
+        ensures height { self.new.operands.height ≡ outer }
+    {
+        let _ = self.labels.pop();
+        self.operands.leave(outer);
+    }
+
+    // The code of a block and its end. No operand is left.
+    #[cycle(check)]
+    fn block(
+        &mut self,
+        around: &Surroundings,
+        block: Block,
+        code: &Code,
+    ) -> Result<(), ValidRefusal>
+        ensures step { RanTo result (run_block (seen around.now) (labels_of self.old) block.label block.result block.end_place code.now) nothing }
+        ensures kept { OnOk result (Untouched self.old self.new) }
+    {
+        let outer = self.enter(block.label)?;
+        self.code(around, code)?;
+        at_place(self.operands.close(block.result), block.end_place)?;
+        self.leave(outer);
+        Ok(())
+    }
+
+    #[cycle(check)]
+    fn code(&mut self, around: &Surroundings, code: &Code) -> Result<(), ValidRefusal>
+        ensures step { RanTo result (run (seen around.now) (labels_of self.old) code.now (shown self.old.operands)) (shown self.new.operands) }
+        ensures kept { OnOk result (Stays self.old self.new) }
+    {
+        for instr in code.as_slice() {
+            self.instr(around, instr)?;
+        }
+        Ok(())
+    }
+
+    #[cycle(check)]
+    fn instr(&mut self, around: &Surroundings, instr: &Instr) -> Result<(), ValidRefusal>
+        ensures step { RanTo result (run_kind (seen around.now) (labels_of self.old) instr.now.place (kind_tree instr.now.kind) (shown self.old.operands)) (shown self.new.operands) }
+        ensures kept { OnOk result (Stays self.old self.new) }
+    {
+        match &instr.kind {
+            Kind::Block {
+                result: outcome,
+                code,
+                end_place,
+            } => self.nested(around, Block::new(*outcome, *end_place), code),
+            Kind::Loop {
+                result: outcome,
+                code,
+                end_place,
+            } => self.nested(
+                around,
+                Block {
+                    label: None,
+                    result: *outcome,
+                    end_place: *end_place,
+                },
+                code,
+            ),
+            Kind::If {
+                result: outcome,
+                code,
+                otherwise,
+                end_place,
+            } => {
+                at_place(self.operands.pop_type(ValType::I32), instr.place)?;
+                self.branches(around, *outcome, code, otherwise, *end_place)?;
+                put(*outcome, &mut self.operands)
+            }
+            kind => at_place(
+                around.plain(self.labels.as_slice(), kind, &mut self.operands),
+                instr.place,
+            ),
+        }
+    }
+
+    // A block inside code.
+    #[cycle(check)]
+    fn nested(
+        &mut self,
+        around: &Surroundings,
+        block: Block,
+        code: &Code,
+    ) -> Result<(), ValidRefusal>
+        ensures step { RanTo result (run_nested (seen around.now) (labels_of self.old) block.label block.result block.end_place code.now (shown self.old.operands)) (shown self.new.operands) }
+        ensures kept { OnOk result (Stays self.old self.new) }
+    {
+        self.block(around, block, code)?;
+        put(block.result, &mut self.operands)
+    }
+
+    // Both branches of an `if`. Without the second there is no result.
+    #[cycle(check)]
+    fn branches(
+        &mut self,
+        around: &Surroundings,
+        outcome: Option<ValType>,
+        code: &Code,
+        otherwise: &Option<ElsePart>,
+        end_place: u32,
+    ) -> Result<(), ValidRefusal>
+        ensures step { RanTo result (run_branches (seen around.now) (labels_of self.old) outcome code.now (otherwise_tree otherwise.now) end_place) nothing }
+        ensures kept { OnOk result (Untouched self.old self.new) }
+    {
+        match otherwise {
+            None => {
+                self.block(around, Block::new(outcome, end_place), code)?;
+                match outcome {
+                    None => Ok(()),
+                    Some(_) => Err(ValidRefusal::Invalid(end_place, ValidCause::TypeMismatch)),
+                }
+            }
+            Some(other) => {
+                self.block(around, Block::new(outcome, other.place), code)?;
+                self.block(around, Block::new(outcome, end_place), &other.code)
+            }
+        }
+    }
+}

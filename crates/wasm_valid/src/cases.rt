@@ -1,0 +1,47 @@
+// Small bodies and modules, and what the definitions say of them.
+ghost use Rattle.std.specs.Prelude.{◌≡◌, ℤ, pos, ℕ, List, [], ◌∷◌, codes, Option, Some, None};
+ghost use Rattle.w2c_base.specs.declared.value.ValType.TheVariants as ty;
+ghost use Rattle.wasm_tree.specs.Instructions.{end_code, no_else, else_code, Block, Br, Drop as Dropped, If, I32Const, I64Const, Binary, Add, LocalGet, Load, I32Load, Unreachable};
+ghost use Rattle.wasm_tree.specs.declared.entries.ExportKind.TheVariants as kind;
+ghost use Rattle.wasm_valid.specs.declared.fault.ValidCause.TheVariants as cause;
+ghost use Rattle.wasm_valid.specs.Typing.{BodyHasType};
+ghost use Rattle.wasm_valid.specs.Completion.{completed};
+ghost use Rattle.wasm_valid.specs.BodyFault.{FirstBodyFault, body_tokens};
+ghost use Rattle.wasm_valid.specs.ModuleFaults.{module_faults};
+ghost use Rattle.wasm_valid.specs.Verdict.{Verdict, Accepted, Invalid, first_fault};
+ghost use Rattle.wasm_valid.specs.Samples.{code_from, context, body, no_module, one_function, memories_and_exports};
+
+/// Bodies and their first faults.
+pub fn body_cases()
+    // behind a branch everything has a type
+    ensures dead_code { BodyHasType (context [] None)
+        (code_from 0 (Block None (code_from 2 (Br 0 ∷ Binary ty.I32 Add ∷ Dropped ∷ [])) 6 ∷ [])) }
+
+    // `if` without `else` has no result: at its end
+    ensures if_without_else { FirstBodyFault (context [] (Some ty.I32))
+        (body (code_from 33 (I32Const (pos 1) ∷ If (Some ty.I32) (code_from 36 (I32Const (pos 5) ∷ [])) no_else 37 ∷ [])) 38)
+        (record { place = 37; cause = cause.TypeMismatch }) }
+
+    // two operands are left: at the end of the body
+    ensures two_results { FirstBodyFault (context [] (Some ty.I32))
+        (body (code_from 31 (I32Const (pos 40) ∷ I32Const (pos 2) ∷ [])) 33)
+        (record { place = 33; cause = cause.TypeMismatch }) }
+
+    // an access of four bytes is aligned to at most four
+    ensures alignment { FirstBodyFault (context [] (Some ty.I32))
+        (body (code_from 0 (I32Const (pos 0) ∷ Load I32Load (record { align = 3; offset = 0 }) ∷ [])) 2)
+        (record { place = 1; cause = cause.Alignment }) }
+{}
+
+/// Modules and their faults.
+#[tactic(auto, unfolding(crate::specs::ModuleFaults::module_faults))]
+pub fn module_cases()
+    ensures empty { Verdict no_module Accepted }
+    ensures tie { first_fault (module_faults (memories_and_exports
+        (record { min = 1; max = None; place = 11 } ∷ record { min = 70001; max = Some 70000; place = 13 } ∷ []) []))
+        ≡ Some (record { place = 13; cause = cause.TooManyMemories }) }
+    ensures two_faults { first_fault (module_faults (memories_and_exports []
+        (record { name = codes "m"; kind = kind.Memory; index = 0; name_place = 11; index_place = 14 }
+        ∷ record { name = codes "m"; kind = kind.Func; index = 0; name_place = 15; index_place = 18 } ∷ [])))
+        ≡ Some (record { place = 14; cause = cause.UnknownMemory }) }
+{}

@@ -1,0 +1,152 @@
+// Valid modules (WebAssembly Core 1.0, 3.4.10).
+ghost use Rattle.std.specs.Prelude.{◌≡◌, ◌≢◌, ◌++◌, Some, Ok, Err, IfOk, OnOk};
+ghost use Rattle.wasm_tree.specs.declared.tree.Module.{Module as Tree};
+ghost use Rattle.wasm_tree.specs.IndexSpaces.{declared_locals};
+ghost use Rattle.wasm_valid.specs.declared.fault.Fault.{Fault as OneFault};
+ghost use Rattle.wasm_valid.specs.declared.fault.ValidRefusal.TheVariants.{Invalid as refused_by, Memory as memory_wanted};
+ghost use Rattle.wasm_valid.specs.Verdict.{Verdict, Invalid, IsValid, outcome_of, bodies_of};
+ghost use Rattle.wasm_valid.specs.Seen.{AreSpacesOf};
+ghost use Rattle.wasm_valid.specs.EnteredBodies.{typed_context_seen, body_context_seen, EntersBody, EntersBodies};
+
+use crate::body::check_body;
+use crate::context::Spaces;
+use crate::first::FirstFault;
+use crate::rows::enter_module_faults;
+use crate::{Fault, ValidRefusal};
+use std::alloc::Global;
+use std::marker::Model;
+use w2c_base::{FuncType, Memory, ValType};
+use wasm_tree::{BodyEntry, FuncEntry, Module};
+
+/// A module in which every body has a typing, and that has no fault outside its bodies.
+#[derive(Drop)]
+pub struct ValidModule {
+    tree: Module,
+}
+
+impl Model for ValidModule {
+    ghost use Rattle.std.specs.Coded.{codes};
+    ghost use Rattle.wasm_tree.specs.declared.tree.Module.{Module as Tree};
+    ghost use Rattle.wasm_tree.specs.contracts.code.Code as code;
+    ghost use Rattle.wasm_valid.specs.Verdict.{IsValid};
+
+    ghost Value = { Tree };
+
+    ghost coded = { Prim.hlevel (codes, code.the_row.coded) };
+
+    ghost view = { λ v. v.tree };
+
+    ghost invariant = { λ v. IsValid v.tree };
+}
+
+impl ValidModule {
+    /// Checks a module. The checker calls itself for each block in a block: in a module that was read they are at most
+    /// 500 deep.
+    ///
+    /// # Errors
+    ///
+    /// `Invalid` where the module is not valid, with its first fault: the one with the least place, and of several there
+    /// the one of the earliest row of the table of causes. `Memory` where memory was wanting, which may come in any case.
+    /// The module is dropped.
+    pub fn check(alloc: Global, m: Module) -> Result<ValidModule, ValidRefusal>
+        // What is accepted is this module,
+        ensures found { IfOk result (λ checked. checked ≡ m) }
+        // and it is valid.
+        ensures valid { OnOk result (IsValid m) }
+        // What is valid is accepted.
+        ensures only { IsValid m → result ≢ Err memory_wanted → result ≡ Ok m }
+        // A fault is the first one.
+        ensures first { (fault : OneFault) → result ≡ Err (refused_by fault.place fault.cause) → Verdict m (Invalid fault) }
+        // The first fault is given.
+        ensures first_only { (fault : OneFault) → Verdict m (Invalid fault) → result ≢ Err memory_wanted
+            → result ≡ Err (refused_by fault.place fault.cause) }
+    {
+        match first_fault(alloc, &m)? {
+            Some(fault) => Err(ValidRefusal::Invalid(fault.place, fault.cause)),
+            None => Ok(ValidModule { tree: m }),
+        }
+    }
+
+    /// The module that was checked.
+    pub fn module(&self) -> &Module
+        ensures same { result.now ≡ self.now }
+        ensures valid { IsValid result.now }
+    {
+        &self.tree
+    }
+}
+
+// The first fault of a module, or none where it is valid.
+fn first_fault(alloc: Global, m: &Module) -> Result<Option<Fault>, Memory>
+    ensures { IfOk result (λ found. Verdict m.now (outcome_of found)) }
+{
+    let spaces = Spaces::new(alloc, m)?;
+    let mut first = FirstFault::new();
+    enter_module_faults(alloc, m, &spaces, &mut first)?;
+    enter_body_faults(alloc, m, &spaces, &mut first)?;
+    Ok(first.found())
+}
+
+fn enter_body_faults(
+    alloc: Global,
+    m: &Module,
+    spaces: &Spaces,
+    first: &mut FirstFault,
+) -> Result<(), Memory>
+    requires { AreSpacesOf spaces.now m.now }
+    ensures { OnOk result (EntersBodies m.now (bodies_of m.now) first.old.found first.new.found) }
+{
+    for (func, body) in m.funcs.as_slice().iter().zip(m.bodies.as_slice()) {
+        enter_fault_of(alloc, spaces, func, body, first)?;
+    }
+    Ok(())
+}
+
+// The body of a function. Where the function has no type nothing is asked of the body.
+fn enter_fault_of(
+    alloc: Global,
+    spaces: &Spaces,
+    func: &FuncEntry,
+    body: &BodyEntry,
+    first: &mut FirstFault,
+) -> Result<(), Memory>
+    ensures { OnOk result (EntersBody (body_context_seen spaces.now func.now body.now) body.now first.old.found first.new.found) }
+{
+    match spaces.func_type(func.type_index) {
+        Some(ty) => enter_body_fault(alloc, spaces, ty, body, first),
+        None => Ok(()),
+    }
+}
+
+fn enter_body_fault(
+    alloc: Global,
+    spaces: &Spaces,
+    ty: &FuncType,
+    body: &BodyEntry,
+    first: &mut FirstFault,
+) -> Result<(), Memory>
+    ensures { OnOk result (EntersBody (Some (typed_context_seen spaces.now body.now ty.now)) body.now first.old.found first.new.found) }
+{
+    let locals = locals_of(alloc, ty, body)?;
+    match check_body(alloc, spaces, locals.as_slice(), ty.result, body) {
+        Ok(()) => Ok(()),
+        Err(ValidRefusal::Invalid(place, cause)) => {
+            first.enter(place, cause);
+            Ok(())
+        }
+        Err(ValidRefusal::Memory) => Err(Memory),
+    }
+}
+
+// The types of the parameters and of the declared locals.
+fn locals_of(alloc: Global, ty: &FuncType, body: &BodyEntry) -> Result<Vec<ValType>, Memory>
+    ensures { IfOk result (λ locals. locals.items ≡ ty.now.params ++ declared_locals body.now.runs) }
+{
+    let mut locals = Vec::from_slice(alloc, ty.params.as_slice())?;
+    for run in body.runs.as_slice() {
+        for _ in 0..run.count {
+            locals.push(run.ty)?;
+        }
+    }
+    Ok(locals)
+}
