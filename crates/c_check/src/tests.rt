@@ -10,10 +10,10 @@ use w2c_base::Bytes;
 type Rule = (usize, usize, u32);
 
 /// Items of a unit, and the first rule that they break.
-type ItemCase = (&'static [u8], Option<Rule>);
+type ItemCase = (&'static str, Option<Rule>);
 
 /// Statements of `w2cZ_q` below, and the first rule that they break, with the statement.
-type StmtCase = (&'static [u8], Option<(usize, u32)>);
+type StmtCase = (&'static str, Option<(usize, u32)>);
 
 const INCLUDE: &[u8] = b"#include \"w2c_rt.h\"\n";
 
@@ -57,8 +57,8 @@ fn items(rt: &impl Abort, alloc: Global, cases: &[ItemCase]) -> Result<(), Fail>
     for (text, wanted) in cases {
         let mut whole = Bytes::new(alloc);
         whole.extend(INCLUDE)?;
-        whole.extend(text)?;
-        assert_eq!(rt; first_broken(alloc, whole.as_slice())?, *wanted, "{text:?}");
+        whole.extend(text.as_bytes())?;
+        assert_eq!(rt; first_broken(alloc, whole.as_slice())?, *wanted, "{text}");
     }
     Ok(())
 }
@@ -69,65 +69,62 @@ fn stmts(rt: &impl Abort, alloc: Global, end: &[u8], cases: &[StmtCase]) -> Resu
         whole.extend(INCLUDE)?;
         whole.extend(ITEMS)?;
         whole.extend(FUNCTION)?;
-        whole.extend(text)?;
+        whole.extend(text.as_bytes())?;
         whole.extend(end)?;
         whole.extend(BEHIND)?;
         let wanted = wanted.map(|(statement, rule)| (NUMBER, statement, rule));
-        assert_eq!(rt; first_broken(alloc, whole.as_slice())?, wanted, "{text:?}");
+        assert_eq!(rt; first_broken(alloc, whole.as_slice())?, wanted, "{text}");
     }
     Ok(())
 }
 
 const DECLARATIONS: [ItemCase; 18] = [
-    (b"", None),
-    (b"static u32 g; static u32 g;", Some((1, 0, 1))),
+    ("", None),
+    ("static u32 g; static u32 g;", Some((1, 0, 1))),
     (
-        b"static const u8 d[1] = {0}; static const u8 d[1] = {0};",
+        "static const u8 d[1] = {0}; static const u8 d[1] = {0};",
+        Some((1, 0, 1)),
+    ),
+    ("static const u8 d[1] = {0}; static u32 d;", Some((1, 0, 1))),
+    (
+        "static u32 f; static void f(void) { return; }",
         Some((1, 0, 1)),
     ),
     (
-        b"static const u8 d[1] = {0}; static u32 d;",
+        "static void f(void) { return; } static u32 f;",
         Some((1, 0, 1)),
     ),
     (
-        b"static u32 f; static void f(void) { return; }",
+        "static void f(void) { return; } static void f(void) { return; }",
         Some((1, 0, 1)),
     ),
     (
-        b"static void f(void) { return; } static u32 f;",
-        Some((1, 0, 1)),
-    ),
-    (
-        b"static void f(void) { return; } static void f(void) { return; }",
-        Some((1, 0, 1)),
-    ),
-    (
-        b"static void f(void); static void f(void) { return; } static void f(void);",
+        "static void f(void); static void f(void) { return; } static void f(void);",
         None,
     ),
     (
-        b"static void f(void); static void f(void) { return; } static void f(void) { return; }",
+        "static void f(void); static void f(void) { return; } static void f(void) { return; }",
         Some((2, 0, 1)),
     ),
     (
-        b"static void f(void) { return; } static void f(void); static void f(void) { return; }",
+        "static void f(void) { return; } static void f(void); static void f(void) { return; }",
         Some((2, 0, 1)),
     ),
     (
-        b"u32 w2cZ_a(void); u32 w2cZ_a(void); u64 w2cZ_a(void);",
+        "u32 w2cZ_a(void); u32 w2cZ_a(void); u64 w2cZ_a(void);",
         Some((2, 0, 1)),
     ),
-    (b"void w2cZ_a(u32 x); void w2cZ_a(u32);", None),
-    (b"void w2cZ_a(u32); void w2cZ_a(u64);", Some((1, 0, 1))),
-    (b"void w2cZ_a(u32); void w2cZ_a(u32, u32);", Some((1, 0, 1))),
-    (b"void w2cZ_a(u32, u32); void w2cZ_a(u32);", Some((1, 0, 1))),
-    (b"void w2cZ_a(void); void w2cZ_a(u32);", Some((1, 0, 1))),
+    ("void w2cZ_a(u32 x); void w2cZ_a(u32);", None),
+    ("void w2cZ_a(u32); void w2cZ_a(u64);", Some((1, 0, 1))),
+    ("void w2cZ_a(u32); void w2cZ_a(u32, u32);", Some((1, 0, 1))),
+    ("void w2cZ_a(u32, u32); void w2cZ_a(u32);", Some((1, 0, 1))),
+    ("void w2cZ_a(void); void w2cZ_a(u32);", Some((1, 0, 1))),
     (
-        b"void w2cZ_a(void); static void w2cZ_a(void) { return; }",
+        "void w2cZ_a(void); static void w2cZ_a(void) { return; }",
         Some((1, 0, 1)),
     ),
     (
-        b"static void f(void) { return; } void f(void);",
+        "static void f(void) { return; } void f(void);",
         Some((1, 0, 1)),
     ),
 ];
@@ -138,19 +135,19 @@ fn a_name_is_declared_once(rt: HostRuntime) -> Result<(), Fail> {
 }
 
 const RESERVED_NAMES: [ItemCase; 12] = [
-    (b"static u32 w2c_g;", Some((0, 0, 2))),
-    (b"static u32 w2cZ_g;", Some((0, 0, 2))),
-    (b"static u32 w2d; static u32 w2c; static u32 w2cZ;", None),
-    (b"static const u8 w2c_d[1] = {0};", Some((0, 0, 2))),
-    (b"static void w2c_f(void) { return; }", Some((0, 0, 2))),
-    (b"static void w2cZ_f(void) { return; }", Some((0, 0, 2))),
-    (b"void f(void);", Some((0, 0, 2))),
-    (b"void w2c_trap(u32);", Some((0, 0, 2))),
-    (b"void w2cZ_(void);", None),
-    (b"void w2cZ_a(u32 w2cZ_x);", Some((0, 0, 2))),
-    (b"static void f(u32 w2c_x) { return; }", Some((0, 0, 2))),
+    ("static u32 w2c_g;", Some((0, 0, 2))),
+    ("static u32 w2cZ_g;", Some((0, 0, 2))),
+    ("static u32 w2d; static u32 w2c; static u32 w2cZ;", None),
+    ("static const u8 w2c_d[1] = {0};", Some((0, 0, 2))),
+    ("static void w2c_f(void) { return; }", Some((0, 0, 2))),
+    ("static void w2cZ_f(void) { return; }", Some((0, 0, 2))),
+    ("void f(void);", Some((0, 0, 2))),
+    ("void w2c_trap(u32);", Some((0, 0, 2))),
+    ("void w2cZ_(void);", None),
+    ("void w2cZ_a(u32 w2cZ_x);", Some((0, 0, 2))),
+    ("static void f(u32 w2c_x) { return; }", Some((0, 0, 2))),
     (
-        b"static void f(void) { u32 w2c_x = 0u; return; }",
+        "static void f(void) { u32 w2c_x = 0u; return; }",
         Some((0, 0, 2)),
     ),
 ];
@@ -161,24 +158,24 @@ fn some_names_are_reserved(rt: HostRuntime) -> Result<(), Fail> {
 }
 
 const DECLARED_TYPES: [ItemCase; 14] = [
-    (b"static void g;", Some((0, 0, 3))),
-    (b"static const u8 d[3] = {7, 8};", Some((0, 0, 3))),
-    (b"static const u8 d[1] = {7, 8};", Some((0, 0, 3))),
-    (b"static const u8 d[0] = {7};", Some((0, 0, 3))),
-    (b"w2c_mem w2cZ_a(void);", Some((0, 0, 3))),
-    (b"w2c_tab w2cZ_a(void);", Some((0, 0, 3))),
-    (b"w2c_mem * w2cZ_a(w2c_tab *, w2c_fn, u32 *, u64 *);", None),
-    (b"void w2cZ_a(w2c_mem);", Some((0, 0, 3))),
-    (b"void w2cZ_a(u32, w2c_tab t);", Some((0, 0, 3))),
-    (b"void w2cZ_a(u32, void);", Some((0, 0, 3))),
-    (b"void w2cZ_a(void, void);", Some((0, 0, 3))),
-    (b"void w2cZ_a(void x);", Some((0, 0, 3))),
+    ("static void g;", Some((0, 0, 3))),
+    ("static const u8 d[3] = {7, 8};", Some((0, 0, 3))),
+    ("static const u8 d[1] = {7, 8};", Some((0, 0, 3))),
+    ("static const u8 d[0] = {7};", Some((0, 0, 3))),
+    ("w2c_mem w2cZ_a(void);", Some((0, 0, 3))),
+    ("w2c_tab w2cZ_a(void);", Some((0, 0, 3))),
+    ("w2c_mem * w2cZ_a(w2c_tab *, w2c_fn, u32 *, u64 *);", None),
+    ("void w2cZ_a(w2c_mem);", Some((0, 0, 3))),
+    ("void w2cZ_a(u32, w2c_tab t);", Some((0, 0, 3))),
+    ("void w2cZ_a(u32, void);", Some((0, 0, 3))),
+    ("void w2cZ_a(void, void);", Some((0, 0, 3))),
+    ("void w2cZ_a(void x);", Some((0, 0, 3))),
     (
-        b"static void f(void) { void x = 0; return; }",
+        "static void f(void) { void x = 0; return; }",
         Some((0, 0, 3)),
     ),
     (
-        b"static void f(void) { u32 x = 0u; w2c_tab y = 0; return; }",
+        "static void f(void) { u32 x = 0u; w2c_tab y = 0; return; }",
         Some((0, 0, 3)),
     ),
 ];
@@ -190,27 +187,27 @@ fn declared_types(rt: HostRuntime) -> Result<(), Fail> {
 
 const FIRST_VALUES: [ItemCase; 12] = [
     (
-        b"static u32 g = 5u; static u64 h = 5ull; static w2c_fn e = 0; static w2c_mem * p = 0;",
+        "static u32 g = 5u; static u64 h = 5ull; static w2c_fn e = 0; static w2c_mem * p = 0;",
         None,
     ),
-    (b"static u32 g = 5ull;", Some((0, 0, 4))),
-    (b"static u32 g = 0;", Some((0, 0, 4))),
-    (b"static u64 h = 5u;", Some((0, 0, 4))),
-    (b"static w2c_fn e = 1;", Some((0, 0, 4))),
-    (b"static w2c_fn e = 0u;", Some((0, 0, 4))),
-    (b"static u64 * p = 1;", Some((0, 0, 4))),
-    (b"static w2c_mem m = 0;", Some((0, 0, 4))),
-    (b"static w2c_tab t = 0u;", Some((0, 0, 4))),
+    ("static u32 g = 5ull;", Some((0, 0, 4))),
+    ("static u32 g = 0;", Some((0, 0, 4))),
+    ("static u64 h = 5u;", Some((0, 0, 4))),
+    ("static w2c_fn e = 1;", Some((0, 0, 4))),
+    ("static w2c_fn e = 0u;", Some((0, 0, 4))),
+    ("static u64 * p = 1;", Some((0, 0, 4))),
+    ("static w2c_mem m = 0;", Some((0, 0, 4))),
+    ("static w2c_tab t = 0u;", Some((0, 0, 4))),
     (
-        b"static void f(void) { u32 x = 0u; u64 y = 0ull; u32 * p = 0; return; }",
+        "static void f(void) { u32 x = 0u; u64 y = 0ull; u32 * p = 0; return; }",
         None,
     ),
     (
-        b"static void f(void) { u32 x = 0u; u64 y = 0u; return; }",
+        "static void f(void) { u32 x = 0u; u64 y = 0u; return; }",
         Some((0, 0, 4)),
     ),
     (
-        b"static void f(void) { w2c_tab * p = 1; return; }",
+        "static void f(void) { w2c_tab * p = 1; return; }",
         Some((0, 0, 4)),
     ),
 ];
@@ -221,16 +218,16 @@ fn first_values(rt: HostRuntime) -> Result<(), Fail> {
 }
 
 const STATIC_FUNCTIONS: [ItemCase; 4] = [
-    (b"static void f(void);", Some((0, 0, 5))),
+    ("static void f(void);", Some((0, 0, 5))),
     (
-        b"static u32 g; static void f(void); static void f(void);",
+        "static u32 g; static void f(void); static void f(void);",
         Some((1, 0, 5)),
     ),
     (
-        b"static void f(void); static u32 g; static void f(void) { return; }",
+        "static void f(void); static u32 g; static void f(void) { return; }",
         None,
     ),
-    (b"void w2cZ_a(void); void w2cZ_b(void);", None),
+    ("void w2cZ_a(void); void w2cZ_b(void);", None),
 ];
 
 #[test]
@@ -239,39 +236,39 @@ fn a_static_function_is_defined(rt: HostRuntime) -> Result<(), Fail> {
 }
 
 const OWN_NAMES: [ItemCase; 12] = [
-    (b"static void f(u32) { return; }", Some((0, 0, 6))),
-    (b"void w2cZ_a(u32, u32);", None),
-    (b"static void f(u32 x, u64 x) { return; }", Some((0, 0, 6))),
-    (b"void w2cZ_a(u32 x, u64 x);", Some((0, 0, 6))),
+    ("static void f(u32) { return; }", Some((0, 0, 6))),
+    ("void w2cZ_a(u32, u32);", None),
+    ("static void f(u32 x, u64 x) { return; }", Some((0, 0, 6))),
+    ("void w2cZ_a(u32 x, u64 x);", Some((0, 0, 6))),
     (
-        b"static void f(u32 x) { u32 y = 0u; u64 x = 0ull; return; }",
+        "static void f(u32 x) { u32 y = 0u; u64 x = 0ull; return; }",
         Some((0, 0, 6)),
     ),
     (
-        b"static void f(void) { u32 x = 0u; u64 x = 0ull; return; }",
+        "static void f(void) { u32 x = 0u; u64 x = 0ull; return; }",
         Some((0, 0, 6)),
     ),
     (
-        b"static void f(u32 x) { return; } static void g(u32 x) { return; }",
+        "static void f(u32 x) { return; } static void g(u32 x) { return; }",
         None,
     ),
     (
-        b"static u32 x; static void f(u32 x) { return; }",
+        "static u32 x; static void f(u32 x) { return; }",
         Some((1, 0, 6)),
     ),
     (
-        b"static const u8 x[1] = {0}; static void f(void) { u32 x = 0u; return; }",
+        "static const u8 x[1] = {0}; static void f(void) { u32 x = 0u; return; }",
         Some((1, 0, 6)),
     ),
     (
-        b"static void f(void) { u32 x = 0u; return; } static u32 x;",
+        "static void f(void) { u32 x = 0u; return; } static u32 x;",
         Some((0, 0, 6)),
     ),
     (
-        b"void w2cZ_a(u32 x); static void x(void) { return; }",
+        "void w2cZ_a(u32 x); static void x(void) { return; }",
         Some((0, 0, 6)),
     ),
-    (b"static void f(u32 f) { return; }", Some((0, 0, 6))),
+    ("static void f(u32 f) { return; }", Some((0, 0, 6))),
 ];
 
 #[test]
@@ -281,25 +278,25 @@ fn names_of_a_functions_own(rt: HostRuntime) -> Result<(), Fail> {
 
 const LABELS: [StmtCase; 11] = [
     (
-        b"L: goto L; M: if (x < z) goto M; switch (x) { case 0u: goto L; default: goto M; }",
+        "L: goto L; M: if (x < z) goto M; switch (x) { case 0u: goto L; default: goto M; }",
         None,
     ),
-    (b"L: L: ", Some((2, 7))),
-    (b"L: ; x = 1u; L: ", Some((4, 7))),
-    (b"if (x < z) goto L;", Some((1, 7))),
-    (b"switch (x) { default: goto L; }", Some((1, 7))),
+    ("L: L: ", Some((2, 7))),
+    ("L: ; x = 1u; L: ", Some((4, 7))),
+    ("if (x < z) goto L;", Some((1, 7))),
+    ("switch (x) { default: goto L; }", Some((1, 7))),
     (
-        b"L: switch (x) { case 0u: goto M; default: goto L; }",
+        "L: switch (x) { case 0u: goto M; default: goto L; }",
         Some((2, 7)),
     ),
     (
-        b"L: switch (x) { case 0u: goto L; case 1u: goto M; default: goto L; }",
+        "L: switch (x) { case 0u: goto L; case 1u: goto M; default: goto L; }",
         Some((2, 7)),
     ),
-    (b"goto F;", Some((1, 7))),
-    (b"w2c_L: ", Some((1, 2))),
-    (b"; w2cZ_L: ", Some((2, 2))),
-    (b"x: goto x; g: goto g; f: goto f;", None),
+    ("goto F;", Some((1, 7))),
+    ("w2c_L: ", Some((1, 2))),
+    ("; w2cZ_L: ", Some((2, 2))),
+    ("x: goto x; g: goto g; f: goto f;", None),
 ];
 
 #[test]
@@ -307,7 +304,7 @@ fn labels(rt: HostRuntime) -> Result<(), Fail> {
     stmts(&rt, rt.alloc(), RETURN, &LABELS)
 }
 
-const MISSING_LABEL: [ItemCase; 1] = [(b"static void f(void) { goto L9; }", Some((0, 1, 7)))];
+const MISSING_LABEL: [ItemCase; 1] = [("static void f(void) { goto L9; }", Some((0, 1, 7)))];
 
 #[test]
 fn missing_label(rt: HostRuntime) -> Result<(), Fail> {
@@ -316,45 +313,45 @@ fn missing_label(rt: HostRuntime) -> Result<(), Fail> {
 
 const USED_NAMES: [StmtCase; 37] = [
     (
-        b"x = g; x = w2c_depth; x = (u32) d[x]; x = (* p); f(); w2c_trap(x); p = & g; e = (w2c_fn) w2cZ_q;",
+        "x = g; x = w2c_depth; x = (u32) d[x]; x = (* p); f(); w2c_trap(x); p = & g; e = (w2c_fn) w2cZ_q;",
         None,
     ),
-    (b"n = x;", Some((1, 8))),
-    (b"x = n;", Some((1, 8))),
-    (b"x = (x + n);", Some((1, 8))),
-    (b"x = (n + x);", Some((1, 8))),
-    (b"x = (u32) n;", Some((1, 8))),
-    (b"y = (u64) n;", Some((1, 8))),
-    (b"x = (* n);", Some((1, 8))),
-    (b"* n = x;", Some((1, 8))),
-    (b"* p = n;", Some((1, 8))),
-    (b"x = (u32) n[x];", Some((1, 8))),
-    (b"x = (u32) d[n];", Some((1, 8))),
-    (b"p = & n;", Some((1, 8))),
-    (b"e = (w2c_fn) n;", Some((1, 8))),
-    (b"n();", Some((1, 8))),
-    (b"x = n();", Some((1, 8))),
-    (b"n = w2cZ_a(x, y);", Some((1, 8))),
-    (b"x = w2cZ_a(x, n);", Some((1, 8))),
-    (b"(* (void (*) (void)) n) ();", Some((1, 8))),
-    (b"(* (void (*) (u32)) e) (n);", Some((1, 8))),
-    (b"w2cZ_of_mem(& n);", Some((1, 8))),
-    (b"w2cZ_of_fn((w2c_fn) n);", Some((1, 8))),
-    (b"L: if (n < x) goto L;", Some((2, 8))),
-    (b"L: if (x < n) goto L;", Some((2, 8))),
-    (b"L: switch (n) { default: goto L; }", Some((2, 8))),
-    (b"; return n;", Some((2, 8))),
-    (b"x = d;", Some((1, 8))),
-    (b"x = f;", Some((1, 8))),
-    (b"x = (u32) g[x];", Some((1, 8))),
-    (b"x = (u32) f[x];", Some((1, 8))),
-    (b"g();", Some((1, 8))),
-    (b"d();", Some((1, 8))),
-    (b"e = (w2c_fn) g;", Some((1, 8))),
-    (b"p = & f;", Some((1, 8))),
-    (b"x = later;", Some((1, 8))),
-    (b"later_function();", Some((1, 8))),
-    (b"x = own;", Some((1, 8))),
+    ("n = x;", Some((1, 8))),
+    ("x = n;", Some((1, 8))),
+    ("x = (x + n);", Some((1, 8))),
+    ("x = (n + x);", Some((1, 8))),
+    ("x = (u32) n;", Some((1, 8))),
+    ("y = (u64) n;", Some((1, 8))),
+    ("x = (* n);", Some((1, 8))),
+    ("* n = x;", Some((1, 8))),
+    ("* p = n;", Some((1, 8))),
+    ("x = (u32) n[x];", Some((1, 8))),
+    ("x = (u32) d[n];", Some((1, 8))),
+    ("p = & n;", Some((1, 8))),
+    ("e = (w2c_fn) n;", Some((1, 8))),
+    ("n();", Some((1, 8))),
+    ("x = n();", Some((1, 8))),
+    ("n = w2cZ_a(x, y);", Some((1, 8))),
+    ("x = w2cZ_a(x, n);", Some((1, 8))),
+    ("(* (void (*) (void)) n) ();", Some((1, 8))),
+    ("(* (void (*) (u32)) e) (n);", Some((1, 8))),
+    ("w2cZ_of_mem(& n);", Some((1, 8))),
+    ("w2cZ_of_fn((w2c_fn) n);", Some((1, 8))),
+    ("L: if (n < x) goto L;", Some((2, 8))),
+    ("L: if (x < n) goto L;", Some((2, 8))),
+    ("L: switch (n) { default: goto L; }", Some((2, 8))),
+    ("; return n;", Some((2, 8))),
+    ("x = d;", Some((1, 8))),
+    ("x = f;", Some((1, 8))),
+    ("x = (u32) g[x];", Some((1, 8))),
+    ("x = (u32) f[x];", Some((1, 8))),
+    ("g();", Some((1, 8))),
+    ("d();", Some((1, 8))),
+    ("e = (w2c_fn) g;", Some((1, 8))),
+    ("p = & f;", Some((1, 8))),
+    ("x = later;", Some((1, 8))),
+    ("later_function();", Some((1, 8))),
+    ("x = own;", Some((1, 8))),
 ];
 
 #[test]
@@ -364,44 +361,44 @@ fn used_names(rt: HostRuntime) -> Result<(), Fail> {
 
 const EXPRESSIONS: [StmtCase; 36] = [
     (
-        b"x = ((x * (u32) y) / (x - 1u)); y = ((u64) x >> 3ull); x = (u32) (x <= z);",
+        "x = ((x * (u32) y) / (x - 1u)); y = ((u64) x >> 3ull); x = (u32) (x <= z);",
         None,
     ),
-    (b"x = (x + 1ull);", Some((1, 9))),
-    (b"y = (1u << y);", Some((1, 9))),
-    (b"x = (e + e);", Some((1, 9))),
-    (b"x = (p - p);", Some((1, 9))),
-    (b"x = (u32) (p == p);", Some((1, 9))),
-    (b"x = (x < z);", Some((1, 9))),
-    (b"x = ((x < z) + x);", Some((1, 9))),
-    (b"y = (u64) (x < z);", Some((1, 9))),
-    (b"L: if (x < z) goto L;", None),
-    (b"L: if (y >= (u64) x) goto L;", None),
-    (b"L: if (x < y) goto L;", Some((2, 9))),
-    (b"L: if (e == e) goto L;", Some((2, 9))),
-    (b"L: if (x + z) goto L;", Some((2, 9))),
-    (b"x = d[x];", Some((1, 9))),
-    (b"y = (u64) d[x];", Some((1, 9))),
-    (b"x = (u32) d[y];", None),
-    (b"x = (u32) d[e];", Some((1, 9))),
-    (b"x = (u32) d[d[x]];", Some((1, 9))),
-    (b"x = 1;", Some((1, 9))),
-    (b"x = (x + 1);", Some((1, 9))),
-    (b"x = (u32) e;", Some((1, 9))),
-    (b"y = (u64) p;", Some((1, 9))),
-    (b"x = (* g);", Some((1, 9))),
-    (b"x = (* e);", Some((1, 9))),
-    (b"* g = x;", Some((1, 9))),
-    (b"* m = x;", Some((1, 9))),
-    (b"x = m;", Some((1, 9))),
-    (b"m = x;", Some((1, 9))),
-    (b"t = w2cZ_a(x, y);", Some((1, 9))),
-    (b"w2cZ_of_mem(m);", Some((1, 9))),
-    (b"x = w2cZ_a(1, y);", Some((1, 9))),
-    (b"(* (void (*) (void)) g) ();", Some((1, 9))),
-    (b"(* (void (*) (void)) p) ();", Some((1, 9))),
-    (b"L: switch (1) { default: goto L; }", Some((2, 9))),
-    (b"; return t;", Some((2, 9))),
+    ("x = (x + 1ull);", Some((1, 9))),
+    ("y = (1u << y);", Some((1, 9))),
+    ("x = (e + e);", Some((1, 9))),
+    ("x = (p - p);", Some((1, 9))),
+    ("x = (u32) (p == p);", Some((1, 9))),
+    ("x = (x < z);", Some((1, 9))),
+    ("x = ((x < z) + x);", Some((1, 9))),
+    ("y = (u64) (x < z);", Some((1, 9))),
+    ("L: if (x < z) goto L;", None),
+    ("L: if (y >= (u64) x) goto L;", None),
+    ("L: if (x < y) goto L;", Some((2, 9))),
+    ("L: if (e == e) goto L;", Some((2, 9))),
+    ("L: if (x + z) goto L;", Some((2, 9))),
+    ("x = d[x];", Some((1, 9))),
+    ("y = (u64) d[x];", Some((1, 9))),
+    ("x = (u32) d[y];", None),
+    ("x = (u32) d[e];", Some((1, 9))),
+    ("x = (u32) d[d[x]];", Some((1, 9))),
+    ("x = 1;", Some((1, 9))),
+    ("x = (x + 1);", Some((1, 9))),
+    ("x = (u32) e;", Some((1, 9))),
+    ("y = (u64) p;", Some((1, 9))),
+    ("x = (* g);", Some((1, 9))),
+    ("x = (* e);", Some((1, 9))),
+    ("* g = x;", Some((1, 9))),
+    ("* m = x;", Some((1, 9))),
+    ("x = m;", Some((1, 9))),
+    ("m = x;", Some((1, 9))),
+    ("t = w2cZ_a(x, y);", Some((1, 9))),
+    ("w2cZ_of_mem(m);", Some((1, 9))),
+    ("x = w2cZ_a(1, y);", Some((1, 9))),
+    ("(* (void (*) (void)) g) ();", Some((1, 9))),
+    ("(* (void (*) (void)) p) ();", Some((1, 9))),
+    ("L: switch (1) { default: goto L; }", Some((2, 9))),
+    ("; return t;", Some((2, 9))),
 ];
 
 #[test]
@@ -411,48 +408,48 @@ fn expressions(rt: HostRuntime) -> Result<(), Fail> {
 
 const AGREEMENT: [StmtCase; 37] = [
     (
-        b"x = w2cZ_a(x, y); w2cZ_a(g, (u64) g); x = (* (u32 (*) (u64)) e) (h); (* (void (*) (void)) e) (); * r = y;",
+        "x = w2cZ_a(x, y); w2cZ_a(g, (u64) g); x = (* (u32 (*) (u64)) e) (h); (* (void (*) (void)) e) (); * r = y;",
         None,
     ),
-    (b"x = y;", Some((1, 10))),
-    (b"y = x;", Some((1, 10))),
-    (b"w2c_depth = y;", Some((1, 10))),
-    (b"e = x;", Some((1, 10))),
-    (b"* p = y;", Some((1, 10))),
-    (b"* r = x;", Some((1, 10))),
-    (b"p = & h;", Some((1, 10))),
-    (b"r = & h;", None),
-    (b"x = & g;", Some((1, 10))),
-    (b"p = & x;", Some((1, 10))),
-    (b"p = & z;", Some((1, 10))),
-    (b"p = & w2c_depth;", Some((1, 10))),
-    (b"p = & e;", Some((1, 10))),
-    (b"p = & p;", Some((1, 10))),
-    (b"w2cZ_of_mem(& m);", None),
-    (b"w2cZ_of_mem(& t);", Some((1, 10))),
-    (b"e = (w2c_fn) w2c_trap;", Some((1, 10))),
-    (b"x = (w2c_fn) f;", Some((1, 10))),
-    (b"f(x);", Some((1, 10))),
-    (b"w2cZ_a(x);", Some((1, 10))),
-    (b"w2cZ_a(x, y, x);", Some((1, 10))),
-    (b"w2cZ_a(y, y);", Some((1, 10))),
-    (b"w2cZ_a(x, & h);", Some((1, 10))),
-    (b"w2c_trap();", Some((1, 10))),
-    (b"w2c_trap(y);", Some((1, 10))),
+    ("x = y;", Some((1, 10))),
+    ("y = x;", Some((1, 10))),
+    ("w2c_depth = y;", Some((1, 10))),
+    ("e = x;", Some((1, 10))),
+    ("* p = y;", Some((1, 10))),
+    ("* r = x;", Some((1, 10))),
+    ("p = & h;", Some((1, 10))),
+    ("r = & h;", None),
+    ("x = & g;", Some((1, 10))),
+    ("p = & x;", Some((1, 10))),
+    ("p = & z;", Some((1, 10))),
+    ("p = & w2c_depth;", Some((1, 10))),
+    ("p = & e;", Some((1, 10))),
+    ("p = & p;", Some((1, 10))),
+    ("w2cZ_of_mem(& m);", None),
+    ("w2cZ_of_mem(& t);", Some((1, 10))),
+    ("e = (w2c_fn) w2c_trap;", Some((1, 10))),
+    ("x = (w2c_fn) f;", Some((1, 10))),
+    ("f(x);", Some((1, 10))),
+    ("w2cZ_a(x);", Some((1, 10))),
+    ("w2cZ_a(x, y, x);", Some((1, 10))),
+    ("w2cZ_a(y, y);", Some((1, 10))),
+    ("w2cZ_a(x, & h);", Some((1, 10))),
+    ("w2c_trap();", Some((1, 10))),
+    ("w2c_trap(y);", Some((1, 10))),
     (
-        b"x = w2c_get4(& m, y); w2c_put8(& m, y, y); y = w2c_tab_len(& t);",
+        "x = w2c_get4(& m, y); w2c_put8(& m, y, y); y = w2c_tab_len(& t);",
         None,
     ),
-    (b"x = f();", Some((1, 10))),
-    (b"y = w2cZ_a(x, y);", Some((1, 10))),
-    (b"x = w2c_trap(x);", Some((1, 10))),
-    (b"y = w2c_get4(& m, y);", Some((1, 10))),
-    (b"(* (void (*) (u32)) e) ();", Some((1, 10))),
-    (b"(* (void (*) (u32)) e) (y);", Some((1, 10))),
-    (b"x = (* (u64 (*) (void)) e) ();", Some((1, 10))),
-    (b"x = (* (void (*) (void)) e) ();", Some((1, 10))),
-    (b"; return y;", Some((2, 10))),
-    (b"; return;", Some((2, 10))),
+    ("x = f();", Some((1, 10))),
+    ("y = w2cZ_a(x, y);", Some((1, 10))),
+    ("x = w2c_trap(x);", Some((1, 10))),
+    ("y = w2c_get4(& m, y);", Some((1, 10))),
+    ("(* (void (*) (u32)) e) ();", Some((1, 10))),
+    ("(* (void (*) (u32)) e) (y);", Some((1, 10))),
+    ("x = (* (u64 (*) (void)) e) ();", Some((1, 10))),
+    ("x = (* (void (*) (void)) e) ();", Some((1, 10))),
+    ("; return y;", Some((2, 10))),
+    ("; return;", Some((2, 10))),
 ];
 
 #[test]
@@ -461,11 +458,11 @@ fn types_agree(rt: HostRuntime) -> Result<(), Fail> {
 }
 
 const WRITTEN_TYPES: [StmtCase; 5] = [
-    (b"x = (* (u32 (*) (w2c_mem *, w2c_fn)) e) (& m, e);", None),
-    (b"(* (w2c_mem (*) (void)) e) ();", Some((1, 3))),
-    (b"(* (void (*) (w2c_tab)) e) (x);", Some((1, 3))),
-    (b"(* (void (*) (u32, void)) e) (x, x);", Some((1, 3))),
-    (b"(* (void (*) (void, void)) e) (x, x);", Some((1, 3))),
+    ("x = (* (u32 (*) (w2c_mem *, w2c_fn)) e) (& m, e);", None),
+    ("(* (w2c_mem (*) (void)) e) ();", Some((1, 3))),
+    ("(* (void (*) (w2c_tab)) e) (x);", Some((1, 3))),
+    ("(* (void (*) (u32, void)) e) (x, x);", Some((1, 3))),
+    ("(* (void (*) (void, void)) e) (x, x);", Some((1, 3))),
 ];
 
 #[test]
@@ -475,35 +472,35 @@ fn written_types(rt: HostRuntime) -> Result<(), Fail> {
 
 const CASES: [StmtCase; 9] = [
     (
-        b"L: switch (x) { case 0u: goto L; case 4294967295u: goto L; default: goto L; }",
+        "L: switch (x) { case 0u: goto L; case 4294967295u: goto L; default: goto L; }",
         None,
     ),
     (
-        b"L: switch (y) { case 0ull: goto L; case 18446744073709551615ull: goto L; default: goto L; }",
+        "L: switch (y) { case 0ull: goto L; case 18446744073709551615ull: goto L; default: goto L; }",
         None,
     ),
-    (b"L: switch (x) { default: goto L; }", None),
+    ("L: switch (x) { default: goto L; }", None),
     (
-        b"L: switch (x) { case 1u: goto L; case 1u: goto L; default: goto L; }",
+        "L: switch (x) { case 1u: goto L; case 1u: goto L; default: goto L; }",
         Some((2, 11)),
     ),
     (
-        b"L: switch (x) { case 1u: goto L; case 2u: goto L; case 1u: goto L; default: goto L; }",
+        "L: switch (x) { case 1u: goto L; case 2u: goto L; case 1u: goto L; default: goto L; }",
         Some((2, 11)),
     ),
     (
-        b"L: switch (x) { case 1ull: goto L; default: goto L; }",
+        "L: switch (x) { case 1ull: goto L; default: goto L; }",
         Some((2, 11)),
     ),
     (
-        b"L: switch (y) { case 1ull: goto L; case 2u: goto L; default: goto L; }",
+        "L: switch (y) { case 1ull: goto L; case 2u: goto L; default: goto L; }",
         Some((2, 11)),
     ),
     (
-        b"L: switch (x) { case 1: goto L; default: goto L; }",
+        "L: switch (x) { case 1: goto L; default: goto L; }",
         Some((2, 11)),
     ),
-    (b"L: switch (e) { default: goto L; }", Some((2, 11))),
+    ("L: switch (e) { default: goto L; }", Some((2, 11))),
 ];
 
 #[test]
@@ -512,18 +509,18 @@ fn cases_of_a_switch(rt: HostRuntime) -> Result<(), Fail> {
 }
 
 const ENDS: [StmtCase; 12] = [
-    (b"return x;", None),
-    (b"L: goto L;", None),
-    (b"L: switch (x) { default: goto L; }", None),
-    (b"w2c_trap(x);", None),
-    (b"", Some((0, 12))),
-    (b";", Some((1, 12))),
-    (b"return x; ;", Some((2, 12))),
-    (b"; return x; L:", Some((3, 12))),
-    (b"return x; x = 1u;", Some((2, 12))),
-    (b"return x; * p = x;", Some((2, 12))),
-    (b"L: if (x < z) goto L;", Some((2, 12))),
-    (b"return x; x = w2cZ_a(x, y); f();", Some((3, 12))),
+    ("return x;", None),
+    ("L: goto L;", None),
+    ("L: switch (x) { default: goto L; }", None),
+    ("w2c_trap(x);", None),
+    ("", Some((0, 12))),
+    (";", Some((1, 12))),
+    ("return x; ;", Some((2, 12))),
+    ("; return x; L:", Some((3, 12))),
+    ("return x; x = 1u;", Some((2, 12))),
+    ("return x; * p = x;", Some((2, 12))),
+    ("L: if (x < z) goto L;", Some((2, 12))),
+    ("return x; x = w2cZ_a(x, y); f();", Some((3, 12))),
 ];
 
 #[test]
@@ -532,36 +529,36 @@ fn a_body_ends_with_a_jump(rt: HostRuntime) -> Result<(), Fail> {
 }
 
 const TWO_BROKEN_ITEMS: [ItemCase; 9] = [
-    (b"static void g; static u32 h = 1ull;", Some((0, 0, 3))),
-    (b"static u32 h = 1ull; static void g;", Some((0, 0, 4))),
-    (b"static void f(void); static u32 f;", Some((0, 0, 5))),
-    (b"static u32 f; static void f(void);", Some((1, 0, 1))),
-    (b"static u32 w2c_g = 1ull;", Some((0, 0, 2))),
+    ("static void g; static u32 h = 1ull;", Some((0, 0, 3))),
+    ("static u32 h = 1ull; static void g;", Some((0, 0, 4))),
+    ("static void f(void); static u32 f;", Some((0, 0, 5))),
+    ("static u32 f; static void f(void);", Some((1, 0, 1))),
+    ("static u32 w2c_g = 1ull;", Some((0, 0, 2))),
     (
-        b"static void f(u32 x, u32 x) { w2c_mem y = 0; }",
+        "static void f(u32 x, u32 x) { w2c_mem y = 0; }",
         Some((0, 0, 3)),
     ),
-    (b"static void f(u32 x, u32 x) { }", Some((0, 0, 6))),
+    ("static void f(u32 x, u32 x) { }", Some((0, 0, 6))),
     (
-        b"static void f(void) { goto L; } static void g;",
+        "static void f(void) { goto L; } static void g;",
         Some((0, 1, 7)),
     ),
     (
-        b"static void g; static void f(void) { goto L; }",
+        "static void g; static void f(void) { goto L; }",
         Some((0, 0, 3)),
     ),
 ];
 
 const TWO_BROKEN_STATEMENTS: [StmtCase; 8] = [
-    (b"goto L; x = n; x = 1;", Some((1, 7))),
-    (b"x = n; goto L; x = 1;", Some((1, 8))),
-    (b"x = 1; x = n; goto L;", Some((1, 9))),
-    (b"; w2c_L: w2c_L: ", Some((2, 2))),
-    (b"L: L: w2c_M:", Some((2, 7))),
-    (b"n = (x + 1ull);", Some((1, 8))),
-    (b"x = w2cZ_a(x, 1, x);", Some((1, 9))),
+    ("goto L; x = n; x = 1;", Some((1, 7))),
+    ("x = n; goto L; x = 1;", Some((1, 8))),
+    ("x = 1; x = n; goto L;", Some((1, 9))),
+    ("; w2c_L: w2c_L: ", Some((2, 2))),
+    ("L: L: w2c_M:", Some((2, 7))),
+    ("n = (x + 1ull);", Some((1, 8))),
+    ("x = w2cZ_a(x, 1, x);", Some((1, 9))),
     (
-        b"L: switch (n) { case 1u: goto L; case 1u: goto M; default: goto L; }",
+        "L: switch (n) { case 1u: goto L; case 1u: goto M; default: goto L; }",
         Some((2, 7)),
     ),
 ];
@@ -574,18 +571,18 @@ fn the_first_of_two_broken_rules(rt: HostRuntime) -> Result<(), Fail> {
 
 const GOOD_UNITS: [ItemCase; 3] = [
     (
-        b"u32 w2cZ_uZ_fZ_q(u32 x, u32 y) { u32 z = 0u; z = (x / y); return z; }",
+        "u32 w2cZ_uZ_fZ_q(u32 x, u32 y) { u32 z = 0u; z = (x / y); return z; }",
         None,
     ),
     (
-        b"static u32 f0(void);
+        "static u32 f0(void);
 void w2cZ_twoZ_i(void) { ; return; }
 u32 w2cZ_twoZ_fZ_f(void) { u32 r = 0u; r = f0(); return r; }
 static u32 f0(void) { u32 i0 = 0u; u32 i1 = 0u; i0 = 40u; i1 = 2u; i0 = (i0 + i1); return i0; }",
         None,
     ),
     (
-        b"static void f(u32 x) { u32 n = 3u; L: n = (n - 1u); if (n != 0u) goto L; switch (x) { case 0u: goto M; default: goto L; } M: return; }",
+        "static void f(u32 x) { u32 n = 3u; L: n = (n - 1u); if (n != 0u) goto L; switch (x) { case 0u: goto M; default: goto L; } M: return; }",
         None,
     ),
 ];
@@ -596,10 +593,10 @@ fn good_units(rt: HostRuntime) -> Result<(), Fail> {
 }
 
 const RESULTS: [ItemCase; 4] = [
-    (b"static void f(void) { return 1u; }", Some((0, 1, 10))),
-    (b"static u64 f(void) { return 1u; }", Some((0, 1, 10))),
-    (b"static w2c_fn f(void) { return (w2c_fn) f; }", None),
-    (b"static u32 g; static u32 * f(void) { return & g; }", None),
+    ("static void f(void) { return 1u; }", Some((0, 1, 10))),
+    ("static u64 f(void) { return 1u; }", Some((0, 1, 10))),
+    ("static w2c_fn f(void) { return (w2c_fn) f; }", None),
+    ("static u32 g; static u32 * f(void) { return & g; }", None),
 ];
 
 #[test]

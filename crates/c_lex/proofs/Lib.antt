@@ -1,4 +1,4 @@
 pub mod Runs
 pub mod Scanned
-pub mod Value
+pub mod Digits
 pub mod Words

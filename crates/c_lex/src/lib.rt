@@ -8,3 +8,4 @@ mod token;
 mod word;
 
 pub use cursor::Cursor;
+pub use number::value;

@@ -5,8 +5,8 @@ ghost use Rattle.c_lex.specs.Reading.{num_of};
 
 use c_tree::{Num, Suffix};
 
-/// The number that digits write, where it is below 2^64.
-#[tactic(auto, using(crate::proofs::Value::value_step, crate::proofs::Value::value_grows))]
+/// The number that decimal digits write, with leading zeros or without (C11, 6.4.4.1). None where it is not below 2^64.
+#[tactic(auto, using(crate::proofs::Digits::value_step, crate::proofs::Digits::value_grows))]
 pub fn value(digits: &[u8]) -> Option<u64>
     ensures some { IfSome result (λ n. n ≡ value_of 0 digits.now) }
     ensures none { IfNone result (2 ^ 64 ≤ value_of 0 digits.now) }
@@ -34,5 +34,22 @@ pub fn num(suffix: Suffix, n: u64) -> Option<Num>
         Suffix::Of32 if n <= 0xffff_ffff => Some(Num::N32(n as u32)),
         Suffix::OfPlain if n <= 0xffff_ffff => Some(Num::Plain(n)),
         _ => None,
+    }
+}
+
+#[cfg(test)]
+mod tests {
+    use crate::value;
+    use std::test::Fail;
+
+    #[test]
+    fn values(rt: HostRuntime) -> Result<(), Fail> {
+        assert_eq!(rt; value(b"042"), Some(42));
+        assert_eq!(rt;
+            value(b"18446744073709551615"),
+            Some(18_446_744_073_709_551_615)
+        );
+        assert_eq!(rt; value(b"18446744073709551616"), None);
+        Ok(())
     }
 }

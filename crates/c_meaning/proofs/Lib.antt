@@ -4,3 +4,4 @@ pub mod Lookups
 pub mod OnTheWay
 pub mod Ways
 pub mod Goes
+pub mod Fronts

@@ -1,6 +1,6 @@
 -- Units that link with hosts, and what each name of a unit stands for (C11, 6.2.2 linkages of
 -- identifiers, 6.9 external definitions).
-use Rattle.std.specs.Prelude.{ℕ, ◌+◌, ◌-◌, ◌*◌, ◌==◌, ◌&&◌, ◌||◌, not, nat_lt, Bool, true, false, if◌then◌else◌, List, [], ◌∷◌, ◌++◌, length, map, filter, flat_map, filter_map, take, drop, bytes_eq, slice_get, is_some, Option, Some, None, option_map}
+use Rattle.std.specs.Prelude.{ℕ, ◌+◌, ◌-◌, ◌*◌, ◌==◌, ◌&&◌, ◌||◌, not, nat_lt, Bool, false, if◌then◌else◌, List, [], ◌∷◌, ◌++◌, length, map, filter, flat_map, filter_map, take, drop, bytes_eq, slice_get, is_some, Option, Some, None, option_map}
 use Rattle.std.specs.List.{list_any, position_from}
 use Rattle.std.specs.Option.{option_or}
 use Rattle.w2c_base.specs.declared.value.ValType.{ValType}
@@ -12,8 +12,10 @@ use Rattle.w2c_base.specs.Run.{Host}
 use Rattle.w2c_mangle.specs.declared.symbol.SymbolKind.TheVariants as symbol
 use Rattle.w2c_mangle.specs.Symbols.{export_symbol_of, init_symbol_of}
 use Rattle.c_tree.specs.declared.tree.CType.{CType}
-use Rattle.c_tree.specs.declared.tree.CType.TheVariants.{Void, U32, U64, PtrU32, PtrU64, Mem, PtrMem, Tab, PtrTab, FnPtr}
+use Rattle.c_tree.specs.declared.tree.CType.TheVariants.{Void, U32, U64}
 use Rattle.c_tree.specs.Tree as tree
+use Rattle.c_tree.specs.Runtime.{same_type, same_types, same_func_type}
+use Rattle.c_tree.specs.Scope.{func_type_of}
 use Rattle.c_meaning.specs.State.{Name, FuncAddress, UnitFunc, HostFunc}
 
 -- units in order, and the hosts that they are linked with
@@ -106,9 +108,6 @@ abbrev pub definition_at : Program → ℕ → Name → Option Definition
 definition_at p u name = if_found (slice_get p.units u) (λ items. defined items name)
 
 -- types
-abbrev pub type_of_func : tree.Func → tree.FuncType
-type_of_func f = record { params = map (λ p. p.0) f.params; result = f.result }
-
 abbrev host_type : Program → ℕ → ℕ → Option tree.FuncType
 host_type p h f = if_found (slice_get p.hosts h) (λ host.
     option_map
@@ -116,31 +115,8 @@ host_type p h f = if_found (slice_get p.hosts h) (λ host.
     (slice_get host.functions f))
 
 abbrev pub func_type : Program → FuncAddress → Option tree.FuncType
-func_type p (UnitFunc u name) = option_map (λ d. type_of_func d.func) (definition_at p u name)
+func_type p (UnitFunc u name) = option_map (λ d. func_type_of d.func) (definition_at p u name)
 func_type p (HostFunc h f) = host_type p h f
-
-abbrev type_number : CType → ℕ
-type_number Void = 0
-type_number U32 = 1
-type_number U64 = 2
-type_number PtrU32 = 3
-type_number PtrU64 = 4
-type_number Mem = 5
-type_number PtrMem = 6
-type_number Tab = 7
-type_number PtrTab = 8
-type_number FnPtr = 9
-
-abbrev pub equal_c_type : CType → CType → Bool
-equal_c_type t u = type_number t == type_number u
-
-abbrev pub equal_c_types : List CType → List CType → Bool
-equal_c_types [] [] = true
-equal_c_types (t ∷ types) (u ∷ others) = equal_c_type t u && equal_c_types types others
-equal_c_types _ _ = false
-
-abbrev pub equal_c_func_types : tree.FuncType → tree.FuncType → Bool
-equal_c_func_types f g = equal_c_types f.params g.params && equal_c_type f.result g.result
 
 -- why units do not link, with the unit's number and the symbol
 pub data LinkRefusal : Type 0 where
@@ -167,7 +143,7 @@ twice p u f =
 abbrev pub unresolved : Program → ℕ → tree.Func → List LinkRefusal
 unresolved p u f = elim (if_found (external_func p f.name) (func_type p)) [
   | None ↦ NotDefined u f.name ∷ []
-  | Some ty ↦ if equal_c_func_types ty (type_of_func f) then [] else TypeDiffers u f.name ∷ []
+  | Some ty ↦ if same_func_type ty (func_type_of f) then [] else TypeDiffers u f.name ∷ []
 ]
 
 -- the first refusal: unit by unit, what is defined twice before all else
@@ -196,7 +172,7 @@ is_init_symbol name = bytes_eq name (init_symbol_of (unescaped (take (length nam
 -- functions that are run first: those of init symbols, of type void without parameters
 abbrev pub is_init : Definition → Bool
 is_init d = is_external d && is_init_symbol d.func.name
-    && equal_c_func_types (type_of_func d.func) (record { params = Void ∷ []; result = Void })
+    && same_func_type (func_type_of d.func) (record { params = Void ∷ []; result = Void })
 
 abbrev pub init_functions : Program → List FuncAddress
 init_functions p = flat_map (λ u. map (λ d. UnitFunc u.0 d.func.name) (filter is_init (definitions u.1))) (numbered p.units)
@@ -213,6 +189,6 @@ called_func p c = option_map (λ u. UnitFunc u c.symbol) (position_from (λ item
 abbrev pub fits : Program → SymbolCall → Bool
 fits p c = elim (if_found (called_func p c) (func_type p)) [
   | None ↦ false
-  | Some ty ↦ equal_c_types ty.params (c_params_of (types_of c.args))
-      && list_any (equal_c_type ty.result) (Void ∷ U32 ∷ U64 ∷ [])
+  | Some ty ↦ same_types ty.params (c_params_of (types_of c.args))
+      && list_any (same_type ty.result) (Void ∷ U32 ∷ U64 ∷ [])
 ]

@@ -15,7 +15,8 @@ use Rattle.c_tree.specs.declared.tree.Num.TheVariants.{N32, N64, Plain}
 use Rattle.c_tree.specs.Tree as tree
 use Rattle.c_meaning.specs.State.{Name, FuncAddress, UnitFunc, HostFunc, ObjectAddress, CValue, Number, Pointer, FuncPointer, Vars, Machine, Running, Frame, State, Place, Stop, Trapped, Undefined, Asks, Stuck, Evaluated, Is, Bad, NoRule, then_evaluate, found}
 use Rattle.c_meaning.specs.Operators.{operate}
-use Rattle.c_meaning.specs.Linking.{Program, Definition, func_named, array_named, definition_at, func_type, equal_c_func_types}
+use Rattle.c_tree.specs.Runtime.{same_func_type}
+use Rattle.c_meaning.specs.Linking.{Program, Definition, func_named, array_named, definition_at, func_type}
 use Rattle.c_meaning.specs.Machine.{initial_of, with_depth, with_trail, var_in, with_var, is_object}
 use Rattle.c_meaning.specs.Primitives.{Effect, Gives, Traps, IsUndefined, NoEffect, primitive}
 
@@ -209,7 +210,7 @@ abbrev pub call_through : Program → Option CValue → tree.FuncType → Place 
 call_through p (Some (FuncPointer None)) want place m args below = Stops m (Undefined 4 place)
 call_through p (Some (FuncPointer (Some f))) want place m args below = elim (func_type p f) [
   | None ↦ Stops m Stuck
-  | Some ty ↦ if equal_c_func_types ty want then call p f m args below else Stops m (Undefined 5 place)
+  | Some ty ↦ if same_func_type ty want then call p f m args below else Stops m (Undefined 5 place)
 ]
 call_through p _ want place m args below = Stops m Stuck
 

@@ -1,9 +1,10 @@
 // The laws of runs.
-ghost use Rattle.std.specs.Prelude.{◌≡◌, ◌≢◌, ◌+◌, ◌<◌, ◌≤◌, ℕ, List, All, true};
+ghost use Rattle.std.specs.Prelude.{◌≡◌, ◌≢◌, ◌+◌, ◌<◌, ◌≤◌, ◌++◌, ℕ, List, [], ◌∷◌, All, Option, true};
+ghost use Rattle.w2c_base.specs.declared.value.Value.{Value};
 ghost use Rattle.w2c_base.specs.Run.{Reply};
 ghost use Rattle.w2c_mangle.specs.Symbols.{init_symbol_of};
 ghost use Rattle.c_meaning.specs.Linking.{Program, SymbolCall, is_init_symbol};
-ghost use Rattle.c_meaning.specs.Run.{IsGoing, OutOfSteps, Progress, after, c_run, c_start};
+ghost use Rattle.c_meaning.specs.Run.{Ended, IsGoing, OutOfSteps, Progress, after, c_run, c_start};
 
 /// The law that a run of m + k statements goes on from where it stands after m.
 #[tactic(auto, using(crate::proofs::Longer::after_sum))]
@@ -30,6 +31,24 @@ pub fn out_of_steps_exactly_on_the_way()
         → (c_run p calls m replies).outcome ≡ OutOfSteps → IsGoing (after p m (c_start p calls replies)) }
     ensures always { (p : Program) (calls : List SymbolCall) (replies : List Reply) (m : ℕ)
         → IsGoing (after p m (c_start p calls replies)) → (c_run p calls m replies).outcome ≡ OutOfSteps }
+{}
+
+/// The laws of runs over longer lists of calls. The init functions alone give no values. A run that does not end is that
+/// of every longer list; the values of one that ends stand in front of those of every longer list; and one call more
+/// gives one value where it ends, and none where it does not.
+pub fn calls_run_one_after_another()
+    ensures inits { (p : Program) (n : ℕ) (replies : List Reply) → (c_run p [] n replies).values ≡ [] }
+    ensures stopped { (p : Program) (calls more : List SymbolCall) (n : ℕ) (replies : List Reply)
+        → (c_run p calls n replies).outcome ≢ Ended → c_run p (calls ++ more) n replies ≡ c_run p calls n replies }
+    ensures values { (p : Program) (calls more : List SymbolCall) (n : ℕ) (replies : List Reply)
+        → (c_run p calls n replies).outcome ≡ Ended
+        → (rest : List (Option Value)) × ((c_run p (calls ++ more) n replies).values ≡ (c_run p calls n replies).values ++ rest) }
+    ensures one { (p : Program) (calls : List SymbolCall) (c : SymbolCall) (n : ℕ) (replies : List Reply)
+        → (c_run p calls n replies).outcome ≡ Ended
+        → ((c_run p (calls ++ c ∷ []) n replies).outcome ≡ Ended
+        → (v : Option Value) × ((c_run p (calls ++ c ∷ []) n replies).values ≡ (c_run p calls n replies).values ++ v ∷ []))
+        × ((c_run p (calls ++ c ∷ []) n replies).outcome ≢ Ended
+        → (c_run p (calls ++ c ∷ []) n replies).values ≡ (c_run p calls n replies).values) }
 {}
 
 /// The law that the test for symbols of init functions finds exactly these.

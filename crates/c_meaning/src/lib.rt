@@ -7,6 +7,6 @@ mod laws;
 
 pub use cases::{link_cases, operator_cases, primitive_cases, run_cases};
 pub use laws::{
-    init_symbols_are_found, larger_budgets_give_the_same_run, out_of_steps_exactly_on_the_way,
-    runs_split,
+    calls_run_one_after_another, init_symbols_are_found, larger_budgets_give_the_same_run,
+    out_of_steps_exactly_on_the_way, runs_split,
 };

@@ -14,7 +14,9 @@ use Rattle.c_tree.specs.declared.tree.CType.TheVariants as type
 use Rattle.c_tree.specs.Tree as tree
 use Rattle.c_tree.specs.ConstantUnit.{ConstantSet, body_name, constant_unit, no_params}
 use Rattle.c_meaning.specs.State.{Name, FuncAddress, UnitFunc}
-use Rattle.c_meaning.specs.Linking.{Definition, SymbolCall, called_func, c_params_of, defined_for_all, definition_at, equal_c_type, equal_c_types, fits, func_type, type_of_func}
+use Rattle.c_tree.specs.Runtime.{same_type, same_types}
+use Rattle.c_tree.specs.Scope.{func_type_of}
+use Rattle.c_meaning.specs.Linking.{Definition, SymbolCall, called_func, c_params_of, defined_for_all, definition_at, fits, func_type}
 use Rattle.c_machine.specs.Names.{function_in}
 use Rattle.c_machine.specs.Threads.{alone, definition_in}
 use Rattle.c_machine.proofs.Functions.{defined_is, definition_known, func_unknown}
@@ -25,7 +27,7 @@ use Rattle.crun.specs.Sessions.{IsEntry}
 abbrev fits_by : List tree.Item → SymbolCall → Option FuncAddress → Bool
 fits_by items c f = elim (if_found f (func_type (alone items))) [
   | None ↦ false
-  | Some ty ↦ equal_c_types ty.params (c_params_of (types_of c.args)) && list_any (equal_c_type ty.result) (type.Void ∷ type.U32 ∷ type.U64 ∷ [])
+  | Some ty ↦ same_types ty.params (c_params_of (types_of c.args)) && list_any (same_type ty.result) (type.Void ∷ type.U32 ∷ type.U64 ∷ [])
 ]
 
 -- a call that fits calls a function of the unit
@@ -40,24 +42,24 @@ fits_called items c fit = go (is_some (defined_for_all items c.symbol)) refl
         absurd cc
 
 -- a function that takes nothing
-no_args : (args : List Value) (b : Bool) → (equal_c_types (type.Void ∷ []) (c_params_of (types_of args)) && b) ≡ true → args ≡ []
+no_args : (args : List Value) (b : Bool) → (same_types (type.Void ∷ []) (c_params_of (types_of args)) && b) ≡ true → args ≡ []
 no_args [] b e = refl
 no_args (I32 n ∷ args) b e = absurd cc
 no_args (I64 n ∷ args) b e = absurd cc
 
 takes_nothing : (items : List tree.Item) (c : SymbolCall) (i : ℕ) (d : Definition) → fits (alone items) c ≡ true → function_in c.symbol items ≡ Some i → definition_in items i ≡ Some d → d.func.params ≡ no_params → c.args ≡ []
 takes_nothing items c i d fit at is params =
-    let ty = type_of_func d.func in
-    let typed : func_type (alone items) (UnitFunc 0 c.symbol) ≡ Some ty = ap (option_map (λ (d : Definition). type_of_func d.func)) (definition_known c.symbol items i at ∙ is) in
-    let by_type : fits (alone items) c ≡ (equal_c_types ty.params (c_params_of (types_of c.args)) && list_any (equal_c_type ty.result) (type.Void ∷ type.U32 ∷ type.U64 ∷ [])) =
+    let ty = func_type_of d.func in
+    let typed : func_type (alone items) (UnitFunc 0 c.symbol) ≡ Some ty = ap (option_map (λ (d : Definition). func_type_of d.func)) (definition_known c.symbol items i at ∙ is) in
+    let by_type : fits (alone items) c ≡ (same_types ty.params (c_params_of (types_of c.args)) && list_any (same_type ty.result) (type.Void ∷ type.U32 ∷ type.U64 ∷ [])) =
     ap (fits_by items c) (fits_called items c fit)
     ∙ ap (λ (o : Option tree.FuncType). elim o [
       | None ↦ false
-      | Some ty ↦ equal_c_types ty.params (c_params_of (types_of c.args)) && list_any (equal_c_type ty.result) (type.Void ∷ type.U32 ∷ type.U64 ∷ [])
+      | Some ty ↦ same_types ty.params (c_params_of (types_of c.args)) && list_any (same_type ty.result) (type.Void ∷ type.U32 ∷ type.U64 ∷ [])
     ]) typed in
     let nothing : ty.params ≡ type.Void ∷ [] = ap (map (λ (p : tree.Param). p.0)) params in
-    no_args c.args (list_any (equal_c_type ty.result) (type.Void ∷ type.U32 ∷ type.U64 ∷ []))
-    (ap (λ ps. equal_c_types ps (c_params_of (types_of c.args)) && list_any (equal_c_type ty.result) (type.Void ∷ type.U32 ∷ type.U64 ∷ [])) (sym nothing) ∙ sym by_type ∙ fit)
+    no_args c.args (list_any (same_type ty.result) (type.Void ∷ type.U32 ∷ type.U64 ∷ []))
+    (ap (λ ps. same_types ps (c_params_of (types_of c.args)) && list_any (same_type ty.result) (type.Void ∷ type.U32 ∷ type.U64 ∷ [])) (sym nothing) ∙ sym by_type ∙ fit)
 
 module _ (init_module export_module export_name : Name) (variables : List (Name × ℕ)) (sets : List ConstantSet) (last : Name) where
   abbrev unit : List tree.Item
@@ -100,9 +102,9 @@ fits_found items c fit none =
     let unknown = func_unknown c.symbol items none in
     let called = fits_called items c fit in
     let nothing : definition_at (alone items) 0 c.symbol ≡ None = defined_is c.symbol items ∙ ap (λ o. if_found o (λ i. definition_in items i)) none in
-    let typed : func_type (alone items) (UnitFunc 0 c.symbol) ≡ None = ap (option_map (λ (d : Definition). type_of_func d.func)) nothing in
+    let typed : func_type (alone items) (UnitFunc 0 c.symbol) ≡ None = ap (option_map (λ (d : Definition). func_type_of d.func)) nothing in
     let not_fit : fits (alone items) c ≡ false = ap (fits_by items c) called ∙ ap (λ (o : Option tree.FuncType). elim o [
       | None ↦ false
-      | Some ty ↦ equal_c_types ty.params (c_params_of (types_of c.args)) && list_any (equal_c_type ty.result) (type.Void ∷ type.U32 ∷ type.U64 ∷ [])
+      | Some ty ↦ same_types ty.params (c_params_of (types_of c.args)) && list_any (same_type ty.result) (type.Void ∷ type.U32 ∷ type.U64 ∷ [])
     ]) typed in
     absurd cc

@@ -12,7 +12,9 @@ use Rattle.c_tree.specs.declared.tree.CType.TheVariants.{Void, U32, U64, PtrU32,
 use Rattle.c_tree.specs.Tree as tree
 use Rattle.c_tree.proofs.Tested.{at_front}
 use Rattle.c_tree.specs.ConstantUnit.{ConstantSet, constant_unit}
-use Rattle.c_meaning.specs.Linking.{Definition, SymbolCall, defined, defined_for_all, fits, func_type, type_of_func, c_type_of, c_params_of, equal_c_type, equal_c_types}
+use Rattle.c_tree.specs.Runtime.{same_type, same_types}
+use Rattle.c_tree.specs.Scope.{func_type_of}
+use Rattle.c_meaning.specs.Linking.{Definition, SymbolCall, defined, defined_for_all, fits, func_type, c_type_of, c_params_of}
 use Rattle.c_meaning.specs.State.{UnitFunc}
 use Rattle.c_machine.specs.Threads.{alone}
 use Rattle.crun.specs.Built.{IsBuilt}
@@ -29,10 +31,10 @@ fits_first : (items : List tree.Item) (c : SymbolCall) → ((d : Definition) →
 fits_first items c first = go (defined_for_all items c.symbol) refl
   where
     typed : Option Definition → Bool
-    typed o = takes_if_any (option_map (λ (d : Definition). type_of_func d.func) o) c.args
+    typed o = takes_if_any (option_map (λ (d : Definition). func_type_of d.func) o) c.args
 
     taken : Option Definition → Bool
-    taken o = elim (option_map (λ (d : Definition). type_of_func d.func) o) [ None ↦ false | Some ty ↦ takes ty c.args ]
+    taken o = elim (option_map (λ (d : Definition). func_type_of d.func) o) [ None ↦ false | Some ty ↦ takes ty c.args ]
 
     -- the call fits, by who defines the symbol for all units
     seen : Option Definition → Bool
@@ -65,7 +67,7 @@ built_fits items c o built is =
 
 -- ---- types of arguments
 
-pub is_u32 : (t : CType) → (t ≡ U32 → ⊥) → false ≡ equal_c_type t U32
+pub is_u32 : (t : CType) → (t ≡ U32 → ⊥) → false ≡ same_type t U32
 is_u32 Void not = refl
 is_u32 U32 not = absurd (not refl)
 is_u32 U64 not = refl
@@ -83,42 +85,42 @@ arguments_typed (v ∷ args) some = refl
 
 -- parameters and arguments agree from the i-th on as they do on the whole
 abbrev pub Agree : ℕ → List CType → List Value → Type 0
-Agree i params args = equal_c_types (drop i params) (map c_type_of (types_of (drop i args))) ≡ equal_c_types params (map c_type_of (types_of args))
+Agree i params args = same_types (drop i params) (map c_type_of (types_of (drop i args))) ≡ same_types params (map c_type_of (types_of args))
 
-pub unequal : (params : List CType) (args : List Value) → (length params ≡ length args → ⊥) → false ≡ equal_c_types params (map c_type_of (types_of args))
+pub unequal : (params : List CType) (args : List Value) → (length params ≡ length args → ⊥) → false ≡ same_types params (map c_type_of (types_of args))
 unequal [] [] not = absurd (not refl)
 unequal [] (v ∷ args) not = refl
 unequal (p ∷ params) [] not = refl
-unequal (p ∷ params) (v ∷ args) not = go (equal_c_type p (c_type_of (type_of v))) (unequal params args (λ e. not (ap suc e)))
+unequal (p ∷ params) (v ∷ args) not = go (same_type p (c_type_of (type_of v))) (unequal params args (λ e. not (ap suc e)))
   where
-    go : (b : Bool) → false ≡ equal_c_types params (map c_type_of (types_of args)) → false ≡ (b && equal_c_types params (map c_type_of (types_of args)))
+    go : (b : Bool) → false ≡ same_types params (map c_type_of (types_of args)) → false ≡ (b && same_types params (map c_type_of (types_of args)))
     go true e = e
     go false e = refl
 
 fronts : (i : ℕ) (params : List CType) (args : List Value) (p : CType) (v : Value) → i < length params → i < length args → p ≡ get_or params i p → v ≡ get_or args i v
-    → equal_c_types (drop i params) (map c_type_of (types_of (drop i args))) ≡ (equal_c_type p (c_type_of (type_of v)) && equal_c_types (drop (i + 1) params) (map c_type_of (types_of (drop (i + 1) args))))
+    → same_types (drop i params) (map c_type_of (types_of (drop i args))) ≡ (same_type p (c_type_of (type_of v)) && same_types (drop (i + 1) params) (map c_type_of (types_of (drop (i + 1) args))))
 fronts i params args p v less lesser is was =
-    ap (λ ps. equal_c_types ps (map c_type_of (types_of (drop i args)))) (at_front params i p less is)
-    ∙ ap (λ vs. equal_c_types (p ∷ drop (i + 1) params) (map c_type_of (types_of vs))) (at_front args i v lesser was)
+    ap (λ ps. same_types ps (map c_type_of (types_of (drop i args)))) (at_front params i p less is)
+    ∙ ap (λ vs. same_types (p ∷ drop (i + 1) params) (map c_type_of (types_of vs))) (at_front args i v lesser was)
 
 -- one more of each
 pub agree_more : (i : ℕ) (params : List CType) (args : List Value) (p : CType) (v : Value) → i < length params → i < length args → p ≡ get_or params i p → v ≡ get_or args i v
-    → equal_c_type p (c_type_of (type_of v)) ≡ true → Agree i params args → Agree (i + 1) params args
+    → same_type p (c_type_of (type_of v)) ≡ true → Agree i params args → Agree (i + 1) params args
 agree_more i params args p v less lesser is was same agree =
-    ap (λ b. b && equal_c_types (drop (i + 1) params) (map c_type_of (types_of (drop (i + 1) args)))) (sym same)
+    ap (λ b. b && same_types (drop (i + 1) params) (map c_type_of (types_of (drop (i + 1) args)))) (sym same)
     ∙ sym (fronts i params args p v less lesser is was) ∙ agree
 
 pub agree_never : (i : ℕ) (params : List CType) (args : List Value) (p : CType) (v : Value) → i < length params → i < length args → p ≡ get_or params i p → v ≡ get_or args i v
-    → equal_c_type p (c_type_of (type_of v)) ≡ false → Agree i params args → false ≡ equal_c_types params (map c_type_of (types_of args))
+    → same_type p (c_type_of (type_of v)) ≡ false → Agree i params args → false ≡ same_types params (map c_type_of (types_of args))
 agree_never i params args p v less lesser is was differs agree =
-    ap (λ b. b && equal_c_types (drop (i + 1) params) (map c_type_of (types_of (drop (i + 1) args)))) (sym differs)
+    ap (λ b. b && same_types (drop (i + 1) params) (map c_type_of (types_of (drop (i + 1) args)))) (sym differs)
     ∙ sym (fronts i params args p v less lesser is was) ∙ agree
 
-pub agree_all : (i : ℕ) (params : List CType) (args : List Value) → length params ≤ i → length params ≡ length args → Agree i params args → true ≡ equal_c_types params (map c_type_of (types_of args))
+pub agree_all : (i : ℕ) (params : List CType) (args : List Value) → length params ≤ i → length params ≡ length args → Agree i params args → true ≡ same_types params (map c_type_of (types_of args))
 agree_all i params args past same agree =
     let none : drop i params ≡ [] = drop_all i params past in
     let no_args : drop i args ≡ [] = drop_all i args (omega arith) in
-    sym (ap (λ ps. equal_c_types ps (map c_type_of (types_of (drop i args)))) none ∙ ap (λ vs. equal_c_types [] (map c_type_of (types_of vs))) no_args) ∙ agree
+    sym (ap (λ ps. same_types ps (map c_type_of (types_of (drop i args)))) none ∙ ap (λ vs. same_types [] (map c_type_of (types_of vs))) no_args) ∙ agree
 
 -- ---- no arguments
 
@@ -126,10 +128,10 @@ pub no_arguments : (args : List Value) → length args ≡ 0 → c_params_of (ty
 no_arguments [] none = refl
 no_arguments (v ∷ args) none = absurd (omega arith)
 
-pub not_one : (params : List CType) → (length params ≡ 1 → ⊥) → false ≡ equal_c_types params (Void ∷ [])
+pub not_one : (params : List CType) → (length params ≡ 1 → ⊥) → false ≡ same_types params (Void ∷ [])
 not_one [] not = refl
 not_one (p ∷ []) not = absurd (not refl)
-not_one (p ∷ q ∷ params) not = go (equal_c_type p Void)
+not_one (p ∷ q ∷ params) not = go (same_type p Void)
   where
     go : (b : Bool) → false ≡ (b && false)
     go true = refl

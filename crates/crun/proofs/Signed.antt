@@ -11,7 +11,8 @@ use Rattle.c_tree.specs.declared.tree.CFuncType.{CFuncType}
 use Rattle.c_tree.specs.declared.tree.CType.{CType}
 use Rattle.c_tree.specs.Tree as tree
 use Rattle.c_tree.specs.View.{func_type_of}
-use Rattle.c_meaning.specs.Linking.{Definition, definition_of, is_external, type_of_func}
+use Rattle.c_tree.specs.Scope.{func_type_of as type_of_func}
+use Rattle.c_meaning.specs.Linking.{Definition, definition_of, is_external}
 use Rattle.c_machine.proofs.NameTables.{either_way, or_assoc, or_none, drop_front}
 use Rattle.crun.specs.Signatures.{AreSignatures, external_of, typed_under, first_type}
 

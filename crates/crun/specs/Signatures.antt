@@ -9,7 +9,9 @@ use Rattle.c_tree.specs.declared.tree.CFuncType.{CFuncType}
 use Rattle.c_tree.specs.declared.tree.CType.TheVariants.{Void, U32, U64}
 use Rattle.c_tree.specs.Tree as tree
 use Rattle.c_tree.specs.View.{func_type_of}
-use Rattle.c_meaning.specs.Linking.{defined_for_all, type_of_func, equal_c_type, equal_c_types, c_params_of}
+use Rattle.c_tree.specs.Runtime.{same_type, same_types}
+use Rattle.c_tree.specs.Scope.{func_type_of as type_of_func}
+use Rattle.c_meaning.specs.Linking.{defined_for_all, c_params_of}
 
 -- the type of the function of external linkage that a unit defines under a symbol
 abbrev pub signature_in : List tree.Item → List ℕ → Option tree.FuncType
@@ -41,4 +43,4 @@ first_type symbol (item ∷ items) = option_or (typed_under symbol (external_of 
 
 -- a function of this type may be called with these arguments
 abbrev pub takes : tree.FuncType → List Value → Bool
-takes ty args = equal_c_types ty.params (c_params_of (types_of args)) && list_any (equal_c_type ty.result) (Void ∷ U32 ∷ U64 ∷ [])
+takes ty args = same_types ty.params (c_params_of (types_of args)) && list_any (same_type ty.result) (Void ∷ U32 ∷ U64 ∷ [])

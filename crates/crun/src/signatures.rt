@@ -4,7 +4,9 @@ ghost use Rattle.std.specs.Option.{option_or};
 ghost use Rattle.w2c_base.specs.Lookup.{named};
 ghost use Rattle.w2c_base.specs.Values.{type_of, types_of};
 ghost use Rattle.c_tree.specs.View.{func_of, func_type_of, item_of};
-ghost use Rattle.c_meaning.specs.Linking.{c_params_of, c_type_of, equal_c_type, equal_c_types, type_of_func};
+ghost use Rattle.c_tree.specs.Runtime.{same_type, same_types};
+ghost use Rattle.c_tree.specs.Scope.{func_type_of as type_of_func};
+ghost use Rattle.c_meaning.specs.Linking.{c_params_of, c_type_of};
 ghost use Rattle.crun.specs.Signatures.{AreSignatures, external_of, signature_in, takes as takes_args, typed_under};
 
 use c_tree::{CFuncType, CType, CTypes, Func, Item, Params};
@@ -112,7 +114,7 @@ pub fn takes(ty: &CFuncType, args: &[Value]) -> bool
 }
 
 fn are_params(params: &[CType], args: &[Value]) -> bool
-    ensures { result ≡ equal_c_types params.now (c_params_of (types_of args.now)) }
+    ensures { result ≡ same_types params.now (c_params_of (types_of args.now)) }
 {
     if args.is_empty() {
         are_void(params)
@@ -123,7 +125,7 @@ fn are_params(params: &[CType], args: &[Value]) -> bool
 
 // Whether a list of types is the list `void`, which stands for no parameters.
 fn are_void(params: &[CType]) -> bool
-    ensures { result ≡ equal_c_types params.now (CType.Void ∷ []) }
+    ensures { result ≡ same_types params.now (CType.Void ∷ []) }
 {
     if params.len() != 1 {
         return false;
@@ -132,7 +134,7 @@ fn are_void(params: &[CType]) -> bool
 }
 
 fn are_types(params: &[CType], args: &[Value]) -> bool
-    ensures { result ≡ equal_c_types params.now (map c_type_of (types_of args.now)) }
+    ensures { result ≡ same_types params.now (map c_type_of (types_of args.now)) }
 {
     if params.len() != args.len() {
         return false;
@@ -146,7 +148,7 @@ fn are_types(params: &[CType], args: &[Value]) -> bool
 }
 
 fn has_type(ty: CType, value: Value) -> bool
-    ensures { result ≡ equal_c_type ty (c_type_of (type_of value)) }
+    ensures { result ≡ same_type ty (c_type_of (type_of value)) }
 {
     match value {
         Value::I32(_) => matches!(ty, CType::U32),

@@ -7,7 +7,8 @@ use Rattle.w2c_base.specs.declared.value.Value.TheVariants.{I32, I64}
 use Rattle.w2c_base.specs.Values.{bits, number_of, type_of, types_of}
 use Rattle.c_tree.specs.declared.tree.CType.{CType}
 use Rattle.c_tree.specs.declared.tree.CType.TheVariants as type
-use Rattle.c_meaning.specs.Linking.{c_params_of, c_type_of, equal_c_type, equal_c_types}
+use Rattle.c_tree.specs.Runtime.{same_type, same_types}
+use Rattle.c_meaning.specs.Linking.{c_params_of, c_type_of}
 use Rattle.crun_cli.specs.Numbers.{number_below}
 use Rattle.crun_cli.specs.CallsFile.{AreArguments}
 use Rattle.crun_cli.specs.Parts.{argument_of, arguments_of}
@@ -57,45 +58,45 @@ pub both_true : (a b : Bool) → (a && b) ≡ true → (a ≡ true) × (b ≡ tr
 both_true true b e = (refl, e)
 both_true false b e = absurd cc
 
-same_type : (t : CType) (v : Value) → equal_c_type t (c_type_of (type_of v)) ≡ true → t ≡ c_type_of (type_of v)
-same_type type.U32 (I32 n) e = refl
-same_type type.U64 (I64 n) e = refl
-same_type type.U32 (I64 n) e = absurd cc
-same_type type.U64 (I32 n) e = absurd cc
-same_type type.Void (I32 n) e = absurd cc
-same_type type.Void (I64 n) e = absurd cc
-same_type type.PtrU32 (I32 n) e = absurd cc
-same_type type.PtrU32 (I64 n) e = absurd cc
-same_type type.PtrU64 (I32 n) e = absurd cc
-same_type type.PtrU64 (I64 n) e = absurd cc
-same_type type.Mem (I32 n) e = absurd cc
-same_type type.Mem (I64 n) e = absurd cc
-same_type type.PtrMem (I32 n) e = absurd cc
-same_type type.PtrMem (I64 n) e = absurd cc
-same_type type.Tab (I32 n) e = absurd cc
-same_type type.Tab (I64 n) e = absurd cc
-same_type type.PtrTab (I32 n) e = absurd cc
-same_type type.PtrTab (I64 n) e = absurd cc
-same_type type.FnPtr (I32 n) e = absurd cc
-same_type type.FnPtr (I64 n) e = absurd cc
+type_is : (t : CType) (v : Value) → same_type t (c_type_of (type_of v)) ≡ true → t ≡ c_type_of (type_of v)
+type_is type.U32 (I32 n) e = refl
+type_is type.U64 (I64 n) e = refl
+type_is type.U32 (I64 n) e = absurd cc
+type_is type.U64 (I32 n) e = absurd cc
+type_is type.Void (I32 n) e = absurd cc
+type_is type.Void (I64 n) e = absurd cc
+type_is type.PtrU32 (I32 n) e = absurd cc
+type_is type.PtrU32 (I64 n) e = absurd cc
+type_is type.PtrU64 (I32 n) e = absurd cc
+type_is type.PtrU64 (I64 n) e = absurd cc
+type_is type.Mem (I32 n) e = absurd cc
+type_is type.Mem (I64 n) e = absurd cc
+type_is type.PtrMem (I32 n) e = absurd cc
+type_is type.PtrMem (I64 n) e = absurd cc
+type_is type.Tab (I32 n) e = absurd cc
+type_is type.Tab (I64 n) e = absurd cc
+type_is type.PtrTab (I32 n) e = absurd cc
+type_is type.PtrTab (I64 n) e = absurd cc
+type_is type.FnPtr (I32 n) e = absurd cc
+type_is type.FnPtr (I64 n) e = absurd cc
 
 argument_of_value : (word : List ℕ) (v : Value) → IsArgument word v → argument_of (c_type_of (type_of v)) word ≡ Some v
 argument_of_value word (I32 n) is = ap (option_map I32) is
 argument_of_value word (I64 n) is = ap (option_map I64) is
 
-of_types : (types : List CType) (words : List (List ℕ)) (values : List Value) → AreArguments words values → equal_c_types types (map c_type_of (types_of values)) ≡ true → arguments_of types words ≡ Some values
+of_types : (types : List CType) (words : List (List ℕ)) (values : List Value) → AreArguments words values → same_types types (map c_type_of (types_of values)) ≡ true → arguments_of types words ≡ Some values
 of_types types [] [] are fit = refl
 of_types types [] (v ∷ values) are fit = absurd are
 of_types types (word ∷ words) [] are fit = absurd are
 of_types [] (word ∷ words) (v ∷ values) are fit = absurd cc
 of_types (t ∷ types) (word ∷ words) (v ∷ values) (first, others) fit =
     let both = both_true _ _ fit in
-    let found : argument_of t word ≡ Some v = ap (λ u. argument_of u word) (same_type t v both.0) ∙ argument_of_value word v first in
+    let found : argument_of t word ≡ Some v = ap (λ u. argument_of u word) (type_is t v both.0) ∙ argument_of_value word v first in
     ap (λ o. elim o [ None ↦ None | Some v ↦ option_map (λ vs. v ∷ vs) (arguments_of types words) ]) found
     ∙ ap (option_map (λ vs. v ∷ vs)) (of_types types words values others both.1)
 
 -- values that words write and that fit are found
-pub arguments_only : (types : List CType) (words : List (List ℕ)) (values : List Value) → AreArguments words values → equal_c_types types (c_params_of (types_of values)) ≡ true → arguments_of types words ≡ Some values
+pub arguments_only : (types : List CType) (words : List (List ℕ)) (values : List Value) → AreArguments words values → same_types types (c_params_of (types_of values)) ≡ true → arguments_of types words ≡ Some values
 arguments_only types [] [] are fit = refl
 arguments_only types [] (v ∷ values) are fit = absurd are
 arguments_only types (word ∷ words) [] are fit = absurd are

@@ -11,7 +11,8 @@ use Rattle.crun_cli.specs.CommandLine.{Line, line_of}
 use Rattle.crun_cli.specs.CallsFile.{lines_in, AreCalls}
 use Rattle.crun_cli.specs.Job.{most_calls_bytes, most_unit_bytes, Holds, IsJob, IsJobOf, IsRefusedText, IsRefusedUnit, IsStopOf, IsUnitText, Job, Run, Stops}
 use Rattle.crun_cli.specs.Lines.{Reason, Usage, CallsTooLong, CallsLine, Refused, Unread, Unwritten, WantOfMemory}
-use Rattle.crun_cli.specs.Stops.{Faulted, HasReading, IsInput, StopsBefore, StopsCalls, StopsLinking, StopsReading}
+use Rattle.w2c_io.specs.Causes.{Faulted}
+use Rattle.crun_cli.specs.Stops.{HasReading, IsInput, StopsBefore, StopsCalls, StopsLinking, StopsReading}
 
 module _ (words : List Name) (line : Line) (is : line_of words ≡ Some line) where
   pub job_of_line : (m : Contents) (job : Job) → IsJobOf line m job → IsJob words m job

@@ -20,6 +20,7 @@ use Rattle.crun_cli.specs.CallsFile.{lines_in, AreArguments, AreCalls, IsFirstRe
 use Rattle.crun_cli.specs.Job.{most_calls_bytes, most_unit_bytes, Holds, IsJob, IsJobOf, IsLonger, IsRefusedText, IsUnitText, Job, Run, Stops}
 use Rattle.crun_cli.specs.Lines.{Usage, CallsTooLong, CallsLine, Refused, Unread, Unwritten, WantOfMemory}
 use Rattle.crun_cli.proofs.LineNames.{fit_has_type, has_arguments, names_words, one_symbol}
+use Rattle.crun_cli.proofs.SameLists.{same_parts}
 
 -- ---- a line names one call, and lines one list of them
 
@@ -65,18 +66,15 @@ module _ (items : List tree.Item) (built : IsBuilt items) where
   calls_behind [] front cs are = (cs, are)
   calls_behind (b ∷ line) front cs (c, others, is, names, rest) = (others, rest)
 
-  parts_same : (a b : List ℕ) (others rest : List (List ℕ)) → a ∷ others ≡ b ∷ rest → (a ≡ b) × (others ≡ rest)
-  parts_same a b others rest e = (cc, cc)
-
   same_length : (front front' : List (List ℕ)) (line line' : List ℕ) (rest rest' : List (List ℕ)) (cs cs' : List SymbolCall) → front ++ line ∷ rest ≡ front' ++ line' ∷ rest'
       → AreCalls items front cs → AreCalls items front' cs' → IsRefusedLine items line → IsRefusedLine items line' → length front ≡ length front'
   same_length [] [] line line' rest rest' cs cs' e are are' refused refused' = refl
   same_length [] (x ∷ front') line line' rest rest' cs cs' e are are' refused refused' =
-      absurd (first_names x front' cs' are' (subst (IsRefusedLine items) (parts_same line x rest (front' ++ line' ∷ rest') e).0 refused))
+      absurd (first_names x front' cs' are' (subst (IsRefusedLine items) (same_parts line x rest (front' ++ line' ∷ rest') e).0 refused))
   same_length (x ∷ front) [] line line' rest rest' cs cs' e are are' refused refused' =
-      absurd (first_names x front cs are (subst (IsRefusedLine items) (sym (parts_same x line' (front ++ line ∷ rest) rest' e).0) refused'))
+      absurd (first_names x front cs are (subst (IsRefusedLine items) (sym (same_parts x line' (front ++ line ∷ rest) rest' e).0) refused'))
   same_length (x ∷ front) (y ∷ front') line line' rest rest' cs cs' e are are' refused refused' =
-      let both = parts_same x y (front ++ line ∷ rest) (front' ++ line' ∷ rest') e in
+      let both = same_parts x y (front ++ line ∷ rest) (front' ++ line' ∷ rest') e in
       let others = calls_behind x front cs are in
       let others' = calls_behind y front' cs' are' in
       ap (λ n. suc n) (same_length front front' line line' rest rest' others.0 others'.0 both.1 others.1 others'.1 refused refused')

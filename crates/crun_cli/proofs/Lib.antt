@@ -2,12 +2,11 @@ pub mod Arguments
 pub mod Behind
 pub mod CallsRead
 pub mod Cuts
-pub mod Fronts
 pub mod JobFound
 pub mod JobLaws
 pub mod Kept
 pub mod LineNames
 pub mod Printed
+pub mod SameLists
 pub mod TopLaws
-pub mod Value
 pub mod WorkLaws

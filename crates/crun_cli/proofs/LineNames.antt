@@ -8,7 +8,8 @@ use Rattle.w2c_mangle.specs.Escaping.{escaped}
 use Rattle.w2c_mangle.specs.Symbols.{export_symbol_of}
 use Rattle.w2c_mangle.proofs.EscapedNames.{escaped-injective, escaped_byte-cases, stays-not_Z, z_escape}
 use Rattle.c_tree.specs.Tree as tree
-use Rattle.c_meaning.specs.Linking.{c_params_of, equal_c_types, fits, SymbolCall}
+use Rattle.c_tree.specs.Runtime.{same_types}
+use Rattle.c_meaning.specs.Linking.{c_params_of, fits, SymbolCall}
 use Rattle.c_machine.specs.Threads.{alone}
 use Rattle.crun.specs.Built.{IsBuilt, IsBytes}
 use Rattle.crun.specs.Signatures.{signature_in, takes}
@@ -16,6 +17,7 @@ use Rattle.crun.proofs.Fitting.{built_fits, takes_if_any}
 use Rattle.crun_cli.specs.CallsFile.{word_of_name, words_in, AreArguments, IsSymbolOf, Names}
 use Rattle.crun_cli.specs.Parts.{arguments_of}
 use Rattle.crun_cli.proofs.Arguments.{arguments_only, both_true}
+use Rattle.crun_cli.proofs.SameLists.{same_parts}
 
 -- no escape is the word Z
 escaped_apart : (name : List ℕ) → escaped name ≡ codes "Z" → ⊥
@@ -61,13 +63,10 @@ signature_takes items call ty = takes ty call.args ≡ true
 pub fit_has_type : (items : List tree.Item) (call : SymbolCall) → IsBuilt items → fits (alone items) call ≡ true → signature_in items call.symbol ≡ None → ⊥
 fit_has_type items call built fit none = (let other : false ≡ true = ap (λ o. takes_if_any o call.args) (sym none) ∙ built_fits items call (signature_in items call.symbol) built refl ∙ fit in cc)
 
-pub fit_takes : (items : List tree.Item) (call : SymbolCall) (ty : tree.FuncType) → IsBuilt items → fits (alone items) call ≡ true → signature_in items call.symbol ≡ Some ty → equal_c_types ty.params (c_params_of (types_of call.args)) ≡ true
+pub fit_takes : (items : List tree.Item) (call : SymbolCall) (ty : tree.FuncType) → IsBuilt items → fits (alone items) call ≡ true → signature_in items call.symbol ≡ Some ty → same_types ty.params (c_params_of (types_of call.args)) ≡ true
 fit_takes items call ty built fit is =
     let taken : takes ty call.args ≡ true = built_fits items call (Some ty) built (sym is) ∙ fit in
     (both_true _ _ taken).0
-
-tail_is : (a b : List ℕ) (others rest : List (List ℕ)) → a ∷ others ≡ b ∷ rest → (a ≡ b) × (others ≡ rest)
-tail_is a b others rest e = (cc, cc)
 
 -- a line of one word names no call
 pub one_word : (items : List tree.Item) (line word : List ℕ) (call : SymbolCall) → words_in line ≡ word ∷ [] → Names items line call → ⊥
@@ -76,8 +75,8 @@ one_word items line word call is names = (let both = sym is ∙ names.text in cc
 -- the words of a line that names a call
 pub names_words : (items : List tree.Item) (line m x : List ℕ) (ws : List (List ℕ)) (call : SymbolCall) → words_in line ≡ m ∷ x ∷ ws → Names items line call → IsSymbolOf m x call.symbol × AreArguments ws call.args
 names_words items line m x ws call is names =
-    let first = tail_is m names.module_word (x ∷ ws) (names.export_word ∷ names.words) (sym is ∙ names.text) in
-    let second = tail_is x names.export_word ws names.words first.1 in (
+    let first = same_parts m names.module_word (x ∷ ws) (names.export_word ∷ names.words) (sym is ∙ names.text) in
+    let second = same_parts x names.export_word ws names.words first.1 in (
       subst (λ w. IsSymbolOf w x call.symbol) (sym first.0) (subst (λ w. IsSymbolOf names.module_word w call.symbol) (sym second.0) names.symbol),
       subst (λ l. AreArguments l call.args) (sym second.1) names.args,
     )

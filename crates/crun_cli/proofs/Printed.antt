@@ -21,7 +21,7 @@ use Rattle.crun.proofs.History.{last_is}
 use Rattle.crun_cli.specs.Job.{run_of}
 use Rattle.crun_cli.specs.RunLines.{ended_line, last_line, lines_of, phase_text, stop_text, HasStatus}
 use Rattle.crun_cli.specs.Running.{outcome_text, status_of_outcome}
-use Rattle.crun_cli.proofs.Fronts.{inits_give_none, one_value, stops_the_same, values_stay, zip_from}
+use Rattle.c_meaning.proofs.Fronts.{inits_give_none, one_value, stops_the_same, values_stay, zip_from}
 
 abbrev ended_lines : List (Option Value) → List ℕ
 ended_lines values = flat_map ended_line (numbered values)

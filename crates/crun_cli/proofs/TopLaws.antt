@@ -1,12 +1,12 @@
 -- What the top call says, from why its work stopped or what it came to.
 use Rattle.std.proofs.Common.{◌≡◌, ◌⊎◌, inl, inr, ℕ, ◌≤◌, List, Option, Some, None, MatchOption, refl, sym, ◌∙◌, subst, arith}
 use Rattle.w2c_io.specs.Contents.{Name, Contents, Told}
-use Rattle.w2c_io.specs.Causes.{Rose}
+use Rattle.w2c_io.specs.Causes.{Rose, Faulted}
 use Rattle.w2c_io.specs.Telling.{Tells}
 use Rattle.crun_cli.specs.CommandLine.{line_of}
 use Rattle.crun_cli.specs.Job.{Answers, IsJob, IsJobOf, Job, Run, Stops}
 use Rattle.crun_cli.specs.Lines.{status_of, Reason, Usage, CallsTooLong, CallsLine, Refused, Unread, Unwritten, WantOfMemory}
-use Rattle.crun_cli.specs.Stops.{Faulted, IsInput, IsRunStatus, Ran, RanPart, Refuses, StopsWork}
+use Rattle.crun_cli.specs.Stops.{IsInput, IsRunStatus, Ran, RanPart, Refuses, StopsWork}
 
 -- a status of a run is none of those by which the program stops
 pub run_apart : (status n : ℕ) → IsRunStatus status → status ≡ n → (n ≡ 2) ⊎ (n ≡ 3) ⊎ (n ≡ 4) ⊎ (n ≡ 5) ⊎ (n ≡ 6) → ⊥

@@ -1,7 +1,7 @@
 -- Why each step of the program stops.
 use Rattle.std.specs.Prelude.{◌≡◌, ◌⊎◌, ℕ, List, Option, Some, None}
 use Rattle.w2c_io.specs.Contents.{Name, Contents, Told}
-use Rattle.w2c_io.specs.Causes.{Rose}
+use Rattle.w2c_io.specs.Causes.{Rose, Faulted}
 use Rattle.w2c_io.specs.Telling.{Tells, SaysPart}
 use Rattle.w2c_io.specs.Contents.{extended}
 use Rattle.c_tree.specs.Tree as tree
@@ -12,11 +12,6 @@ use Rattle.std.specs.FinMap.{get}
 use Rattle.crun_cli.specs.CallsFile.{IsFirstRefused}
 use Rattle.crun_cli.specs.Job.{IsJob, IsLonger, IsRefusedText, Run, Stops, run_of}
 use Rattle.crun_cli.specs.RunLines.{HasStatus, lines_of}
-
--- a read of the file failed, and the count says so
-pub record Faulted (name : Name) (before after : ℕ) (fault_name : Option Name) : Type 0 where
-  pub rose : Rose before after
-  pub named : fault_name ≡ Some name
 
 -- the files that the words say are to be read
 abbrev pub IsInput : Name → Option Line → Type 0

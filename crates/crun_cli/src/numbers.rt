@@ -1,9 +1,10 @@
 // Numbers as words.
-ghost use Rattle.std.specs.Prelude.{◌≡◌, ◌≤◌, ◌^◌, IfSome, IfNone};
+ghost use Rattle.std.specs.Prelude.{◌≡◌, ◌^◌};
 ghost use Rattle.std.specs.List.{list_all};
 ghost use Rattle.std.specs.Char.{is_ascii_digit};
-ghost use Rattle.c_tree.specs.Grammar.{value_of};
 ghost use Rattle.crun_cli.specs.Numbers.{is_number as is_number_text, number_below};
+
+use c_lex::value;
 
 /// The number below 2^64 that 1 to 20 decimal digits write, with leading zeros or without. None for
 /// any other text.
@@ -43,23 +44,4 @@ fn is_digit(byte: u8) -> bool
     ensures { result ≡ is_ascii_digit byte }
 {
     byte.is_ascii_digit()
-}
-
-// The number that digits write, where it is below 2^64.
-#[tactic(auto, using(crate::proofs::Value::value_step, crate::proofs::Value::value_grows))]
-fn value(digits: &[u8]) -> Option<u64>
-    ensures some { IfSome result (λ n. n ≡ value_of 0 digits.now) }
-    ensures none { IfNone result (2 ^ 64 ≤ value_of 0 digits.now) }
-{
-    let mut n: u64 = 0;
-    for digit in digits {
-        let Some(tens) = n.checked_mul(10) else {
-            return None;
-        };
-        let Some(more) = tens.checked_add(u64::from(digit.saturating_sub(48))) else {
-            return None;
-        };
-        n = more;
-    }
-    Some(n)
 }

@@ -1,12 +1,12 @@
 // The top call: all that the program does.
 ghost use Rattle.std.specs.Prelude.{◌≡◌, ◌⊎◌, ◌≤◌, [], List, ℕ};
 ghost use Rattle.w2c_io.specs.Contents.{Name, Contents};
-ghost use Rattle.w2c_io.specs.Causes.{Rose};
+ghost use Rattle.w2c_io.specs.Causes.{Rose, Faulted};
 ghost use Rattle.w2c_io.specs.Telling.{Tells, Says, SaysPart};
 ghost use Rattle.crun_cli.specs.CommandLine.{line_of, texts};
 ghost use Rattle.crun_cli.specs.Job.{Answers, IsJob, Job, Stops};
 ghost use Rattle.crun_cli.specs.Lines.{error_line, status_of, Reason, Unread, Unwritten};
-ghost use Rattle.crun_cli.specs.Stops.{Faulted, IsInput, Ran, RanPart, Refuses};
+ghost use Rattle.crun_cli.specs.Stops.{IsInput, Ran, RanPart, Refuses};
 
 use crate::report::report;
 use crate::work::work;

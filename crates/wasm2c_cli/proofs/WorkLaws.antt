@@ -2,7 +2,7 @@
 use Rattle.std.proofs.Common.{◌≡◌, ◌⊎◌, ℕ, List, [], ◌∷◌, sym, ◌∙◌, ap, subst, Option, Some, MatchOption, string_bytes, inl, inr}
 use Rattle.std.specs.FinMap.{get, insert}
 use Rattle.w2c_io.specs.Contents.{Name, Contents, Told, HasFile}
-use Rattle.w2c_io.specs.Causes.{Rose}
+use Rattle.w2c_io.specs.Causes.{Rose, Faulted}
 use Rattle.w2c_io.specs.Telling.{Tells}
 use Rattle.w2c_io.proofs.Names.{get_here, get_other}
 use Rattle.wasm_tree.specs.ConstantModule.{IsConstantModule}
@@ -15,7 +15,7 @@ use Rattle.wasm2c_cli.specs.declared.stop.Stop.TheVariants as stops
 use Rattle.wasm2c_cli.specs.CommandLine.{Line, header_name_of, line_of, runtime_of}
 use Rattle.wasm2c_cli.specs.Job.{Job, Makes, Missing, Refused, Write, IsJobOf, IsJob, IsOtherJob}
 use Rattle.wasm2c_cli.specs.Standing.{file_names, written, IsOneOf, Stands, StandsAt}
-use Rattle.wasm2c_cli.specs.Stops.{Faulted, HasReading, IsInput, IsOutput, StopsReading, StopsWriting, StopsWork, Done, HoldsUnit, WritesUnit}
+use Rattle.wasm2c_cli.specs.Stops.{HasReading, IsInput, IsOutput, StopsReading, StopsWriting, StopsWork, Done, HoldsUnit, WritesUnit}
 use Rattle.wasm2c_cli.proofs.HeaderName.{is_apart, output_is_c_file}
 
 no_usage : (words : List Name) (line : Line) → line_of words ≡ Some line → HasReading words

@@ -2,7 +2,7 @@
 use Rattle.std.specs.Prelude.{◌≡◌, ◌⊎◌, ℕ, List, Option, Some, None, string_bytes}
 use Rattle.std.specs.FinMap.{get}
 use Rattle.w2c_io.specs.Contents.{Name, Contents, Told, HasFile}
-use Rattle.w2c_io.specs.Causes.{Rose}
+use Rattle.w2c_io.specs.Causes.{Faulted}
 use Rattle.w2c_io.specs.Telling.{Tells}
 use Rattle.c_tree.specs.Tree as tree
 use Rattle.wasm_tree.specs.ConstantModule.{IsConstantModule}
@@ -16,11 +16,6 @@ use Rattle.wasm2c_cli.specs.Job.{Missing, Refused, Write, IsJob}
 use Rattle.wasm2c_cli.specs.Reasons.{IsRefused}
 use Rattle.wasm2c_cli.specs.Runtime.{runtime_files}
 use Rattle.wasm2c_cli.specs.Standing.{IsOneOf, file_names, written, Stands, StandsAt}
-
--- a call on the file failed, and the count says so
-pub record Faulted (name : Name) (before after : ℕ) (fault_name : Option Name) : Type 0 where
-  pub rose : Rose before after
-  pub named : fault_name ≡ Some name
 
 -- why no module was read
 abbrev pub StopsReading : Told → Name → ℕ → ℕ → Option Name → Stop → Type 0

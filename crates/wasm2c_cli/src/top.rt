@@ -1,7 +1,7 @@
 // The top call: all that the program does.
 ghost use Rattle.std.specs.Prelude.{◌≡◌, ◌⊎◌, ◌≤◌, List, ℕ, Some, None};
 ghost use Rattle.w2c_io.specs.Contents.{Name, Contents};
-ghost use Rattle.w2c_io.specs.Causes.{Rose};
+ghost use Rattle.w2c_io.specs.Causes.{Rose, Faulted};
 ghost use Rattle.w2c_io.specs.Telling.{Tells, Says, SaysPart};
 ghost use Rattle.w2c_sim.specs.Simulation.{Backward, Forward, NeverStops};
 ghost use Rattle.wasm2c_cli.specs.declared.stop.Reason.{Reason};
@@ -10,7 +10,7 @@ ghost use Rattle.wasm2c_cli.specs.CommandLine.{line_of, runtime_of, texts};
 ghost use Rattle.wasm2c_cli.specs.Job.{IsJob, Job, Missing, Refused, Write};
 ghost use Rattle.wasm2c_cli.specs.Lines.{line_for, read_line, refused_line, usage_line, write_line};
 ghost use Rattle.wasm2c_cli.specs.Standing.{StandsAt};
-ghost use Rattle.wasm2c_cli.specs.Stops.{Done, Faulted, IsInput, IsOutput, StandsOfJob, WritesUnit, WritesUnitThat};
+ghost use Rattle.wasm2c_cli.specs.Stops.{Done, IsInput, IsOutput, StandsOfJob, WritesUnit, WritesUnitThat};
 ghost use Rattle.wasm2c_cli.specs.Top.{Answers};
 
 use crate::report::report;

@@ -1,6 +1,7 @@
 -- What is entered of bodies, one by one, is what the bodies of the module have.
 use Rattle.std.proofs.Common.{◌≡◌, List, [], ◌∷◌, ◌++◌, map, Option, Some, None, refl, sym, subst, ap, ◌∙◌, ◌⊎◌, inl, inr, append_assoc}
 use Rattle.std.specs.Prelude.{ℕ, Ok, Err, option_map, slice_get, zip}
+use Rattle.std.proofs.lemmas.List.{append-nil}
 use Rattle.w2c_base.specs.declared.value.ValType.{ValType}
 use Rattle.w2c_base.specs.declared.signature.FuncType.{FuncType}
 use Rattle.wasm_tree.specs.declared.tree.Module.{Module}
@@ -87,13 +88,9 @@ zip_empty (f ∷ funcs) [] h = refl
 zip_empty (f ∷ funcs) (b ∷ bodies) (inl e) = cc
 zip_empty (f ∷ funcs) (b ∷ bodies) (inr e) = cc
 
-append_none : (xs : List Fault) → xs ++ [] ≡ xs
-append_none [] = refl
-append_none (x ∷ xs) = ap (λ ys. x ∷ ys) (append_none xs)
-
 all_entered : (m : Module) (all left : Bodies) (old new : Option Fault) → left ≡ [] → Entering m all left old new → EntersBodies m all old new
 all_entered m all left old new none h =
-    (h.0, subst (FaultsOfBodies m all) (append_none h.0) (h.2 [] (subst (λ bs. FaultsOfBodies m bs []) (sym none) refl)), h.1)
+    (h.0, subst (FaultsOfBodies m all) (append-nil h.0) (h.2 [] (subst (λ bs. FaultsOfBodies m bs []) (sym none) refl)), h.1)
 
 pub all_pairs_entered : (m : Module) (all : Bodies) (funcs : List FuncEntry) (bodies : List BodyEntry) (old new : Option Fault)
     → (funcs ≡ []) ⊎ (bodies ≡ []) → Entering m all (zip funcs bodies) old new → EntersBodies m all old new

@@ -1,7 +1,8 @@
 -- Where the checker refuses is the first faulty token, with its place and its cause.
-use Rattle.std.proofs.Common.{◌≡◌, ℕ, zero, suc, ◌+◌, ◌-◌, ◌<◌, ◌≤◌, List, [], ◌∷◌, ◌++◌, length, Option, Some, None, refl, sym, subst, ap, ◌∙◌, ⊎_elim, ◌⊎◌, inl, inr, arith}
-use Rattle.std.specs.Prelude.{Result, Ok, Err, slice_get}
+use Rattle.std.proofs.Common.{◌≡◌, ℕ, zero, suc, ◌+◌, ◌<◌, ◌≤◌, List, [], ◌∷◌, ◌++◌, length, Option, Some, None, refl, sym, subst, ap, ◌∙◌, ⊎_elim, ◌⊎◌, inl, inr, arith}
+use Rattle.std.specs.Prelude.{Ok, Err, slice_get}
 use Rattle.std.proofs.lemmas.Bool.{cases_lt}
+use Rattle.std.proofs.lemmas.List.{length-append}
 use Rattle.w2c_base.specs.declared.value.ValType.{ValType}
 use Rattle.w2c_base.specs.declared.value.ValType.TheVariants.{I32}
 use Rattle.wasm_tree.specs.declared.entries.BodyEntry.{BodyEntry}
@@ -26,21 +27,17 @@ get_behind [] ys k j e = let same : k ≡ j = omega (arith, e) in ap (slice_get 
 get_behind (x ∷ xs) ys zero j e = absurd (omega (arith, e))
 get_behind (x ∷ xs) ys (suc k) j e = get_behind xs ys k j (omega (arith, e))
 
-length-joined : {A : Type 0} (xs ys : List A) → length (xs ++ ys) ≡ length xs + length ys
-length-joined [] ys = omega arith
-length-joined (x ∷ xs) ys = let e : length (xs ++ ys) ≡ length xs + length ys = length-joined xs ys in omega (arith, e)
-
 length-block : (t u : Fault) (ts : List Fault) (n : ℕ) → length ts ≡ n → length (t ∷ (ts ++ u ∷ [])) ≡ n + 2
-length-block t u ts n e = let f : length (ts ++ u ∷ []) ≡ length ts + length (u ∷ []) = length-joined ts (u ∷ []) in omega (arith, e, f)
+length-block t u ts n e = let f : length (ts ++ u ∷ []) ≡ length ts + length (u ∷ []) = length-append ts (u ∷ []) in omega (arith, e, f)
 
 length-if : (t u : Fault) (ts us : List Fault) (m n : ℕ) → length ts ≡ m → length us ≡ n → length (t ∷ (ts ++ (us ++ u ∷ []))) ≡ m + n + 2
 length-if t u ts us m n e f =
-    let g : length (us ++ u ∷ []) ≡ length us + length (u ∷ []) = length-joined us (u ∷ []) in
-    let h : length (ts ++ (us ++ u ∷ [])) ≡ length ts + length (us ++ u ∷ []) = length-joined ts (us ++ u ∷ []) in
+    let g : length (us ++ u ∷ []) ≡ length us + length (u ∷ []) = length-append us (u ∷ []) in
+    let h : length (ts ++ (us ++ u ∷ [])) ≡ length ts + length (us ++ u ∷ []) = length-append ts (us ++ u ∷ []) in
     omega (arith, e, f, g, h)
 
 length-both : (ts us : List Fault) (m n : ℕ) → length ts ≡ m → length us ≡ n → length (ts ++ us) ≡ m + n
-length-both ts us m n e f = let g : length (ts ++ us) ≡ length ts + length us = length-joined ts us in omega (arith, e, f, g)
+length-both ts us m n e f = let g : length (ts ++ us) ≡ length ts + length us = length-append ts us in omega (arith, e, f, g)
 
 -- there are so many tokens
 mutual

@@ -1,5 +1,5 @@
 -- Operands in memory, one more and one less.
-use Rattle.std.proofs.Common.{◌≡◌, ℕ, zero, suc, ◌+◌, ◌<◌, ◌≤◌, List, [], ◌∷◌, ◌++◌, length, drop, Option, Some, None, Bool, true, false, refl, sym, ap, ◌∙◌, arith}
+use Rattle.std.proofs.Common.{◌≡◌, ℕ, zero, suc, ◌+◌, ◌<◌, ◌≤◌, List, [], ◌∷◌, ◌++◌, length, drop, Some, None, Bool, true, false, refl, ap, ◌∙◌, arith}
 use Rattle.wasm_valid.specs.declared.operand.Operand.{Operand}
 use Rattle.wasm_valid.specs.Checker.{Operands, nothing, on, empties}
 use Rattle.wasm_valid.specs.Shown.{pile, popped, bottom}

@@ -1,11 +1,11 @@
 use Rattle.std.proofs.Common.{sym, ap, ◌∙◌, arith}
 use Rattle.std.proofs.lemmas.Bool.Decides.{nat_tests}
-use Rattle.c_meaning.specs.Linking.{equal_c_types}
+use Rattle.c_tree.specs.Runtime.{same_types}
 use Rattle.crun.proofs.Fitting.{arguments_typed, no_arguments}
 use Rattle.crun.proofs.signatures.are_params.Goals as goal
 
 pub returns-then-is_empty : goal.returns-then-is_empty
-returns-then-is_empty c = c.are_void.ensures ∙ ap (equal_c_types c.args.params.now) (sym (no_arguments c.args.args.now (grind (arith, nat_tests))))
+returns-then-is_empty c = c.are_void.ensures ∙ ap (same_types c.args.params.now) (sym (no_arguments c.args.args.now (grind (arith, nat_tests))))
 
 pub returns-else-is_empty : goal.returns-else-is_empty
-returns-else-is_empty c = c.are_types.ensures ∙ ap (equal_c_types c.args.params.now) (sym (arguments_typed c.args.args.now (grind (arith, nat_tests))))
+returns-else-is_empty c = c.are_types.ensures ∙ ap (same_types c.args.params.now) (sym (arguments_typed c.args.args.now (grind (arith, nat_tests))))
