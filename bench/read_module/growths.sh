@@ -1,8 +1,8 @@
 #!/bin/sh
 # Refuses each request for memory in turn while wasm2c reads and checks a module as a linker writes it, which is not
-# built. Each run must write no file, and end with 5 and say that memory was wanting, or nothing; or, where a smaller
-# request stood in for the one that was refused, end as ever. In the last run nothing was refused. Needs the Rattle
-# kit's command rt where the program is not built yet, gcc and python3.
+# built. Each run must write no file, and end with 5 and say that memory was wanting, or nothing; or, where the request
+# was made again and met, end as ever. In the last run nothing was refused. Needs the Rattle kit's command rt where the
+# program is not built yet, gcc and python3.
 set -e
 here=$(cd "$(dirname "$0")" && pwd)
 program=$here/../../bin/wasm2c
