@@ -716,7 +716,7 @@ fn faults_of_bodies(rt: HostRuntime) -> Result<(), Fail> {
 
 #[test]
 fn each_rule_both_ways(rt: HostRuntime) -> Result<(), Fail> {
-    let rows: [(&[u8], Option<(u32, ValidCause)>); 26] = [
+    let rows: [(&[u8], Option<(u32, ValidCause)>); 28] = [
         // `nop`
         (
             &[
@@ -924,6 +924,22 @@ fn each_rule_both_ways(rt: HostRuntime) -> Result<(), Fail> {
                 0x07, 0x00, 0x41, 0x00, 0x0d, 0x00, 0x00, 0x0b,
             ],
             Some((26, ValidCause::TypeMismatch)),
+        ),
+        // behind `unreachable` a sum has both operands (Core 1.0, 3.3)
+        (
+            &[
+                0x01, 0x05, 0x01, 0x60, 0x00, 0x01, 0x7f, 0x03, 0x02, 0x01, 0x00, 0x0a, 0x06, 0x01,
+                0x04, 0x00, 0x00, 0x6a, 0x0b,
+            ],
+            None,
+        ),
+        // and none where one of them is known to be an i64
+        (
+            &[
+                0x01, 0x05, 0x01, 0x60, 0x00, 0x01, 0x7f, 0x03, 0x02, 0x01, 0x00, 0x0a, 0x08, 0x01,
+                0x06, 0x00, 0x00, 0x42, 0x00, 0x6a, 0x0b,
+            ],
+            Some((27, ValidCause::TypeMismatch)),
         ),
     ];
     said_of_rows(&rt, rt.alloc(), &rows)
