@@ -6,10 +6,11 @@ use Rattle.w2c_base.specs.declared.value.Value.{Value}
 use Rattle.w2c_base.specs.declared.signature.FuncType.{FuncType}
 use Rattle.w2c_base.specs.declared.trap.TrapKind.TheVariants as trap
 use Rattle.w2c_base.specs.Lookup.{named}
-use Rattle.w2c_base.specs.Run.{Init, Call}
+use Rattle.w2c_base.specs.Run.{Init, Call, asks_in, values_in}
 use Rattle.w2c_base.specs.Signature.{sig_number_of}
 use Rattle.w2c_mangle.specs.declared.symbol.SymbolKind.TheVariants as symbol
 use Rattle.w2c_mangle.specs.Symbols.{export_symbol_of}
+use Rattle.wasm_tree.specs.IndexSpaces.{imported_globals}
 use Rattle.wasm_meaning.specs.LinkedSet as link
 use Rattle.wasm_meaning.specs.Store as store
 use Rattle.wasm_meaning.specs.Execution as exec
@@ -105,7 +106,7 @@ got_past_limits w p = elim w.phase [
 ]
 
 abbrev pub first_global : link.LinkedSet → ℕ → ℕ
-first_global s p = elim (link.module_at s p) [ None ↦ 0 | Some m ↦ link.imported_globals m ]
+first_global s p = elim (link.module_at s p) [ None ↦ 0 | Some m ↦ imported_globals m ]
 
 -- what the module with number p defines, and the objects of its unit
 pub record ObjectsAlike (s : link.LinkedSet) (w : wasm.WasmRun) (p : ℕ) (o : store.Objects) (u : state.Objects) : Type 0 where
@@ -122,6 +123,6 @@ StoresAlike s w p _ _ = ⊥
 pub record Alike (s : link.LinkedSet) (w : wasm.WasmRun) (run : c.CRun) : Type 0 where
   pub phase : w.phase ≡ run.phase
   pub outcome : OutcomesAlike w.outcome run.outcome
-  pub values : w.values ≡ run.values
-  pub asks : w.asks ≡ run.asks
+  pub values : values_in w.events ≡ values_in run.events
+  pub asks : asks_in w.events ≡ asks_in run.events
   pub objects : StoresAlike s w 0 w.store run.units

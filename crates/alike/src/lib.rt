@@ -4,5 +4,5 @@
 mod cases;
 mod laws;
 
-pub use cases::alike_cases;
+pub use cases::{alike_cases, alike_ends, unlike_ends};
 pub use laws::alike_runs_are_defined;

@@ -11,7 +11,5 @@ mod pass;
 mod progress;
 mod shapes;
 mod statements;
-#[cfg(test)]
-mod tests;
 
 pub use checked::{CheckRefusal, CheckedUnit};

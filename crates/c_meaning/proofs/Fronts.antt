@@ -6,26 +6,27 @@ use Rattle.std.proofs.lemmas.List.{append-nil, map-append}
 use Rattle.std.specs.List.{range_with_len, AllByRecursion}
 use Rattle.w2c_base.specs.declared.value.Value.{Value}
 use Rattle.w2c_base.specs.Lookup.{numbered}
-use Rattle.w2c_base.specs.Run.{Phase, Init, Call, Reply}
+use Rattle.w2c_base.specs.Run.{Phase, Init, Call, Reply, CallEnded, values_in}
+use Rattle.w2c_base.proofs.Events.{values_behind}
 use Rattle.c_meaning.specs.State.{FuncAddress, CValue, Number, Pointer, FuncPointer, Machine, Stop, Stuck}
 use Rattle.c_meaning.specs.Linking.{Program, SymbolCall, called_func, init_functions}
 use Rattle.c_meaning.specs.Machine.{fresh}
 use Rattle.c_meaning.specs.Step.{Step, Next, Back, Stops, call, c_step}
-use Rattle.c_meaning.specs.Run.{CRun, Ended, Stopped, OutOfSteps, Entry, Pending, Progress, Going, Over, over, begun, begin_entry, came_back, go_on, after, run_of, c_start, c_run, entries_of}
+use Rattle.c_meaning.specs.Run.{CRun, Ended, Stopped, OutOfSteps, Entry, Pending, Progress, Going, Over, over, begun, begin_entry, told_end, came_back, go_on, after, run_of, c_start, c_run, entries_of}
 use Rattle.c_meaning.proofs.Longer.{after_sum}
+use Rattle.c_meaning.proofs.Told.{machine_of, call_same, step_same}
 
 -- the same with more entries behind
 abbrev longer : List Entry → Pending → Pending
-longer more pending = record { phase = pending.phase; entries = pending.entries ++ more; values = pending.values }
+longer more pending = record { phase = pending.phase; entries = pending.entries ++ more }
 
 -- a run that ended, and the longer one, which goes on from there with so many statements
 pub record EndedAt (p : Program) (more : List Entry) (run : CRun) (y : Progress) : Type 0 where
   pub machine : Machine
   pub last : Phase
-  pub values : List (Option Value)
   pub left : ℕ
-  pub run_is : run ≡ over (record { phase = last; entries = []; values = values }) machine Ended
-  pub goes_on : y ≡ after p left (begin_entry p machine last values more)
+  pub run_is : run ≡ over (record { phase = last; entries = [] }) machine Ended
+  pub goes_on : y ≡ after p left (begin_entry p machine last more)
 
 -- where the longer run stands while the shorter one stands here
 abbrev pub Follows : Program → List Entry → Progress → Progress → Type 0
@@ -44,12 +45,12 @@ module _ (p : Program) (more : List Entry) where
   follows_begun pending (Back m value) = inl (stopped_apart Stuck, refl)
   follows_begun pending (Stops m why) = inl (stopped_apart why, refl)
 
-  pub follows_entry : (m : Machine) (last : Phase) (values : List (Option Value)) (es : List Entry) → Follows p more (begin_entry p m last values es) (begin_entry p m last values (es ++ more))
-  follows_entry m last values [] = inr (record { machine = m; last = last; values = values; left = 0; run_is = refl; goes_on = refl })
-  follows_entry m last values (e ∷ es) = go e.func
+  pub follows_entry : (m : Machine) (last : Phase) (es : List Entry) → Follows p more (begin_entry p m last es) (begin_entry p m last (es ++ more))
+  follows_entry m last [] = inr (record { machine = m; last = last; left = 0; run_is = refl; goes_on = refl })
+  follows_entry m last (e ∷ es) = go e.func
     where
       pending : Pending
-      pending = record { phase = e.phase; entries = es; values = values }
+      pending = record { phase = e.phase; entries = es }
 
       go : (f : Option FuncAddress)
           → Follows p more (elim f [ None ↦ Over (over pending m (Stopped Stuck)) | Some f ↦ begun pending (call p f m (map Number e.args) []) ])
@@ -58,9 +59,9 @@ module _ (p : Program) (more : List Entry) where
       go (Some f) = follows_begun pending (call p f m (map Number e.args) [])
 
   follows_back : (pending : Pending) (m : Machine) (phase : Phase) (value : Option CValue) → Follows p more (came_back p pending m phase value) (came_back p (longer more pending) m phase value)
-  follows_back pending m (Init k) None = follows_entry m (Init k) pending.values pending.entries
-  follows_back pending m (Call k) None = follows_entry m (Call k) (pending.values ++ None ∷ []) pending.entries
-  follows_back pending m (Call k) (Some (Number v)) = follows_entry m (Call k) (pending.values ++ Some v ∷ []) pending.entries
+  follows_back pending m (Init k) None = follows_entry m (Init k) pending.entries
+  follows_back pending m (Call k) None = follows_entry (told_end m None) (Call k) pending.entries
+  follows_back pending m (Call k) (Some (Number v)) = follows_entry (told_end m (Some v)) (Call k) pending.entries
   follows_back pending m (Call k) (Some (Pointer to)) = inl (stopped_apart Stuck, refl)
   follows_back pending m (Call k) (Some (FuncPointer to)) = inl (stopped_apart Stuck, refl)
   follows_back pending m (Init k) (Some v) = inl (stopped_apart Stuck, refl)
@@ -79,10 +80,9 @@ module _ (p : Program) (more : List Entry) where
   follows_after (suc n) (Over run) y (inr at) = inr (record {
     machine = at.machine;
     last = at.last;
-    values = at.values;
     left = at.left + suc n;
     run_is = at.run_is;
-    goes_on = ap (after p (suc n)) at.goes_on ∙ sym (after_sum p at.left (suc n) (begin_entry p at.machine at.last at.values more));
+    goes_on = ap (after p (suc n)) at.goes_on ∙ sym (after_sum p at.left (suc n) (begin_entry p at.machine at.last more));
   })
 
   pub stopped_same : (x y : Progress) → Follows p more x y → (run_of x).outcome ≢ Ended → run_of y ≡ run_of x
@@ -124,34 +124,39 @@ pub start_follows : (p : Program) (calls more : List SymbolCall) (n : ℕ) (repl
 start_follows p calls more n replies =
     let rest = entries_behind p (length calls) more in
     follows_after p rest n (c_start p calls replies) (c_start p (calls ++ more) replies)
-    (subst (λ es. Follows p rest (c_start p calls replies) (begin_entry p (fresh p replies) (Init 0) [] es)) (sym (entries_longer p calls more))
-    (follows_entry p rest (fresh p replies) (Init 0) [] (entries_of p calls)))
+    (subst (λ es. Follows p rest (c_start p calls replies) (begin_entry p (fresh p replies) (Init 0) es)) (sym (entries_longer p calls more))
+    (follows_entry p rest (fresh p replies) (Init 0) (entries_of p calls)))
 
 -- values
 
 abbrev values_of : Progress → List (Option Value)
-values_of (Going pending s) = pending.values
-values_of (Over run) = run.values
+values_of (Going pending s) = values_in s.machine.trail.events
+values_of (Over run) = values_in run.events
 
-run_values : (x : Progress) → (run_of x).values ≡ values_of x
+run_values : (x : Progress) → values_in (run_of x).events ≡ values_of x
 run_values (Going pending s) = refl
 run_values (Over run) = refl
 
-begun_values : (pending : Pending) (st : Step) → values_of (begun pending st) ≡ pending.values
+begun_values : (pending : Pending) (st : Step) → values_of (begun pending st) ≡ values_in (machine_of st).trail.events
 begun_values pending (Next s) = refl
 begun_values pending (Back m value) = refl
 begun_values pending (Stops m why) = refl
 
-entry_values : (p : Program) (m : Machine) (last : Phase) (values : List (Option Value)) (es : List Entry) → values_of (begin_entry p m last values es) ≡ values
-entry_values p m last values [] = refl
-entry_values p m last values (e ∷ es) = go e.func
+-- where an entry is begun the values are those of the machine
+entry_values : (p : Program) (m : Machine) (last : Phase) (es : List Entry) → values_of (begin_entry p m last es) ≡ values_in m.trail.events
+entry_values p m last [] = refl
+entry_values p m last (e ∷ es) = go e.func
   where
     pending : Pending
-    pending = record { phase = e.phase; entries = es; values = values }
+    pending = record { phase = e.phase; entries = es }
 
-    go : (f : Option FuncAddress) → values_of (elim f [ None ↦ Over (over pending m (Stopped Stuck)) | Some f ↦ begun pending (call p f m (map Number e.args) []) ]) ≡ values
+    go : (f : Option FuncAddress) → values_of (elim f [ None ↦ Over (over pending m (Stopped Stuck)) | Some f ↦ begun pending (call p f m (map Number e.args) []) ]) ≡ values_in m.trail.events
     go None = refl
-    go (Some f) = begun_values pending (call p f m (map Number e.args) [])
+    go (Some f) = begun_values pending (call p f m (map Number e.args) []) ∙ call_same p f m (map Number e.args) []
+
+-- a call's end is one value more
+one_told : (m : Machine) (v : Option Value) → values_in (told_end m v).trail.events ≡ values_in m.trail.events ++ v ∷ []
+one_told m v = values_behind m.trail.events (CallEnded v ∷ [])
 
 -- they begin with these
 abbrev BeginsWith : List (Option Value) → List (Option Value) → Type 0
@@ -160,67 +165,75 @@ BeginsWith front values = (rest : List (Option Value)) × (values ≡ front ++ r
 one_behind : (front values : List (Option Value)) (v : Option Value) → BeginsWith front values → BeginsWith front (values ++ v ∷ [])
 one_behind front values v (rest, is) = (rest ++ v ∷ [], ap (λ l. l ++ v ∷ []) is ∙ append_assoc front rest (v ∷ []))
 
-begins_as : (p : Program) (front : List (Option Value)) (m : Machine) (last : Phase) (values : List (Option Value)) (es : List Entry) → BeginsWith front values → BeginsWith front (values_of (begin_entry p m last values es))
-begins_as p front m last values es begins = subst (BeginsWith front) (sym (entry_values p m last values es)) begins
+begins_as : (p : Program) (front : List (Option Value)) (m : Machine) (last : Phase) (es : List Entry) → BeginsWith front (values_in m.trail.events) → BeginsWith front (values_of (begin_entry p m last es))
+begins_as p front m last es begins = subst (BeginsWith front) (sym (entry_values p m last es)) begins
 
-grows_back : (p : Program) (front : List (Option Value)) (pending : Pending) (m : Machine) (phase : Phase) (value : Option CValue) → BeginsWith front pending.values → BeginsWith front (values_of (came_back p pending m phase value))
-grows_back p front pending m (Init k) None begins = begins_as p front m (Init k) pending.values pending.entries begins
-grows_back p front pending m (Call k) None begins = begins_as p front m (Call k) (pending.values ++ None ∷ []) pending.entries (one_behind front pending.values None begins)
-grows_back p front pending m (Call k) (Some (Number v)) begins = begins_as p front m (Call k) (pending.values ++ Some v ∷ []) pending.entries (one_behind front pending.values (Some v) begins)
+begins_behind : (p : Program) (front : List (Option Value)) (m : Machine) (v : Option Value) (last : Phase) (es : List Entry) → BeginsWith front (values_in m.trail.events) → BeginsWith front (values_of (begin_entry p (told_end m v) last es))
+begins_behind p front m v last es begins = begins_as p front (told_end m v) last es (subst (BeginsWith front) (sym (one_told m v)) (one_behind front (values_in m.trail.events) v begins))
+
+grows_back : (p : Program) (front : List (Option Value)) (pending : Pending) (m : Machine) (phase : Phase) (value : Option CValue) → BeginsWith front (values_in m.trail.events) → BeginsWith front (values_of (came_back p pending m phase value))
+grows_back p front pending m (Init k) None begins = begins_as p front m (Init k) pending.entries begins
+grows_back p front pending m (Call k) None begins = begins_behind p front m None (Call k) pending.entries begins
+grows_back p front pending m (Call k) (Some (Number v)) begins = begins_behind p front m (Some v) (Call k) pending.entries begins
 grows_back p front pending m (Call k) (Some (Pointer to)) begins = begins
 grows_back p front pending m (Call k) (Some (FuncPointer to)) begins = begins
 grows_back p front pending m (Init k) (Some v) begins = begins
 
-grows_on : (p : Program) (front : List (Option Value)) (pending : Pending) (st : Step) → BeginsWith front pending.values → BeginsWith front (values_of (go_on p pending st))
+grows_on : (p : Program) (front : List (Option Value)) (pending : Pending) (st : Step) → BeginsWith front (values_in (machine_of st).trail.events) → BeginsWith front (values_of (go_on p pending st))
 grows_on p front pending (Next s) begins = begins
 grows_on p front pending (Back m value) begins = grows_back p front pending m pending.phase value begins
 grows_on p front pending (Stops m why) begins = begins
 
 grows_after : (p : Program) (front : List (Option Value)) (n : ℕ) (x : Progress) → BeginsWith front (values_of x) → BeginsWith front (values_of (after p n x))
 grows_after p front zero x begins = begins
-grows_after p front (suc n) (Going pending s) begins = grows_after p front n (go_on p pending (c_step p s)) (grows_on p front pending (c_step p s) begins)
+grows_after p front (suc n) (Going pending s) begins = grows_after p front n (go_on p pending (c_step p s))
+    (grows_on p front pending (c_step p s) (subst (BeginsWith front) (sym (step_same p s)) begins))
 grows_after p front (suc n) (Over run) begins = begins
 
 -- one entry of a call alone: where the run ends it has one value more, and else none
 abbrev IsOne : List (Option Value) → Progress → Type 0
-IsOne front (Going pending s) = (pending.entries ≡ []) × (pending.values ≡ front) × ((k : ℕ) × (pending.phase ≡ Call k))
-IsOne front (Over run) = ((run.outcome ≡ Ended) × ((v : Option Value) × (run.values ≡ front ++ v ∷ []))) ⊎ ((run.outcome ≢ Ended) × (run.values ≡ front))
+IsOne front (Going pending s) = (pending.entries ≡ []) × (values_in s.machine.trail.events ≡ front) × ((k : ℕ) × (pending.phase ≡ Call k))
+IsOne front (Over run) = ((run.outcome ≡ Ended) × ((v : Option Value) × (values_in run.events ≡ front ++ v ∷ []))) ⊎ ((run.outcome ≢ Ended) × (values_in run.events ≡ front))
 
-abbrev one_pending : ℕ → List (Option Value) → Pending
-one_pending k front = record { phase = Call k; entries = []; values = front }
+abbrev one_pending : ℕ → Pending
+one_pending k = record { phase = Call k; entries = [] }
 
-one_begun : (k : ℕ) (front : List (Option Value)) (st : Step) → IsOne front (begun (one_pending k front) st)
-one_begun k front (Next s) = (refl, refl, (k, refl))
-one_begun k front (Back m value) = inr (stopped_apart Stuck, refl)
-one_begun k front (Stops m why) = inr (stopped_apart why, refl)
+one_begun : (k : ℕ) (front : List (Option Value)) (st : Step) → values_in (machine_of st).trail.events ≡ front → IsOne front (begun (one_pending k) st)
+one_begun k front (Next s) same = (refl, same, (k, refl))
+one_begun k front (Back m value) same = inr (stopped_apart Stuck, same)
+one_begun k front (Stops m why) same = inr (stopped_apart why, same)
 
-one_back : (p : Program) (k : ℕ) (front : List (Option Value)) (m : Machine) (value : Option CValue) → IsOne front (came_back p (one_pending k front) m (Call k) value)
-one_back p k front m None = inl (refl, (None, refl))
-one_back p k front m (Some (Number v)) = inl (refl, (Some v, refl))
-one_back p k front m (Some (Pointer to)) = inr (stopped_apart Stuck, refl)
-one_back p k front m (Some (FuncPointer to)) = inr (stopped_apart Stuck, refl)
+one_back : (p : Program) (k : ℕ) (front : List (Option Value)) (m : Machine) (value : Option CValue) → values_in m.trail.events ≡ front → IsOne front (came_back p (one_pending k) m (Call k) value)
+one_back p k front m None same = inl (refl, (None, one_told m None ∙ ap (λ l. l ++ None ∷ []) same))
+one_back p k front m (Some (Number v)) same = inl (refl, (Some v, one_told m (Some v) ∙ ap (λ l. l ++ Some v ∷ []) same))
+one_back p k front m (Some (Pointer to)) same = inr (stopped_apart Stuck, same)
+one_back p k front m (Some (FuncPointer to)) same = inr (stopped_apart Stuck, same)
 
-one_on : (p : Program) (k : ℕ) (front : List (Option Value)) (st : Step) → IsOne front (go_on p (one_pending k front) st)
-one_on p k front (Next s) = (refl, refl, (k, refl))
-one_on p k front (Back m value) = one_back p k front m value
-one_on p k front (Stops m why) = inr (stopped_apart why, refl)
+one_on : (p : Program) (k : ℕ) (front : List (Option Value)) (st : Step) → values_in (machine_of st).trail.events ≡ front → IsOne front (go_on p (one_pending k) st)
+one_on p k front (Next s) same = (refl, same, (k, refl))
+one_on p k front (Back m value) same = one_back p k front m value same
+one_on p k front (Stops m why) same = inr (stopped_apart why, same)
 
 one_after : (p : Program) (front : List (Option Value)) (n : ℕ) (x : Progress) → IsOne front x → IsOne front (after p n x)
 one_after p front zero x one = one
 one_after p front (suc n) (Over run) one = one
 one_after p front (suc n) (Going pending s) (none, is, (k, calls)) =
-    let same : one_pending k front ≡ pending = (λ i. record { phase = sym calls i; entries = sym none i; values = sym is i }) in
-    one_after p front n (go_on p pending (c_step p s)) (subst (λ q. IsOne front (go_on p q (c_step p s))) same (one_on p k front (c_step p s)))
+    let same : one_pending k ≡ pending = (λ i. record { phase = sym calls i; entries = sym none i }) in
+    one_after p front n (go_on p pending (c_step p s))
+    (subst (λ q. IsOne front (go_on p q (c_step p s))) same (one_on p k front (c_step p s) (step_same p s ∙ is)))
 
-one_entry : (p : Program) (m : Machine) (last : Phase) (front : List (Option Value)) (k : ℕ) (c : SymbolCall) → IsOne front (begin_entry p m last front (entry_of p (k, c) ∷ []))
-one_entry p m last front k c = go (called_func p c)
+one_entry : (p : Program) (m : Machine) (last : Phase) (k : ℕ) (c : SymbolCall) → IsOne (values_in m.trail.events) (begin_entry p m last (entry_of p (k, c) ∷ []))
+one_entry p m last k c = go (called_func p c)
   where
-    go : (f : Option FuncAddress) → IsOne front (elim f [ None ↦ Over (over (one_pending k front) m (Stopped Stuck)) | Some f ↦ begun (one_pending k front) (call p f m (map Number c.args) []) ])
+    go : (f : Option FuncAddress) → IsOne (values_in m.trail.events) (elim f [ None ↦ Over (over (one_pending k) m (Stopped Stuck)) | Some f ↦ begun (one_pending k) (call p f m (map Number c.args) []) ])
     go None = inr (stopped_apart Stuck, refl)
-    go (Some f) = one_begun k front (call p f m (map Number c.args) [])
+    go (Some f) = one_begun k (values_in m.trail.events) (call p f m (map Number c.args) []) (call_same p f m (map Number c.args) [])
 
-one_run : (front : List (Option Value)) (x : Progress) → IsOne front x
-    → ((run_of x).outcome ≡ Ended → (v : Option Value) × ((run_of x).values ≡ front ++ v ∷ [])) × ((run_of x).outcome ≢ Ended → (run_of x).values ≡ front)
+-- one value behind these where the run ends, and else these alone
+abbrev GivesOne : List (Option Value) → CRun → Type 0
+GivesOne front run = (run.outcome ≡ Ended → (v : Option Value) × (values_in run.events ≡ front ++ v ∷ [])) × (run.outcome ≢ Ended → values_in run.events ≡ front)
+
+one_run : (front : List (Option Value)) (x : Progress) → IsOne front x → GivesOne front (run_of x)
 one_run front (Going pending s) one = (λ ended. absurd (out_apart ended), λ apart. one.1)
 one_run front (Over run) (inl (ended, value)) = (λ e. value, λ apart. absurd (apart ended))
 one_run front (Over run) (inr (apart, same)) = (λ e. absurd (apart e), λ a. same)
@@ -231,95 +244,95 @@ abbrev AreInits : List Entry → Type 0
 AreInits es = AllByRecursion (λ (e : Entry). (k : ℕ) × (e.phase ≡ Init k)) es
 
 abbrev HasNoValues : Progress → Type 0
-HasNoValues (Going pending s) = (pending.values ≡ []) × AreInits pending.entries × ((k : ℕ) × (pending.phase ≡ Init k))
-HasNoValues (Over run) = run.values ≡ []
+HasNoValues (Going pending s) = (values_in s.machine.trail.events ≡ []) × AreInits pending.entries × ((k : ℕ) × (pending.phase ≡ Init k))
+HasNoValues (Over run) = values_in run.events ≡ []
 
 abbrev init_pending : ℕ → List Entry → Pending
-init_pending k es = record { phase = Init k; entries = es; values = [] }
+init_pending k es = record { phase = Init k; entries = es }
 
-none_begun : (k : ℕ) (es : List Entry) (st : Step) → AreInits es → HasNoValues (begun (init_pending k es) st)
-none_begun k es (Next s) inits = (refl, inits, (k, refl))
-none_begun k es (Back m value) inits = refl
-none_begun k es (Stops m why) inits = refl
+none_begun : (k : ℕ) (es : List Entry) (st : Step) → AreInits es → values_in (machine_of st).trail.events ≡ [] → HasNoValues (begun (init_pending k es) st)
+none_begun k es (Next s) inits none = (none, inits, (k, refl))
+none_begun k es (Back m value) inits none = none
+none_begun k es (Stops m why) inits none = none
 
-none_entry : (p : Program) (m : Machine) (last : Phase) (es : List Entry) → AreInits es → HasNoValues (begin_entry p m last [] es)
-none_entry p m last [] inits = refl
-none_entry p m last (e ∷ es) ((k, is), inits) = go e.func
+none_entry : (p : Program) (m : Machine) (last : Phase) (es : List Entry) → AreInits es → values_in m.trail.events ≡ [] → HasNoValues (begin_entry p m last es)
+none_entry p m last [] inits none = none
+none_entry p m last (e ∷ es) ((k, is), inits) none = go e.func
   where
     pending : Phase → Pending
-    pending phase = record { phase = phase; entries = es; values = [] }
+    pending phase = record { phase = phase; entries = es }
 
     go : (f : Option FuncAddress) → HasNoValues (elim f [ None ↦ Over (over (pending e.phase) m (Stopped Stuck)) | Some f ↦ begun (pending e.phase) (call p f m (map Number e.args) []) ])
-    go None = refl
-    go (Some f) = subst (λ phase. HasNoValues (begun (pending phase) (call p f m (map Number e.args) []))) (sym is) (none_begun k es (call p f m (map Number e.args) []) inits)
+    go None = none
+    go (Some f) = subst (λ phase. HasNoValues (begun (pending phase) (call p f m (map Number e.args) []))) (sym is)
+        (none_begun k es (call p f m (map Number e.args) []) inits (call_same p f m (map Number e.args) [] ∙ none))
 
-none_on : (p : Program) (k : ℕ) (es : List Entry) (st : Step) → AreInits es → HasNoValues (go_on p (init_pending k es) st)
-none_on p k es (Next s) inits = (refl, inits, (k, refl))
-none_on p k es (Back m None) inits = none_entry p m (Init k) es inits
-none_on p k es (Back m (Some v)) inits = refl
-none_on p k es (Stops m why) inits = refl
+none_on : (p : Program) (k : ℕ) (es : List Entry) (st : Step) → AreInits es → values_in (machine_of st).trail.events ≡ [] → HasNoValues (go_on p (init_pending k es) st)
+none_on p k es (Next s) inits none = (none, inits, (k, refl))
+none_on p k es (Back m None) inits none = none_entry p m (Init k) es inits none
+none_on p k es (Back m (Some v)) inits none = none
+none_on p k es (Stops m why) inits none = none
 
 none_after : (p : Program) (n : ℕ) (x : Progress) → HasNoValues x → HasNoValues (after p n x)
 none_after p zero x none = none
 none_after p (suc n) (Over run) none = none
 none_after p (suc n) (Going pending s) (is, inits, (k, phase)) =
-    let same : init_pending k pending.entries ≡ pending = (λ i. record { phase = sym phase i; entries = pending.entries; values = sym is i }) in
-    none_after p n (go_on p pending (c_step p s)) (subst (λ q. HasNoValues (go_on p q (c_step p s))) same (none_on p k pending.entries (c_step p s) inits))
+    let same : init_pending k pending.entries ≡ pending = (λ i. record { phase = sym phase i; entries = pending.entries }) in
+    none_after p n (go_on p pending (c_step p s))
+    (subst (λ q. HasNoValues (go_on p q (c_step p s))) same (none_on p k pending.entries (c_step p s) inits (step_same p s ∙ is)))
 
 inits_of : (fs : List (ℕ × FuncAddress)) → AreInits (map (λ (f : ℕ × FuncAddress). record { phase = Init f.0; func = Some f.1; args = [] }) fs ++ [])
 inits_of [] = tt
 inits_of (f ∷ fs) = ((f.0, refl), inits_of fs)
 
-none_run : (x : Progress) → HasNoValues x → (run_of x).values ≡ []
+none_run : (x : Progress) → HasNoValues x → values_in (run_of x).events ≡ []
 none_run (Going pending s) none = none.0
 none_run (Over run) none = none
 
 -- ---- what follows for runs
 
 -- the init functions alone give no values
-pub inits_give_none : (p : Program) (n : ℕ) (replies : List Reply) → (c_run p [] n replies).values ≡ []
-inits_give_none p n replies = none_run _ (none_after p n (c_start p [] replies) (none_entry p (fresh p replies) (Init 0) (entries_of p []) (inits_of (numbered (init_functions p)))))
+pub inits_give_none : (p : Program) (n : ℕ) (replies : List Reply) → values_in (c_run p [] n replies).events ≡ []
+inits_give_none p n replies = none_run _ (none_after p n (c_start p [] replies) (none_entry p (fresh p replies) (Init 0) (entries_of p []) (inits_of (numbered (init_functions p))) refl))
 
 -- a run that does not end is the run of any longer list
 pub stops_the_same : (p : Program) (calls more : List SymbolCall) (n : ℕ) (replies : List Reply) → (c_run p calls n replies).outcome ≢ Ended → c_run p (calls ++ more) n replies ≡ c_run p calls n replies
 stops_the_same p calls more n replies apart = stopped_same p (entries_behind p (length calls) more) _ _ (start_follows p calls more n replies) apart
 
 -- what goes on behind values keeps them in front
-goes_on_with : (p : Program) (m : Machine) (last : Phase) (values : List (Option Value)) (left : ℕ) (more : List Entry) → BeginsWith values (run_of (after p left (begin_entry p m last values more))).values
-goes_on_with p m last values left more =
-    let x = begin_entry p m last values more in
-    let grows = grows_after p values left x (begins_as p values m last values more ([], sym (append-nil values))) in
+goes_on_with : (p : Program) (m : Machine) (last : Phase) (left : ℕ) (more : List Entry) → BeginsWith (values_in m.trail.events) (values_in (run_of (after p left (begin_entry p m last more))).events)
+goes_on_with p m last left more =
+    let x = begin_entry p m last more in
+    let values : List (Option Value) = values_in m.trail.events in
+    let grows = grows_after p values left x (begins_as p values m last more ([], sym (append-nil values))) in
     (grows.0, run_values (after p left x) ∙ grows.1)
 
-stay_by : (p : Program) (more : List Entry) (run : CRun) (y : Progress) → EndedAt p more run y → BeginsWith run.values (run_of y).values
+stay_by : (p : Program) (more : List Entry) (run : CRun) (y : Progress) → EndedAt p more run y → BeginsWith (values_in run.events) (values_in (run_of y).events)
 stay_by p more run y at =
-    let goes = goes_on_with p at.machine at.last at.values at.left more in
-    (goes.0, ap (λ x. (run_of x).values) at.goes_on ∙ goes.1 ∙ ap (λ (r : CRun). r.values ++ goes.0) (sym at.run_is))
+    let goes = goes_on_with p at.machine at.last at.left more in
+    (goes.0, ap (λ x. values_in (run_of x).events) at.goes_on ∙ goes.1 ∙ ap (λ (r : CRun). values_in r.events ++ goes.0) (sym at.run_is))
 
 -- the values of a run that ends stand in front of those of any longer list
 pub values_stay : (p : Program) (calls more : List SymbolCall) (n : ℕ) (replies : List Reply) → (c_run p calls n replies).outcome ≡ Ended
-    → (rest : List (Option Value)) × ((c_run p (calls ++ more) n replies).values ≡ (c_run p calls n replies).values ++ rest)
+    → (rest : List (Option Value)) × (values_in (c_run p (calls ++ more) n replies).events ≡ values_in (c_run p calls n replies).events ++ rest)
 values_stay p calls more n replies ended =
     let rest = entries_behind p (length calls) more in
     let x = after p n (c_start p calls replies) in
     let y = after p n (c_start p (calls ++ more) replies) in
     stay_by p rest (run_of x) y (ended_goes_on p rest x y (start_follows p calls more n replies) ended)
 
--- one value behind these where the run ends, and else these alone
-abbrev GivesOne : List (Option Value) → CRun → Type 0
-GivesOne front run = (run.outcome ≡ Ended → (v : Option Value) × (run.values ≡ front ++ v ∷ [])) × (run.outcome ≢ Ended → run.values ≡ front)
-
-one_by : (p : Program) (k : ℕ) (c : SymbolCall) (run : CRun) (y : Progress) → EndedAt p (entry_of p (k, c) ∷ []) run y → GivesOne run.values (run_of y)
+one_by : (p : Program) (k : ℕ) (c : SymbolCall) (run : CRun) (y : Progress) → EndedAt p (entry_of p (k, c) ∷ []) run y → GivesOne (values_in run.events) (run_of y)
 one_by p k c run y at =
-    let x = begin_entry p at.machine at.last at.values (entry_of p (k, c) ∷ []) in
-    let one : GivesOne at.values (run_of (after p at.left x)) = one_run at.values (after p at.left x) (one_after p at.values at.left x (one_entry p at.machine at.last at.values k c)) in
-    let there : GivesOne at.values (run_of y) = subst (λ z. GivesOne at.values (run_of z)) (sym at.goes_on) one in
-    subst (λ front. GivesOne front (run_of y)) (ap (λ (r : CRun). r.values) (sym at.run_is)) there
+    let x = begin_entry p at.machine at.last (entry_of p (k, c) ∷ []) in
+    let values : List (Option Value) = values_in at.machine.trail.events in
+    let one : GivesOne values (run_of (after p at.left x)) = one_run values (after p at.left x) (one_after p values at.left x (one_entry p at.machine at.last k c)) in
+    let there : GivesOne values (run_of y) = subst (λ z. GivesOne values (run_of z)) (sym at.goes_on) one in
+    subst (λ front. GivesOne front (run_of y)) (ap (λ (r : CRun). values_in r.events) (sym at.run_is)) there
 
 -- behind a run that ends, a call more gives one value where it ends, and else none
 pub one_value : (p : Program) (calls : List SymbolCall) (c : SymbolCall) (n : ℕ) (replies : List Reply) → (c_run p calls n replies).outcome ≡ Ended
-    → ((c_run p (calls ++ c ∷ []) n replies).outcome ≡ Ended → (v : Option Value) × ((c_run p (calls ++ c ∷ []) n replies).values ≡ (c_run p calls n replies).values ++ v ∷ []))
-    × ((c_run p (calls ++ c ∷ []) n replies).outcome ≢ Ended → (c_run p (calls ++ c ∷ []) n replies).values ≡ (c_run p calls n replies).values)
+    → ((c_run p (calls ++ c ∷ []) n replies).outcome ≡ Ended → (v : Option Value) × (values_in (c_run p (calls ++ c ∷ []) n replies).events ≡ values_in (c_run p calls n replies).events ++ v ∷ []))
+    × ((c_run p (calls ++ c ∷ []) n replies).outcome ≢ Ended → values_in (c_run p (calls ++ c ∷ []) n replies).events ≡ values_in (c_run p calls n replies).events)
 one_value p calls c n replies ended =
     let rest = entries_behind p (length calls) (c ∷ []) in
     let x = after p n (c_start p calls replies) in

@@ -1,12 +1,13 @@
 -- A symbol is found to be that of an init function exactly where it is one.
-use Rattle.std.proofs.Common.{◌≡◌, ℕ, ◌+◌, ◌-◌, ◌*◌, ◌/◌, ◌%◌, ◌<◌, ◌==◌, true, false, cond, List, [], ◌∷◌, ◌++◌, length, take, drop, bytes_eq, codes, All, refl, sym, ap, ◌∙◌, subst, arith}
+use Rattle.std.proofs.Common.{◌≡◌, ℕ, ◌+◌, ◌-◌, ◌*◌, ◌/◌, ◌%◌, ◌<◌, ◌≤◌, ◌==◌, ◌&&◌, nat_lt, nat_le, Bool, true, false, cond, List, [], ◌∷◌, ◌++◌, length, take, drop, bytes_eq, codes, All, refl, sym, ap, ◌∙◌, subst, arith}
 use Rattle.std.proofs.lemmas.Bool.Decides.{nat_tests}
 use Rattle.std.proofs.lemmas.List.{take_at, length-append}
-use Rattle.std.proofs.lemmas.List.Elements.{All-head, All-tail}
+use Rattle.std.proofs.lemmas.List.Elements.{All-head, All-tail, All-cons, All-nil}
 use Rattle.std.proofs.lemmas.Slice.Eq.{bytes_eq-Decides}
+use Rattle.std.specs.List.{list_all}
 use Rattle.w2c_mangle.specs.Escaping.{stays, hexadecimal_digit, escaped_byte, escaped}
 use Rattle.w2c_mangle.specs.Symbols.{init_symbol_of}
-use Rattle.c_meaning.specs.Linking.{unescaped, hexadecimal_value, is_init_symbol}
+use Rattle.c_meaning.specs.Linking.{unescaped, hexadecimal_value, is_module_name, is_init_symbol}
 use Rattle.c_meaning.proofs.Lookups.{bytes_equal}
 
 -- a byte that is no Z stays
@@ -48,12 +49,54 @@ between t =
     let e : length (t ++ codes "Z_i") ≡ length t + 3 = length-append t (codes "Z_i") in
     take_at t (codes "Z_i") (length (codes "w2cZ_" ++ t ++ codes "Z_i") - 8) (omega arith)
 
-pub init_symbols_found : (n : List ℕ) → All (λ b. b < 256) n → is_init_symbol (init_symbol_of n) ≡ true
-init_symbols_found n small =
-    let e = ap unescaped (between (escaped n)) ∙ escaped_back n small in
-    subst (λ m. bytes_eq (init_symbol_of n) (init_symbol_of m) ≡ true) (sym e) (bytes_equal (init_symbol_of n))
+-- names of 1 to 1,024 bytes
+all_small : (n : List ℕ) → All (λ b. b < 256) n → list_all (λ b. nat_lt b 256) n ≡ true
+all_small [] small = refl
+all_small (b ∷ n) small =
+    let first : b < 256 = All-head (λ b. b < 256) b n small in
+    let is : nat_lt b 256 ≡ true = grind (arith, nat_tests) in
+    rw is (all_small n (All-tail (λ b. b < 256) b n small))
 
-pub found_are_init_symbols : (name : List ℕ) → is_init_symbol name ≡ true → (n : List ℕ) × (name ≡ init_symbol_of n)
-found_are_init_symbols name h =
-    let n = unescaped (take (length name - 8) (drop 5 name)) in
-    (n, (bytes_eq-Decides name (init_symbol_of n)).0 h)
+small_all : (n : List ℕ) → list_all (λ b. nat_lt b 256) n ≡ true → All (λ b. b < 256) n
+small_all [] h = All-nil (λ b. b < 256)
+small_all (b ∷ n) h = go (nat_lt b 256) refl h (small_all n)
+  where
+    go : (v : Bool) → nat_lt b 256 ≡ v → (v && list_all (λ b. nat_lt b 256) n) ≡ true
+        → (list_all (λ b. nat_lt b 256) n ≡ true → All (λ b. b < 256) n) → All (λ b. b < 256) (b ∷ n)
+    go true is rest others = All-cons (λ b. b < 256) b n (grind (arith, nat_tests)) (others rest)
+    go false is rest others = absurd (grind arith)
+
+both : (a b : Bool) → (a && b) ≡ true → (a ≡ true) × (b ≡ true)
+both true b h = (refl, h)
+both false b h = absurd (grind arith)
+
+module_name : (n : List ℕ) → 1 ≤ length n → length n ≤ 1024 → All (λ b. b < 256) n → is_module_name n ≡ true
+module_name n some few small =
+    let low : nat_le 1 (length n) ≡ true = grind (arith, nat_tests) in
+    let high : nat_le (length n) 1024 ≡ true = grind (arith, nat_tests) in
+    rw (low, high) (all_small n small)
+
+is_named : (n : List ℕ) → is_module_name n ≡ true → (1 ≤ length n) × (length n ≤ 1024) × All (λ b. b < 256) n
+is_named n h =
+    let first = both (nat_le 1 (length n) && nat_le (length n) 1024) (list_all (λ b. nat_lt b 256) n) h in
+    let second = both (nat_le 1 (length n)) (nat_le (length n) 1024) first.0 in
+    let some : nat_le 1 (length n) ≡ true = second.0 in
+    let few : nat_le (length n) 1024 ≡ true = second.1 in
+    (grind (arith, nat_tests), grind (arith, nat_tests), small_all n first.1)
+
+abbrev name_in : List ℕ → List ℕ
+name_in symbol = unescaped (take (length symbol - 8) (drop 5 symbol))
+
+pub init_symbols_found : (n : List ℕ) → 1 ≤ length n → length n ≤ 1024 → All (λ b. b < 256) n → is_init_symbol (init_symbol_of n) ≡ true
+init_symbols_found n some few small =
+    let e : name_in (init_symbol_of n) ≡ n = ap unescaped (between (escaped n)) ∙ escaped_back n small in
+    let P : List ℕ → Type 0 = λ m. (bytes_eq (init_symbol_of n) (init_symbol_of m) && is_module_name m) ≡ true in
+    subst P (sym e) (rw (bytes_equal (init_symbol_of n)) (module_name n some few small))
+
+pub found_are_init_symbols : (symbol : List ℕ) → is_init_symbol symbol ≡ true
+    → (n : List ℕ) × (symbol ≡ init_symbol_of n) × (1 ≤ length n) × (length n ≤ 1024) × All (λ b. b < 256) n
+found_are_init_symbols symbol h =
+    let n = name_in symbol in
+    let parts = both (bytes_eq symbol (init_symbol_of n)) (is_module_name n) h in
+    let named = is_named n parts.1 in
+    (n, (bytes_eq-Decides symbol (init_symbol_of n)).0 parts.0, named.0, named.1, named.2)

@@ -5,3 +5,5 @@ pub mod OnTheWay
 pub mod Ways
 pub mod Goes
 pub mod Fronts
+pub mod Told
+pub mod Takes

@@ -1,13 +1,12 @@
 -- A run is out of steps exactly where it is on its way: no statement makes one that is over so.
 use Rattle.std.proofs.Common.{◌≡◌, ◌≢◌, ℕ, zero, suc, List, [], ◌∷◌, Option, Some, None, refl, arith}
 use Rattle.std.specs.Prelude.{⊤}
-use Rattle.w2c_base.specs.declared.value.Value.{Value}
 use Rattle.w2c_base.specs.Run.{Reply, Phase, Init, Call}
 use Rattle.c_meaning.specs.State.{FuncAddress, CValue, Number, Pointer, FuncPointer, Machine, Stop}
 use Rattle.c_meaning.specs.Linking.{Program, SymbolCall}
 use Rattle.c_meaning.specs.Machine.{fresh}
 use Rattle.c_meaning.specs.Step.{Step, Next, Back, Stops, c_step}
-use Rattle.c_meaning.specs.Run.{Ended, Stopped, OutOfSteps, Entry, Pending, Progress, Going, Over, IsGoing, begun, begin_entry, came_back, go_on, after, run_of, entries_of, c_start, c_run}
+use Rattle.c_meaning.specs.Run.{Ended, Stopped, OutOfSteps, Entry, Pending, Progress, Going, Over, IsGoing, begun, begin_entry, told_end, came_back, go_on, after, run_of, entries_of, c_start, c_run}
 
 -- what is over is over for another reason
 abbrev Proper : Progress → Type 0
@@ -25,18 +24,18 @@ begun_proper pending (Next s) = tt
 begun_proper pending (Back m value) = stopped _
 begun_proper pending (Stops m why) = stopped why
 
-entry_proper : (p : Program) (m : Machine) (last : Phase) (values : List (Option Value)) (entries : List Entry) → Proper (begin_entry p m last values entries)
-entry_proper p m last values [] = ended
-entry_proper p m last values (e ∷ entries) = go e.func
+entry_proper : (p : Program) (m : Machine) (last : Phase) (entries : List Entry) → Proper (begin_entry p m last entries)
+entry_proper p m last [] = ended
+entry_proper p m last (e ∷ entries) = go e.func
   where
-    go : (f : Option FuncAddress) → Proper (begin_entry p m last values (record { phase = e.phase; func = f; args = e.args } ∷ entries))
+    go : (f : Option FuncAddress) → Proper (begin_entry p m last (record { phase = e.phase; func = f; args = e.args } ∷ entries))
     go None = stopped _
     go (Some f) = begun_proper _ _
 
 back_proper : (p : Program) (pending : Pending) (m : Machine) (phase : Phase) (value : Option CValue) → Proper (came_back p pending m phase value)
-back_proper p pending m (Init k) None = entry_proper p m (Init k) _ pending.entries
-back_proper p pending m (Call k) None = entry_proper p m (Call k) _ pending.entries
-back_proper p pending m (Call k) (Some (Number v)) = entry_proper p m (Call k) _ pending.entries
+back_proper p pending m (Init k) None = entry_proper p m (Init k) pending.entries
+back_proper p pending m (Call k) None = entry_proper p (told_end m None) (Call k) pending.entries
+back_proper p pending m (Call k) (Some (Number v)) = entry_proper p (told_end m (Some v)) (Call k) pending.entries
 back_proper p pending m (Call k) (Some (Pointer to)) = stopped _
 back_proper p pending m (Call k) (Some (FuncPointer to)) = stopped _
 back_proper p pending m (Init k) (Some v) = stopped _
@@ -62,7 +61,7 @@ going_out (Over run) h = absurd h
 pub out_is_going : (p : Program) (calls : List SymbolCall) (replies : List Reply) (m : ℕ) → (c_run p calls m replies).outcome ≡ OutOfSteps → IsGoing (after p m (c_start p calls replies))
 out_is_going p calls replies m out =
     proper_going (after p m (c_start p calls replies))
-    (after_proper p m (c_start p calls replies) (entry_proper p (fresh p replies) (Init 0) [] (entries_of p calls)))
+    (after_proper p m (c_start p calls replies) (entry_proper p (fresh p replies) (Init 0) (entries_of p calls)))
     out
 
 pub going_is_out : (p : Program) (calls : List SymbolCall) (replies : List Reply) (m : ℕ) → IsGoing (after p m (c_start p calls replies)) → (c_run p calls m replies).outcome ≡ OutOfSteps

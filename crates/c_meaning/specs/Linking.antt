@@ -1,12 +1,13 @@
 -- Units that link with hosts, and what each name of a unit stands for (C11, 6.2.2 linkages of
 -- identifiers, 6.9 external definitions).
-use Rattle.std.specs.Prelude.{ℕ, ◌+◌, ◌-◌, ◌*◌, ◌==◌, ◌&&◌, ◌||◌, not, nat_lt, Bool, false, if◌then◌else◌, List, [], ◌∷◌, ◌++◌, length, map, filter, flat_map, filter_map, take, drop, bytes_eq, slice_get, is_some, Option, Some, None, option_map}
-use Rattle.std.specs.List.{list_any, position_from}
+use Rattle.std.specs.Prelude.{ℕ, ◌+◌, ◌-◌, ◌*◌, ◌==◌, ◌&&◌, ◌||◌, not, nat_lt, nat_le, Bool, false, if◌then◌else◌, List, [], ◌∷◌, ◌++◌, length, map, filter, flat_map, filter_map, take, drop, bytes_eq, slice_get, is_some, Option, Some, None, option_map}
+use Rattle.std.specs.List.{list_all, list_any, position_from}
 use Rattle.std.specs.Option.{option_or}
 use Rattle.w2c_base.specs.declared.value.ValType.{ValType}
 use Rattle.w2c_base.specs.declared.value.ValType.TheVariants.{I32, I64}
 use Rattle.w2c_base.specs.declared.value.Value.{Value}
-use Rattle.w2c_base.specs.Values.{types_of}
+use Rattle.w2c_base.specs.declared.signature.FuncType.{FuncType}
+use Rattle.w2c_base.specs.Values.{is_number, types_of}
 use Rattle.w2c_base.specs.Lookup.{if_found, numbered}
 use Rattle.w2c_base.specs.Run.{Host}
 use Rattle.w2c_mangle.specs.declared.symbol.SymbolKind.TheVariants as symbol
@@ -72,11 +73,14 @@ pub record HostSymbol : Type 0 where
   pub address : FuncAddress
   pub ty : tree.FuncType
 
+abbrev pub c_func_type_of : FuncType → tree.FuncType
+c_func_type_of ty = record { params = c_params_of ty.params; result = c_result_of ty.result }
+
 abbrev pub host_symbols : List Host → List HostSymbol
 host_symbols hosts = flat_map (λ h. map (λ f. record {
   symbol = export_symbol_of h.1.name symbol.Func f.1.name;
   address = HostFunc h.0 f.0;
-  ty = record { params = c_params_of f.1.ty.params; result = c_result_of f.1.ty.result };
+  ty = c_func_type_of f.1.ty;
 }) (numbered h.1.functions)) (numbered hosts)
 
 abbrev pub host_symbol : Program → Name → Option HostSymbol
@@ -107,16 +111,16 @@ array_named p u name = if_found (slice_get p.units u) (λ items. first (filter_m
 abbrev pub definition_at : Program → ℕ → Name → Option Definition
 definition_at p u name = if_found (slice_get p.units u) (λ items. defined items name)
 
--- types
-abbrev host_type : Program → ℕ → ℕ → Option tree.FuncType
-host_type p h f = if_found (slice_get p.hosts h) (λ host.
-    option_map
-    (λ f. record { params = c_params_of f.ty.params; result = c_result_of f.ty.result })
-    (slice_get host.functions f))
+-- types: of a name that a unit defines for others the type is that of this definition
+abbrev pub host_type : Program → ℕ → ℕ → Option FuncType
+host_type p h f = if_found (slice_get p.hosts h) (λ host. option_map (λ function. function.ty) (slice_get host.functions f))
+
+abbrev pub typed : List tree.Item → Name → Option Definition
+typed items name = option_or (defined_for_all items name) (defined items name)
 
 abbrev pub func_type : Program → FuncAddress → Option tree.FuncType
-func_type p (UnitFunc u name) = option_map (λ d. func_type_of d.func) (definition_at p u name)
-func_type p (HostFunc h f) = host_type p h f
+func_type p (UnitFunc u name) = option_map (λ d. func_type_of d.func) (if_found (slice_get p.units u) (λ items. typed items name))
+func_type p (HostFunc h f) = option_map c_func_type_of (host_type p h f)
 
 -- why units do not link, with the unit's number and the symbol
 pub data LinkRefusal : Type 0 where
@@ -165,9 +169,15 @@ unescaped (b ∷ c ∷ d ∷ text) =
     if b == 90 then (16 * hexadecimal_value c + hexadecimal_value d) ∷ unescaped text
     else b ∷ unescaped (c ∷ d ∷ text)
 
+-- a module's name: 1 to 1,024 bytes
+abbrev pub is_module_name : List ℕ → Bool
+is_module_name name = nat_le 1 (length name) && nat_le (length name) 1024 && list_all (λ b. nat_lt b 256) name
+
 -- the symbol is that of the init function of some module, whose name stands between 5 bytes and 3
 abbrev pub is_init_symbol : Name → Bool
-is_init_symbol name = bytes_eq name (init_symbol_of (unescaped (take (length name - 8) (drop 5 name))))
+is_init_symbol symbol =
+    let name : List ℕ = unescaped (take (length symbol - 8) (drop 5 symbol)) in
+    bytes_eq symbol (init_symbol_of name) && is_module_name name
 
 -- functions that are run first: those of init symbols, of type void without parameters
 abbrev pub is_init : Definition → Bool
@@ -185,10 +195,12 @@ pub record SymbolCall : Type 0 where
 abbrev pub called_func : Program → SymbolCall → Option FuncAddress
 called_func p c = option_map (λ u. UnitFunc u c.symbol) (position_from (λ items. is_some (defined_for_all items c.symbol)) 0 p.units)
 
--- its result is void, u32 or u64, and its parameters have the types of the arguments
+-- its result is void, u32 or u64, and its parameters have the types of the arguments, which are numbers
+-- of their types
 abbrev pub fits : Program → SymbolCall → Bool
 fits p c = elim (if_found (called_func p c) (func_type p)) [
   | None ↦ false
   | Some ty ↦ same_types ty.params (c_params_of (types_of c.args))
       && list_any (same_type ty.result) (Void ∷ U32 ∷ U64 ∷ [])
+      && list_all is_number c.args
 ]

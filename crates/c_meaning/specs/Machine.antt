@@ -9,7 +9,7 @@ use Rattle.c_tree.specs.declared.tree.CType.TheVariants as type
 use Rattle.c_tree.specs.declared.tree.Num.{Num}
 use Rattle.c_tree.specs.declared.tree.Num.TheVariants.{N32, N64, Plain}
 use Rattle.c_tree.specs.Tree as tree
-use Rattle.c_meaning.specs.State.{Name, ObjectAddress, CValue, Number, Pointer, FuncPointer, Memory, Table, Objects, Machine}
+use Rattle.c_meaning.specs.State.{Name, ObjectAddress, CValue, Number, Pointer, FuncPointer, Memory, Table, Objects, Machine, of_one_type}
 use Rattle.c_meaning.specs.Linking.{Program}
 
 -- what a variable of this type holds where nothing else is said
@@ -24,6 +24,10 @@ zero_of type.FnPtr = Some (FuncPointer None)
 zero_of type.Void = None
 zero_of type.Mem = None
 zero_of type.Tab = None
+
+-- a value of this type: one of the type of its zero
+abbrev pub of_type : CType → CValue → Bool
+of_type ty v = elim (zero_of ty) [ None ↦ false | Some zero ↦ of_one_type zero v ]
 
 -- what it holds after its initialiser, which fits the type
 abbrev pub initial_of : CType → Num → Option CValue
@@ -64,7 +68,7 @@ objects_of items = record {
 
 -- before the first statement
 abbrev pub fresh : Program → List Reply → Machine
-fresh p replies = record { depth = 0; units = map objects_of p.units; trail = record { replies = replies; asks = [] } }
+fresh p replies = record { depth = 0; units = map objects_of p.units; trail = record { replies = replies; events = [] } }
 
 abbrev pub with_depth : Machine → ℕ → Machine
 with_depth m depth = record { depth = depth; units = m.units; trail = m.trail }

@@ -1,10 +1,12 @@
 -- The state of linked units that run (C11, 6.2.4 storage durations, 6.2.5 types): values, objects
 -- of file scope, and the functions that run. A function's position is the list of its statements
 -- still to come.
-use Rattle.std.specs.Prelude.{ℕ, Bool, List, Option, Some, None}
+use Rattle.std.specs.Prelude.{ℕ, Bool, true, false, List, Option, Some, None}
 use Rattle.w2c_base.specs.declared.value.Value.{Value}
 use Rattle.w2c_base.specs.declared.trap.TrapKind.{TrapKind}
+use Rattle.w2c_base.specs.Values.{type_of, equal_type}
 use Rattle.w2c_base.specs.Run.{Trail}
+use Rattle.c_tree.specs.declared.tree.CType.{CType}
 use Rattle.c_tree.specs.Tree as tree
 
 abbrev pub Name : Type 0
@@ -25,6 +27,14 @@ pub data CValue : Type 0 where
   Number : Value → CValue
   Pointer : Option ObjectAddress → CValue
   FuncPointer : Option FuncAddress → CValue
+
+-- values of one type: numbers of one width, pointers to objects, or pointers to functions. What a
+-- pointer points to is looked at where it is used
+abbrev pub of_one_type : CValue → CValue → Bool
+of_one_type (Number v) (Number w) = equal_type (type_of v) (type_of w)
+of_one_type (Pointer to) (Pointer other) = true
+of_one_type (FuncPointer f) (FuncPointer g) = true
+of_one_type _ _ = false
 
 abbrev pub Vars : Type 0
 Vars = List (Name × CValue)
@@ -57,11 +67,12 @@ pub record Machine : Type 0 where
   pub units : List Objects
   pub trail : Trail
 
--- a function that runs: its unit and item, its body's statements, those still to come, and its
--- parameters and locals
+-- a function that runs: its unit and item, the type of its result, its body's statements, those still to
+-- come, and its parameters and locals
 pub record Running : Type 0 where
   pub unit : ℕ
   pub item : ℕ
+  pub result : CType
   pub stmts : List tree.Stmt
   pub rest : List tree.Stmt
   pub vars : Vars

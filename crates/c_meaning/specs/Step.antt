@@ -1,23 +1,25 @@
 -- One statement of the subset (C11, 6.5 expressions, 6.8 statements and blocks). The left operand
 -- is evaluated first, arguments from left to right, the right side of `*p = e` before p, and a
 -- pointer that is called is looked at after the arguments. Labels and declarations cost nothing.
-use Rattle.std.specs.Prelude.{ℕ, ◌-◌, ◌%◌, ◌^◌, ◌==◌, Bool, false, if◌then◌else◌, List, [], ◌∷◌, ◌++◌, length, filter_map, bytes_eq, codes, slice_get, is_some, Option, Some, None, option_map}
+use Rattle.std.specs.Prelude.{ℕ, ◌-◌, ◌%◌, ◌^◌, ◌==◌, ◌&&◌, Bool, true, false, if◌then◌else◌, List, [], ◌∷◌, ◌++◌, length, filter_map, bytes_eq, codes, slice_get, is_some, Option, Some, None, option_map}
 use Rattle.std.specs.Option.{option_or}
 use Rattle.w2c_base.specs.declared.value.Value.{Value}
 use Rattle.w2c_base.specs.declared.value.Value.TheVariants.{I32, I64}
 use Rattle.w2c_base.specs.declared.trap.TrapKind.TheVariants.{HostTrap}
 use Rattle.w2c_base.specs.declared.signature.FuncType.{FuncType}
-use Rattle.w2c_base.specs.Values.{number_of, is_result}
+use Rattle.w2c_base.specs.Values.{number_of, types_of, equal_types, is_result}
 use Rattle.w2c_base.specs.Lookup.{if_found, named, with_named}
-use Rattle.w2c_base.specs.Run.{Reply, Gave, HostTrapped, Ask}
+use Rattle.w2c_base.specs.Run.{Reply, Gave, HostTrapped, Ask, Event, asked}
+use Rattle.c_tree.specs.declared.tree.CType.{CType}
+use Rattle.c_tree.specs.declared.tree.CType.TheVariants.{Void}
 use Rattle.c_tree.specs.declared.tree.Num.{Num}
 use Rattle.c_tree.specs.declared.tree.Num.TheVariants.{N32, N64, Plain}
 use Rattle.c_tree.specs.Tree as tree
-use Rattle.c_meaning.specs.State.{Name, FuncAddress, UnitFunc, HostFunc, ObjectAddress, CValue, Number, Pointer, FuncPointer, Vars, Machine, Running, Frame, State, Place, Stop, Trapped, Undefined, Asks, Stuck, Evaluated, Is, Bad, NoRule, then_evaluate, found}
+use Rattle.c_meaning.specs.State.{Name, FuncAddress, UnitFunc, HostFunc, ObjectAddress, CValue, Number, Pointer, FuncPointer, Vars, Machine, Running, Frame, State, Place, Stop, Trapped, Undefined, Asks, Stuck, Evaluated, Is, Bad, NoRule, then_evaluate, found, of_one_type}
 use Rattle.c_meaning.specs.Operators.{operate}
-use Rattle.c_tree.specs.Runtime.{same_func_type}
-use Rattle.c_meaning.specs.Linking.{Program, Definition, func_named, array_named, definition_at, func_type}
-use Rattle.c_meaning.specs.Machine.{initial_of, with_depth, with_trail, var_in, with_var, is_object}
+use Rattle.c_tree.specs.Runtime.{same_type, same_func_type}
+use Rattle.c_meaning.specs.Linking.{Program, Definition, func_named, array_named, definition_at, host_type, func_type}
+use Rattle.c_meaning.specs.Machine.{initial_of, of_type, with_depth, with_trail, var_in, with_var, is_object}
 use Rattle.c_meaning.specs.Primitives.{Effect, Gives, Traps, IsUndefined, NoEffect, primitive}
 
 -- what a statement comes to: the next state, the end of the function that was begun, or a stop
@@ -100,10 +102,10 @@ with_value m place NoRule go = Stops m Stuck
 
 -- the function with other statements to come, and with other variables
 abbrev pub at_rest : Running → List tree.Stmt → Running
-at_rest r rest = record { unit = r.unit; item = r.item; stmts = r.stmts; rest = rest; vars = r.vars }
+at_rest r rest = record { unit = r.unit; item = r.item; result = r.result; stmts = r.stmts; rest = rest; vars = r.vars }
 
 abbrev pub with_vars : Running → Vars → Running
-with_vars r vars = record { unit = r.unit; item = r.item; stmts = r.stmts; rest = r.rest; vars = vars }
+with_vars r vars = record { unit = r.unit; item = r.item; result = r.result; stmts = r.stmts; rest = r.rest; vars = vars }
 
 abbrev pub next : Machine → Running → List Frame → Step
 next m r below = Next (record { machine = m; running = r; below = below })
@@ -113,12 +115,17 @@ abbrev pub assign_depth : Machine → Running → CValue → List Frame → Step
 assign_depth m r (Number (I32 n)) below = next (with_depth m n) r below
 assign_depth m r _ below = Stops m Stuck
 
+-- what is done with a value that goes where a value of its type is held
+abbrev pub put_in : Machine → Option CValue → CValue → Step → Step
+put_in m None v does = Stops m Stuck
+put_in m (Some held) v does = if of_one_type held v then does else Stops m Stuck
+
 abbrev pub assign : Machine → Running → Name → CValue → List Frame → Step
 assign m r name v below =
     if bytes_eq name depth_name then assign_depth m r v below
-    else (if is_some (named name r.vars) then next m (with_vars r (with_named name v r.vars)) below
-    else (if is_some (var_in m (in_unit r name)) then next (with_var m (in_unit r name) v) r below
-    else Stops m Stuck))
+    else (if is_some (named name r.vars)
+    then put_in m (named name r.vars) v (next m (with_vars r (with_named name v r.vars)) below)
+    else put_in m (var_in m (in_unit r name)) v (next (with_var m (in_unit r name) v) r below))
 
 -- goto (6.8.6.1): the statements behind a label
 abbrev pub after_label : Name → List tree.Stmt → Option (List tree.Stmt)
@@ -129,13 +136,21 @@ after_label name (_ ∷ stmts) = after_label name stmts
 abbrev pub jump : Machine → Running → Name → List Frame → Step
 jump m r name below = elim (after_label name r.stmts) [ None ↦ Stops m Stuck | Some rest ↦ next m (at_rest r rest) below ]
 
--- return (6.8.6.4), and the end of a primitive's or a host's call
+-- the value goes to the name that waits for it (6.8.6.4): at a return, and at the end of a primitive's or a host's call
 abbrev pub give : Machine → Option CValue → List Frame → Step
 give m value [] = Back m value
 give m value (f ∷ below) = elim f.target [
   | None ↦ next m f.running below
   | Some name ↦ elim value [ None ↦ Stops m Stuck | Some v ↦ assign m f.running name v below ]
 ]
+
+-- return (6.8.6.4): with a value of the function's type, or with none where it is void
+abbrev pub is_returned : CType → Option CValue → Bool
+is_returned ty None = same_type ty Void
+is_returned ty (Some v) = of_type ty v
+
+abbrev pub returned : Machine → Running → Option CValue → List Frame → Step
+returned m r value below = if is_returned r.result value then give m value below else Stops m Stuck
 
 -- function calls (6.5.2.2): parameters are bound in order, then locals are initialised
 abbrev pub param_names : List tree.Param → List Name
@@ -146,19 +161,37 @@ bind [] [] = Some []
 bind (name ∷ names) (v ∷ values) = option_map (λ vars. (name, v) ∷ vars) (bind names values)
 bind _ _ = None
 
+-- the types of the parameters that have names, and values of these types, one for each
+abbrev pub param_types : List tree.Param → List CType
+param_types params = filter_map (λ q. option_map (λ name. q.0) q.1) params
+
+abbrev pub are_of_types : List CType → List CValue → Bool
+are_of_types [] [] = true
+are_of_types (ty ∷ types) (v ∷ values) = of_type ty v && are_of_types types values
+are_of_types _ _ = false
+
 abbrev pub locals_of : List tree.Local → Option Vars
 locals_of [] = Some []
 locals_of (l ∷ locals) = if_found (initial_of l.0 l.2) (λ v. option_map (λ vars. (l.1, v) ∷ vars) (locals_of locals))
 
 abbrev pub first_vars : Definition → List CValue → Option Vars
-first_vars d args = if_found (bind (param_names d.func.params) args) (λ params.
-    option_map (λ locals. params ++ locals) (locals_of d.body.locals))
+first_vars d args =
+    if are_of_types (param_types d.func.params) args
+    then if_found (bind (param_names d.func.params) args) (λ params. option_map (λ locals. params ++ locals) (locals_of d.body.locals))
+    else None
 
 abbrev pub begin : Option Definition → ℕ → Machine → List CValue → List Frame → Step
 begin None u m args below = Stops m Stuck
 begin (Some d) u m args below = elim (first_vars d args) [
   | None ↦ Stops m Stuck
-  | Some vars ↦ next m (record { unit = u; item = d.item; stmts = d.body.stmts; rest = d.body.stmts; vars = vars }) below
+  | Some vars ↦ next m (record {
+    unit = u;
+    item = d.item;
+    result = d.func.result;
+    stmts = d.body.stmts;
+    rest = d.body.stmts;
+    vars = vars;
+  }) below
 ]
 
 abbrev pub numbers : List CValue → Option (List Value)
@@ -167,24 +200,27 @@ numbers (Number v ∷ values) = option_map (λ others. v ∷ others) (numbers va
 numbers (Pointer to ∷ values) = None
 numbers (FuncPointer to ∷ values) = None
 
--- the reply of a host that was asked. Where none is left, or its value is not of the function's
--- type, the run stops at this ask
-abbrev pub replied : FuncType → List Reply → List Ask → Machine → List Frame → Step
-replied ty [] asks m below = Stops (with_trail m (record { replies = []; asks = asks })) Asks
-replied ty (HostTrapped ∷ replies) asks m below = Stops (with_trail m (record { replies = replies; asks = asks })) (Trapped HostTrap)
-replied ty (Gave result ∷ replies) asks m below =
-    let asked : Machine = with_trail m (record { replies = replies; asks = asks }) in
-    if is_result ty.result result then give asked (option_map Number result) below else Stops asked Asks
+-- the reply of a host that is asked, behind what happened before. Where none is left, or it is no
+-- number of the function's type, the run stops at this ask
+abbrev pub replied : FuncType → List Reply → List Event → Ask → Machine → List Frame → Step
+replied ty [] before a m below = Stops (with_trail m (asked before a None [])) Asks
+replied ty (HostTrapped ∷ replies) before a m below =
+    Stops (with_trail m (asked before a (Some HostTrapped) replies)) (Trapped HostTrap)
+replied ty (Gave result ∷ replies) before a m below =
+    if is_result ty.result result
+    then give (with_trail m (asked before a (Some (Gave result)) replies)) (option_map Number result) below
+    else Stops (with_trail m (asked before a None replies)) Asks
 
-abbrev pub host_type : Program → ℕ → ℕ → Option FuncType
-host_type p h f = if_found (slice_get p.hosts h) (λ host. option_map (λ function. function.ty) (slice_get host.functions f))
-
+-- the arguments are numbers of the parameters' types
 abbrev pub ask : Program → ℕ → ℕ → Machine → List CValue → List Frame → Step
 ask p h f m args below = elim (host_type p h f) [
   | None ↦ Stops m Stuck
   | Some ty ↦ elim (numbers args) [
     | None ↦ Stops m Stuck
-    | Some values ↦ replied ty m.trail.replies (m.trail.asks ++ record { host = h; function = f; args = values } ∷ []) m below
+    | Some values ↦
+        if equal_types ty.params (types_of values)
+        then replied ty m.trail.replies m.trail.events (record { host = h; function = f; args = values }) m below
+        else Stops m Stuck
   ]
 ]
 
@@ -238,8 +274,7 @@ act p m r (tree.Set name a ∷ rest) below =
 act p m r (tree.SetStar name e ∷ rest) below =
     with_value m (place_of r rest) (evaluate p m r e) (λ v.
     with_value m (place_of r rest) (then_evaluate (found (value_of m r name)) as_object) (λ a.
-    with_value m (place_of r rest) (found (var_in m a)) (λ old.
-    next (with_var m a (Number v)) (at_rest r rest) below)))
+    put_in m (var_in m a) (Number v) (next (with_var m a (Number v)) (at_rest r rest) below)))
 act p m r (tree.Call target callee args ∷ rest) below =
     with_value m (place_of r rest) (evaluate_args p m r args) (λ values.
     call_callee p callee (place_of r rest) m r values (record { target = target; running = at_rest r rest } ∷ below))
@@ -249,9 +284,9 @@ act p m r (tree.If op left right name ∷ rest) below =
     if number_of v == 0 then next m (at_rest r rest) below else jump m r name below)
 act p m r (tree.Switch e cases default ∷ rest) below =
     with_value m (place_of r rest) (evaluate p m r e) (λ v. jump m r (label_of v cases default) below)
-act p m r (tree.ReturnNone ∷ rest) below = give m None below
+act p m r (tree.ReturnNone ∷ rest) below = returned m r None below
 act p m r (tree.Return a ∷ rest) below =
-    with_value m (place_of r rest) (evaluate_arg p m r a) (λ v. give m (Some v) below)
+    with_value m (place_of r rest) (evaluate_arg p m r a) (λ v. returned m r (Some v) below)
 
 abbrev pub c_step : Program → State → Step
 c_step p s = act p s.machine s.running s.running.rest s.below

@@ -5,8 +5,8 @@
 mod cases;
 mod laws;
 
-pub use cases::{link_cases, operator_cases, primitive_cases, run_cases};
+pub use cases::{link_cases, operator_cases, primitive_cases, run_cases, type_cases};
 pub use laws::{
     calls_run_one_after_another, init_symbols_are_found, larger_budgets_give_the_same_run,
-    out_of_steps_exactly_on_the_way, runs_split,
+    numbers_go_where_they_fit, out_of_steps_exactly_on_the_way, runs_split,
 };

@@ -15,7 +15,7 @@ use Rattle.c_prelude.specs.Calls.{CallEnd, call_begun, call_ended, CallComesTo}
 use Rattle.c_prelude.specs.Statements.{Calls, StatementComesTo}
 
 -- a name that the unit defines stands for that definition
-named_here : (p : Program) (u : ℕ) (name : Name) (d : Definition) → definition_at p u name ≡ Some d → func_named p u name ≡ Some (UnitFunc u name)
+pub named_here : (p : Program) (u : ℕ) (name : Name) (d : Definition) → definition_at p u name ≡ Some d → func_named p u name ≡ Some (UnitFunc u name)
 named_here p u name d = go (slice_get p.units u)
   where
     at_items : (items : List tree.Item) → defined items name ≡ Some d → option_or (option_map (λ (d : Definition). UnitFunc u name) (defined items name)) (external_func p name) ≡ Some (UnitFunc u name)

@@ -36,7 +36,7 @@ bits-not_zero type.I64 = refl
 pub count-lt : (t : ValType) (y : ℕ) → y % bits t < bits t
 count-lt t y = let p : 0 < bits t = some_bits t in omega arith
 
-count-below : (t : ValType) (y : ℕ) → nat_lt (y % bits t) (bits t) ≡ true
+pub count-below : (t : ValType) (y : ℕ) → nat_lt (y % bits t) (bits t) ≡ true
 count-below t y = let p : 0 < bits t = some_bits t in let l : y % bits t < bits t = omega arith in grind (arith, nat_tests)
 
 -- x with all ones turned

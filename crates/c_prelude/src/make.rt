@@ -38,6 +38,19 @@ pub fn helper(alloc: Global, which: Helper) -> Result<Func, Memory>
     Ok(make(alloc, which)?)
 }
 
+/// The name of a helper's function.
+pub fn helper_name(alloc: Global, which: Helper) -> Result<Name, Memory>
+    ensures { IfOk result (λ name. name ≡ (helper_of which).name) }
+{
+    match which {
+        Helper::Num(op) => number_name(alloc, number_row(op)),
+        Helper::Load(op) => named(alloc, load_name(op)),
+        Helper::Store(op) => named(alloc, store_name(op)),
+        Helper::Size => named(alloc, b"memory_size"),
+        Helper::Element => named(alloc, b"table_element"),
+    }
+}
+
 fn make(alloc: Global, which: Helper) -> Result<Func, Memory>
     ensures { IfOk result (λ func. func_of func ≡ helper_of which) }
 {
@@ -50,11 +63,18 @@ fn make(alloc: Global, which: Helper) -> Result<Func, Memory>
     }
 }
 
-fn number(alloc: Global, row: Row) -> Result<Func, Memory>
-    ensures { IfOk result (λ func. func_of func ≡ number_helper row) }
+fn number_name(alloc: Global, row: Row) -> Result<Name, Memory>
+    ensures { IfOk result (λ name. name ≡ (number_helper row).name) }
 {
     let mut name = named(alloc, prefix(row.ty))?;
     name.extend(form_name(row.form))?;
+    Ok(name)
+}
+
+fn number(alloc: Global, row: Row) -> Result<Func, Memory>
+    ensures { IfOk result (λ func. func_of func ≡ number_helper row) }
+{
+    let name = number_name(alloc, row)?;
     let params = params_of(alloc, operand_type(row), operand_names(row.form))?;
     let locals = locals_of(alloc, c_type(row.ty), local_names(row.form))?;
     let stmts = number_body(alloc, row)?;

@@ -4,10 +4,12 @@
 mod expression;
 mod function;
 mod header;
+mod laws;
 mod page;
 mod pieces;
 mod statement;
 mod unit;
 
 pub use header::print_header;
+pub use laws::printed_units_are_read_again;
 pub use unit::print_unit;

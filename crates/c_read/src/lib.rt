@@ -11,7 +11,7 @@ mod laws;
 mod statement;
 mod unit;
 
-pub use laws::{faults_are_of_tokens, one_fault, printed_units_are_read_again, unit_or_fault};
+pub use laws::{faults_are_of_tokens, one_fault, unit_or_fault};
 pub use unit::read_unit;
 
 #[cfg(test)]

@@ -1,1 +1,4 @@
 mod SignatureNumbers
+pub mod Events
+pub mod Numbers
+pub mod Types

@@ -1,5 +1,5 @@
 // Modules that are read, and the first faults of others.
-use crate::{Cause, Formed, ReadFault, Which, read_module, write_module};
+use crate::{Cause, ReadFault, Which, read_module};
 use std::alloc::Global;
 use std::test::Fail;
 use w2c_base::Bytes;
@@ -332,51 +332,5 @@ fn nesting_of_500(rt: HostRuntime) -> Result<(), Fail> {
         nested(rt.alloc(), 501)?,
         Some(ReadFault::Limit(1014, Which::BlockDepth))
     );
-    Ok(())
-}
-
-fn written(alloc: Global, module: &Module) -> Result<Bytes, Fail> {
-    if module.formed() {
-        Ok(write_module(alloc, module)?)
-    } else {
-        Ok(Bytes::new(alloc))
-    }
-}
-
-/// A module's bytes, read and written in the shortest way. None are left of others.
-fn written_again(alloc: Global, bytes: &[u8]) -> Result<Bytes, Fail> {
-    if 8_388_608 < bytes.len() {
-        return Ok(Bytes::new(alloc));
-    }
-    match read_module(alloc, bytes) {
-        Ok(module) => written(alloc, &module),
-        Err(_) => Ok(Bytes::new(alloc)),
-    }
-}
-
-#[test]
-fn linker_module_written(rt: HostRuntime) -> Result<(), Fail> {
-    let alloc = rt.alloc();
-    let file = written_again(alloc, &LINKED)?;
-    // its custom section is left out
-    assert_eq!(rt; file.as_slice(), &LINKED[..86]);
-    let again = written_again(alloc, file.as_slice())?;
-    assert_eq!(rt; again.as_slice(), file.as_slice());
-    Ok(())
-}
-
-#[test]
-fn shortest_spelling_of_padded_numbers(rt: HostRuntime) -> Result<(), Fail> {
-    let padded = [
-        0x00, 0x61, 0x73, 0x6d, 0x01, 0x00, 0x00, 0x00, 0x01, 0x85, 0x00, 0x80, 0x80, 0x80, 0x80,
-        0x00, 0x05, 0x84, 0x80, 0x00, 0x81, 0x00, 0x00, 0x01, 0x06, 0x88, 0x00, 0x01, 0x7f, 0x00,
-        0x41, 0xff, 0xff, 0x7f, 0x0b,
-    ];
-    let shortest = [
-        0x00, 0x61, 0x73, 0x6d, 0x01, 0x00, 0x00, 0x00, 0x05, 0x03, 0x01, 0x00, 0x01, 0x06, 0x06,
-        0x01, 0x7f, 0x00, 0x41, 0x7f, 0x0b,
-    ];
-    let file = written_again(rt.alloc(), &padded)?;
-    assert_eq!(rt; file.as_slice(), shortest.as_slice());
     Ok(())
 }

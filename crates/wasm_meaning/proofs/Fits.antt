@@ -15,7 +15,7 @@ use Rattle.wasm_tree.specs.Instructions.{UnaryOp, Clz, Ctz, Popcnt, BinaryOp, Ad
 use Rattle.wasm_meaning.specs.Memories.{load_access, load_number, extended}
 use Rattle.wasm_meaning.specs.Operators.{Answer, Gives, Traps, AnswerFits, signed, pattern_of, overflows, unary, binary}
 
-pattern_below : (N : ℕ) (z : ℤ) → pattern_of N z < 2 ^ N
+pub pattern_below : (N : ℕ) (z : ℤ) → pattern_of N z < 2 ^ N
 pattern_below N (pos a) = mod-lt a (pow_pos N)
 pattern_below N (negsuc a) = let p : 0 < 2 ^ N = pow_pos N in omega arith
 

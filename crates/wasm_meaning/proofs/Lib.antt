@@ -1,3 +1,4 @@
 pub mod Fits
 pub mod Longer
 pub mod LongerRun
+pub mod Typed

@@ -9,12 +9,13 @@ use Rattle.w2c_base.specs.declared.trap.TrapKind.TheVariants.{Signature}
 use Rattle.w2c_base.specs.declared.trap.TrapKind.TheVariants as trap
 use Rattle.w2c_base.specs.Lookup.{if_found}
 use Rattle.w2c_base.specs.Values.{types_of, equal_types, equal_func_types, is_result, zeros}
-use Rattle.w2c_base.specs.Run.{Reply, Gave, HostTrapped, Ask, Trail}
+use Rattle.w2c_base.specs.Run.{Reply, Gave, HostTrapped, Ask, Event, Trail, asked}
 use Rattle.wasm_tree.specs.Instructions.{Code, end_code, then_code, Kind, Otherwise, no_else, else_code, Unreachable, Nop, Return, Drop, Block, Loop, If, Br, BrIf, BrTable, Call, CallIndirect}
 use Rattle.wasm_tree.specs.declared.entries.BodyEntry.{BodyEntry}
+use Rattle.wasm_tree.specs.IndexSpaces.{declared_locals}
 use Rattle.wasm_meaning.specs.LinkedSet.{LinkedSet, FuncAddress, ModuleFunc, HostFunc, func_at, table_at, type_at, func_type, body_of}
 use Rattle.wasm_meaning.specs.Store as store
-use Rattle.wasm_meaning.specs.Execution.{Stop, Trapped, Asks, OutOfSteps, Stuck, Result, Normal, Branch, Returned, Stops, Called, Back, CallStops, Calls, Done, Leaves, Faults, NoRule, spend, did, dropped, and_then, top, onto, leave, turn, turns, choose, pick, came_back, invoke, call, call_element, call_indirect, exec, exec_kind, exec_else, plain, gives_all, gives_top, gave, finish, enter, declared_locals, replied, call_within}
+use Rattle.wasm_meaning.specs.Execution.{Stop, Trapped, Asks, OutOfSteps, Stuck, Result, Normal, Branch, Returned, Stops, Called, Back, CallStops, Calls, Done, Leaves, Faults, NoRule, spend, did, dropped, and_then, top, onto, leave, turn, turns, choose, pick, came_back, invoke, call, call_element, call_indirect, exec, exec_kind, exec_else, plain, gives_all, gives_top, gave, finish, enter, replied, call_within}
 
 -- the second is the first with so much more left, where the first was not out of steps
 abbrev pub Longer : ℕ → Result → Result → Type 0
@@ -226,16 +227,17 @@ call_branch : (d : ℕ) (b : Bool) (r s u v : Called) → LongerCall d r s → L
 call_branch d true r s u v h k = h
 call_branch d false r s u v h k = k
 
-replied_longer : (d : ℕ) (ty : Option FuncType) (replies : List Reply) (asks : List Ask) (n : ℕ) (made : store.Store) → LongerCall d (replied ty replies asks n made) (replied ty replies asks (n + d) made)
-replied_longer d None replies asks n made = refl
-replied_longer d (Some ty) [] asks n made = refl
-replied_longer d (Some ty) (HostTrapped ∷ replies) asks n made = refl
-replied_longer d (Some ty) (Gave result ∷ replies) asks n made =
-    let trail : Trail = record { replies = replies; asks = asks } in
-    call_branch d (is_result ty.result result) (Back n result made trail) (Back (n + d) result made trail) (CallStops Asks made trail) (CallStops Asks made trail) refl refl
+replied_longer : (d : ℕ) (ty : Option FuncType) (replies : List Reply) (before : List Event) (a : Ask) (n : ℕ) (made : store.Store) → LongerCall d (replied ty replies before a n made) (replied ty replies before a (n + d) made)
+replied_longer d None replies before a n made = refl
+replied_longer d (Some ty) [] before a n made = refl
+replied_longer d (Some ty) (HostTrapped ∷ replies) before a n made = refl
+replied_longer d (Some ty) (Gave result ∷ replies) before a n made =
+    let taken : Trail = asked before a (Some (Gave result)) replies in
+    let refused : Trail = asked before a None replies in
+    call_branch d (is_result ty.result result) (Back n result made taken) (Back (n + d) result made taken) (CallStops Asks made refused) (CallStops Asks made refused) refl refl
 
 pub calls_longer : (d : ℕ) (s : LinkedSet) (room : ℕ) → LongerCalls d (call_within s room)
-calls_longer d s zero (HostFunc h f) args n made trail = replied_longer d (func_type s (HostFunc h f)) trail.replies (trail.asks ++ record { host = h; function = f; args = args } ∷ []) n made
-calls_longer d s (suc room) (HostFunc h f) args n made trail = replied_longer d (func_type s (HostFunc h f)) trail.replies (trail.asks ++ record { host = h; function = f; args = args } ∷ []) n made
+calls_longer d s zero (HostFunc h f) args n made trail = replied_longer d (func_type s (HostFunc h f)) trail.replies trail.events (record { host = h; function = f; args = args }) n made
+calls_longer d s (suc room) (HostFunc h f) args n made trail = replied_longer d (func_type s (HostFunc h f)) trail.replies trail.events (record { host = h; function = f; args = args }) n made
 calls_longer d s zero (ModuleFunc p index) args n made trail = refl
 calls_longer d s (suc room) (ModuleFunc p index) args n made trail = enter_longer d s (call_within s room) (calls_longer d s room) p (body_of s p index) (func_type s (ModuleFunc p index)) args n made trail

@@ -1,6 +1,5 @@
 -- A run that is not out of steps is the same with a larger budget.
 use Rattle.std.proofs.Common.{◌≡◌, ◌≢◌, ℕ, zero, suc, ◌+◌, ◌-◌, ◌≤◌, Bool, true, false, List, [], ◌∷◌, ◌++◌, length, replicate, slice_set, nat_le, Option, Some, None, refl, sym, ap, ◌∙◌, arith}
-use Rattle.w2c_base.specs.declared.value.Value.{Value}
 use Rattle.w2c_base.specs.declared.trap.TrapKind.{TrapKind}
 use Rattle.w2c_base.specs.declared.trap.TrapKind.TheVariants as trap
 use Rattle.w2c_base.specs.Lookup.{if_found}
@@ -13,7 +12,7 @@ use Rattle.wasm_tree.specs.declared.entries.ImportKind.TheVariants.{Func as Impo
 use Rattle.wasm_meaning.specs.LinkedSet.{LinkedSet, as_table, as_memory, import_at, func_at, table_at, memory_at}
 use Rattle.wasm_meaning.specs.Store as store
 use Rattle.wasm_meaning.specs.Execution.{Trapped, Asks, OutOfSteps, Stuck, Called, Back, CallStops, call_within}
-use Rattle.wasm_meaning.specs.Run.{Task, Begin, Take, MakeTable, MakeMemory, MakeGlobal, TestElements, TestData, WriteElement, WriteByte, CallStart, CallExport, Planned, ListedCall, Outcome, Ended, Stopped, WasmRun, done, tested, with_found, with_table_at, with_memory_at, limits_fit, constant_of, as_offset, called_func, do_task, is_free, paid, values_after, then_run, run_tasks, plan_of, wasm_run}
+use Rattle.wasm_meaning.specs.Run.{Task, Begin, Take, MakeTable, MakeMemory, MakeGlobal, TestElements, TestData, WriteElement, WriteByte, CallStart, CallExport, Planned, ListedCall, Outcome, Ended, Stopped, WasmRun, done, tested, with_found, with_table_at, with_memory_at, limits_fit, constant_of, first_value, as_offset, called_func, do_task, is_free, paid, trail_after, then_run, run_tasks, plan_of, wasm_run}
 use Rattle.wasm_meaning.proofs.Longer.{LongerCall, calls_longer}
 
 tested_longer : (d : ℕ) (passes : Bool) (kind : TrapKind) (n : ℕ) (made : store.Store) (trail : Trail) → LongerCall d (tested passes kind n made trail) (tested passes kind (n + d) made trail)
@@ -70,7 +69,7 @@ task_longer d s p Begin n made trail = refl
 task_longer d s p (Take i) n made trail = taken_longer d s p i i.kind n made trail
 task_longer d s p (MakeTable l) n made trail = refl
 task_longer d s p (MakeMemory l) n made trail = refl
-task_longer d s p (MakeGlobal initial) n made trail = found_longer d (constant_of s p made initial) made trail
+task_longer d s p (MakeGlobal ty initial) n made trail = found_longer d (first_value s p made ty initial) made trail
     (λ v. done n (store.with_objects made p (λ o. record { memory = o.memory; table = o.table; globals = o.globals ++ v ∷ [] })) trail)
     (λ v. done (n + d) (store.with_objects made p (λ o. record { memory = o.memory; table = o.table; globals = o.globals ++ v ∷ [] })) trail)
     (λ v. refl)
@@ -105,22 +104,22 @@ paid_longer d false (suc n) made trail go h = let e : suc n + d ≡ suc (n + d) 
 abbrev Same : WasmRun → WasmRun → Type 0
 Same w other = w.outcome ≢ Stopped OutOfSteps → other ≡ w
 
-then_longer : (d : ℕ) (c e : Called) (t : Planned) (values : List (Option Value)) (go : ℕ → store.Store → Trail → List (Option Value) → WasmRun) → LongerCall d c e → ((n : ℕ) (made : store.Store) (trail : Trail) (values' : List (Option Value)) → Same (go n made trail values') (go (n + d) made trail values')) → Same (then_run c t values go) (then_run e t values go)
-then_longer d (Back n value made trail) e t values go h k over = ap (λ o. then_run o t values go) h ∙ k n made trail (values_after t.task value values) over
-then_longer d (CallStops (Trapped kind) made trail) e t values go h k over = ap (λ o. then_run o t values go) h
-then_longer d (CallStops Asks made trail) e t values go h k over = ap (λ o. then_run o t values go) h
-then_longer d (CallStops OutOfSteps made trail) e t values go h k over = absurd (over refl)
-then_longer d (CallStops Stuck made trail) e t values go h k over = ap (λ o. then_run o t values go) h
+then_longer : (d : ℕ) (c e : Called) (t : Planned) (go : ℕ → store.Store → Trail → WasmRun) → LongerCall d c e → ((n : ℕ) (made : store.Store) (trail : Trail) → Same (go n made trail) (go (n + d) made trail)) → Same (then_run c t go) (then_run e t go)
+then_longer d (Back n value made trail) e t go h k over = ap (λ o. then_run o t go) h ∙ k n made (trail_after t.task value trail) over
+then_longer d (CallStops (Trapped kind) made trail) e t go h k over = ap (λ o. then_run o t go) h
+then_longer d (CallStops Asks made trail) e t go h k over = ap (λ o. then_run o t go) h
+then_longer d (CallStops OutOfSteps made trail) e t go h k over = absurd (over refl)
+then_longer d (CallStops Stuck made trail) e t go h k over = ap (λ o. then_run o t go) h
 
-tasks_longer : (d : ℕ) (s : LinkedSet) (plan : List Planned) (last : Phase) (n : ℕ) (made : store.Store) (trail : Trail) (values : List (Option Value)) → Same (run_tasks s plan last n made trail values) (run_tasks s plan last (n + d) made trail values)
-tasks_longer d s [] last n made trail values = λ over. refl
-tasks_longer d s (t ∷ plan) last n made trail values =
+tasks_longer : (d : ℕ) (s : LinkedSet) (plan : List Planned) (last : Phase) (n : ℕ) (made : store.Store) (trail : Trail) → Same (run_tasks s plan last n made trail) (run_tasks s plan last (n + d) made trail)
+tasks_longer d s [] last n made trail = λ over. refl
+tasks_longer d s (t ∷ plan) last n made trail =
     then_longer d
     (paid (is_free t.task) n made trail (λ left. do_task s t.place t.task left made trail))
     (paid (is_free t.task) (n + d) made trail (λ left. do_task s t.place t.task left made trail))
-    t values (run_tasks s plan t.phase)
+    t (run_tasks s plan t.phase)
     (paid_longer d (is_free t.task) n made trail (λ left. do_task s t.place t.task left made trail) (λ m. task_longer d s t.place t.task m made trail))
-    (λ m made' trail' values'. tasks_longer d s plan t.phase m made' trail' values')
+    (λ m made' trail'. tasks_longer d s plan t.phase m made' trail')
 
 abbrev fresh : LinkedSet → store.Store
 fresh s = replicate (length s.modules) store.no_objects
@@ -129,7 +128,7 @@ pub run_longer : (s : LinkedSet) (calls : List ListedCall) (replies : List Reply
 run_longer s calls replies n m le over =
     let e : m ≡ n + (m - n) = omega arith in
     ap (λ k. wasm_run s calls k replies) e
-    ∙ tasks_longer (m - n) s (plan_of s calls) (Init 0) n (fresh s) (record { replies = replies; asks = [] }) [] over
+    ∙ tasks_longer (m - n) s (plan_of s calls) (Init 0) n (fresh s) (record { replies = replies; events = [] }) over
 
 -- an outcome is want of steps or another
 decided : (o : Outcome) (A : Type 0) → (o ≡ Stopped OutOfSteps → A) → (o ≢ Stopped OutOfSteps → A) → A

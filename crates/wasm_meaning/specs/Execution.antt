@@ -1,6 +1,6 @@
 -- The execution of instructions with a budget of steps (WebAssembly Core 1.0, 4.4). `nop`, `drop`,
 -- `block`, `loop` and the ends of blocks cost nothing, every other instruction one step.
-use Rattle.std.specs.Prelude.{ℕ, zero, suc, ◌+◌, ◌%◌, ◌^◌, ◌==◌, List, [], ◌∷◌, ◌++◌, if◌then◌else◌, take, drop, reverse, length, replicate, flat_map, slice_get, slice_set, Option, Some, None, unwrap_or}
+use Rattle.std.specs.Prelude.{ℕ, zero, suc, ◌+◌, ◌%◌, ◌^◌, ◌==◌, Bool, false, ◌&&◌, List, [], ◌∷◌, ◌++◌, if◌then◌else◌, take, drop, reverse, length, slice_get, slice_set, Option, Some, None, unwrap_or}
 use Rattle.w2c_base.specs.declared.value.ValType.{ValType}
 use Rattle.w2c_base.specs.declared.value.ValType.TheVariants as type
 use Rattle.w2c_base.specs.declared.value.Value.{Value}
@@ -10,13 +10,13 @@ use Rattle.w2c_base.specs.declared.trap.TrapKind.{TrapKind}
 use Rattle.w2c_base.specs.declared.trap.TrapKind.TheVariants as trap
 use Rattle.w2c_base.specs.Values.{bits, value, number_of, type_of, types_of, equal_type, equal_types, equal_func_types, is_result, zeros}
 use Rattle.w2c_base.specs.Lookup.{if_found}
-use Rattle.w2c_base.specs.Run.{Reply, Gave, HostTrapped, Ask, Trail}
+use Rattle.w2c_base.specs.Run.{Reply, Gave, HostTrapped, Ask, Event, Trail, asked}
 use Rattle.wasm_tree.specs.Instructions.{Code, end_code, then_code, Kind, Otherwise, no_else, else_code, LoadOp, StoreOp, Unreachable, Nop, Return, Drop, Select, MemorySize, MemoryGrow, Block, Loop, If, Br, BrIf, BrTable, Call, CallIndirect, LocalGet, LocalSet, LocalTee, GlobalGet, GlobalSet, Load, Store, I32Const, I64Const, Eqz, Compare, Unary, Binary, I32WrapI64, I64ExtendI32S, I64ExtendI32U}
-use Rattle.wasm_tree.specs.declared.entries.Run.{Run}
 use Rattle.wasm_tree.specs.declared.entries.BodyEntry.{BodyEntry}
+use Rattle.wasm_tree.specs.IndexSpaces.{declared_locals}
 use Rattle.wasm_meaning.specs.Operators.{Answer, Gives, Traps, pattern_of, truth, extend_s, unary, binary, compare}
 use Rattle.wasm_meaning.specs.Memories.{load_access, store_access, load_number, store_number}
-use Rattle.wasm_meaning.specs.LinkedSet.{LinkedSet, FuncAddress, ModuleFunc, HostFunc, GlobalAddress, func_at, table_at, memory_at, global_at, type_at, func_type, body_of}
+use Rattle.wasm_meaning.specs.LinkedSet.{LinkedSet, FuncAddress, ModuleFunc, HostFunc, GlobalAddress, func_at, table_at, memory_at, global_at, type_at, func_type, global_type, body_of}
 use Rattle.wasm_meaning.specs.Store as store
 
 -- why an execution stops before its end
@@ -70,10 +70,14 @@ abbrev pub answered : ValType → Answer → List Value → store.State → Done
 answered t (Gives n) stack state = Leaves (value t n ∷ stack) state
 answered t (Traps kind) stack state = Faults kind
 
+-- what is done where two values have one type
+abbrev pub of_one_type : Value → Value → Done → Done
+of_one_type v w does = if equal_type (type_of v) (type_of w) then does else NoRule
+
 -- parametric instructions (4.4.2)
 abbrev pub selected : List Value → store.State → Done
-selected (I32 zero ∷ second ∷ first ∷ stack) state = Leaves (second ∷ stack) state
-selected (I32 (suc c) ∷ second ∷ first ∷ stack) state = Leaves (first ∷ stack) state
+selected (I32 zero ∷ second ∷ first ∷ stack) state = of_one_type first second (Leaves (second ∷ stack) state)
+selected (I32 (suc c) ∷ second ∷ first ∷ stack) state = of_one_type first second (Leaves (first ∷ stack) state)
 selected _ state = NoRule
 
 -- variable instructions (4.4.3)
@@ -84,14 +88,18 @@ pushed (Some v) stack state = Leaves (v ∷ stack) state
 abbrev pub local_set : ℕ → Value → List Value → store.State → Done
 local_set index v stack state = elim (slice_get state.locals index) [
   | None ↦ NoRule
-  | Some old ↦ Leaves stack (in_locals state (slice_set state.locals index v))
+  | Some old ↦ of_one_type old v (Leaves stack (in_locals state (slice_set state.locals index v)))
 ]
 
-abbrev pub global_set : Option GlobalAddress → Value → List Value → store.State → Done
-global_set None v stack state = NoRule
-global_set (Some g) v stack state = elim (store.global_in state.store g) [
+-- the global is mutable, and the value has its type
+abbrev pub may_set : LinkedSet → GlobalAddress → Value → Bool
+may_set s g v = elim (global_type s g) [ None ↦ false | Some t ↦ t.1 && equal_type t.0 (type_of v) ]
+
+abbrev pub global_set : LinkedSet → Option GlobalAddress → Value → List Value → store.State → Done
+global_set s None v stack state = NoRule
+global_set s (Some g) v stack state = elim (store.global_in state.store g) [
   | None ↦ NoRule
-  | Some old ↦ Leaves stack (in_store state (store.with_global state.store g v))
+  | Some old ↦ if may_set s g v then Leaves stack (in_store state (store.with_global state.store g v)) else NoRule
 ]
 
 -- memory instructions (4.4.4), on the memory of the module that defines it
@@ -134,7 +142,7 @@ plain s p (LocalGet index) stack state = pushed (slice_get state.locals index) s
 plain s p (LocalSet index) (v ∷ stack) state = local_set index v stack state
 plain s p (LocalTee index) (v ∷ stack) state = local_set index v (v ∷ stack) state
 plain s p (GlobalGet index) stack state = pushed (if_found (global_at s p index) (store.global_in state.store)) stack state
-plain s p (GlobalSet index) (v ∷ stack) state = global_set (global_at s p index) v stack state
+plain s p (GlobalSet index) (v ∷ stack) state = global_set s (global_at s p index) v stack state
 plain s p (Load op arg) (I32 base ∷ stack) state = on_memory (memory_at s p 0) state (λ owner m.
     loaded op m (base + arg.offset) stack state)
 plain s p (Store op arg) (v ∷ I32 base ∷ stack) state =
@@ -166,11 +174,15 @@ and_then (Branch label n stack state) go = Branch label n stack state
 and_then (Returned n stack state) go = Returned n stack state
 and_then (Stops why state) go = Stops why state
 
--- the values of a label or a result, off the top of the stack
+-- a value of the wanted type
+abbrev pub of_type : {A : Type 0} → ValType → Value → A → Option A
+of_type t v a = if equal_type t (type_of v) then Some a else None
+
+-- the values of a label, off the top of the stack
 abbrev pub top : Option ValType → List Value → Option (List Value)
 top None stack = Some []
 top (Some t) [] = None
-top (Some t) (v ∷ stack) = Some (v ∷ [])
+top (Some t) (v ∷ stack) = of_type t v (v ∷ [])
 
 abbrev pub onto : ℕ → Option (List Value) → List Value → store.State → Result
 onto n None under state = Stops Stuck state
@@ -288,13 +300,13 @@ abbrev mutual
 -- return or a branch out of the body takes it off the top
 abbrev pub gives_all : Option ValType → List Value → Option (Option Value)
 gives_all None [] = Some None
-gives_all (Some t) (v ∷ []) = Some (Some v)
+gives_all (Some t) (v ∷ []) = of_type t v (Some v)
 gives_all _ _ = None
 
 abbrev pub gives_top : Option ValType → List Value → Option (Option Value)
 gives_top None stack = Some None
 gives_top (Some t) [] = None
-gives_top (Some t) (v ∷ stack) = Some (Some v)
+gives_top (Some t) (v ∷ stack) = of_type t v (Some v)
 
 abbrev pub gave : Option (Option Value) → ℕ → store.State → Called
 gave None n state = CallStops Stuck state.store state.trail
@@ -307,9 +319,6 @@ finish t (Branch (suc label) n stack state) = CallStops Stuck state.store state.
 finish t (Returned n stack state) = gave (gives_top t stack) n state
 finish t (Stops why state) = CallStops why state.store state.trail
 
-abbrev pub declared_locals : List Run → List ValType
-declared_locals runs = flat_map (λ r. replicate r.count r.ty) runs
-
 -- a function's body runs with its arguments and zeros as locals
 abbrev pub enter : LinkedSet → Calls → ℕ → Option BodyEntry → Option FuncType
     → List Value → ℕ → store.Store → Trail → Called
@@ -318,21 +327,22 @@ enter s calls p (Some body) (Some ty) args n store trail =
     finish ty.result (exec s calls p body.code n [] (record { locals = locals; store = store; trail = trail }))
 enter s calls p _ _ args n store trail = CallStops Stuck store trail
 
--- the reply of a host that was asked. Where none is left, or its value is not of the function's
--- type, the run stops at this ask
-abbrev pub replied : Option FuncType → List Reply → List Ask → ℕ → store.Store → Called
-replied None replies asks n store = CallStops Stuck store (record { replies = replies; asks = asks })
-replied (Some ty) [] asks n store = CallStops Asks store (record { replies = []; asks = asks })
-replied (Some ty) (HostTrapped ∷ replies) asks n store =
-    CallStops (Trapped trap.HostTrap) store (record { replies = replies; asks = asks })
-replied (Some ty) (Gave result ∷ replies) asks n store =
-    let trail : Trail = record { replies = replies; asks = asks } in
-    if is_result ty.result result then Back n result store trail else CallStops Asks store trail
+-- the reply of a host that is asked, behind what happened before. Where none is left, or it is no
+-- number of the function's type, the run stops at this ask
+abbrev pub replied : Option FuncType → List Reply → List Event → Ask → ℕ → store.Store → Called
+replied None replies before a n store = CallStops Stuck store (asked before a None replies)
+replied (Some ty) [] before a n store = CallStops Asks store (asked before a None [])
+replied (Some ty) (HostTrapped ∷ replies) before a n store =
+    CallStops (Trapped trap.HostTrap) store (asked before a (Some HostTrapped) replies)
+replied (Some ty) (Gave result ∷ replies) before a n store =
+    if is_result ty.result result
+    then Back n result store (asked before a (Some (Gave result)) replies)
+    else CallStops Asks store (asked before a None replies)
 
 -- calls while so many more of the modules' functions may become active. Hosts' are not counted
 abbrev pub call_within : LinkedSet → ℕ → Calls
 call_within s room (HostFunc h f) args n store trail =
-    replied (func_type s (HostFunc h f)) trail.replies (trail.asks ++ record { host = h; function = f; args = args } ∷ []) n store
+    replied (func_type s (HostFunc h f)) trail.replies trail.events (record { host = h; function = f; args = args }) n store
 call_within s zero (ModuleFunc p index) args n store trail = CallStops (Trapped trap.Exhaustion) store trail
 call_within s (suc room) (ModuleFunc p index) args n store trail =
     enter s (call_within s room) p (body_of s p index) (func_type s (ModuleFunc p index)) args n store trail

@@ -1,13 +1,14 @@
 -- Linked sets, and what each index of a module stands for (WebAssembly Core 1.0, 4.2.5 module
 -- instances, 4.2.11 external values, 4.5.4 imports): made from the trees, module by module.
-use Rattle.std.specs.Prelude.{◌≡◌, ◌≢◌, ℕ, ◌-◌, ◌≤◌, Bool, true, false, List, [], ◌∷◌, ◌++◌, length, map, filter, find, take, replicate, bytes_eq, slice_get, Option, Some, None, option_map, ⊤}
+use Rattle.std.specs.Prelude.{◌≡◌, ℕ, ◌≤◌, Bool, List, [], ◌∷◌, ◌++◌, length, map, filter, find, take, replicate, bytes_eq, slice_get, Option, Some, None, option_map}
 use Rattle.std.specs.List.{range_with_len, position_from, AllByRecursion}
 use Rattle.std.specs.Option.{option_or}
 use Rattle.w2c_base.specs.declared.value.ValType.{ValType}
 use Rattle.w2c_base.specs.declared.signature.FuncType.{FuncType}
-use Rattle.w2c_base.specs.Lookup.{if_found, at_index, named}
+use Rattle.w2c_base.specs.Lookup.{if_found, at_index, named, AreDistinct}
 use Rattle.w2c_base.specs.Run.{Host}
 use Rattle.wasm_tree.specs.declared.tree.Module.{Module}
+use Rattle.wasm_tree.specs.IndexSpaces.{is_func_import, is_table_import, is_memory_import, is_global_import, imported_funcs, type_in, at_defined}
 use Rattle.wasm_tree.specs.declared.entries.Import.{Import}
 use Rattle.wasm_tree.specs.declared.entries.Export.{Export}
 use Rattle.wasm_tree.specs.declared.entries.BodyEntry.{BodyEntry}
@@ -89,49 +90,10 @@ abbrev pub meaning_of : List Host → List Instance → Import → Option Extern
 meaning_of hosts earlier i =
     option_or (exported earlier i.«module» i.field) (offered hosts i.«module» i.field)
 
-abbrev pub is_func_import : Import → Bool
-is_func_import i = elim i.kind [
-  | ImportFunc t ↦ true
-  | ImportTable l ↦ false
-  | ImportMemory l ↦ false
-  | ImportGlobal t mutable ↦ false
-]
-
-abbrev pub is_table_import : Import → Bool
-is_table_import i = elim i.kind [
-  | ImportFunc t ↦ false
-  | ImportTable l ↦ true
-  | ImportMemory l ↦ false
-  | ImportGlobal t mutable ↦ false
-]
-
-abbrev pub is_memory_import : Import → Bool
-is_memory_import i = elim i.kind [
-  | ImportFunc t ↦ false
-  | ImportTable l ↦ false
-  | ImportMemory l ↦ true
-  | ImportGlobal t mutable ↦ false
-]
-
-abbrev pub is_global_import : Import → Bool
-is_global_import i = elim i.kind [
-  | ImportFunc t ↦ false
-  | ImportTable l ↦ false
-  | ImportMemory l ↦ false
-  | ImportGlobal t mutable ↦ true
-]
-
 -- what the imports of a kind stand for, in their order
 abbrev pub imports_of : {A : Type 0} → (Import → Bool) → (External → Option A)
     → (Import → Option External) → List Import → List (Option A)
 imports_of is_wanted as_wanted meaning imports = map (λ i. if_found (meaning i) as_wanted) (filter is_wanted imports)
-
--- how many functions and globals a module imports
-abbrev pub imported_funcs : Module → ℕ
-imported_funcs m = length (filter is_func_import m.imports)
-
-abbrev pub imported_globals : Module → ℕ
-imported_globals m = length (filter is_global_import m.imports)
 
 -- imports first, then what the module with this number defines
 abbrev pub spaces_of : (Import → Option External) → ℕ → Module → IndexSpaces
@@ -192,17 +154,18 @@ abbrev pub global_at : LinkedSet → ℕ → ℕ → Option GlobalAddress
 global_at s p index = in_space (λ spaces. spaces.globals) s p index
 
 abbrev pub type_at : LinkedSet → ℕ → ℕ → Option FuncType
-type_at s p index = if_found (module_at s p) (λ m. option_map (λ t. t.ty) (slice_get m.types index))
+type_at s p index = if_found (module_at s p) (λ m. type_in m index)
 
--- the type and the body of a function, the type of a global and whether it is mutable
+-- the type and the body of a function, which an index of an import has not; the type of a global and
+-- whether it is mutable
 abbrev pub func_type : LinkedSet → FuncAddress → Option FuncType
 func_type s (ModuleFunc p index) = if_found (module_at s p) (λ m.
-    if_found (slice_get m.funcs (index - imported_funcs m)) (λ f. type_at s p f.type_index))
+    if_found (at_defined m m.funcs index) (λ f. type_at s p f.type_index))
 func_type s (HostFunc h f) = if_found (slice_get s.hosts h) (λ host.
     option_map (λ f. f.ty) (slice_get host.functions f))
 
 abbrev pub body_of : LinkedSet → ℕ → ℕ → Option BodyEntry
-body_of s p index = if_found (module_at s p) (λ m. slice_get m.bodies (index - imported_funcs m))
+body_of s p index = if_found (module_at s p) (λ m. at_defined m m.bodies index)
 
 abbrev pub global_type : LinkedSet → GlobalAddress → Option (ValType × Bool)
 global_type s g = if_found (module_at s g.owner) (λ m.
@@ -218,11 +181,6 @@ Resolves s p i = elim i.kind [
   | ImportGlobal ty mutable ↦ (g : GlobalAddress) × (import_at s p i ≡ Some (IsGlobal g))
       × (global_type s g ≡ Some (ty, mutable))
 ]
-
--- names, of which no two are equal
-abbrev pub AreDistinct : List (List ℕ) → Type 0
-AreDistinct [] = ⊤
-AreDistinct (name ∷ names) = AllByRecursion (λ other. name ≢ other) names × AreDistinct names
 
 -- what makes modules and hosts a linked set, besides that each module is valid
 pub record IsLinked (s : LinkedSet) : Type 0 where

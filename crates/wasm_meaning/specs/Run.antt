@@ -1,15 +1,18 @@
 -- The run of a linked set: its modules are instantiated in order, then calls of exports run
 -- (WebAssembly Core 1.0, 4.5.3 to 4.5.5). A run is a list of tasks of one step each.
 use Rattle.std.specs.Prelude.{◌≡◌, ℕ, zero, suc, ◌+◌, ◌&&◌, not, List, [], ◌∷◌, ◌++◌, Bool, true, false, if◌then◌else◌, nat_le, length, map, filter, flat_map, slice_set, replicate, Option, Some, None}
+use Rattle.std.specs.List.{AllByRecursion}
+use Rattle.w2c_base.specs.declared.value.ValType.{ValType}
 use Rattle.w2c_base.specs.declared.value.Value.{Value}
 use Rattle.w2c_base.specs.declared.value.Value.TheVariants.{I32, I64}
 use Rattle.w2c_base.specs.declared.signature.FuncType.{FuncType}
 use Rattle.w2c_base.specs.declared.trap.TrapKind.{TrapKind}
 use Rattle.w2c_base.specs.declared.trap.TrapKind.TheVariants as trap
-use Rattle.w2c_base.specs.Values.{types_of}
+use Rattle.w2c_base.specs.Values.{IsNumber, types_of}
 use Rattle.w2c_base.specs.Lookup.{if_found, numbered}
-use Rattle.w2c_base.specs.Run.{Reply, Ask, Trail, Phase, Init, Call}
+use Rattle.w2c_base.specs.Run.{Reply, Event, Trail, Phase, Init, Call, call_ended}
 use Rattle.wasm_tree.specs.Instructions.{Code, end_code, then_code, I32Const, I64Const, GlobalGet}
+use Rattle.wasm_tree.specs.IndexSpaces.{is_func_import}
 use Rattle.wasm_tree.specs.declared.tree.Module.{Module}
 use Rattle.wasm_tree.specs.declared.entries.Limits.{Limits}
 use Rattle.wasm_tree.specs.declared.entries.Import.{Import}
@@ -18,9 +21,9 @@ use Rattle.wasm_tree.specs.declared.entries.ElementEntry.{ElementEntry}
 use Rattle.wasm_tree.specs.declared.entries.SegmentEntry.{SegmentEntry}
 use Rattle.wasm_tree.specs.declared.entries.ImportKind.TheVariants.{Func as ImportFunc, Table as ImportTable, Memory as ImportMemory, Global as ImportGlobal}
 use Rattle.wasm_meaning.specs.Operators.{pattern_of}
-use Rattle.wasm_meaning.specs.LinkedSet.{LinkedSet, FuncAddress, as_func, as_table, as_memory, is_func_import, exported, instances, import_at, func_at, table_at, memory_at, global_at, func_type}
+use Rattle.wasm_meaning.specs.LinkedSet.{LinkedSet, FuncAddress, as_func, as_table, as_memory, exported, instances, import_at, func_at, table_at, memory_at, global_at, func_type}
 use Rattle.wasm_meaning.specs.Store as store
-use Rattle.wasm_meaning.specs.Execution.{Stop, Trapped, OutOfSteps, Stuck, Called, Back, CallStops, call_within}
+use Rattle.wasm_meaning.specs.Execution.{Stop, Trapped, OutOfSteps, Stuck, Called, Back, CallStops, of_type, call_within}
 
 -- a call of an export, by names
 pub record ListedCall : Type 0 where
@@ -32,17 +35,17 @@ pub record ListedCall : Type 0 where
 abbrev pub called_func : LinkedSet → ListedCall → Option FuncAddress
 called_func s c = if_found (exported (instances s) c.module_name c.export_name) as_func
 
--- it is one whose parameters have the types of the arguments
+-- it is one whose parameters have the types of the arguments, which are numbers of their types
 abbrev pub Fits : LinkedSet → ListedCall → Type 0
 Fits s c = (f : FuncAddress) × (ty : FuncType) × (called_func s c ≡ Some f)
-    × (func_type s f ≡ Some ty) × (ty.params ≡ types_of c.args)
+    × (func_type s f ≡ Some ty) × (ty.params ≡ types_of c.args) × AllByRecursion IsNumber c.args
 
 -- what is done in one step; a start call costs nothing by itself
 pub data Task : Type 0 where
   Begin : Task
   Take : (taken : Import) → Task
   MakeTable MakeMemory : (limits : Limits) → Task
-  MakeGlobal : (initial : Code) → Task
+  MakeGlobal : (ty : ValType) → (initial : Code) → Task
   TestElements : (segment : ElementEntry) → Task
   TestData : (segment : SegmentEntry) → Task
   WriteElement : (segment : ElementEntry) → (number func : ℕ) → Task
@@ -61,7 +64,7 @@ tasks_of m =
     ++ (map Take (filter (λ i. not (is_func_import i)) m.imports)
     ++ (map (λ t. MakeTable t.limits) m.tables
     ++ (map (λ t. MakeMemory t.limits) m.memories
-    ++ (map (λ g. MakeGlobal g.code) m.globals
+    ++ (map (λ g. MakeGlobal g.ty g.code) m.globals
     ++ (map TestElements m.elements
     ++ (map TestData m.segments
     ++ (flat_map (λ e. map (λ f. WriteElement e f.0 f.1.index) (numbered e.funcs)) m.elements
@@ -140,13 +143,17 @@ with_memory_at s p d made trail go =
     with_found (store.memory_in made owner) made trail (λ m.
     with_found (if_found (constant_of s p made d.offset) as_offset) made trail (λ offset. go owner m offset)))
 
+-- the value of an initial expression, which has the global's type
+abbrev pub first_value : LinkedSet → ℕ → store.Store → ValType → Code → Option Value
+first_value s p made ty initial = if_found (constant_of s p made initial) (λ v. of_type ty v v)
+
 -- a task of the module with number p, when its step is paid
 abbrev pub do_task : LinkedSet → ℕ → Task → ℕ → store.Store → Trail → Called
 do_task s p Begin n made trail = done n made trail
 do_task s p (Take i) n made trail = taken_import s p i n made trail
 do_task s p (MakeTable l) n made trail = done n (store.with_table made p (store.new_table l.min l.max)) trail
 do_task s p (MakeMemory l) n made trail = done n (store.with_memory made p (store.new_memory l.min l.max)) trail
-do_task s p (MakeGlobal initial) n made trail = with_found (constant_of s p made initial) made trail (λ v.
+do_task s p (MakeGlobal ty initial) n made trail = with_found (first_value s p made ty initial) made trail (λ v.
     done n (store.with_objects made p (λ o. record { memory = o.memory; table = o.table; globals = o.globals ++ v ∷ [] })) trail)
 do_task s p (TestElements e) n made trail = with_table_at s p e made trail (λ owner t offset.
     tested (nat_le (offset + length e.funcs) (length t.elements)) trap.SegmentOut n made trail)
@@ -174,36 +181,33 @@ pub data Outcome : Type 0 where
   Ended : Outcome
   Stopped : (why : Stop) → Outcome
 
--- how far a run came, the values of the calls that ended, what hosts were asked, and the store
+-- how far a run came, what happened in it, in order, and the store
 pub record WasmRun : Type 0 where
   pub phase : Phase
-  pub values : List (Option Value)
-  pub asks : List Ask
+  pub events : List Event
   pub store : store.Store
   pub outcome : Outcome
 
--- a listed call's value is kept
-abbrev pub values_after : Task → Option Value → List (Option Value) → List (Option Value)
-values_after (CallExport c) value values = values ++ value ∷ []
-values_after _ value values = values
+-- a listed call's end is told
+abbrev pub trail_after : Task → Option Value → Trail → Trail
+trail_after (CallExport c) value trail = call_ended trail value
+trail_after _ value trail = trail
 
-abbrev pub then_run : Called → Planned → List (Option Value)
-    → (ℕ → store.Store → Trail → List (Option Value) → WasmRun) → WasmRun
-then_run (Back left value made trail) t values go = go left made trail (values_after t.task value values)
-then_run (CallStops why made trail) t values go =
-    record { phase = t.phase; values = values; asks = trail.asks; store = made; outcome = Stopped why }
+abbrev pub then_run : Called → Planned → (ℕ → store.Store → Trail → WasmRun) → WasmRun
+then_run (Back left value made trail) t go = go left made (trail_after t.task value trail)
+then_run (CallStops why made trail) t go =
+    record { phase = t.phase; events = trail.events; store = made; outcome = Stopped why }
 
 -- tasks in order, with a budget of n, behind a task of the phase `last`
-abbrev pub run_tasks : LinkedSet → List Planned → Phase → ℕ → store.Store → Trail → List (Option Value) → WasmRun
-run_tasks s [] last n made trail values =
-    record { phase = last; values = values; asks = trail.asks; store = made; outcome = Ended }
-run_tasks s (t ∷ plan) last n made trail values =
+abbrev pub run_tasks : LinkedSet → List Planned → Phase → ℕ → store.Store → Trail → WasmRun
+run_tasks s [] last n made trail = record { phase = last; events = trail.events; store = made; outcome = Ended }
+run_tasks s (t ∷ plan) last n made trail =
     then_run
     (paid (is_free t.task) n made trail (λ left. do_task s t.place t.task left made trail))
-    t values (run_tasks s plan t.phase)
+    t (run_tasks s plan t.phase)
 
 -- the run of a linked set with calls, at most n steps, and these replies of the hosts
 abbrev pub wasm_run : LinkedSet → List ListedCall → ℕ → List Reply → WasmRun
 wasm_run s calls n replies =
     let nothing : store.Store = replicate (length s.modules) store.no_objects in
-    run_tasks s (plan_of s calls) (Init 0) n nothing (record { replies = replies; asks = [] }) []
+    run_tasks s (plan_of s calls) (Init 0) n nothing (record { replies = replies; events = [] })

@@ -1,25 +1,26 @@
 -- Small modules, written by hand, that closed cases run. Every place is 0.
-use Rattle.std.specs.Prelude.{ℕ, ℤ, pos, true, List, [], ◌∷◌, map, codes, Option, Some, None}
+use Rattle.std.specs.Prelude.{ℕ, ℤ, pos, Bool, true, false, List, [], ◌∷◌, map, codes, Option, Some, None}
 use Rattle.w2c_base.specs.declared.value.ValType.{ValType}
 use Rattle.w2c_base.specs.declared.value.ValType.TheVariants as type
 use Rattle.w2c_base.specs.declared.value.Value.{Value}
-use Rattle.w2c_base.specs.Run.{Host, Reply}
-use Rattle.wasm_tree.specs.Instructions.{Code, end_code, then_code, Kind, Add, Block, BrTable, Call, CallIndirect, MemoryGrow, LocalGet, GlobalGet, GlobalSet, I32Const, Binary}
+use Rattle.w2c_base.specs.Run.{Host, Reply, Ask}
+use Rattle.wasm_tree.specs.Instructions.{Code, end_code, then_code, Kind, Add, Block, BrTable, Call, CallIndirect, MemoryGrow, LocalGet, GlobalGet, GlobalSet, I32Const, I64Const, Binary}
 use Rattle.wasm_tree.specs.declared.tree.Module.{Module}
 use Rattle.wasm_tree.specs.declared.entries.TypeEntry.{TypeEntry}
 use Rattle.wasm_tree.specs.declared.entries.Export.{Export}
+use Rattle.wasm_tree.specs.declared.entries.GlobalEntry.{GlobalEntry}
 use Rattle.wasm_tree.specs.declared.entries.ElementEntry.{ElementEntry}
 use Rattle.wasm_tree.specs.declared.entries.BodyEntry.{BodyEntry}
 use Rattle.wasm_tree.specs.declared.entries.LimitsEntry.{LimitsEntry}
 use Rattle.wasm_tree.specs.declared.entries.SegmentEntry.{SegmentEntry}
 use Rattle.wasm_tree.specs.declared.entries.Start.{Start}
 use Rattle.wasm_tree.specs.declared.entries.Import.{Import}
-use Rattle.wasm_tree.specs.declared.entries.ImportKind.TheVariants.{Func as ImportFunc, Table as ImportTable, Global as ImportGlobal}
-use Rattle.wasm_tree.specs.declared.entries.ExportKind.TheVariants.{Func as ExportFunc, Table as ExportTable, Global as ExportGlobal}
+use Rattle.wasm_tree.specs.declared.entries.ImportKind.TheVariants.{Func as ImportFunc, Table as ImportTable, Memory as ImportMemory, Global as ImportGlobal}
+use Rattle.wasm_tree.specs.declared.entries.ExportKind.TheVariants.{Func as ExportFunc, Table as ExportTable, Memory as ExportMemory, Global as ExportGlobal}
 use Rattle.wasm_meaning.specs.LinkedSet.{LinkedSet}
-use Rattle.wasm_meaning.specs.Store.{State}
+use Rattle.wasm_meaning.specs.Store.{State, no_objects}
 use Rattle.wasm_meaning.specs.Execution.{Result, exec, call_within}
-use Rattle.wasm_meaning.specs.Run.{WasmRun, wasm_run}
+use Rattle.wasm_meaning.specs.Run.{ListedCall, WasmRun, wasm_run}
 
 abbrev pub code_of : List Kind → Code
 code_of [] = end_code
@@ -27,7 +28,7 @@ code_of (kind ∷ kinds) = then_code 0 kind (code_of kinds)
 
 -- a state with one local and nothing else
 abbrev pub state_of : Value → State
-state_of local = record { locals = local ∷ []; store = []; trail = record { replies = []; asks = [] } }
+state_of local = record { locals = local ∷ []; store = []; trail = record { replies = []; events = [] } }
 
 -- code outside any module, with one local and a budget
 abbrev pub run_code : List Kind → Value → ℕ → Result
@@ -84,6 +85,35 @@ with_funcs types of_types bodies exports m = record {
   segments = m.segments;
   bodies = bodies;
 }
+
+-- globals and nothing else
+abbrev pub with_globals : List GlobalEntry → Module
+with_globals globals = record {
+  types = [];
+  imports = [];
+  funcs = [];
+  tables = [];
+  memories = [];
+  globals = globals;
+  exports = [];
+  start = None;
+  elements = [];
+  segments = [];
+  bodies = [];
+}
+
+-- a function `f` without parameters, of this result and with this code
+abbrev pub gives : Option ValType → List Kind → Module → Module
+gives result kinds m = with_funcs (func_type [] result ∷ []) (0 ∷ []) (body kinds ∷ []) (export_func (codes "f") 0 ∷ []) m
+
+-- `f` sets a global, which may be immutable
+abbrev pub sets_global : Bool → Module
+sets_global mutable = gives None (I32Const (pos 7) ∷ GlobalSet 0 ∷ [])
+    (with_globals (record { ty = type.I32; mutable = mutable; code = code_of (I32Const (pos 5) ∷ []); place = 0 } ∷ []))
+
+-- a global whose initial value is of another type
+abbrev pub wide_for_narrow : Module
+wide_for_narrow = with_globals (record { ty = type.I32; mutable = false; code = code_of (I64Const (pos 5) ∷ []); place = 0 } ∷ [])
 
 -- a function that adds 40 and 2
 abbrev pub two_constants : Module
@@ -161,6 +191,9 @@ env = record {
   functions = record { name = codes "tick"; ty = record { params = []; result = Some type.I64 } } ∷ [];
 }
 
+abbrev pub tick : Ask
+tick = record { host = 0; function = 0; args = [] }
+
 abbrev only_tables : List LimitsEntry → List Import → List ElementEntry → Option Start → Module
 only_tables tables imports elements start = record {
   types = [];
@@ -204,6 +237,57 @@ segment_past_the_end = only_tables (table_of 2 None ∷ []) [] (record {
   offset_place = 0;
 } ∷ []) None
 
+-- a table of two: a segment that fits, and one that does not
+abbrev pub second_segment_past_the_end : Module
+second_segment_past_the_end = with_funcs
+    (func_type [] None ∷ []) (0 ∷ []) (body [] ∷ []) []
+    (only_tables (table_of 2 None ∷ []) [] (element (pos 0) 0 ∷ element (pos 2) 0 ∷ []) None)
+
+-- two modules, of which the first exports a memory and the second imports it
+abbrev only_memory : List LimitsEntry → List Import → List Export → Module
+only_memory memories imports exports = record {
+  types = [];
+  imports = imports;
+  funcs = [];
+  tables = [];
+  memories = memories;
+  globals = [];
+  exports = exports;
+  start = None;
+  elements = [];
+  segments = [];
+  bodies = [];
+}
+
+abbrev pub shared_memory : LinkedSet
+shared_memory = record {
+  modules = record {
+    name = codes "a";
+    tree = only_memory (table_of 0 None ∷ []) []
+        (record { name = codes "m"; kind = ExportMemory; index = 0; name_place = 0; index_place = 0 } ∷ []);
+  }
+      ∷ record {
+        name = codes "b";
+        tree = only_memory []
+            (record { «module» = codes "a"; field = codes "m"; kind = ImportMemory (table_of 0 None).limits; place = 0 } ∷ [])
+            [];
+      } ∷ [];
+  hosts = [];
+}
+
+-- a state of these two whose memory has these bytes, with one local
+abbrev pub memory_state : List ℕ → Value → State
+memory_state bytes local = record {
+  locals = local ∷ [];
+  store = record { memory = Some (record { bytes = bytes; max = None }); table = None; globals = [] } ∷ no_objects ∷ [];
+  trail = record { replies = []; events = [] };
+}
+
+-- code of the module with number p, on a memory of five bytes, with one local
+abbrev pub run_on_memory : ℕ → List Kind → Value → Result
+run_on_memory p kinds local =
+    exec shared_memory (call_within shared_memory 1024) p (code_of kinds) 9 [] (memory_state (1 ∷ 2 ∷ 3 ∷ 4 ∷ 5 ∷ []) local)
+
 -- a memory of no pages and at most one, and `grow`, which asks for as many pages as its argument;
 -- with data segments
 abbrev pub small_memory : List SegmentEntry → Module
@@ -236,39 +320,31 @@ data_at place bytes = record {
   offset_place = 0;
 }
 
--- the first module has a global `g` of 5, and `inc` adds 1 to it and gives it
+-- the first module has a global `g` of 5; `inc` adds 1 to it and gives it, `bump` adds 1 and gives nothing
 abbrev pub exports_global : Module
 exports_global = with_funcs
-    (func_type [] (Some type.I32) ∷ [])
-    (0 ∷ [])
-    (body (GlobalGet 0 ∷ I32Const (pos 1) ∷ Binary type.I32 Add ∷ GlobalSet 0 ∷ GlobalGet 0 ∷ []) ∷ [])
-    (export_func (codes "inc") 0 ∷ record { name = codes "g"; kind = ExportGlobal; index = 0; name_place = 0; index_place = 0 } ∷ [])
-    (record {
-      types = [];
-      imports = [];
-      funcs = [];
-      tables = [];
-      memories = [];
-      globals = record { ty = type.I32; mutable = true; code = code_of (I32Const (pos 5) ∷ []); place = 0 } ∷ [];
-      exports = [];
-      start = None;
-      elements = [];
-      segments = [];
-      bodies = [];
-    })
+    (func_type [] (Some type.I32) ∷ func_type [] None ∷ [])
+    (0 ∷ 1 ∷ [])
+    (body (GlobalGet 0 ∷ I32Const (pos 1) ∷ Binary type.I32 Add ∷ GlobalSet 0 ∷ GlobalGet 0 ∷ [])
+    ∷ body (GlobalGet 0 ∷ I32Const (pos 1) ∷ Binary type.I32 Add ∷ GlobalSet 0 ∷ []) ∷ [])
+    (export_func (codes "inc") 0
+    ∷ export_func (codes "bump") 1
+    ∷ record { name = codes "g"; kind = ExportGlobal; index = 0; name_place = 0; index_place = 0 } ∷ [])
+    (with_globals (record { ty = type.I32; mutable = true; code = code_of (I32Const (pos 5) ∷ []); place = 0 } ∷ []))
 
--- the second imports both, gives `inc` plus `g`, exports `inc` again as `again`, and has `inc` for
--- its start function where that is wanted
+-- the second imports all three, gives `inc` plus `g`, exports `inc` again as `again`, and has `bump`
+-- for its start function where that is wanted
 abbrev pub imports_global : Option Start → Module
 imports_global start = with_funcs
-    (func_type [] (Some type.I32) ∷ [])
+    (func_type [] (Some type.I32) ∷ func_type [] None ∷ [])
     (0 ∷ [])
     (body (Call 0 ∷ GlobalGet 0 ∷ Binary type.I32 Add ∷ []) ∷ [])
-    (export_func (codes "run") 1 ∷ export_func (codes "again") 0 ∷ [])
+    (export_func (codes "run") 2 ∷ export_func (codes "again") 0 ∷ [])
     (record {
       types = [];
       imports = record { «module» = codes "a"; field = codes "g"; kind = ImportGlobal type.I32 true; place = 0 }
-          ∷ record { «module» = codes "a"; field = codes "inc"; kind = ImportFunc 0; place = 0 } ∷ [];
+          ∷ record { «module» = codes "a"; field = codes "inc"; kind = ImportFunc 0; place = 0 }
+          ∷ record { «module» = codes "a"; field = codes "bump"; kind = ImportFunc 1; place = 0 } ∷ [];
       funcs = [];
       tables = [];
       memories = [];
@@ -279,6 +355,9 @@ imports_global start = with_funcs
       segments = [];
       bodies = [];
     })
+
+abbrev pub start_at : ℕ → Option Start
+start_at index = Some (record { index = index; place = 0 })
 
 -- two modules, `a` and `b`
 abbrev pub both : Module → Module → LinkedSet
@@ -296,11 +375,12 @@ run_both a b names budget =
     budget
     []
 
--- the module alone, named `m`, with one call
+-- the module alone, named `m`, and one call of it
+abbrev pub alone : Module → LinkedSet
+alone m = record { modules = record { name = codes "m"; tree = m } ∷ []; hosts = env ∷ [] }
+
+abbrev pub call_of : List ℕ → List Value → ListedCall
+call_of name args = record { module_name = codes "m"; export_name = name; args = args }
+
 abbrev pub run_alone : Module → List ℕ → List Value → ℕ → List Reply → WasmRun
-run_alone m name args budget replies =
-    wasm_run
-    (record { modules = record { name = codes "m"; tree = m } ∷ []; hosts = env ∷ [] })
-    (record { module_name = codes "m"; export_name = name; args = args } ∷ [])
-    budget
-    replies
+run_alone m name args budget replies = wasm_run (alone m) (call_of name args ∷ []) budget replies

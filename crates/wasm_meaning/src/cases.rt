@@ -3,13 +3,13 @@ ghost use Rattle.std.specs.Prelude.{◌≡◌, true, false, pos, [], ◌∷◌, 
 ghost use Rattle.w2c_base.specs.declared.trap.TrapKind.TheVariants as trap;
 ghost use Rattle.w2c_base.specs.declared.value.ValType.TheVariants as type;
 ghost use Rattle.w2c_base.specs.declared.value.Value.TheVariants.{I32, I64};
-ghost use Rattle.w2c_base.specs.Run.{Gave, HostTrapped, Init, Call};
-ghost use Rattle.wasm_tree.specs.Instructions.{Add, Sub, DivS, DivU, RemS, Shl, ShrS, Rotl, Rotr, Clz, Ctz, Popcnt, LtS, LtU, I32Load, I32Load8S, I64Load32S, I64Store16, Unreachable, Drop, Nop, Block, Loop, Br, I32Const, Binary};
+ghost use Rattle.w2c_base.specs.Run.{Gave, HostTrapped, Asked, CallEnded, Init, values_in, Call as CallPhase};
+ghost use Rattle.wasm_tree.specs.Instructions.{Return, Select, If, BrIf, Call, LocalGet, LocalSet, Load, Store, I64Const, else_code, I32Load8U, I32Store, I32Store8, Add, Sub, DivS, DivU, RemS, Shl, ShrS, Rotl, Rotr, Clz, Ctz, Popcnt, LtS, LtU, I32Load, I32Load8S, I64Load32S, I64Store16, Unreachable, Drop, Nop, Block, Loop, Br, I32Const, Binary};
 ghost use Rattle.wasm_meaning.specs.Operators.{Gives, Traps, unary, binary, compare, extend_s};
-ghost use Rattle.wasm_meaning.specs.LinkedSet.{IsLinked};
+ghost use Rattle.wasm_meaning.specs.LinkedSet.{IsLinked, ModuleFunc, body_of, func_type};
 ghost use Rattle.wasm_meaning.specs.Memories.{load_number, store_number};
-ghost use Rattle.wasm_meaning.specs.Execution.{Normal, Stops, Trapped, Asks, OutOfSteps};
-ghost use Rattle.wasm_meaning.specs.Run.{Ended, Stopped, wasm_run};
+ghost use Rattle.wasm_meaning.specs.Execution.{Normal, Returned, Stops, Trapped, Asks, OutOfSteps, Stuck};
+ghost use Rattle.wasm_meaning.specs.Run.{Ended, Fits, Stopped, wasm_run};
 ghost use Rattle.wasm_meaning.specs.Samples as sample;
 
 /// Operators at their edges.
@@ -55,18 +55,29 @@ pub fn memory_cases()
 pub fn run_cases()
     ensures empty_module { (wasm_run (record { modules = record { name = []; tree = sample.no_module } ∷ []; hosts = [] }) [] 1 []).outcome ≡ Ended }
     ensures empty_module_costs_a_step { (wasm_run (record { modules = record { name = []; tree = sample.no_module } ∷ []; hosts = [] }) [] 0 []).outcome ≡ Stopped OutOfSteps }
-    ensures two_constants { (sample.run_alone sample.two_constants (codes "f") [] 5 []).values ≡ Some (I32 42) ∷ [] }
+    ensures two_constants { values_in (sample.run_alone sample.two_constants (codes "f") [] 5 []).events ≡ Some (I32 42) ∷ [] }
     ensures two_constants_in_too_few_steps { (sample.run_alone sample.two_constants (codes "f") [] 4 []).outcome ≡ Stopped OutOfSteps }
     ensures too_many_active_functions { (sample.run_alone sample.calls_itself (codes "f") [] 1026 []).outcome ≡ Stopped (Trapped trap.Exhaustion) }
     ensures calls_take_steps { (sample.run_alone sample.calls_itself (codes "f") [] 1025 []).outcome ≡ Stopped OutOfSteps }
-    ensures call_through_the_table { (sample.run_alone sample.indirect_calls (codes "c") (I32 0 ∷ []) 20 []).values ≡ Some (I32 4) ∷ [] }
+    ensures call_through_the_table { values_in (sample.run_alone sample.indirect_calls (codes "c") (I32 0 ∷ []) 20 []).events ≡ Some (I32 4) ∷ [] }
     ensures empty_element { (sample.run_alone sample.indirect_calls (codes "c") (I32 1 ∷ []) 20 []).outcome ≡ Stopped (Trapped trap.Empty) }
     ensures element_of_another_type { (sample.run_alone sample.indirect_calls (codes "c") (I32 2 ∷ []) 20 []).outcome ≡ Stopped (Trapped trap.Signature) }
     ensures past_the_table { (sample.run_alone sample.indirect_calls (codes "c") (I32 3 ∷ []) 20 []).outcome ≡ Stopped (Trapped trap.TableOut) }
-    ensures host_ticks { (sample.run_alone sample.host_ticks (codes "r") [] 9 (Gave (Some (I64 1)) ∷ Gave (Some (I64 2)) ∷ [])).values ≡ Some (I64 3) ∷ [] }
+    ensures host_ticks { values_in (sample.run_alone sample.host_ticks (codes "r") [] 9 (Gave (Some (I64 1)) ∷ Gave (Some (I64 2)) ∷ [])).events ≡ Some (I64 3) ∷ [] }
     ensures reply_of_another_type { (sample.run_alone sample.host_ticks (codes "r") [] 9 (Gave (Some (I32 1)) ∷ [])).outcome ≡ Stopped Asks }
     ensures host_trap { (sample.run_alone sample.host_ticks (codes "r") [] 9 (HostTrapped ∷ [])).outcome ≡ Stopped (Trapped trap.HostTrap) }
-    ensures phase_of_a_call { (sample.run_alone sample.host_ticks (codes "r") [] 9 []).phase ≡ Call 0 }
+    ensures reply_past_the_width { (sample.run_alone sample.host_ticks (codes "r") [] 9 (Gave (Some (I64 18446744073709551616)) ∷ [])).outcome ≡ Stopped Asks }
+    ensures greatest_reply { values_in (sample.run_alone sample.host_ticks (codes "r") [] 9 (Gave (Some (I64 18446744073709551615)) ∷ Gave (Some (I64 2)) ∷ [])).events ≡ Some (I64 1) ∷ [] }
+    ensures what_happened { (sample.run_alone sample.host_ticks (codes "r") [] 9 (Gave (Some (I64 1)) ∷ Gave (Some (I64 2)) ∷ [])).events
+        ≡ Asked sample.tick (Some (Gave (Some (I64 1)))) ∷ Asked sample.tick (Some (Gave (Some (I64 2)))) ∷ CallEnded (Some (I64 3)) ∷ [] }
+    ensures last_ask_is_told { (sample.run_alone sample.host_ticks (codes "r") [] 9 (Gave (Some (I64 1)) ∷ Gave None ∷ [])).events
+        ≡ Asked sample.tick (Some (Gave (Some (I64 1)))) ∷ Asked sample.tick None ∷ [] }
+    ensures result_of_another_type { (sample.run_alone (sample.gives (Some type.I32) (I64Const (pos 1) ∷ []) sample.no_module) (codes "f") [] 9 []).outcome ≡ Stopped Stuck }
+    ensures returned_value_of_another_type { (sample.run_alone (sample.gives (Some type.I32) (I64Const (pos 1) ∷ Return ∷ []) sample.no_module) (codes "f") [] 9 []).outcome ≡ Stopped Stuck }
+    ensures returned_value { values_in (sample.run_alone (sample.gives (Some type.I32) (I64Const (pos 1) ∷ I32Const (pos 7) ∷ Return ∷ Unreachable ∷ []) sample.no_module) (codes "f") [] 9 []).events ≡ Some (I32 7) ∷ [] }
+    ensures mutable_global_is_set { (sample.run_alone (sample.sets_global true) (codes "f") [] 9 []).outcome ≡ Ended }
+    ensures immutable_global_is_not { (sample.run_alone (sample.sets_global false) (codes "f") [] 9 []).outcome ≡ Stopped Stuck }
+    ensures phase_of_a_call { (sample.run_alone sample.host_ticks (codes "r") [] 9 []).phase ≡ CallPhase 0 }
 {}
 
 /// Instructions with control.
@@ -80,20 +91,59 @@ pub fn control_cases()
     ensures free_instructions { sample.run_code (Nop ∷ Block None (sample.code_of []) 0 ∷ Loop None (sample.code_of []) 0 ∷ []) (I32 0) 0 ≡ Normal 0 [] (sample.state_of (I32 0)) }
 {}
 
+/// Operands of another type than the place that takes them, and instructions that choose.
+pub fn operand_cases()
+    ensures local_of_another_type { sample.run_code (I64Const (pos 1) ∷ LocalSet 0 ∷ []) (I32 0) 9 ≡ Stops Stuck (sample.state_of (I32 0)) }
+    ensures local_of_its_type { sample.run_code (I32Const (pos 1) ∷ LocalSet 0 ∷ []) (I32 0) 9 ≡ Normal 7 [] (sample.state_of (I32 1)) }
+    ensures select_of_two_types { sample.run_code (I32Const (pos 1) ∷ I64Const (pos 2) ∷ LocalGet 0 ∷ Select ∷ []) (I32 0) 9 ≡ Stops Stuck (sample.state_of (I32 0)) }
+    ensures select_by_0 { sample.run_code (I64Const (pos 1) ∷ I64Const (pos 2) ∷ LocalGet 0 ∷ Select ∷ []) (I32 0) 9 ≡ Normal 5 (I64 2 ∷ []) (sample.state_of (I32 0)) }
+    ensures select_by_another { sample.run_code (I64Const (pos 1) ∷ I64Const (pos 2) ∷ LocalGet 0 ∷ Select ∷ []) (I32 3) 9 ≡ Normal 5 (I64 1 ∷ []) (sample.state_of (I32 3)) }
+    ensures label_of_another_type { sample.run_code (Block (Some type.I32) (sample.code_of (I64Const (pos 1) ∷ Br 0 ∷ [])) 0 ∷ []) (I32 0) 9 ≡ Stops Stuck (sample.state_of (I32 0)) }
+    ensures if_by_0 { sample.run_code (LocalGet 0 ∷ If (Some type.I32) (sample.code_of (I32Const (pos 5) ∷ [])) (else_code 0 (sample.code_of (I32Const (pos 6) ∷ []))) 0 ∷ []) (I32 0) 9 ≡ Normal 6 (I32 6 ∷ []) (sample.state_of (I32 0)) }
+    ensures if_by_another { sample.run_code (LocalGet 0 ∷ If (Some type.I32) (sample.code_of (I32Const (pos 5) ∷ [])) (else_code 0 (sample.code_of (I32Const (pos 6) ∷ []))) 0 ∷ []) (I32 8) 9 ≡ Normal 6 (I32 5 ∷ []) (sample.state_of (I32 8)) }
+    ensures branch_if_0 { sample.run_code (Block (Some type.I32) (sample.code_of (I32Const (pos 7) ∷ LocalGet 0 ∷ BrIf 0 ∷ Drop ∷ I32Const (pos 8) ∷ [])) 0 ∷ []) (I32 0) 9 ≡ Normal 5 (I32 8 ∷ []) (sample.state_of (I32 0)) }
+    ensures branch_if_another { sample.run_code (Block (Some type.I32) (sample.code_of (I32Const (pos 7) ∷ LocalGet 0 ∷ BrIf 0 ∷ Drop ∷ I32Const (pos 8) ∷ [])) 0 ∷ []) (I32 2) 9 ≡ Normal 6 (I32 7 ∷ []) (sample.state_of (I32 2)) }
+    ensures early_return { sample.run_code (I32Const (pos 7) ∷ Return ∷ Unreachable ∷ []) (I32 0) 9 ≡ Returned 7 (I32 7 ∷ []) (sample.state_of (I32 0)) }
+{}
+
+/// Loads and stores that run, on the module's own memory and on an imported one.
+pub fn access_cases()
+    ensures load { sample.run_on_memory 0 (LocalGet 0 ∷ Load I32Load8U (record { align = 0; offset = 3 }) ∷ []) (I32 1) ≡ Normal 7 (I32 5 ∷ []) (sample.memory_state (1 ∷ 2 ∷ 3 ∷ 4 ∷ 5 ∷ []) (I32 1)) }
+    ensures load_of_imported { sample.run_on_memory 1 (LocalGet 0 ∷ Load I32Load (record { align = 0; offset = 0 }) ∷ []) (I32 1) ≡ Normal 7 (I32 84148994 ∷ []) (sample.memory_state (1 ∷ 2 ∷ 3 ∷ 4 ∷ 5 ∷ []) (I32 1)) }
+    ensures load_past_the_end { sample.run_on_memory 0 (LocalGet 0 ∷ Load I32Load8U (record { align = 0; offset = 4 }) ∷ []) (I32 1) ≡ Stops (Trapped trap.MemoryOut) (sample.memory_state (1 ∷ 2 ∷ 3 ∷ 4 ∷ 5 ∷ []) (I32 1)) }
+    ensures store { sample.run_on_memory 0 (LocalGet 0 ∷ I64Const (pos 65538) ∷ Store I64Store16 (record { align = 0; offset = 1 }) ∷ []) (I32 1) ≡ Normal 6 [] (sample.memory_state (1 ∷ 2 ∷ 2 ∷ 0 ∷ 5 ∷ []) (I32 1)) }
+    ensures store_to_imported { sample.run_on_memory 1 (LocalGet 0 ∷ I32Const (pos 9) ∷ Store I32Store8 (record { align = 0; offset = 4 }) ∷ []) (I32 0) ≡ Normal 6 [] (sample.memory_state (1 ∷ 2 ∷ 3 ∷ 4 ∷ 9 ∷ []) (I32 0)) }
+    ensures store_of_another_type { sample.run_on_memory 0 (LocalGet 0 ∷ I64Const (pos 9) ∷ Store I32Store8 (record { align = 0; offset = 0 }) ∷ []) (I32 0) ≡ Stops Stuck (sample.memory_state (1 ∷ 2 ∷ 3 ∷ 4 ∷ 5 ∷ []) (I32 0)) }
+    ensures store_past_the_end { sample.run_on_memory 1 (LocalGet 0 ∷ I32Const (pos 9) ∷ Store I32Store (record { align = 0; offset = 2 }) ∷ []) (I32 0) ≡ Stops (Trapped trap.MemoryOut) (sample.memory_state (1 ∷ 2 ∷ 3 ∷ 4 ∷ 5 ∷ []) (I32 0)) }
+{}
+
+/// Calls that fit, and functions that an index stands for.
+pub fn call_cases()
+    ensures fits { Fits (sample.alone sample.indirect_calls) (sample.call_of (codes "c") (I32 4294967295 ∷ [])) }
+    ensures argument_past_the_width { Fits (sample.alone sample.indirect_calls) (sample.call_of (codes "c") (I32 4294967296 ∷ [])) → ⊥ }
+    ensures own_function { body_of (sample.alone sample.host_ticks) 0 1 ≡ Some (sample.body (Call 0 ∷ Call 0 ∷ Binary type.I64 Add ∷ [])) }
+    ensures imported_function_has_no_body { body_of (sample.alone sample.host_ticks) 0 0 ≡ None }
+    ensures imported_function_has_no_type { func_type (sample.alone sample.host_ticks) (ModuleFunc 0 0) ≡ None }
+{}
+
 /// Instantiation: imports, limits, segments and the start function.
 pub fn instantiation_cases()
     ensures linked { IsLinked (sample.both sample.exports_global (sample.imports_global None)) }
-    ensures values_of_linked_modules { (sample.run_both sample.exports_global (sample.imports_global None) (codes "run" ∷ codes "again" ∷ []) 30).values ≡ Some (I32 12) ∷ Some (I32 7) ∷ [] }
-    ensures start_function_runs_first { (sample.run_both sample.exports_global (sample.imports_global (Some (record { index = 0; place = 0 }))) (codes "again" ∷ []) 30).values ≡ Some (I32 7) ∷ [] }
-    ensures start_call_is_free { (sample.run_both sample.exports_global (sample.imports_global (Some (record { index = 0; place = 0 }))) [] 9).outcome ≡ Ended }
-    ensures start_function_costs_its_instructions { (sample.run_both sample.exports_global (sample.imports_global (Some (record { index = 0; place = 0 }))) [] 8).outcome ≡ Stopped OutOfSteps }
+    ensures values_of_linked_modules { values_in (sample.run_both sample.exports_global (sample.imports_global None) (codes "run" ∷ codes "again" ∷ []) 30).events ≡ Some (I32 12) ∷ Some (I32 7) ∷ [] }
+    ensures start_function_runs_first { values_in (sample.run_both sample.exports_global (sample.imports_global (sample.start_at 1)) (codes "again" ∷ []) 30).events ≡ Some (I32 7) ∷ [] }
+    ensures start_call_is_free { (sample.run_both sample.exports_global (sample.imports_global (sample.start_at 1)) [] 8).outcome ≡ Ended }
+    ensures start_function_costs_its_instructions { (sample.run_both sample.exports_global (sample.imports_global (sample.start_at 1)) [] 7).outcome ≡ Stopped OutOfSteps }
+    ensures initial_value_of_another_type { (sample.run_alone sample.wide_for_narrow (codes "f") [] 9 []).outcome ≡ Stopped Stuck }
     ensures limits_fit { (sample.run_both (sample.exports_table (Some 3)) (sample.imports_table 2 (Some 3)) [] 9).outcome ≡ Ended }
     ensures table_too_short { (sample.run_both (sample.exports_table (Some 3)) (sample.imports_table 3 (Some 3)) [] 9).outcome ≡ Stopped (Trapped trap.ImportLimits) }
     ensures maximum_too_great { (sample.run_both (sample.exports_table (Some 4)) (sample.imports_table 2 (Some 3)) [] 9).outcome ≡ Stopped (Trapped trap.ImportLimits) }
     ensures maximum_is_missing { (sample.run_both (sample.exports_table None) (sample.imports_table 2 (Some 3)) [] 9).outcome ≡ Stopped (Trapped trap.ImportLimits) }
     ensures phase_of_the_second_module { (sample.run_both (sample.exports_table None) (sample.imports_table 3 None) [] 9).phase ≡ Init 1 }
     ensures byte_past_the_end { (sample.run_alone (sample.small_memory (sample.data_at (pos 0) (65 ∷ []) ∷ [])) (codes "grow") (I32 0 ∷ []) 9 []).outcome ≡ Stopped (Trapped trap.SegmentOut) }
-    ensures no_bytes_at_the_end { (sample.run_alone (sample.small_memory (sample.data_at (pos 0) [] ∷ [])) (codes "grow") (I32 0 ∷ []) 9 []).values ≡ Some (I32 0) ∷ [] }
-    ensures growth_past_the_maximum { (sample.run_alone (sample.small_memory []) (codes "grow") (I32 2 ∷ []) 9 []).values ≡ Some (I32 4294967295) ∷ [] }
+    ensures no_bytes_at_the_end { values_in (sample.run_alone (sample.small_memory (sample.data_at (pos 0) [] ∷ [])) (codes "grow") (I32 0 ∷ []) 9 []).events ≡ Some (I32 0) ∷ [] }
+    ensures growth_past_the_maximum { values_in (sample.run_alone (sample.small_memory []) (codes "grow") (I32 2 ∷ []) 9 []).events ≡ Some (I32 4294967295) ∷ [] }
+    ensures second_segment_past_the_end { (sample.run_alone sample.second_segment_past_the_end (codes "t") [] 9 []).outcome ≡ Stopped (Trapped trap.SegmentOut) }
+    ensures bounds_before_the_first_write { (sample.run_alone sample.second_segment_past_the_end (codes "t") [] 9 []).store
+        ≡ record { memory = None; table = Some (record { elements = None ∷ None ∷ []; max = None }); globals = [] } ∷ [] }
     ensures empty_segment_past_the_end { (sample.run_alone sample.segment_past_the_end (codes "t") [] 9 []).outcome ≡ Stopped (Trapped trap.SegmentOut) }
 {}

@@ -1,14 +1,15 @@
 // The laws of operators and runs.
-ghost use Rattle.std.specs.Prelude.{◌≡◌, ◌≢◌, ◌^◌, ◌<◌, ◌≤◌, ℕ, List};
+ghost use Rattle.std.specs.Prelude.{◌≡◌, ◌≢◌, ◌^◌, ◌<◌, ◌≤◌, ℕ, List, Some};
 ghost use Rattle.std.specs.List.{AllByRecursion};
 ghost use Rattle.w2c_base.specs.declared.value.ValType.{ValType};
 ghost use Rattle.w2c_base.specs.Run.{Reply};
-ghost use Rattle.w2c_base.specs.Values.{bits};
+ghost use Rattle.w2c_base.specs.Values.{bits, type_of};
+ghost use Rattle.w2c_base.specs.declared.value.Value.{Value};
 ghost use Rattle.wasm_tree.specs.Instructions.{BinaryOp, LoadOp, UnaryOp};
 ghost use Rattle.wasm_meaning.specs.Memories.{load_access, load_number};
 ghost use Rattle.wasm_meaning.specs.Operators.{AnswerFits, unary, binary};
 ghost use Rattle.wasm_meaning.specs.LinkedSet.{LinkedSet};
-ghost use Rattle.wasm_meaning.specs.Execution.{OutOfSteps};
+ghost use Rattle.wasm_meaning.specs.Execution.{Done, OutOfSteps, of_one_type, of_type};
 ghost use Rattle.wasm_meaning.specs.Run.{ListedCall, Stopped, wasm_run};
 
 /// The law that what an operator gives, or a load from bytes, has its width.
@@ -31,4 +32,11 @@ pub fn larger_budgets_give_the_same_run()
     ensures shorter { (s : LinkedSet) (calls : List ListedCall) (replies : List Reply) (n m : ℕ) → n ≤ m
         → (wasm_run s calls m replies).outcome ≡ Stopped OutOfSteps
         → (wasm_run s calls n replies).outcome ≡ Stopped OutOfSteps }
+{}
+
+/// The laws that a value goes where one of its type is wanted.
+#[tactic(auto, using(crate::proofs::Typed::of_its_type, crate::proofs::Typed::of_the_same_type))]
+pub fn values_go_where_they_fit()
+    ensures wanted { (t : ValType) (v w : Value) → t ≡ type_of v → of_type t v w ≡ Some w }
+    ensures held { (v w : Value) (does : Done) → type_of v ≡ type_of w → of_one_type v w does ≡ does }
 {}

@@ -3,6 +3,7 @@ pub mod FaultTexts
 pub mod Fields
 pub mod Limits
 pub mod ModuleFields
+pub mod Places
 pub mod Reading
 pub mod Samples
 pub mod Steps

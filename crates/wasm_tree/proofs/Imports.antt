@@ -1,5 +1,5 @@
 -- Index spaces behind the imports.
-use Rattle.std.proofs.Common.{◌≡◌, ℕ, ◌+◌, ◌≤◌, List, [], ◌∷◌, ◌++◌, length, map, drop, slice_get, min, Option, refl, sym, ap, ◌∙◌, arith}
+use Rattle.std.proofs.Common.{◌≡◌, ℕ, ◌+◌, ◌≤◌, List, [], ◌++◌, length, map, drop, slice_get, min, Option, sym, ap, ◌∙◌, arith}
 use Rattle.std.specs.Prelude.{option_map}
 use Rattle.std.specs.List.{flat_map}
 use Rattle.std.proofs.lemmas.List.{at_drop_all}
@@ -14,9 +14,9 @@ behind_imports f g imports items others i n found whole same e past so_far =
     ap (option_map g) (sym e ∙ ap (λ xs. slice_get xs n) same)
     ∙ sym (at_drop_all (λ is. slice_get (flat_map f is ++ map g others) n) imports i past ∙ slice_get-map g others n) ∙ so_far
 
-pub all_counted : {A : Type 0} (f : Import → List A) (imports : List Import) (i n most whole : ℕ)
-    → length imports ≤ i → n ≤ most → min (n + length (flat_map f (drop i imports))) most ≡ whole → n ≡ whole
-all_counted f imports i n most whole past fits so_far =
-    let none : length (flat_map f (drop i imports)) ≡ 0 = at_drop_all (λ is. length (flat_map f is)) imports i past in
-    let same : n ≡ min (n + length (flat_map f (drop i imports))) most = omega arith in
+pub all_counted : (count : List Import → ℕ) → count [] ≡ 0 → (imports : List Import) (i n most whole : ℕ)
+    → length imports ≤ i → n ≤ most → min (n + count (drop i imports)) most ≡ whole → n ≡ whole
+all_counted count nothing imports i n most whole past fits so_far =
+    let none : count (drop i imports) ≡ 0 = at_drop_all count imports i past ∙ nothing in
+    let same : n ≡ min (n + count (drop i imports)) most = omega arith in
     same ∙ so_far

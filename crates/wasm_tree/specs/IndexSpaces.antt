@@ -1,6 +1,6 @@
 -- The index spaces of a module (WebAssembly Core 1.0, 2.5.1): functions, tables, memories and globals by their
 -- index, imports first, with their types.
-use Rattle.std.specs.Prelude.{ℕ, Bool, true, false, List, [], ◌∷◌, ◌++◌, length, map, filter, replicate, flat_map, slice_get, Option, Some, None, option_map}
+use Rattle.std.specs.Prelude.{ℕ, ◌-◌, nat_lt, if◌then◌else◌, Bool, true, false, List, [], ◌∷◌, ◌++◌, length, map, filter, replicate, flat_map, slice_get, Option, None, option_map}
 use Rattle.w2c_base.specs.declared.value.ValType.{ValType}
 use Rattle.w2c_base.specs.declared.signature.FuncType.{FuncType}
 use Rattle.w2c_base.specs.Lookup.{if_found}
@@ -44,6 +44,52 @@ global_of_import i = elim i.kind [
   | Global ty mutable ↦ (ty, mutable) ∷ []
 ]
 
+-- what kind of import it is
+abbrev pub is_func_import : Import → Bool
+is_func_import i = elim i.kind [
+  | Func type_index ↦ true
+  | Table limits ↦ false
+  | Memory limits ↦ false
+  | Global ty mutable ↦ false
+]
+
+abbrev pub is_table_import : Import → Bool
+is_table_import i = elim i.kind [
+  | Func type_index ↦ false
+  | Table limits ↦ true
+  | Memory limits ↦ false
+  | Global ty mutable ↦ false
+]
+
+abbrev pub is_memory_import : Import → Bool
+is_memory_import i = elim i.kind [
+  | Func type_index ↦ false
+  | Table limits ↦ false
+  | Memory limits ↦ true
+  | Global ty mutable ↦ false
+]
+
+abbrev pub is_global_import : Import → Bool
+is_global_import i = elim i.kind [
+  | Func type_index ↦ false
+  | Table limits ↦ false
+  | Memory limits ↦ false
+  | Global ty mutable ↦ true
+]
+
+-- how many functions and globals a module imports
+abbrev pub imported_funcs : Module → ℕ
+imported_funcs m = length (filter is_func_import m.imports)
+
+abbrev pub imported_globals : Module → ℕ
+imported_globals m = length (filter is_global_import m.imports)
+
+-- of what stands beside the functions that a module defines, in their order, that of the function with
+-- an index; nothing at the index of an import
+abbrev pub at_defined : {A : Type 0} → Module → List A → ℕ → Option A
+at_defined m items index =
+    if nat_lt index (imported_funcs m) then None else slice_get items (index - imported_funcs m)
+
 -- the type indexes of the functions, the limits of the tables and the memories, the types of the globals
 abbrev pub func_space : Module → List ℕ
 func_space m = flat_map func_of_import m.imports ++ map (λ f. f.type_index) m.funcs
@@ -70,12 +116,6 @@ func_type_in m index = if_found (slice_get (func_space m) index) (type_in m)
 
 abbrev pub global_type_in : Module → ℕ → Option (ValType × Bool)
 global_type_in m index = slice_get (global_space m) index
-
-abbrev pub imported_func_count : Module → ℕ
-imported_func_count m = length (flat_map func_of_import m.imports)
-
-abbrev pub imported_global_count : Module → ℕ
-imported_global_count m = length (imported_global_space m)
 
 -- the types of the locals that runs declare, in order
 abbrev pub declared_locals : List Run → List ValType

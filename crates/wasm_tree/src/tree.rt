@@ -27,7 +27,7 @@ pub struct Module {
 
 impl Module {
     ghost use Rattle.std.specs.Prelude.{◌-◌, ◌^◌, min, slice_get};
-    ghost use Rattle.wasm_tree.specs.IndexSpaces.{func_space, func_type_in, global_type_in, imported_func_count, imported_global_count};
+    ghost use Rattle.wasm_tree.specs.IndexSpaces.{func_space, func_type_in, global_type_in, imported_funcs, imported_globals};
 
     /// The type of a function by its index, imports first. None where the index, or that of its type,
     /// is out of range.
@@ -82,7 +82,7 @@ impl Module {
 
     /// How many functions are imported, or the greatest u32 where there are more.
     pub fn imported_funcs(&self) -> u32
-        ensures { result ≡ min (imported_func_count self.now) (2 ^ 32 - 1) }
+        ensures { result ≡ min (imported_funcs self.now) (2 ^ 32 - 1) }
     {
         let mut count = 0u32;
         for import in self.imports.as_slice() {
@@ -95,7 +95,7 @@ impl Module {
 
     /// How many globals are imported, or the greatest u32 where there are more.
     pub fn imported_globals(&self) -> u32
-        ensures { result ≡ min (imported_global_count self.now) (2 ^ 32 - 1) }
+        ensures { result ≡ min (imported_globals self.now) (2 ^ 32 - 1) }
     {
         let mut count = 0u32;
         for import in self.imports.as_slice() {

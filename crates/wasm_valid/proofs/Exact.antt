@@ -190,27 +190,27 @@ popped : (t : ValType) (s : Operands) (o : Option Operands) (f : Operands → Op
 popped t s None f T h k = λ old new sh w. h w.0 (subst (Shows s) w.1 sh)
 popped t s (Some s') f T h k = popped_from t s s' (f s') T h (k s')
 
-and_true : (a b : Bool) → (a && b) ≡ true → (a ≡ true) × (b ≡ true)
+pub and_true : (a b : Bool) → (a && b) ≡ true → (a ≡ true) × (b ≡ true)
 and_true true b e = (refl, e)
 and_true false b e = cc
 
-equal_type-eq : (t u : ValType) → equal_type t u ≡ true → t ≡ u
+pub equal_type-eq : (t u : ValType) → equal_type t u ≡ true → t ≡ u
 equal_type-eq I32 I32 e = refl
 equal_type-eq I64 I64 e = refl
 equal_type-eq I32 I64 e = cc
 equal_type-eq I64 I32 e = cc
 
-equal_type_refl : (t : ValType) → equal_type t t ≡ true
+pub equal_type_refl : (t : ValType) → equal_type t t ≡ true
 equal_type_refl I32 = refl
 equal_type_refl I64 = refl
 
-equal_results-eq : (r s : Option ValType) → equal_results r s ≡ true → r ≡ s
+pub equal_results-eq : (r s : Option ValType) → equal_results r s ≡ true → r ≡ s
 equal_results-eq None None e = refl
 equal_results-eq None (Some t) e = cc
 equal_results-eq (Some t) None e = cc
 equal_results-eq (Some t) (Some u) e = ap Some (equal_type-eq t u e)
 
-equal_results_refl : (r : Option ValType) → equal_results r r ≡ true
+pub equal_results_refl : (r : Option ValType) → equal_results r r ≡ true
 equal_results_refl None = refl
 equal_results_refl (Some t) = equal_type_refl t
 

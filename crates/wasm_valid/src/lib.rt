@@ -14,8 +14,6 @@ mod operands;
 mod plain;
 mod rows;
 mod stop;
-#[cfg(test)]
-mod tests;
 mod valid;
 
 pub use cases::{body_cases, module_cases};

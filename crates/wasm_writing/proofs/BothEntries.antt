@@ -19,7 +19,7 @@ use Rattle.wasm_tree.specs.Opcodes.{opcode_of}
 use Rattle.wasm_spelling.specs.Fields.{Fields, finished, byte, number, text, here, window}
 use Rattle.wasm_spelling.specs.Limits.{most_blocks, most_memory_pages, most_table_elements}
 use Rattle.wasm_spelling.specs.ModuleFields.{bodies, code_fields, element_entry, end_byte, export_code, export_entry, expression, func_entry, func_ref, func_type, global_entry, immediates, import_entry, import_kind, limits, limits_from, locals_of, memory_entry, memory_type, mutability_code, name, runs, segment_entry, table_entry, table_type, type_entry, value_type, vector}
-use Rattle.wasm_writing.specs.Places.{bare_body, bare_code, bare_element, bare_export, bare_func, bare_func_ref, bare_global, bare_import, bare_import_kind, bare_limits, bare_limits_entry, bare_segment, bare_type}
+use Rattle.wasm_spelling.specs.Places.{bare_body, bare_code, bare_element, bare_export, bare_func, bare_func_ref, bare_global, bare_import, bare_import_kind, bare_limits, bare_limits_entry, bare_segment, bare_type}
 use Rattle.wasm_writing.specs.Bodies.{body_content}
 use Rattle.wasm_writing.proofs.Fills.{keeps_both, keeps_byte, keeps_number, keeps_text}
 use Rattle.wasm_writing.proofs.FillsCode.{head, keeps_head, keeps_immediates}

@@ -6,7 +6,7 @@ use Rattle.wasm_tree.specs.Opcodes.{opcode_of}
 use Rattle.wasm_spelling.specs.Fields.{Fields, byte, number, here, provided}
 use Rattle.wasm_spelling.specs.ModuleFields.{block_type_code, code_fields, end_byte, expression, immediates, vector}
 use Rattle.wasm_spelling.specs.Limits.{most_blocks}
-use Rattle.wasm_writing.specs.Places.{bare_code}
+use Rattle.wasm_spelling.specs.Places.{bare_code}
 use Rattle.wasm_writing.proofs.Fills.{Fills, Keeps, Like, fills_after, fills_as, fills_before, fills_both, fills_here, fills_none, keeps_both, keeps_byte, keeps_none, keeps_number, keeps_provided, keeps_signed, keeps_vector}
 
 pub keeps_immediates : (k : Kind) → Keeps (immediates k)

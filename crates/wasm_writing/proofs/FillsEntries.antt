@@ -21,7 +21,7 @@ use Rattle.wasm_tree.specs.declared.entries.BodyEntry.{BodyEntry}
 use Rattle.wasm_spelling.specs.Fields.{Fields, finished, byte, number, text, here, provided, window}
 use Rattle.wasm_spelling.specs.Limits.{most_parameters, most_results, most_name_bytes, most_locals, most_all_locals, most_blocks, most_memory_pages, most_table_elements}
 use Rattle.wasm_spelling.specs.ModuleFields.{bodies, code_fields, each, element_entry, end_byte, export_code, export_entry, expression, func_entry, func_ref, func_type, global_entry, import_entry, import_kind, limits, limits_from, locals_of, memory_entry, memory_type, mutability_code, name, results, runs, segment_entry, short_vector, start_entry, table_entry, table_type, type_code, type_entry, utf8, value_type, vector}
-use Rattle.wasm_writing.specs.Places.{bare_body, bare_code, bare_element, bare_export, bare_func, bare_func_ref, bare_global, bare_import, bare_import_kind, bare_limits, bare_limits_entry, bare_segment, bare_type}
+use Rattle.wasm_spelling.specs.Places.{bare_body, bare_code, bare_element, bare_export, bare_func, bare_func_ref, bare_global, bare_import, bare_import_kind, bare_limits, bare_limits_entry, bare_segment, bare_type}
 use Rattle.wasm_writing.specs.Bodies.{body_content}
 use Rattle.wasm_writing.proofs.Fills.{Fills, Keeps, Like, Likes, fills_after, fills_as, fills_before, fills_both, fills_here, fills_none, fills_vector, fills_window, keeps_both, keeps_byte, keeps_each, keeps_none, keeps_number, keeps_provided, keeps_text, likes_more}
 use Rattle.wasm_writing.proofs.FillsCode.{fills_code, fills_expression}

@@ -8,7 +8,7 @@ use Rattle.wasm_spelling.specs.Fields.{Fields, finished, byte, number, provided,
 use Rattle.wasm_spelling.specs.Limits.{most_functions}
 use Rattle.wasm_spelling.specs.ModuleFields.{Part, types, imports, functions, tables, memories, globals, exports, start, elements, code, segments, bodies, content, each, element_entry, export_entry, func_entry, global_entry, id_of, import_entry, is_empty, memory_entry, module_fields, sections, segment_entry, short_vector, start_content, table_entry, type_entry}
 use Rattle.wasm_writing.specs.Aside.{SpelledAside, SpelledBy}
-use Rattle.wasm_writing.specs.Places.{SameApartFromPlaces, bare_body, bare_element, bare_export, bare_func, bare_global, bare_import, bare_limits_entry, bare_module, bare_segment, bare_start, bare_type}
+use Rattle.wasm_spelling.specs.Places.{SameApartFromPlaces, bare_body, bare_element, bare_export, bare_func, bare_global, bare_import, bare_limits_entry, bare_module, bare_segment, bare_start, bare_type}
 use Rattle.wasm_writing.specs.ShortFile.{filled, short_fields}
 use Rattle.wasm_writing.proofs.Both.{length-bare}
 use Rattle.wasm_writing.proofs.Fills.{Fills, Like, Likes, fills_after, fills_as, fills_each, fills_vector, fills_window, keeps_byte, keeps_number, keeps_provided}

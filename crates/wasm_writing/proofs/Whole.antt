@@ -8,7 +8,7 @@ use Rattle.wasm_writing.specs.declared.draft.Draft.{Draft}
 use Rattle.wasm_writing.specs.declared.draft.Draft.TheVariants.{Counted, Written}
 use Rattle.wasm_writing.specs.Aside.{SpelledBy, SpelledShort}
 use Rattle.wasm_writing.specs.Drafts.{Puts}
-use Rattle.wasm_writing.specs.Places.{IsFormed, SpellsAside}
+use Rattle.wasm_spelling.specs.Places.{IsFormed, SpellsAside}
 use Rattle.wasm_writing.specs.ShortFile.{IsShortFile, short_fields}
 use Rattle.wasm_writing.proofs.BothModules.{short_of_file}
 use Rattle.wasm_writing.proofs.PlacedModule.{placed_module}

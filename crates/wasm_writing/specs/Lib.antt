@@ -4,4 +4,3 @@ pub mod Codes
 pub mod ShortFile
 pub mod Bodies
 pub mod Parts
-pub mod Places

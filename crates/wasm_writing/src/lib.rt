@@ -5,12 +5,14 @@ mod bodies;
 mod code;
 mod draft;
 mod entries;
+mod laws;
 mod module;
 mod opcodes;
 mod sections;
 mod types;
 mod vectors;
 
+pub use laws::what_is_written_is_read_again;
 pub use module::{Formed, write_module};
 
 #[cfg(test)]

@@ -2,7 +2,7 @@
 ghost use Rattle.std.specs.Prelude.{◌≡◌, ◌≤◌, ◌↔◌, List, ℕ, IsTrue, IfOk, length};
 ghost use Rattle.wasm_tree.specs.declared.tree.Module.{Module as Tree};
 ghost use Rattle.wasm_writing.specs.Drafts.{Puts};
-ghost use Rattle.wasm_writing.specs.Places.{IsFormed, SpellsAside};
+ghost use Rattle.wasm_spelling.specs.Places.{IsFormed, SpellsAside};
 ghost use Rattle.wasm_writing.specs.ShortFile.{magic as magic_fields, version as version_fields, short_fields, IsShortFile};
 
 use crate::draft::Draft;

@@ -15,8 +15,13 @@ some_same m n e = cc
 
 resolved : (p : ℕ) (m : Module) → module_at set p ≡ Some m → AllByRecursion (Resolves set p) m.imports
 resolved zero m e = subst (λ n. AllByRecursion (Resolves set zero) n.imports) (some_same exports_global m e) tt
-resolved (suc zero) m e = subst (λ n. AllByRecursion (Resolves set 1) n.imports) (some_same (imports_global None) m e)
-    ((record { owner = 0; number = 0 }, refl, refl), ((ModuleFunc 0 0, record { params = []; result = Some I32 }, refl, refl, refl), tt))
+resolved (suc zero) m e = subst (λ n. AllByRecursion (Resolves set 1) n.imports) (some_same (imports_global None) m e) (
+  (record { owner = 0; number = 0 }, refl, refl),
+  (
+    (ModuleFunc 0 0, record { params = []; result = Some I32 }, refl, refl, refl),
+    ((ModuleFunc 0 1, record { params = []; result = None }, refl, refl, refl), tt),
+  ),
+)
 resolved (suc (suc p)) m e = absurd (grind arith)
 
 differ : (name other : List ℕ) → bytes_eq name other ≡ false → name ≢ other

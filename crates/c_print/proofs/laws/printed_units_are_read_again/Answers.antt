@@ -2,7 +2,7 @@ use Rattle.c_tree.proofs.NoFault as faults
 use Rattle.c_tree.proofs.OneUnit.{one_unit}
 use Rattle.c_print.specs.Print.{print_of}
 use Rattle.c_print.proofs.Spells as print
-use Rattle.c_read.proofs.laws.printed_units_are_read_again.Goals as goal
+use Rattle.c_print.proofs.laws.printed_units_are_read_again.Goals as goal
 
 pub returns-clause-spells : goal.returns-clause-spells
 returns-clause-spells c u formed = print.spells u formed

@@ -1,0 +1,18 @@
+-- What stands beside the functions that a module defines, by index.
+use Rattle.std.proofs.Common.{◌≡◌, ℕ, ◌+◌, ◌-◌, ◌<◌, nat_lt, true, false, List, slice_get, None, refl, ap, arith}
+use Rattle.std.proofs.lemmas.Bool.Decides.{nat_tests}
+use Rattle.wasm_tree.specs.declared.tree.Module.{Module}
+use Rattle.wasm_tree.specs.IndexSpaces.{imported_funcs, at_defined}
+
+pub defined_behind_imports : {A : Type 0} (m : Module) (items : List A) (index j : ℕ) → index ≡ imported_funcs m + j
+    → at_defined m items index ≡ slice_get items j
+defined_behind_imports m items index j is =
+    let behind : nat_lt index (imported_funcs m) ≡ false = grind (arith, nat_tests) in
+    let number : index - imported_funcs m ≡ j = omega (arith, is) in
+    rw behind (ap (λ n. slice_get items n) number)
+
+pub none_of_an_import : {A : Type 0} (m : Module) (items : List A) (index : ℕ) → index < imported_funcs m
+    → at_defined m items index ≡ None
+none_of_an_import m items index less =
+    let within : nat_lt index (imported_funcs m) ≡ true = grind (arith, nat_tests) in
+    rw within refl
