@@ -1,6 +1,7 @@
 -- Arguments, calls and right sides.
-use Rattle.std.proofs.Common.{◌≡◌, ℕ, zero, suc, false, List, [], ◌∷◌, ◌++◌, refl, append_assoc}
+use Rattle.std.proofs.Common.{◌≡◌, ℕ, zero, suc, false, List, [], ◌∷◌, ◌++◌, refl, ap, ◌∙◌, append_assoc}
 use Rattle.c_tree.specs.declared.token.Tok.TheVariants as tok
+use Rattle.c_tree.specs.declared.token.Part.{Part}
 use Rattle.c_tree.specs.declared.token.Part.TheVariants as part
 use Rattle.c_tree.specs.declared.token.Kind.{Kind}
 use Rattle.c_tree.specs.declared.token.Kind.TheVariants as kind
@@ -8,7 +9,7 @@ use Rattle.c_tree.specs.Tree as tree
 use Rattle.c_tree.specs.Tokens.{Token, Fixed, Named, kind_of}
 use Rattle.c_tree.specs.Text.{Lexeme}
 use Rattle.c_tree.specs.Trees.{arg_tokens, type_tokens, callee_tokens, separated}
-use Rattle.c_tree.specs.Grammar.{Symbol, One, Of, Becomes, move, first}
+use Rattle.c_tree.specs.Grammar.{Symbol, One, Of, Becomes, becoming, as_agroup, move, first}
 use Rattle.c_lex.specs.Reading.{and_then, next_kind, unexpected}
 use Rattle.c_read.specs.Lists.{is_comma}
 use Rattle.c_read.specs.Expressions.{expr}
@@ -20,13 +21,21 @@ use Rattle.c_read.proofs.ExactExpressions.{ctype_exact, types_exact, index_exact
 
 -- ---- arguments
 
-agroup_exact : (d : ℕ) (ls : List Lexeme) → Proper ls → Exact (Fixed tok.LeftParen ∷ []) arg_tokens (Of part.InAgroup d ∷ []) ls (agroup d ls)
+-- the part has at this token the expansion of an agroup
+abbrev HasAgroup : Part → ℕ → Lexeme → Type 0
+HasAgroup p d l = move (Of p d) l ≡ becoming p l.place (as_agroup d (kind_of l.token))
+
+agroup_exact : (p : Part) (d : ℕ) (ls : List Lexeme) → HasAgroup p d (first ls) → Proper ls
+    → Exact (Fixed tok.LeftParen ∷ []) arg_tokens (Of p d ∷ []) ls (agroup p d ls)
 unfolding agroup next_kind
-agroup_exact d ls proper = by (kind_of (first ls).token) refl
+agroup_exact p d ls has proper = by (kind_of (first ls).token) refl
   where
-    by : (k : Kind) → kind_of (first ls).token ≡ k → Exact (Fixed tok.LeftParen ∷ []) arg_tokens (Of part.InAgroup d ∷ []) ls (agroup_by d k ls)
-    by (kind.Fixed tok.WordW2cFn) e = open_part (rw e refl) (text refl proper (λ l1 p1. text refl p1 (λ l2 p2. named p2 (λ n l3 p3. done refl))))
-    by _ e = open_part (rw e refl) (mapped tree.Value (λ x. refl) (group_exact d (expr d) ls (expr_exact d) proper))
+    at : (k : Kind) → kind_of (first ls).token ≡ k → move (Of p d) (first ls) ≡ becoming p (first ls).place (as_agroup d k)
+    at k e = has ∙ ap (λ j. becoming p (first ls).place (as_agroup d j)) e
+
+    by : (k : Kind) → kind_of (first ls).token ≡ k → Exact (Fixed tok.LeftParen ∷ []) arg_tokens (Of p d ∷ []) ls (agroup_by p d k ls)
+    by (kind.Fixed tok.WordW2cFn) e = open_part (at _ e) (text refl proper (λ l1 p1. text refl p1 (λ l2 p2. named p2 (λ n l3 p3. done refl))))
+    by _ e = mapped tree.Value (λ x. refl) (group_exact p d (expr d) ls (at _ e ∙ rw e refl) (expr_exact d) proper)
 
 argument_level : (d : ℕ) (ls : List Lexeme) → Proper ls → Exact [] arg_tokens (Of part.InArgument (suc d) ∷ []) ls (argument_in d ls)
 unfolding argument_in next_kind unexpected
@@ -34,14 +43,25 @@ argument_level d ls proper = by (kind_of (first ls).token) refl
   where
     by : (k : Kind) → kind_of (first ls).token ≡ k → Exact [] arg_tokens (Of part.InArgument (suc d) ∷ []) ls (argument_by d k ls)
     by (kind.Fixed tok.Amp) e = open_part (rw e refl) (text refl proper (λ l1 p1. named p1 (λ n l2 p2. done refl)))
-    by (kind.Fixed tok.LeftParen) e = open_part (rw e refl) (text refl proper (λ l1 p1. agroup_exact d l1 p1))
+    by (kind.Fixed tok.LeftParen) e = open_part (rw e refl) (text refl proper (λ l1 p1. agroup_exact part.InAgroup d l1 refl p1))
     by kind.Name e = open_part (rw e refl) (named proper (λ n l1 p1. mapped tree.Value (λ x. refl) (index_exact d (expr d) n l1 (expr_exact d) p1)))
     by (kind.Number s) e = open_part (rw e refl) (next proper (number_exact d ls proper) (λ v l1 p1. done refl))
     by _ e = no_part (rw e refl)
 
+no_argument_exact : (ls : List Lexeme) → Exact [] arg_tokens (Of part.InArgument zero ∷ []) ls (argument zero ls)
+unfolding argument next_kind unexpected
+no_argument_exact ls = by (kind_of (first ls).token) refl
+  where
+    by : (k : Kind) → kind_of (first ls).token ≡ k → Exact [] arg_tokens (Of part.InArgument zero ∷ []) ls (argument zero ls)
+    by (kind.Fixed tok.Amp) e = no_part (rw e refl)
+    by (kind.Fixed tok.LeftParen) e = no_part (rw e refl)
+    by kind.Name e = no_part (rw e refl)
+    by (kind.Number s) e = no_part (rw e refl)
+    by _ e = no_part (rw e refl)
+
 pub argument_exact : (d : ℕ) (ls : List Lexeme) → Proper ls → Exact [] arg_tokens (Of part.InArgument d ∷ []) ls (argument d ls)
 unfolding argument
-argument_exact zero ls proper = no_part refl
+argument_exact zero ls proper = no_argument_exact ls
 argument_exact (suc d) ls proper = argument_level d ls proper
 
 arguments_tail : (d : ℕ) → Tail (Of part.InAtail d) (Of part.InArgument d ∷ [])
@@ -107,12 +127,13 @@ rname_exact d f ls proper = by (kind_of (first ls).token) refl
     by _ e = open_part (rw e refl) (done refl)
 
 rstar_exact : (d : ℕ) (ls : List Lexeme) → Proper ls → Exact (Fixed tok.LeftParen ∷ Fixed tok.Star ∷ []) right_tokens (Of part.InRstar d ∷ []) ls (rstar d ls)
-unfolding rstar next_kind
+unfolding rstar next_kind unexpected
 rstar_exact d ls proper = by (kind_of (first ls).token) refl
   where
     by : (k : Kind) → kind_of (first ls).token ≡ k → Exact (Fixed tok.LeftParen ∷ Fixed tok.Star ∷ []) right_tokens (Of part.InRstar d ∷ []) ls (rstar_by d k ls)
     by kind.Name e = open_part (rw e refl) (named proper (λ n l1 p1. text refl p1 (λ l2 p2. done refl)))
-    by _ e = open_part (rw e refl) (mapped Calls (λ x. refl) (through_exact d ls proper))
+    by (kind.Fixed tok.LeftParen) e = open_part (rw e refl) (mapped Calls (λ x. refl) (through_exact d ls proper))
+    by _ e = no_part (rw e refl)
 
 rgroup_exact : (d : ℕ) (ls : List Lexeme) → Proper ls → Exact (Fixed tok.LeftParen ∷ []) right_tokens (Of part.InRgroup d ∷ []) ls (rgroup d ls)
 unfolding rgroup next_kind
@@ -120,7 +141,7 @@ rgroup_exact d ls proper = by (kind_of (first ls).token) refl
   where
     by : (k : Kind) → kind_of (first ls).token ≡ k → Exact (Fixed tok.LeftParen ∷ []) right_tokens (Of part.InRgroup d ∷ []) ls (rgroup_by d k ls)
     by (kind.Fixed tok.Star) e = open_part (rw e refl) (text refl proper (λ l1 p1. rstar_exact d l1 p1))
-    by _ e = open_part (rw e refl) (mapped Gives (λ x. refl) (agroup_exact d ls proper))
+    by _ e = mapped Gives (λ x. refl) (agroup_exact part.InRgroup d ls (rw e refl) proper)
 
 pub right_exact : (d : ℕ) (ls : List Lexeme) → Proper ls → Exact [] right_tokens (Of part.InRight (suc d) ∷ []) ls (right_in d ls)
 unfolding right_in next_kind unexpected

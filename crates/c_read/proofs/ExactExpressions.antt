@@ -1,7 +1,8 @@
 -- Operators, types and expressions.
-use Rattle.std.proofs.Common.{◌≡◌, ℕ, zero, suc, List, [], ◌∷◌, false, refl, append_assoc}
+use Rattle.std.proofs.Common.{◌≡◌, ℕ, zero, suc, List, [], ◌∷◌, false, refl, ap, ◌∙◌, append_assoc}
 use Rattle.c_tree.specs.declared.token.Tok.{Tok}
 use Rattle.c_tree.specs.declared.token.Tok.TheVariants as tok
+use Rattle.c_tree.specs.declared.token.Part.{Part}
 use Rattle.c_tree.specs.declared.token.Part.TheVariants as part
 use Rattle.c_tree.specs.declared.token.Kind.{Kind}
 use Rattle.c_tree.specs.declared.token.Kind.TheVariants as kind
@@ -11,9 +12,10 @@ use Rattle.c_tree.specs.Tree as tree
 use Rattle.c_tree.specs.Tokens.{Fixed, Named, kind_of}
 use Rattle.c_tree.specs.Text.{Lexeme}
 use Rattle.c_tree.specs.Trees.{op_token, expr_tokens, type_tokens, separated}
-use Rattle.c_tree.specs.Grammar.{Of, Becomes, move, first}
+use Rattle.c_tree.specs.Grammar as table
+use Rattle.c_tree.specs.Grammar.{Of, Becomes, becoming, move, first}
 use Rattle.c_lex.specs.Reading.{Parser, next_kind, unexpected}
-use Rattle.c_read.specs.Expressions.{op_of, taken_op, operator, operator_by, index, index_by, group, group_by, expr_by, expr_of_parts, expr}
+use Rattle.c_read.specs.Expressions.{op_of, taken_op, operator, operator_by, index, index_by, operation, group, group_by, expr_by, expr_of_parts, expr}
 use Rattle.c_read.specs.Lists.{is_comma}
 use Rattle.c_read.specs.Types.{star, star_by, ctype, ctype_by, next_type, more_types, types}
 use Rattle.c_read.proofs.Exact.{Exact, Proper, done, next, open_part, no_part}
@@ -99,19 +101,36 @@ index_exact d inner n ls within proper = by (kind_of (first ls).token) refl
         (text refl proper (λ l1 p1. next p1 (within l1 p1) (λ i l2 p2. text refl p2 (λ l3 p3. done refl))))
     by _ e = open_part (rw e refl) (done refl)
 
-pub group_exact : (d : ℕ) (inner : Parser tree.Expr) (ls : List Lexeme) → ExprExact d inner → Proper ls → Exact (Fixed tok.LeftParen ∷ []) expr_tokens (Of part.InGroup d ∷ []) ls (group inner ls)
-unfolding group next_kind
-group_exact d inner ls within proper = by (kind_of (first ls).token) refl
+operation_exact : (d : ℕ) (inner : Parser tree.Expr) (ls : List Lexeme) → ExprExact d inner → Proper ls
+    → Exact (Fixed tok.LeftParen ∷ []) expr_tokens (table.operation d) ls (operation inner ls)
+unfolding operation
+operation_exact d inner ls within proper =
+    next proper (within ls proper) (λ a l1 p1. next p1 (operator_exact d l1 p1) (λ o l2 p2.
+    next p2 (within l2 p2) (λ b l3 p3. text refl p3 (λ l4 p4. done (simp append_assoc)))))
+
+-- the part has at this token the expansion of a group
+abbrev pub HasGroup : Part → ℕ → Lexeme → Type 0
+HasGroup p d l = move (Of p d) l ≡ becoming p l.place (table.as_group d (kind_of l.token))
+
+pub group_exact : (p : Part) (d : ℕ) (inner : Parser tree.Expr) (ls : List Lexeme) → HasGroup p d (first ls) → ExprExact d inner → Proper ls
+    → Exact (Fixed tok.LeftParen ∷ []) expr_tokens (Of p d ∷ []) ls (group p inner ls)
+unfolding group next_kind unexpected
+group_exact p d inner ls has within proper = by (kind_of (first ls).token) refl
   where
-    by : (k : Kind) → kind_of (first ls).token ≡ k → Exact (Fixed tok.LeftParen ∷ []) expr_tokens (Of part.InGroup d ∷ []) ls (group_by inner k ls)
-    by (kind.Fixed tok.WordU32) e = open_part (rw e refl)
+    at : (k : Kind) → kind_of (first ls).token ≡ k → move (Of p d) (first ls) ≡ becoming p (first ls).place (table.as_group d k)
+    at k e = has ∙ ap (λ j. becoming p (first ls).place (table.as_group d j)) e
+
+    by : (k : Kind) → kind_of (first ls).token ≡ k → Exact (Fixed tok.LeftParen ∷ []) expr_tokens (Of p d ∷ []) ls (group_by p inner k ls)
+    by (kind.Fixed tok.WordU32) e = open_part (at _ e)
         (text refl proper (λ l1 p1. text refl p1 (λ l2 p2. next p2 (within l2 p2) (λ x l3 p3. done refl))))
-    by (kind.Fixed tok.WordU64) e = open_part (rw e refl)
+    by (kind.Fixed tok.WordU64) e = open_part (at _ e)
         (text refl proper (λ l1 p1. text refl p1 (λ l2 p2. next p2 (within l2 p2) (λ x l3 p3. done refl))))
-    by (kind.Fixed tok.Star) e = open_part (rw e refl)
+    by (kind.Fixed tok.Star) e = open_part (at _ e)
         (text refl proper (λ l1 p1. named p1 (λ n l2 p2. text refl p2 (λ l3 p3. done refl))))
-    by _ e = open_part (rw e refl)
-        (next proper (within ls proper) (λ a l1 p1. next p1 (operator_exact d l1 p1) (λ o l2 p2. next p2 (within l2 p2) (λ b l3 p3. text refl p3 (λ l4 p4. done (simp append_assoc))))))
+    by kind.Name e = open_part (at _ e) (operation_exact d inner ls within proper)
+    by (kind.Number s) e = open_part (at _ e) (operation_exact d inner ls within proper)
+    by (kind.Fixed tok.LeftParen) e = open_part (at _ e) (operation_exact d inner ls within proper)
+    by _ e = no_part (at _ e)
 
 level_exact : (d : ℕ) (inner : Parser tree.Expr) (ls : List Lexeme) → ExprExact d inner → Proper ls → Exact [] expr_tokens (Of part.InExpr (suc d) ∷ []) ls (expr_of_parts inner ls)
 unfolding expr_of_parts next_kind unexpected
@@ -120,10 +139,20 @@ level_exact d inner ls within proper = by (kind_of (first ls).token) refl
     by : (k : Kind) → kind_of (first ls).token ≡ k → Exact [] expr_tokens (Of part.InExpr (suc d) ∷ []) ls (expr_by inner k ls)
     by kind.Name e = open_part (rw e refl) (named proper (λ n l1 p1. index_exact d inner n l1 within p1))
     by (kind.Number s) e = open_part (rw e refl) (next proper (number_exact d ls proper) (λ v l1 p1. done refl))
-    by (kind.Fixed tok.LeftParen) e = open_part (rw e refl) (text refl proper (λ l1 p1. group_exact d inner l1 within p1))
+    by (kind.Fixed tok.LeftParen) e = open_part (rw e refl) (text refl proper (λ l1 p1. group_exact part.InGroup d inner l1 refl within p1))
+    by _ e = no_part (rw e refl)
+
+none_exact : (ls : List Lexeme) → Exact [] expr_tokens (Of part.InExpr zero ∷ []) ls (expr zero ls)
+unfolding expr next_kind unexpected
+none_exact ls = by (kind_of (first ls).token) refl
+  where
+    by : (k : Kind) → kind_of (first ls).token ≡ k → Exact [] expr_tokens (Of part.InExpr zero ∷ []) ls (expr zero ls)
+    by kind.Name e = no_part (rw e refl)
+    by (kind.Number s) e = no_part (rw e refl)
+    by (kind.Fixed tok.LeftParen) e = no_part (rw e refl)
     by _ e = no_part (rw e refl)
 
 pub expr_exact : (d : ℕ) → ExprExact d (expr d)
 unfolding expr
-expr_exact zero ls proper = no_part refl
+expr_exact zero ls proper = none_exact ls
 expr_exact (suc d) ls proper = level_exact d (expr d) ls (expr_exact d) proper

@@ -4,6 +4,8 @@ use Rattle.std.specs.List.{AllByRecursion}
 use Rattle.std.proofs.lemmas.Bool.{ltb-true}
 use Rattle.c_tree.specs.declared.token.Tok.{Tok}
 use Rattle.c_tree.specs.declared.token.Tok.TheVariants as tok
+use Rattle.c_tree.specs.declared.token.Part.{Part}
+use Rattle.c_tree.specs.declared.token.Part.TheVariants as part
 use Rattle.c_tree.specs.declared.token.Kind.{Kind}
 use Rattle.c_tree.specs.declared.token.Kind.TheVariants as kind
 use Rattle.c_tree.specs.declared.token.Suffix.{Suffix}
@@ -18,7 +20,7 @@ use Rattle.c_tree.specs.Grammar.{first, others, value_of, limit, begins_type}
 use Rattle.c_tree.specs.Spelled.{FitsNum, FitsExpr, FitsArg, FitsCallee, FitsStmt, FitsBody, FitsItem}
 use Rattle.c_lex.specs.Reading.{Outcome, Parser, and_then, next_kind, expect, name, number, number_at, plain, plain_at, num_of}
 use Rattle.c_read.specs.Lists.{many, all, is_comma, behind_comma, and_more}
-use Rattle.c_read.specs.Expressions.{operator, index, index_by, group, group_by, expr, expr_by, expr_of_parts}
+use Rattle.c_read.specs.Expressions.{operator, index, index_by, operation, group, group_by, expr, expr_by, expr_of_parts}
 use Rattle.c_read.specs.Types.{ctype, types, more_types, next_type}
 use Rattle.c_read.specs.Arguments.{depth, agroup, agroup_by, argument_by, argument_in, argument, next_argument, more_arguments, arguments, arguments_by, Called, pointer_type, through, Right, Gives, Calls, rname, rname_by, rstar, rstar_by, rgroup, rgroup_by, right_in, right_by}
 use Rattle.c_read.specs.Statements.{jump, assigned, after, after_by, returned, returned_by, return_of, is_case, one_case, cases, default, switch, condition, set_star, call_through, statement, statement_by, not_brace, statements}
@@ -130,15 +132,23 @@ index_fit d inside n ls within = by (kind_of (first ls).token)
     by (kind.Fixed tok.LeftBracket) = text tok.LeftBracket ls (λ m. next (within m) (λ i r h. text tok.RightBracket r (λ q. gives h)))
     by _ = gives tt
 
-group_fit : (d : ℕ) (inside : Parser tree.Expr) (ls : List Lexeme) → ExprFit d inside → Fit (FitsExpr (suc d)) (group inside ls)
+operation_fit : (d : ℕ) (inside : Parser tree.Expr) (ls : List Lexeme) → ExprFit d inside → Fit (FitsExpr (suc d)) (operation inside ls)
+unfolding operation
+operation_fit d inside ls within =
+    next (within ls) (λ a m ha. next (free (operator m)) (λ o r hf. next (within r) (λ b q hb. text tok.RightParen q (λ z. gives (ha, hb)))))
+
+group_fit : (p : Part) (d : ℕ) (inside : Parser tree.Expr) (ls : List Lexeme) → ExprFit d inside → Fit (FitsExpr (suc d)) (group p inside ls)
 unfolding group next_kind
-group_fit d inside ls within = by (kind_of (first ls).token)
+group_fit p d inside ls within = by (kind_of (first ls).token)
   where
-    by : (k : Kind) → Fit (FitsExpr (suc d)) (group_by inside k ls)
+    by : (k : Kind) → Fit (FitsExpr (suc d)) (group_by p inside k ls)
     by (kind.Fixed tok.WordU32) = text tok.WordU32 ls (λ m. text tok.RightParen m (λ r. next (within r) (λ e q h. gives h)))
     by (kind.Fixed tok.WordU64) = text tok.WordU64 ls (λ m. text tok.RightParen m (λ r. next (within r) (λ e q h. gives h)))
     by (kind.Fixed tok.Star) = text tok.Star ls (λ m. named m (λ n r. text tok.RightParen r (λ q. gives tt)))
-    by _ = next (within ls) (λ a m ha. next (free (operator m)) (λ o r hf. next (within r) (λ b q hb. text tok.RightParen q (λ z. gives (ha, hb)))))
+    by kind.Name = operation_fit d inside ls within
+    by (kind.Number s) = operation_fit d inside ls within
+    by (kind.Fixed tok.LeftParen) = operation_fit d inside ls within
+    by _ = fails
 
 level_fit : (d : ℕ) (inside : Parser tree.Expr) (ls : List Lexeme) → ExprFit d inside → Fit (FitsExpr (suc d)) (expr_of_parts inside ls)
 unfolding expr_of_parts next_kind
@@ -147,7 +157,7 @@ level_fit d inside ls within = by (kind_of (first ls).token)
     by : (k : Kind) → Fit (FitsExpr (suc d)) (expr_by inside k ls)
     by kind.Name = named ls (λ n m. index_fit d inside n m within)
     by (kind.Number s) = next (number_fit ls) (λ v m h. gives h)
-    by (kind.Fixed tok.LeftParen) = text tok.LeftParen ls (λ m. group_fit d inside m within)
+    by (kind.Fixed tok.LeftParen) = text tok.LeftParen ls (λ m. group_fit part.InGroup d inside m within)
     by _ = fails
 
 expr_fit : (d : ℕ) → ExprFit d (expr d)
@@ -157,13 +167,13 @@ expr_fit (suc d) ls = level_fit d (expr d) ls (expr_fit d)
 
 -- ---- arguments
 
-agroup_fit : (d : ℕ) (ls : List Lexeme) → Fit (FitsArg (suc d)) (agroup d ls)
+agroup_fit : (p : Part) (d : ℕ) (ls : List Lexeme) → Fit (FitsArg (suc d)) (agroup p d ls)
 unfolding agroup next_kind
-agroup_fit d ls = by (kind_of (first ls).token)
+agroup_fit p d ls = by (kind_of (first ls).token)
   where
-    by : (k : Kind) → Fit (FitsArg (suc d)) (agroup_by d k ls)
+    by : (k : Kind) → Fit (FitsArg (suc d)) (agroup_by p d k ls)
     by (kind.Fixed tok.WordW2cFn) = text tok.WordW2cFn ls (λ m. text tok.RightParen m (λ r. named r (λ n q. gives tt)))
-    by _ = next (group_fit d (expr d) ls (expr_fit d)) (λ e m h. gives h)
+    by _ = next (group_fit p d (expr d) ls (expr_fit d)) (λ e m h. gives h)
 
 argument_level : (d : ℕ) (ls : List Lexeme) → Fit (FitsArg (suc d)) (argument_in d ls)
 unfolding argument_in next_kind
@@ -171,7 +181,7 @@ argument_level d ls = by (kind_of (first ls).token)
   where
     by : (k : Kind) → Fit (FitsArg (suc d)) (argument_by d k ls)
     by (kind.Fixed tok.Amp) = text tok.Amp ls (λ m. named m (λ n r. gives tt))
-    by (kind.Fixed tok.LeftParen) = text tok.LeftParen ls (λ m. agroup_fit d m)
+    by (kind.Fixed tok.LeftParen) = text tok.LeftParen ls (λ m. agroup_fit part.InAgroup d m)
     by kind.Name = named ls (λ n m. next (index_fit d (expr d) n m (expr_fit d)) (λ e r h. gives h))
     by (kind.Number s) = next (number_fit ls) (λ v m h. gives h)
     by _ = fails
@@ -237,7 +247,8 @@ rstar_fit d ls = by (kind_of (first ls).token)
   where
     by : (k : Kind) → Fit (FitsRight d) (rstar_by d k ls)
     by kind.Name = named ls (λ n m. text tok.RightParen m (λ r. gives tt))
-    by _ = next (through_fit d ls) (λ c m h. gives h)
+    by (kind.Fixed tok.LeftParen) = next (through_fit d ls) (λ c m h. gives h)
+    by _ = fails
 
 rgroup_fit : (d : ℕ) (ls : List Lexeme) → Fit (FitsRight d) (rgroup d ls)
 unfolding rgroup next_kind
@@ -245,7 +256,7 @@ rgroup_fit d ls = by (kind_of (first ls).token)
   where
     by : (k : Kind) → Fit (FitsRight d) (rgroup_by d k ls)
     by (kind.Fixed tok.Star) = text tok.Star ls (λ m. rstar_fit d m)
-    by _ = next (agroup_fit d ls) (λ a m h. gives h)
+    by _ = next (agroup_fit part.InRgroup d ls) (λ a m h. gives h)
 
 right_fit : (d : ℕ) (ls : List Lexeme) → Fit (FitsRight d) (right_in d ls)
 unfolding right_in next_kind

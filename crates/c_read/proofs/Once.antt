@@ -5,7 +5,7 @@ use Rattle.c_tree.specs.declared.token.CReadFault.{CReadFault}
 use Rattle.c_tree.specs.declared.token.CReadFault.TheVariants.{UnitTooLong, Memory}
 use Rattle.c_tree.specs.Tokens.{kind_of}
 use Rattle.c_tree.specs.Text.{Lexeme}
-use Rattle.c_tree.specs.Grammar.{Symbol, One, OneByte, OneNumber, Of, Stops, here, taken, opened, Move, Takes, Becomes, Faulty, move, first, others, fits, taking, is_large, is_plain, is_byte, is_number, counts, counted, becoming, expansion}
+use Rattle.c_tree.specs.Grammar.{Symbol, One, OneByte, OneNumber, Of, Stops, here, taken, opened, Move, Takes, Becomes, Faulty, move, first, others, fits, taking, is_large, is_plain, is_byte, is_number, counts, counted, too_deep, becoming, expansion}
 
 taken_back : (s : Symbol) (ss : List Symbol) (ls : List Lexeme) (f : CReadFault) → move s (first ls) ≡ Takes → Stops (s ∷ ss) ls f → Stops ss (others ls) f
 taken_back s ss ls f e (here is) = absurd cc
@@ -52,8 +52,12 @@ becoming_fault : (p : Part) (place : ℕ) (o : Option (List Symbol)) → MoveFau
 becoming_fault p place None = tt
 becoming_fault p place (Some new) = tt
 
+too_deep_fault : (p : Part) (place : ℕ) (o : Option (List Symbol)) → MoveFault (too_deep p place o)
+too_deep_fault p place None = tt
+too_deep_fault p place (Some new) = tt
+
 counted_fault : (p : Part) (d : ℕ) (l : Lexeme) → MoveFault (counted p d l)
-counted_fault p zero l = tt
+counted_fault p zero l = too_deep_fault p l.place (expansion p zero (kind_of l.token))
 counted_fault p (suc d) l = becoming_fault p l.place (expansion p d (kind_of l.token))
 
 taking_fault : (l : Lexeme) → MoveFault (taking l)

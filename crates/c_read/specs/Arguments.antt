@@ -1,17 +1,16 @@
 -- Reading arguments, calls (C11, 6.5.2.2) and right sides (6.5.16).
-use Rattle.std.specs.Prelude.{ℕ, zero, suc, List, [], map, Err}
+use Rattle.std.specs.Prelude.{ℕ, zero, suc, Bool, true, List, [], map, Err}
 use Rattle.c_tree.specs.declared.token.Tok.TheVariants as tok
+use Rattle.c_tree.specs.declared.token.Part.{Part}
 use Rattle.c_tree.specs.declared.token.Part.TheVariants as part
 use Rattle.c_tree.specs.declared.token.Kind.{Kind}
 use Rattle.c_tree.specs.declared.token.Kind.TheVariants as kind
-use Rattle.c_tree.specs.declared.token.CReadFault.TheVariants.{TooDeep}
 use Rattle.c_tree.specs.declared.tree.CType.{CType}
 use Rattle.c_tree.specs.Tree as tree
 use Rattle.c_tree.specs.View.{arg_of, callee_of}
-use Rattle.c_tree.specs.Grammar.{first}
 use Rattle.c_lex.specs.Reading.{Parser, ◌>>=◌, ◌>>◌, pure, peek, refuse, expect, name, number}
 use Rattle.c_read.specs.Lists.{behind_comma, and_more}
-use Rattle.c_read.specs.Expressions.{expr, index, group}
+use Rattle.c_read.specs.Expressions.{expr, index, group, begins_expr, fault_without_room}
 use Rattle.c_read.specs.Types.{ctype, types}
 use Rattle.c_read.specs.declared.call.Called as call
 use Rattle.c_read.specs.declared.call.Right as right
@@ -21,18 +20,19 @@ use Rattle.c_read.specs.declared.call.Right.TheVariants as variant
 unfoldable pub depth : ℕ
 depth = 100
 
--- what stands behind the parenthesis of an argument: a function as an element of a table, or an expression's rest
-abbrev pub agroup_by : ℕ → Kind → Parser tree.Arg
-agroup_by d (kind.Fixed tok.WordW2cFn) = expect tok.WordW2cFn >> (expect tok.RightParen >> (name >>= λ n. pure (tree.OfFunction n)))
-agroup_by d _ = group (expr d) >>= λ e. pure (tree.Value e)
+-- what stands behind the parenthesis of an argument: a function as an element of a table, or an expression's rest; in a
+-- part that has it as its own
+abbrev pub agroup_by : Part → ℕ → Kind → Parser tree.Arg
+agroup_by p d (kind.Fixed tok.WordW2cFn) = expect tok.WordW2cFn >> (expect tok.RightParen >> (name >>= λ n. pure (tree.OfFunction n)))
+agroup_by p d _ = group p (expr d) >>= λ e. pure (tree.Value e)
 
-unfoldable pub agroup : ℕ → Parser tree.Arg
-agroup d = peek >>= agroup_by d
+unfoldable pub agroup : Part → ℕ → Parser tree.Arg
+agroup p d = peek >>= agroup_by p d
 
 -- an argument, with room for so many expressions inside it
 abbrev pub argument_by : ℕ → Kind → Parser tree.Arg
 argument_by d (kind.Fixed tok.Amp) = expect tok.Amp >> (name >>= λ n. pure (tree.Address n))
-argument_by d (kind.Fixed tok.LeftParen) = expect tok.LeftParen >> agroup d
+argument_by d (kind.Fixed tok.LeftParen) = expect tok.LeftParen >> agroup part.InAgroup d
 argument_by d kind.Name = name >>= λ n. index (expr d) n >>= λ e. pure (tree.Value e)
 argument_by d (kind.Number s) = number >>= λ v. pure (tree.Value (tree.Number v))
 argument_by d _ = refuse part.InArgument
@@ -40,9 +40,13 @@ argument_by d _ = refuse part.InArgument
 unfoldable pub argument_in : ℕ → Parser tree.Arg
 argument_in d = peek >>= argument_by d
 
+abbrev pub begins_argument : Kind → Bool
+begins_argument (kind.Fixed tok.Amp) = true
+begins_argument k = begins_expr k
+
 -- it counts as an expression
 unfoldable pub argument : ℕ → Parser tree.Arg
-argument zero = λ ls. Err (TooDeep (first ls).place)
+argument zero = λ ls. Err (fault_without_room begins_argument part.InArgument ls)
 argument (suc d) = argument_in d
 
 unfoldable pub next_argument : ℕ → Parser tree.Arg
@@ -98,14 +102,15 @@ rname d f = peek >>= rname_by d f
 -- what stands behind a parenthesis and a star
 abbrev pub rstar_by : ℕ → Kind → Parser Right
 rstar_by d kind.Name = name >>= λ n. expect tok.RightParen >> pure (Gives (tree.Value (tree.Star n)))
-rstar_by d _ = through d >>= λ c. pure (Calls c)
+rstar_by d (kind.Fixed tok.LeftParen) = through d >>= λ c. pure (Calls c)
+rstar_by d _ = refuse part.InRstar
 
 unfoldable pub rstar : ℕ → Parser Right
 rstar d = peek >>= rstar_by d
 
 abbrev pub rgroup_by : ℕ → Kind → Parser Right
 rgroup_by d (kind.Fixed tok.Star) = expect tok.Star >> rstar d
-rgroup_by d _ = agroup d >>= λ a. pure (Gives a)
+rgroup_by d _ = agroup part.InRgroup d >>= λ a. pure (Gives a)
 
 unfoldable pub rgroup : ℕ → Parser Right
 rgroup d = peek >>= rgroup_by d

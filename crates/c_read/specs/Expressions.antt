@@ -1,16 +1,20 @@
 -- Reading expressions (C11, 6.5), where so many may stand inside one another.
-use Rattle.std.specs.Prelude.{ℕ, zero, suc, List, Option, Some, None, Err}
+use Rattle.std.specs.Prelude.{ℕ, zero, suc, Bool, true, false, if◌then◌else◌, List, Option, Some, None, Err}
 use Rattle.c_tree.specs.declared.token.Tok.{Tok}
 use Rattle.c_tree.specs.declared.token.Tok.TheVariants as tok
+use Rattle.c_tree.specs.declared.token.Part.{Part}
 use Rattle.c_tree.specs.declared.token.Part.TheVariants as part
 use Rattle.c_tree.specs.declared.token.Kind.{Kind}
 use Rattle.c_tree.specs.declared.token.Kind.TheVariants as kind
+use Rattle.c_tree.specs.declared.token.Wanted.TheVariants as wanted
+use Rattle.c_tree.specs.declared.token.CReadFault.{CReadFault}
 use Rattle.c_tree.specs.declared.token.CReadFault.TheVariants.{TooDeep}
 use Rattle.c_tree.specs.declared.tree.COp.{COp}
 use Rattle.c_tree.specs.declared.tree.COp.TheVariants as op
 use Rattle.c_tree.specs.Tree as tree
+use Rattle.c_tree.specs.Text.{Lexeme}
 use Rattle.c_tree.specs.Grammar.{first}
-use Rattle.c_lex.specs.Reading.{Parser, ◌>>=◌, ◌>>◌, pure, peek, refuse, expect, name, number}
+use Rattle.c_lex.specs.Reading.{Parser, ◌>>=◌, ◌>>◌, pure, peek, refuse, expect, name, number, next_kind, unexpected}
 
 -- the operator of a sign
 abbrev pub op_of : Tok → Option COp
@@ -51,26 +55,43 @@ index_by inner n _ = pure (tree.Name n)
 unfoldable pub index : Parser tree.Expr → List ℕ → Parser tree.Expr
 index inner n = peek >>= index_by inner n
 
--- what stands behind a parenthesis
-abbrev pub group_by : Parser tree.Expr → Kind → Parser tree.Expr
-group_by inner (kind.Fixed tok.WordU32) = expect tok.WordU32 >> (expect tok.RightParen >> (inner >>= λ e. pure (tree.To32 e)))
-group_by inner (kind.Fixed tok.WordU64) = expect tok.WordU64 >> (expect tok.RightParen >> (inner >>= λ e. pure (tree.To64 e)))
-group_by inner (kind.Fixed tok.Star) = expect tok.Star >> (name >>= λ n. expect tok.RightParen >> pure (tree.Star n))
-group_by inner _ = inner >>= λ a. operator >>= λ o. inner >>= λ b. expect tok.RightParen >> pure (tree.Op o a b)
+-- two expressions with an operator between them, behind their parenthesis
+unfoldable pub operation : Parser tree.Expr → Parser tree.Expr
+operation inner = inner >>= λ a. operator >>= λ o. inner >>= λ b. expect tok.RightParen >> pure (tree.Op o a b)
 
-unfoldable pub group : Parser tree.Expr → Parser tree.Expr
-group inner = peek >>= group_by inner
+-- what stands behind a parenthesis, in a part that has it as its own
+abbrev pub group_by : Part → Parser tree.Expr → Kind → Parser tree.Expr
+group_by p inner (kind.Fixed tok.WordU32) = expect tok.WordU32 >> (expect tok.RightParen >> (inner >>= λ e. pure (tree.To32 e)))
+group_by p inner (kind.Fixed tok.WordU64) = expect tok.WordU64 >> (expect tok.RightParen >> (inner >>= λ e. pure (tree.To64 e)))
+group_by p inner (kind.Fixed tok.Star) = expect tok.Star >> (name >>= λ n. expect tok.RightParen >> pure (tree.Star n))
+group_by p inner kind.Name = operation inner
+group_by p inner (kind.Number s) = operation inner
+group_by p inner (kind.Fixed tok.LeftParen) = operation inner
+group_by p inner _ = refuse p
+
+unfoldable pub group : Part → Parser tree.Expr → Parser tree.Expr
+group p inner = peek >>= group_by p inner
 
 -- an expression whose parts are read so
 abbrev pub expr_by : Parser tree.Expr → Kind → Parser tree.Expr
 expr_by inner kind.Name = name >>= λ n. index inner n
 expr_by inner (kind.Number s) = number >>= λ v. pure (tree.Number v)
-expr_by inner (kind.Fixed tok.LeftParen) = expect tok.LeftParen >> group inner
+expr_by inner (kind.Fixed tok.LeftParen) = expect tok.LeftParen >> group part.InGroup inner
 expr_by inner _ = refuse part.InExpr
 
 unfoldable pub expr_of_parts : Parser tree.Expr → Parser tree.Expr
 expr_of_parts inner = peek >>= expr_by inner
 
+abbrev pub begins_expr : Kind → Bool
+begins_expr kind.Name = true
+begins_expr (kind.Number s) = true
+begins_expr (kind.Fixed tok.LeftParen) = true
+begins_expr _ = false
+
+-- where no more expressions may stand inside one another, what begins one is too deep
+abbrev pub fault_without_room : (Kind → Bool) → Part → List Lexeme → CReadFault
+fault_without_room begins p ls = if begins (next_kind ls) then TooDeep (first ls).place else unexpected (wanted.Part p) ls
+
 unfoldable pub expr : ℕ → Parser tree.Expr
-expr zero = λ ls. Err (TooDeep (first ls).place)
+expr zero = λ ls. Err (fault_without_room begins_expr part.InExpr ls)
 expr (suc d) = expr_of_parts (expr d)

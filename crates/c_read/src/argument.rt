@@ -3,18 +3,25 @@ ghost use Rattle.std.specs.Prelude.{◌≡◌, ◌<◌, ◌≤◌, length, map, 
 ghost use Rattle.c_tree.specs.View.{arg_of};
 ghost use Rattle.c_lex.specs.Reading.{Reads};
 ghost use Rattle.c_read.specs.Arguments as spec;
+ghost use Rattle.c_read.specs.Expressions as expression;
 
 use crate::ctype::is_comma;
-use crate::expression::{expr, group, index};
+use crate::expression::{begins_expr, expr, group, index};
 use c_lex::Cursor;
 use c_tree::{Arg, Args, CReadFault, Expr, Kind, Part, Tok};
 use std::alloc::Global;
 
 /// What stands behind the parenthesis of an argument: a function as an element of a table, or the
-/// rest of an expression.
+/// rest of an expression. It is of a part that has it as its own: where nothing of it begins, the
+/// fault names that part.
 #[tactic(auto, unfolding(crate::specs::Arguments::agroup))]
-pub fn agroup(alloc: Global, cursor: &mut Cursor<'_>, room: usize) -> Result<Arg, CReadFault>
-    ensures reads { Reads arg_of (spec.agroup room cursor.old) result cursor.new }
+pub fn agroup(
+    alloc: Global,
+    cursor: &mut Cursor<'_>,
+    part: Part,
+    room: usize,
+) -> Result<Arg, CReadFault>
+    ensures reads { Reads arg_of (spec.agroup part room cursor.old) result cursor.new }
     ensures kept { length cursor.new ≤ length cursor.old }
 {
     match cursor.peek() {
@@ -23,7 +30,7 @@ pub fn agroup(alloc: Global, cursor: &mut Cursor<'_>, room: usize) -> Result<Arg
             cursor.expect(Tok::RightParen)?;
             Ok(Arg::Function(cursor.name(alloc)?))
         }
-        _ => Ok(Arg::Value(group(alloc, cursor, room)?)),
+        _ => Ok(Arg::Value(group(alloc, cursor, part, room)?)),
     }
 }
 
@@ -40,7 +47,7 @@ fn argument_in(alloc: Global, cursor: &mut Cursor<'_>, room: usize) -> Result<Ar
         }
         Kind::Fixed(Tok::LeftParen) => {
             cursor.expect(Tok::LeftParen)?;
-            agroup(alloc, cursor, room)
+            agroup(alloc, cursor, Part::InAgroup, room)
         }
         Kind::Name => {
             let name = cursor.name(alloc)?;
@@ -51,6 +58,23 @@ fn argument_in(alloc: Global, cursor: &mut Cursor<'_>, room: usize) -> Result<Ar
     }
 }
 
+/// Whether an argument begins with such a token.
+fn begins_argument(kind: Kind) -> bool
+    ensures { result ≡ spec.begins_argument kind }
+{
+    matches!(kind, Kind::Fixed(Tok::Amp)) || begins_expr(kind)
+}
+
+/// The fault where no more expressions may stand inside one another.
+fn argument_without_room(cursor: &Cursor<'_>) -> CReadFault
+    ensures { result ≡ expression.fault_without_room spec.begins_argument Part.InArgument cursor.now }
+{
+    if begins_argument(cursor.peek()) {
+        return cursor.too_deep();
+    }
+    cursor.refuse(Part::InArgument)
+}
+
 /// An argument. It counts as an expression.
 #[tactic(auto, using(crate::proofs::Deeper::no_argument_room, crate::proofs::Deeper::argument_room))]
 pub fn argument(alloc: Global, cursor: &mut Cursor<'_>, room: usize) -> Result<Arg, CReadFault>
@@ -58,7 +82,7 @@ pub fn argument(alloc: Global, cursor: &mut Cursor<'_>, room: usize) -> Result<A
     ensures kept { length cursor.new ≤ length cursor.old }
 {
     if room == 0 {
-        return Err(cursor.too_deep());
+        return Err(argument_without_room(cursor));
     }
     argument_in(alloc, cursor, room - 1)
 }

@@ -105,7 +105,8 @@ fn rstar(alloc: Global, cursor: &mut Cursor<'_>, room: usize) -> Result<Right, C
             cursor.expect(Tok::RightParen)?;
             Ok(Right::Gives(Arg::Value(Expr::Star(name))))
         }
-        _ => Ok(Right::Calls(through(alloc, cursor, room)?)),
+        Kind::Fixed(Tok::LeftParen) => Ok(Right::Calls(through(alloc, cursor, room)?)),
+        _ => Err(cursor.refuse(Part::InRstar)),
     }
 }
 
@@ -119,7 +120,7 @@ fn rgroup(alloc: Global, cursor: &mut Cursor<'_>, room: usize) -> Result<Right, 
             cursor.expect(Tok::Star)?;
             rstar(alloc, cursor, room)
         }
-        _ => Ok(Right::Gives(agroup(alloc, cursor, room)?)),
+        _ => Ok(Right::Gives(agroup(alloc, cursor, Part::InRgroup, room)?)),
     }
 }
 

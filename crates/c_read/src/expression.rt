@@ -74,11 +74,31 @@ pub fn index(
     }
 }
 
-/// What stands behind a parenthesis.
+/// Two expressions with an operator between them, behind their parenthesis.
+#[cycle(expression)]
+#[tactic(auto, unfolding(crate::specs::Expressions::operation))]
+fn operation(alloc: Global, cursor: &mut Cursor<'_>, room: usize) -> Result<Expr, CReadFault>
+    ensures reads { Reads expr_of (spec.operation (spec.expr room) cursor.old) result cursor.new }
+    ensures kept { length cursor.new ≤ length cursor.old }
+{
+    let left = Box::new(alloc, expr(alloc, cursor, room)?)?;
+    let op = operator(cursor)?;
+    let right = Box::new(alloc, expr(alloc, cursor, room)?)?;
+    cursor.expect(Tok::RightParen)?;
+    Ok(Expr::Op(op, left, right))
+}
+
+/// What stands behind a parenthesis, in a part that has it as its own: where nothing of it begins,
+/// the fault names that part.
 #[cycle(expression)]
 #[tactic(auto, unfolding(crate::specs::Expressions::group))]
-pub fn group(alloc: Global, cursor: &mut Cursor<'_>, room: usize) -> Result<Expr, CReadFault>
-    ensures reads { Reads expr_of (spec.group (spec.expr room) cursor.old) result cursor.new }
+pub fn group(
+    alloc: Global,
+    cursor: &mut Cursor<'_>,
+    part: Part,
+    room: usize,
+) -> Result<Expr, CReadFault>
+    ensures reads { Reads expr_of (spec.group part (spec.expr room) cursor.old) result cursor.new }
     ensures kept { length cursor.new ≤ length cursor.old }
 {
     match cursor.peek() {
@@ -98,13 +118,10 @@ pub fn group(alloc: Global, cursor: &mut Cursor<'_>, room: usize) -> Result<Expr
             cursor.expect(Tok::RightParen)?;
             Ok(Expr::Star(name))
         }
-        _ => {
-            let left = Box::new(alloc, expr(alloc, cursor, room)?)?;
-            let op = operator(cursor)?;
-            let right = Box::new(alloc, expr(alloc, cursor, room)?)?;
-            cursor.expect(Tok::RightParen)?;
-            Ok(Expr::Op(op, left, right))
+        Kind::Name | Kind::Number(_) | Kind::Fixed(Tok::LeftParen) => {
+            operation(alloc, cursor, room)
         }
+        _ => Err(cursor.refuse(part)),
     }
 }
 
@@ -123,10 +140,30 @@ fn expr_of_parts(alloc: Global, cursor: &mut Cursor<'_>, room: usize) -> Result<
         Kind::Number(_) => Ok(Expr::Num(cursor.number()?)),
         Kind::Fixed(Tok::LeftParen) => {
             cursor.expect(Tok::LeftParen)?;
-            group(alloc, cursor, room)
+            group(alloc, cursor, Part::InGroup, room)
         }
         _ => Err(cursor.refuse(Part::InExpr)),
     }
+}
+
+/// Whether an expression begins with such a token.
+pub fn begins_expr(kind: Kind) -> bool
+    ensures { result ≡ spec.begins_expr kind }
+{
+    matches!(
+        kind,
+        Kind::Name | Kind::Number(_) | Kind::Fixed(Tok::LeftParen)
+    )
+}
+
+/// The fault where no more expressions may stand inside one another.
+fn expr_without_room(cursor: &Cursor<'_>) -> CReadFault
+    ensures { result ≡ spec.fault_without_room spec.begins_expr Part.InExpr cursor.now }
+{
+    if begins_expr(cursor.peek()) {
+        return cursor.too_deep();
+    }
+    cursor.refuse(Part::InExpr)
 }
 
 /// An expression, where so many may stand inside one another.
@@ -137,7 +174,7 @@ pub fn expr(alloc: Global, cursor: &mut Cursor<'_>, room: usize) -> Result<Expr,
     ensures kept { length cursor.new ≤ length cursor.old }
 {
     if room == 0 {
-        return Err(cursor.too_deep());
+        return Err(expr_without_room(cursor));
     }
     expr_of_parts(alloc, cursor, room - 1)
 }

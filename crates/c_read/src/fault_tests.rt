@@ -109,7 +109,7 @@ fn wanted_parts_of_items(rt: HostRuntime) -> Result<(), Fail> {
     item_cases(&rt, rt.alloc(), &WANTED_PARTS_OF_ITEMS)
 }
 
-const WANTED_PARTS_OF_STATEMENTS: [Case; 13] = [
+const WANTED_PARTS_OF_STATEMENTS: [Case; 12] = [
     (b"x = ;", Some(Unexpected(39, Wanted::Part(Part::InRight)))),
     (b"x ;", Some(Unexpected(37, Wanted::Part(Part::InAfter)))),
     (
@@ -137,10 +137,6 @@ const WANTED_PARTS_OF_STATEMENTS: [Case; 13] = [
         Some(Unexpected(41, Wanted::Part(Part::InOperator))),
     ),
     (
-        b"x = (;);",
-        Some(Unexpected(40, Wanted::Part(Part::InExpr))),
-    ),
-    (
         b"switch (x) { goto L; }",
         Some(Unexpected(48, Wanted::Part(Part::InCases))),
     ),
@@ -161,6 +157,46 @@ const WANTED_PARTS_OF_STATEMENTS: [Case; 13] = [
 #[test]
 fn wanted_parts_of_statements(rt: HostRuntime) -> Result<(), Fail> {
     stmt_cases(&rt, rt.alloc(), &WANTED_PARTS_OF_STATEMENTS)
+}
+
+const WANTED_PARTS_BEHIND_PARENTHESES: [Case; 8] = [
+    (
+        b"x = (;);",
+        Some(Unexpected(40, Wanted::Part(Part::InRgroup))),
+    ),
+    (
+        b"x = (*;);",
+        Some(Unexpected(41, Wanted::Part(Part::InRstar))),
+    ),
+    (
+        b"x = (y + (;));",
+        Some(Unexpected(45, Wanted::Part(Part::InGroup))),
+    ),
+    (
+        b"f((;));",
+        Some(Unexpected(38, Wanted::Part(Part::InAgroup))),
+    ),
+    (
+        b"return ();",
+        Some(Unexpected(43, Wanted::Part(Part::InAgroup))),
+    ),
+    (
+        b"x = ((w2c_fn) f);",
+        Some(Unexpected(41, Wanted::Part(Part::InGroup))),
+    ),
+    (
+        b"x = (u32) (&y);",
+        Some(Unexpected(46, Wanted::Part(Part::InGroup))),
+    ),
+    (
+        b"x = (**p);",
+        Some(Unexpected(41, Wanted::Part(Part::InRstar))),
+    ),
+];
+
+#[test]
+fn wanted_parts_behind_parentheses(rt: HostRuntime) -> Result<(), Fail> {
+    stmt_cases(&rt, rt.alloc(), &WANTED_PARTS_BEHIND_PARENTHESES)
 }
 
 /// `z = ((..(x + x).. + x) + x);` with so many parentheses.
@@ -185,6 +221,39 @@ fn nesting_of_parentheses(rt: HostRuntime) -> Result<(), Fail> {
     assert_eq!(rt; fault(alloc, text.as_slice()), None);
     let text = stmts(alloc, nested(alloc, 100)?.as_slice())?;
     assert_eq!(rt; fault(alloc, text.as_slice()), Some(TooDeep(139)));
+    Ok(())
+}
+
+/// `z = ((..(`, with a hundred parentheses, and then the rest.
+fn behind_a_hundred(alloc: Global, rest: &[u8]) -> Result<Bytes, Fail> {
+    let mut text = Bytes::new(alloc);
+    text.extend(b"z = ")?;
+    for _ in 0..100 {
+        text.push(b'(')?;
+    }
+    text.extend(rest)?;
+    Ok(text)
+}
+
+const BEHIND_A_HUNDRED_PARENTHESES: [Case; 6] = [
+    (b"x", Some(TooDeep(139))),
+    (b"(", Some(TooDeep(139))),
+    (b"u32) x", Some(TooDeep(144))),
+    (
+        b"* x) + (",
+        Some(Unexpected(147, Wanted::Part(Part::InGroup))),
+    ),
+    (b";", Some(Unexpected(139, Wanted::Part(Part::InGroup)))),
+    (b"u32);", Some(Unexpected(143, Wanted::Part(Part::InExpr)))),
+];
+
+#[test]
+fn what_begins_no_expression_is_not_too_deep(rt: HostRuntime) -> Result<(), Fail> {
+    let alloc = rt.alloc();
+    for (rest, wanted) in &BEHIND_A_HUNDRED_PARENTHESES {
+        let text = stmts(alloc, behind_a_hundred(alloc, rest)?.as_slice())?;
+        assert_eq!(rt; fault(alloc, text.as_slice()), *wanted);
+    }
     Ok(())
 }
 

@@ -17,7 +17,7 @@ use Rattle.c_tree.specs.Tokens.{Token, Fixed}
 use Rattle.c_tree.specs.Trees.{num_token, op_token, expr_tokens, arg_tokens}
 use Rattle.c_tree.specs.Text.{lexeme}
 use Rattle.c_tree.specs.Spelled.{FitsNum, FitsExpr, FitsArg}
-use Rattle.c_tree.specs.Grammar.{Symbol, One, OneNumber, Of, Takes, Becomes, move, value_of}
+use Rattle.c_tree.specs.Grammar.{Symbol, One, OneNumber, Of, Takes, Becomes, move, value_of, operation}
 use Rattle.c_tree.proofs.Passes.{Passes, take, become, become_none}
 
 -- ---- numbers
@@ -84,7 +84,8 @@ op_passes d op.Ge ss ts next = become (λ p. refl) (take (λ p. refl) next)
 
 -- ---- an operation behind its parenthesis
 
-in_group : (d : ℕ) (a : tree.Expr) (ss : List Symbol) (ts : List Token) → Passes (Of part.InExpr d ∷ Of part.InOperator d ∷ Of part.InExpr d ∷ One tok.RightParen ∷ ss) (expr_tokens a ++ ts) → Passes (Of part.InGroup d ∷ ss) (expr_tokens a ++ ts)
+in_group : (d : ℕ) (a : tree.Expr) (ss : List Symbol) (ts : List Token)
+    → Passes (operation d ++ ss) (expr_tokens a ++ ts) → Passes (Of part.InGroup d ∷ ss) (expr_tokens a ++ ts)
 in_group d (tree.Name n) ss ts next = become (λ p. refl) next
 in_group d (tree.At n i) ss ts next = become (λ p. refl) next
 in_group d (tree.Number (N32 n)) ss ts next = become (λ p. refl) next
@@ -95,7 +96,8 @@ in_group d (tree.To64 i) ss ts next = become (λ p. refl) next
 in_group d (tree.Star n) ss ts next = become (λ p. refl) next
 in_group d (tree.Op o x y) ss ts next = become (λ p. refl) next
 
-in_agroup : (d : ℕ) (a : tree.Expr) (ss : List Symbol) (ts : List Token) → Passes (Of part.InGroup d ∷ ss) (expr_tokens a ++ ts) → Passes (Of part.InAgroup d ∷ ss) (expr_tokens a ++ ts)
+in_agroup : (d : ℕ) (a : tree.Expr) (ss : List Symbol) (ts : List Token)
+    → Passes (operation d ++ ss) (expr_tokens a ++ ts) → Passes (Of part.InAgroup d ∷ ss) (expr_tokens a ++ ts)
 in_agroup d (tree.Name n) ss ts next = become (λ p. refl) next
 in_agroup d (tree.At n i) ss ts next = become (λ p. refl) next
 in_agroup d (tree.Number (N32 n)) ss ts next = become (λ p. refl) next
@@ -106,7 +108,8 @@ in_agroup d (tree.To64 i) ss ts next = become (λ p. refl) next
 in_agroup d (tree.Star n) ss ts next = become (λ p. refl) next
 in_agroup d (tree.Op o x y) ss ts next = become (λ p. refl) next
 
-in_rgroup : (d : ℕ) (a : tree.Expr) (ss : List Symbol) (ts : List Token) → Passes (Of part.InAgroup d ∷ ss) (expr_tokens a ++ ts) → Passes (Of part.InRgroup d ∷ ss) (expr_tokens a ++ ts)
+in_rgroup : (d : ℕ) (a : tree.Expr) (ss : List Symbol) (ts : List Token)
+    → Passes (operation d ++ ss) (expr_tokens a ++ ts) → Passes (Of part.InRgroup d ∷ ss) (expr_tokens a ++ ts)
 in_rgroup d (tree.Name n) ss ts next = become (λ p. refl) next
 in_rgroup d (tree.At n i) ss ts next = become (λ p. refl) next
 in_rgroup d (tree.Number (N32 n)) ss ts next = become (λ p. refl) next
@@ -140,6 +143,15 @@ expr_passes (suc d) (tree.To64 e) ss t ts fits is next = become (λ p. refl) (ta
 expr_passes (suc d) (tree.Star n) ss t ts fits is next = become (λ p. refl) (take (λ p. refl) (become (λ p. refl) (take (λ p. refl) (take (λ p. refl) (take (λ p. refl) next)))))
 expr_passes (suc d) (tree.Op o a b) ss t ts fits is next = become (λ p. refl) (take (λ p. refl) (rw (op_within o a b (t ∷ ts)) (in_group d a ss (op_token o ∷ (expr_tokens b ++ (Fixed tok.RightParen ∷ t ∷ ts))) (expr_passes d a (Of part.InOperator d ∷ Of part.InExpr d ∷ One tok.RightParen ∷ ss) (op_token o) (expr_tokens b ++ (Fixed tok.RightParen ∷ t ∷ ts)) fits.0 (behind_op o) (op_passes d o (Of part.InExpr d ∷ One tok.RightParen ∷ ss) (expr_tokens b ++ (Fixed tok.RightParen ∷ t ∷ ts)) (expr_passes d b (One tok.RightParen ∷ ss) (Fixed tok.RightParen) (t ∷ ts) fits.1 paren (take (λ p. refl) next)))))))
 
+-- an operation, behind the part that has it as its own
+operation_passes : (d : ℕ) (o : COp) (a b : tree.Expr) (ss : List Symbol) (ts : List Token)
+    → FitsExpr d a → FitsExpr d b → Passes ss ts
+    → Passes (operation d ++ ss) (expr_tokens a ++ (op_token o ∷ (expr_tokens b ++ (Fixed tok.RightParen ∷ ts))))
+operation_passes d o a b ss ts left right next =
+    expr_passes d a (Of part.InOperator d ∷ Of part.InExpr d ∷ One tok.RightParen ∷ ss) (op_token o) _ left (behind_op o)
+    (op_passes d o (Of part.InExpr d ∷ One tok.RightParen ∷ ss) _
+    (expr_passes d b (One tok.RightParen ∷ ss) (Fixed tok.RightParen) ts right paren (take (λ p. refl) next)))
+
 -- ---- arguments
 
 pub arg_passes : (d : ℕ) (a : tree.Arg) (ss : List Symbol) (t : Token) (ts : List Token) → FitsArg (suc d) a → BehindExpr t → Passes ss (t ∷ ts) → Passes (Of part.InArgument (suc d) ∷ ss) (arg_tokens a ++ (t ∷ ts))
@@ -150,10 +162,12 @@ arg_passes d (tree.Value (tree.At n i)) ss t ts fits is next = become (λ p. ref
 arg_passes d (tree.Value (tree.Number (N32 n))) ss t ts fits is next = become (λ p. refl) (number_passes d (N32 n) ss (t ∷ ts) fits next)
 arg_passes d (tree.Value (tree.Number (N64 n))) ss t ts fits is next = become (λ p. refl) (number_passes d (N64 n) ss (t ∷ ts) fits next)
 arg_passes d (tree.Value (tree.Number (Plain n))) ss t ts fits is next = become (λ p. refl) (number_passes d (Plain n) ss (t ∷ ts) fits next)
-arg_passes d (tree.Value (tree.To32 e)) ss t ts fits is next = become (λ p. refl) (take (λ p. refl) (become (λ p. refl) (become (λ p. refl) (take (λ p. refl) (take (λ p. refl) (expr_passes d e ss t ts fits is next))))))
-arg_passes d (tree.Value (tree.To64 e)) ss t ts fits is next = become (λ p. refl) (take (λ p. refl) (become (λ p. refl) (become (λ p. refl) (take (λ p. refl) (take (λ p. refl) (expr_passes d e ss t ts fits is next))))))
-arg_passes d (tree.Value (tree.Star n)) ss t ts fits is next = become (λ p. refl) (take (λ p. refl) (become (λ p. refl) (become (λ p. refl) (take (λ p. refl) (take (λ p. refl) (take (λ p. refl) next))))))
-arg_passes d (tree.Value (tree.Op o a b)) ss t ts fits is next = become (λ p. refl) (take (λ p. refl) (rw (op_within o a b (t ∷ ts)) (in_agroup d a ss (op_token o ∷ (expr_tokens b ++ (Fixed tok.RightParen ∷ t ∷ ts))) (in_group d a ss (op_token o ∷ (expr_tokens b ++ (Fixed tok.RightParen ∷ t ∷ ts))) (expr_passes d a (Of part.InOperator d ∷ Of part.InExpr d ∷ One tok.RightParen ∷ ss) (op_token o) (expr_tokens b ++ (Fixed tok.RightParen ∷ t ∷ ts)) fits.0 (behind_op o) (op_passes d o (Of part.InExpr d ∷ One tok.RightParen ∷ ss) (expr_tokens b ++ (Fixed tok.RightParen ∷ t ∷ ts)) (expr_passes d b (One tok.RightParen ∷ ss) (Fixed tok.RightParen) (t ∷ ts) fits.1 paren (take (λ p. refl) next))))))))
+arg_passes d (tree.Value (tree.To32 e)) ss t ts fits is next = become (λ p. refl) (take (λ p. refl) (become (λ p. refl) (take (λ p. refl) (take (λ p. refl) (expr_passes d e ss t ts fits is next)))))
+arg_passes d (tree.Value (tree.To64 e)) ss t ts fits is next = become (λ p. refl) (take (λ p. refl) (become (λ p. refl) (take (λ p. refl) (take (λ p. refl) (expr_passes d e ss t ts fits is next)))))
+arg_passes d (tree.Value (tree.Star n)) ss t ts fits is next = become (λ p. refl) (take (λ p. refl) (become (λ p. refl) (take (λ p. refl) (take (λ p. refl) (take (λ p. refl) next)))))
+arg_passes d (tree.Value (tree.Op o a b)) ss t ts fits is next =
+    become (λ p. refl) (take (λ p. refl) (rw (op_within o a b (t ∷ ts))
+    (in_agroup d a ss _ (operation_passes d o a b ss (t ∷ ts) fits.0 fits.1 next))))
 
 -- ---- right sides that are no call
 
@@ -162,13 +176,15 @@ semicolon = record { no_index = λ d p. refl }
 
 pub right_passes : (d : ℕ) (a : tree.Arg) (ss : List Symbol) (ts : List Token) → FitsArg (suc d) a → Passes ss (Fixed tok.Semicolon ∷ ts) → Passes (Of part.InRight (suc d) ∷ ss) (arg_tokens a ++ (Fixed tok.Semicolon ∷ ts))
 right_passes d (tree.Address n) ss ts fits next = become (λ p. refl) (take (λ p. refl) (take (λ p. refl) next))
-right_passes d (tree.OfFunction n) ss ts fits next = become (λ p. refl) (take (λ p. refl) (become (λ p. refl) (become (λ p. refl) (take (λ p. refl) (take (λ p. refl) (take (λ p. refl) next))))))
+right_passes d (tree.OfFunction n) ss ts fits next = become (λ p. refl) (take (λ p. refl) (become (λ p. refl) (take (λ p. refl) (take (λ p. refl) (take (λ p. refl) next)))))
 right_passes d (tree.Value (tree.Name n)) ss ts fits next = become (λ p. refl) (take (λ p. refl) (become (λ p. refl) next))
 right_passes d (tree.Value (tree.At n i)) ss ts fits next = become (λ p. refl) (take (λ p. refl) (become (λ p. refl) (take (λ p. refl) (rw append_assoc (expr_passes d i (One tok.RightBracket ∷ ss) (Fixed tok.RightBracket) (Fixed tok.Semicolon ∷ ts) fits bracket (take (λ p. refl) next))))))
 right_passes d (tree.Value (tree.Number (N32 n))) ss ts fits next = become (λ p. refl) (number_passes d (N32 n) ss (Fixed tok.Semicolon ∷ ts) fits next)
 right_passes d (tree.Value (tree.Number (N64 n))) ss ts fits next = become (λ p. refl) (number_passes d (N64 n) ss (Fixed tok.Semicolon ∷ ts) fits next)
 right_passes d (tree.Value (tree.Number (Plain n))) ss ts fits next = become (λ p. refl) (number_passes d (Plain n) ss (Fixed tok.Semicolon ∷ ts) fits next)
-right_passes d (tree.Value (tree.To32 e)) ss ts fits next = become (λ p. refl) (take (λ p. refl) (become (λ p. refl) (become (λ p. refl) (become (λ p. refl) (take (λ p. refl) (take (λ p. refl) (expr_passes d e ss (Fixed tok.Semicolon) ts fits semicolon next)))))))
-right_passes d (tree.Value (tree.To64 e)) ss ts fits next = become (λ p. refl) (take (λ p. refl) (become (λ p. refl) (become (λ p. refl) (become (λ p. refl) (take (λ p. refl) (take (λ p. refl) (expr_passes d e ss (Fixed tok.Semicolon) ts fits semicolon next)))))))
+right_passes d (tree.Value (tree.To32 e)) ss ts fits next = become (λ p. refl) (take (λ p. refl) (become (λ p. refl) (take (λ p. refl) (take (λ p. refl) (expr_passes d e ss (Fixed tok.Semicolon) ts fits semicolon next)))))
+right_passes d (tree.Value (tree.To64 e)) ss ts fits next = become (λ p. refl) (take (λ p. refl) (become (λ p. refl) (take (λ p. refl) (take (λ p. refl) (expr_passes d e ss (Fixed tok.Semicolon) ts fits semicolon next)))))
 right_passes d (tree.Value (tree.Star n)) ss ts fits next = become (λ p. refl) (take (λ p. refl) (become (λ p. refl) (take (λ p. refl) (become (λ p. refl) (take (λ p. refl) (take (λ p. refl) next))))))
-right_passes d (tree.Value (tree.Op o a b)) ss ts fits next = become (λ p. refl) (take (λ p. refl) (rw (op_within o a b (Fixed tok.Semicolon ∷ ts)) (in_rgroup d a ss (op_token o ∷ (expr_tokens b ++ (Fixed tok.RightParen ∷ Fixed tok.Semicolon ∷ ts))) (in_agroup d a ss (op_token o ∷ (expr_tokens b ++ (Fixed tok.RightParen ∷ Fixed tok.Semicolon ∷ ts))) (in_group d a ss (op_token o ∷ (expr_tokens b ++ (Fixed tok.RightParen ∷ Fixed tok.Semicolon ∷ ts))) (expr_passes d a (Of part.InOperator d ∷ Of part.InExpr d ∷ One tok.RightParen ∷ ss) (op_token o) (expr_tokens b ++ (Fixed tok.RightParen ∷ Fixed tok.Semicolon ∷ ts)) fits.0 (behind_op o) (op_passes d o (Of part.InExpr d ∷ One tok.RightParen ∷ ss) (expr_tokens b ++ (Fixed tok.RightParen ∷ Fixed tok.Semicolon ∷ ts)) (expr_passes d b (One tok.RightParen ∷ ss) (Fixed tok.RightParen) (Fixed tok.Semicolon ∷ ts) fits.1 paren (take (λ p. refl) next)))))))))
+right_passes d (tree.Value (tree.Op o a b)) ss ts fits next =
+    become (λ p. refl) (take (λ p. refl) (rw (op_within o a b (Fixed tok.Semicolon ∷ ts))
+    (in_rgroup d a ss _ (operation_passes d o a b ss (Fixed tok.Semicolon ∷ ts) fits.0 fits.1 next))))

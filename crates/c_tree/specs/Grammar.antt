@@ -31,6 +31,25 @@ begins_type (kind.Fixed tok.WordW2cTab) = true
 begins_type (kind.Fixed tok.WordW2cFn) = true
 begins_type _ = false
 
+-- what stands behind the parenthesis of an expr (C11, 6.5.4 and 6.5.3.2, or an operation): an operation begins as its
+-- first expr does, with a name, a number or a parenthesis
+abbrev pub operation : ℕ → List Symbol
+operation d = Of part.InExpr d ∷ Of part.InOperator d ∷ Of part.InExpr d ∷ One tok.RightParen ∷ []
+
+abbrev pub as_group : ℕ → Kind → Option (List Symbol)
+as_group d (kind.Fixed tok.WordU32) = Some (One tok.WordU32 ∷ One tok.RightParen ∷ Of part.InExpr d ∷ [])
+as_group d (kind.Fixed tok.WordU64) = Some (One tok.WordU64 ∷ One tok.RightParen ∷ Of part.InExpr d ∷ [])
+as_group d (kind.Fixed tok.Star) = Some (One tok.Star ∷ One tok.Name ∷ One tok.RightParen ∷ [])
+as_group d kind.Name = Some (operation d)
+as_group d (kind.Number s) = Some (operation d)
+as_group d (kind.Fixed tok.LeftParen) = Some (operation d)
+as_group d _ = None
+
+-- what stands behind the parenthesis of an argument: a function as an element of a table, else what stands in a group
+abbrev pub as_agroup : ℕ → Kind → Option (List Symbol)
+as_agroup d (kind.Fixed tok.WordW2cFn) = Some (One tok.WordW2cFn ∷ One tok.RightParen ∷ One tok.Name ∷ [])
+as_agroup d k = as_group d k
+
 -- the expansion of a part at a token
 abbrev pub expansion : Part → ℕ → Kind → Option (List Symbol)
 expansion part.InUnit d _ = Some (One tok.Include ∷ Of part.InItems d ∷ One tok.End ∷ [])
@@ -90,9 +109,10 @@ expansion part.InRname d (kind.Fixed tok.LeftBracket) = Some (One tok.LeftBracke
 expansion part.InRname d (kind.Fixed tok.LeftParen) = Some (One tok.LeftParen ∷ Of part.InArguments d ∷ One tok.RightParen ∷ [])
 expansion part.InRname d _ = Some []
 expansion part.InRgroup d (kind.Fixed tok.Star) = Some (One tok.Star ∷ Of part.InRstar d ∷ [])
-expansion part.InRgroup d _ = Some (Of part.InAgroup d ∷ [])
+expansion part.InRgroup d k = as_agroup d k
 expansion part.InRstar d kind.Name = Some (One tok.Name ∷ One tok.RightParen ∷ [])
-expansion part.InRstar d _ = Some (Of part.InThrough d ∷ [])
+expansion part.InRstar d (kind.Fixed tok.LeftParen) = Some (Of part.InThrough d ∷ [])
+expansion part.InRstar d _ = None
 expansion part.InThrough d _ = Some (One tok.LeftParen ∷ Of part.InType d ∷ One tok.LeftParen ∷ One tok.Star ∷ One tok.RightParen ∷ One tok.LeftParen ∷ Of part.InTypes d ∷ One tok.RightParen ∷ One tok.RightParen ∷ One tok.Name ∷ One tok.RightParen ∷ One tok.LeftParen ∷ Of part.InArguments d ∷ One tok.RightParen ∷ [])
 expansion part.InTypes d _ = Some (Of part.InType d ∷ Of part.InTtail d ∷ [])
 expansion part.InTtail d (kind.Fixed tok.Comma) = Some (One tok.Comma ∷ Of part.InType d ∷ Of part.InTtail d ∷ [])
@@ -106,8 +126,7 @@ expansion part.InArgument d (kind.Number s) = Some (Of part.InNumber d ∷ [])
 expansion part.InArgument d _ = None
 expansion part.InAtail d (kind.Fixed tok.Comma) = Some (One tok.Comma ∷ Of part.InArgument d ∷ Of part.InAtail d ∷ [])
 expansion part.InAtail d _ = Some []
-expansion part.InAgroup d (kind.Fixed tok.WordW2cFn) = Some (One tok.WordW2cFn ∷ One tok.RightParen ∷ One tok.Name ∷ [])
-expansion part.InAgroup d _ = Some (Of part.InGroup d ∷ [])
+expansion part.InAgroup d k = as_agroup d k
 expansion part.InResult d (kind.Fixed tok.Semicolon) = Some []
 expansion part.InResult d _ = Some (Of part.InArgument d ∷ [])
 expansion part.InCases d (kind.Fixed tok.WordCase) = Some (One tok.WordCase ∷ Of part.InNumber d ∷ One tok.Colon ∷ One tok.WordGoto ∷ One tok.Name ∷ One tok.Semicolon ∷ Of part.InCases d ∷ [])
@@ -119,10 +138,7 @@ expansion part.InExpr d (kind.Fixed tok.LeftParen) = Some (One tok.LeftParen ∷
 expansion part.InExpr d _ = None
 expansion part.InIndex d (kind.Fixed tok.LeftBracket) = Some (One tok.LeftBracket ∷ Of part.InExpr d ∷ One tok.RightBracket ∷ [])
 expansion part.InIndex d _ = Some []
-expansion part.InGroup d (kind.Fixed tok.WordU32) = Some (One tok.WordU32 ∷ One tok.RightParen ∷ Of part.InExpr d ∷ [])
-expansion part.InGroup d (kind.Fixed tok.WordU64) = Some (One tok.WordU64 ∷ One tok.RightParen ∷ Of part.InExpr d ∷ [])
-expansion part.InGroup d (kind.Fixed tok.Star) = Some (One tok.Star ∷ One tok.Name ∷ One tok.RightParen ∷ [])
-expansion part.InGroup d _ = Some (Of part.InExpr d ∷ Of part.InOperator d ∷ Of part.InExpr d ∷ One tok.RightParen ∷ [])
+expansion part.InGroup d k = as_group d k
 expansion part.InOperator d (kind.Fixed tok.Plus) = Some (One tok.Plus ∷ [])
 expansion part.InOperator d (kind.Fixed tok.Minus) = Some (One tok.Minus ∷ [])
 expansion part.InOperator d (kind.Fixed tok.Star) = Some (One tok.Star ∷ [])
@@ -200,8 +216,13 @@ abbrev pub becoming : Part → ℕ → Option (List Symbol) → Move
 becoming p place None = Faulty (Unexpected place (wanted.Part p))
 becoming p place (Some new) = Becomes new
 
+-- no more exprs may stand inside one another: what begins one is too deep
+abbrev pub too_deep : Part → ℕ → Option (List Symbol) → Move
+too_deep p place None = Faulty (Unexpected place (wanted.Part p))
+too_deep p place (Some new) = Faulty (TooDeep place)
+
 abbrev pub counted : Part → ℕ → Lexeme → Move
-counted p zero l = Faulty (TooDeep l.place)
+counted p zero l = too_deep p l.place (expansion p zero (kind_of l.token))
 counted p (suc d) l = becoming p l.place (expansion p d (kind_of l.token))
 
 abbrev pub move : Symbol → Lexeme → Move
