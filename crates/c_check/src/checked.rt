@@ -3,7 +3,7 @@ ghost use Rattle.std.specs.Prelude.{◌≡◌, Some, None, IfOk, IfErr, OnOk};
 ghost use Rattle.c_tree.specs.View.{unit_of};
 ghost use Rattle.c_tree.specs.Spelled.{Formed};
 ghost use Rattle.c_tree.specs.FirstBroken.{BrokenAt, BrokenRule, KeepsRules};
-ghost use Rattle.c_check.specs.Refusals.{IsFirstRule};
+ghost use Rattle.c_check.specs.Refusals.{IsFirstRule, IsFoundRule};
 
 use crate::pass::first_broken;
 use c_tree::Unit;
@@ -61,6 +61,7 @@ impl CheckedUnit {
         ensures unit { IfOk result (λ checked. checked ≡ u) }
         ensures kept { IfOk result (λ checked. (at : BrokenAt) → BrokenRule (unit_of checked) at → ⊥) }
         ensures rule { IfErr result (λ refusal. IsFirstRule (unit_of u) refusal) }
+        ensures found { IfErr result (λ refusal. IsFoundRule (unit_of u) refusal) }
     {
         match first_broken(alloc, u.as_slice())? {
             Some(broken) => Err(CheckRefusal::Rule(broken.item, broken.statement, broken.rule)),

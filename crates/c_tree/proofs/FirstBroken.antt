@@ -3,7 +3,7 @@ use Rattle.std.specs.Prelude.{◌≡◌, refl, ℕ, ◌<◌, ◌≤◌, ◌⊎�
 use Rattle.std.specs.List.{Contains}
 use Rattle.std.proofs.Common.{arith}
 use Rattle.c_tree.specs.Tree as tree
-use Rattle.c_tree.specs.FirstBroken.{BrokenAt, BrokenRule, IsFirstBroken, IsNotBefore, KeepsRules, first_broken, broken_rules}
+use Rattle.c_tree.specs.FirstBroken.{BrokenAt, BrokenRule, IsFirstBroken, IsNotBehind, KeepsRules, first_broken, broken_rules}
 
 same_item : (i s k j t m : ℕ) → (i < j) ⊎ ((i ≡ j) × (s < t)) ⊎ ((i ≡ j) × (s ≡ t) × (k ≤ m)) → (j < i) ⊎ ((j ≡ i) × (t < s)) ⊎ ((j ≡ i) × (t ≡ s) × (m ≤ k)) → i ≡ j
 same_item i s k j t m p q = grind arith
@@ -21,7 +21,7 @@ same_at : (i s k j t m : ℕ) → i ≡ j → s ≡ t → k ≡ m → at i s k �
 same_at i s k j t m e f g = rw (e, f, g) refl
 
 -- neither of two places comes before the other
-same_place : (a b : BrokenAt) → IsNotBefore a b → IsNotBefore b a → a ≡ b
+same_place : (a b : BrokenAt) → IsNotBehind a b → IsNotBehind b a → a ≡ b
 unfolding at
 same_place a b p q =
     same_at a.item a.statement a.rule b.item b.statement b.rule

@@ -1,7 +1,9 @@
+pub mod BrokenInOrder
 pub mod FirstBroken
 pub mod Laid
 pub mod Names
 pub mod NoFault
+pub mod OfEach
 pub mod OneUnit
 pub mod Passes
 pub mod PassesExpressions

@@ -14,6 +14,7 @@ use Rattle.c_tree.specs.declared.token.Suffix.TheVariants.{OfPlain, Of32, Of64}
 use Rattle.c_tree.specs.Tokens.{Token, Fixed, Named, Number, Wrong, fixed_text, suffix_text, token_text, same_tok}
 use Rattle.c_tree.specs.Text.{run, past, is_digit, is_letter, is_word_byte, is_blank, key_words, other_words, key_word_among, word_token, are_digits, number_token, run_token, one_sign, two_sign, short_signs, long_signs, Begins, sign_front, comment_front, comment_end, longer, front, Lexeme, lexeme, and_then, lexemes}
 use Rattle.c_tree.specs.WellFormed.{IsName}
+use Rattle.c_tree.proofs.OfEach.{of_each, of_both}
 
 -- ---- tests
 
@@ -246,22 +247,15 @@ picked P (u ∷ ts) all t found = by (λ f. picked P ts all.1 t f) (same_tok t u
     by later true e f = subst P (sym (same_true the_type (search rules) t u e)) all.0
     by later false e f = later f
 
-mapped : {P Q : Tok → Type 0} → ((t : Tok) → P t → Q t) → (ts : List Tok) → AllByRecursion P ts → AllByRecursion Q ts
-mapped f [] all = tt
-mapped f (t ∷ ts) all = (f t all.0, mapped f ts all.1)
-
-joined : (P : Tok → Type 0) (ts us : List Tok) → AllByRecursion P ts → AllByRecursion P us → AllByRecursion P (ts ++ us)
-joined P [] us a b = b
-joined P (t ∷ ts) us a b = (a.0, joined P ts us a.1 b)
-
 abbrev IsFixedRead : Tok → Type 0
 IsFixedRead t = IsRead (Fixed t)
 
 fixed_read : AllByRecursion IsFixedRead fixed_toks
 fixed_read = (
   λ rest place stop. include_read rest place,
-  joined IsFixedRead key_words (short_signs ++ long_signs) (mapped key_word_read key_words words_are)
-      (joined IsFixedRead short_signs long_signs (mapped short_read short_signs shorts_are) (mapped {P = IsFixedReadAnywhere} {Q = IsFixedRead} (λ t any rest place stop. any rest place) long_signs longs_read)),
+  of_both IsFixedRead key_words (short_signs ++ long_signs) (of_each IsWord IsFixedRead key_word_read key_words words_are)
+      (of_both IsFixedRead short_signs long_signs (of_each IsShort IsFixedRead short_read short_signs shorts_are)
+      (of_each IsFixedReadAnywhere IsFixedRead (λ t any rest place stop. any rest place) long_signs longs_read)),
 )
 
 pub reads : (t : Token) → IsProper t → IsRead t

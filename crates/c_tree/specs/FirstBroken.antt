@@ -52,9 +52,9 @@ first_broken unit = slice_get (broken_rules unit) 0
 abbrev pub KeepsRules : List tree.Item → Type 0
 KeepsRules unit = first_broken unit ≡ None
 
--- by item, then statement, then rule
-abbrev pub IsNotBefore : BrokenAt → BrokenAt → Type 0
-IsNotBefore a b =
+-- the one is not behind the other: by item, then statement, then rule
+abbrev pub IsNotBehind : BrokenAt → BrokenAt → Type 0
+IsNotBehind a b =
     (a.item < b.item)
     ⊎ ((a.item ≡ b.item) × (a.statement < b.statement))
     ⊎ ((a.item ≡ b.item) × (a.statement ≡ b.statement) × (a.rule ≤ b.rule))
@@ -62,4 +62,4 @@ IsNotBefore a b =
 -- It is broken, and none that is broken comes before it.
 pub record IsFirstBroken (unit : List tree.Item) (at : BrokenAt) : Type 0 where
   pub broken : BrokenRule unit at
-  pub least : (other : BrokenAt) → BrokenRule unit other → IsNotBefore at other
+  pub least : (other : BrokenAt) → BrokenRule unit other → IsNotBehind at other

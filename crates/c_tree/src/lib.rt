@@ -15,7 +15,9 @@ pub use rule_cases::{
     declaration_cases, ending_cases, expression_cases, name_cases, order_cases, type_cases,
     use_cases,
 };
-pub use rules::{first_broken_rule_is_broken, one_first_broken_rule};
+pub use rules::{
+    first_broken_rule_is_broken, first_broken_rule_is_the_least, one_first_broken_rule,
+};
 pub use token::{CReadFault, Kind, Part, Suffix, Tok, Wanted};
 pub use tree::{
     Arg, Args, Body, CFuncType, COp, CType, CTypes, Callee, Cases, Expr, Func, Header, HeaderLines,

@@ -13,3 +13,11 @@ pub fn first_broken_rule_is_broken()
     ensures broken { (unit : List tree.Item) (at : BrokenAt) → first_broken unit ≡ Some at → BrokenRule unit at }
     ensures none { (unit : List tree.Item) (at : BrokenAt) → KeepsRules unit → BrokenRule unit at → ⊥ }
 {}
+
+/// The law that the first broken rule is the one that no other comes before, by the item, the
+/// statement and the rule's number, and that a unit which breaks a rule has one.
+pub fn first_broken_rule_is_the_least()
+    ensures first { (unit : List tree.Item) (at : BrokenAt) → first_broken unit ≡ Some at → IsFirstBroken unit at }
+    ensures only { (unit : List tree.Item) (at : BrokenAt) → IsFirstBroken unit at → first_broken unit ≡ Some at }
+    ensures one { (unit : List tree.Item) (at : BrokenAt) → BrokenRule unit at → (first : BrokenAt) × IsFirstBroken unit first }
+{}

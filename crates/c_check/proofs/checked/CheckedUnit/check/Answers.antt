@@ -4,6 +4,7 @@ use Rattle.c_tree.specs.declared.tree.Item.{Item}
 use Rattle.c_tree.specs.View.{item_of}
 use Rattle.c_tree.specs.FirstBroken.{first_broken}
 use Rattle.c_tree.proofs.FirstBroken.{none_is_broken}
+use Rattle.c_tree.proofs.BrokenInOrder.{is_first}
 use Rattle.c_check.specs.declared.pass.Broken.{Broken}
 use Rattle.c_check.specs.Broken.{broken_at}
 use Rattle.c_check.specs.FirstRule.{first_in_items}
@@ -17,7 +18,11 @@ found u ys o r same e is =
     sym (whole_unit (map item_of u)) ∙ ap (λ (zs : List Item). first_in_items (map item_of zs) 0) (sym same) ∙ sym e ∙ ap (option_map broken_at) is
 
 pub returns-in-Some-clause-rule : goal.returns-in-Some-clause-rule
-returns-in-Some-clause-rule c = found c.args.u c.as_slice.result.now _ _ c.as_slice.ensures c.in_ok-broken.ensures c.in-Some.is
+returns-in-Some-clause-rule c =
+    is_first (map item_of c.args.u) _ (found c.args.u c.as_slice.result.now _ _ c.as_slice.ensures c.in_ok-broken.ensures c.in-Some.is)
+
+pub returns-in-Some-clause-found : goal.returns-in-Some-clause-found
+returns-in-Some-clause-found c = found c.args.u c.as_slice.result.now _ _ c.as_slice.ensures c.in_ok-broken.ensures c.in-Some.is
 
 pub invariant_of-result : goal.invariant_of-result
 invariant_of-result c = (c.requires, found c.args.u c.as_slice.result.now _ _ c.as_slice.ensures c.in_ok-broken.ensures c.in-None.is)
