@@ -1,8 +1,8 @@
 // Files in memory. Chosen calls fail.
-ghost use Rattle.std.specs.Prelude.{◌≡◌, ◌≤◌, ◌⊎◌, ℕ, List, [], IsTrue, IsSome, Option, Some, None, OnOk, OnErr, MatchOption, IfOk, IsErrOf, length};
+ghost use Rattle.std.specs.Prelude.{◌≡◌, ◌≤◌, ◌⊎◌, ◌/◌, take, ℕ, List, [], IsTrue, IsSome, Option, Some, None, OnOk, OnErr, MatchOption, IfOk, IsErrOf, length};
 ghost use Rattle.std.specs.FinMap as map;
 ghost use Rattle.w2c_io.specs.Contents.{holding, appending, HasFile, HasNoFile, HasLongFile, IsPrefix};
-ghost use Rattle.w2c_io.specs.Causes.{ReadCause, WriteCause, name_after_read, name_after_write};
+ghost use Rattle.w2c_io.specs.Causes.{ReadCause, WriteCause, name_after_read, name_after_write, count_after_read, count_after_write};
 ghost use Rattle.w2c_io.specs.declared.answers.ReadAnswer.TheVariants as reading;
 ghost use Rattle.w2c_io.specs.declared.answers.WriteAnswer.TheVariants as writing;
 
@@ -96,6 +96,7 @@ impl MemFiles {
     pub fn fail(&mut self, call: FileCall, nth: u64) -> Result<(), Memory>
         ensures ok { OnOk result (PlansCall call self.old self.new nth) }
         ensures err { OnErr result ((each : FileCall) → (plan_of each self.new).planned.items ≡ (plan_of each self.old).planned.items) }
+        ensures calls { (each : FileCall) → (plan_of each self.new).calls ≡ (plan_of each self.old).calls }
         ensures contents { mem_contents self.new ≡ mem_contents self.old }
         ensures current { mem_current self.new ≡ mem_current self.old }
         ensures read_faults { mem_read_faults self.new ≡ mem_read_faults self.old }
@@ -138,10 +139,12 @@ impl Files for MemFiles {
         ensures named { mem_fault_name self.new ≡ name_after_read result (Some name.now) (mem_fault_name self.old) }
         ensures writes { mem_write_faults self.new ≡ mem_write_faults self.old }
 
-        // Exactly the planned calls fail.
+        // Exactly the planned calls fail, whatever the files hold, and each is counted.
         ensures only_planned { IsErrOf result reading.Failed → IsTrue (is_planned (plan_of calls.Read self.old)) }
-        ensures all_planned { IsTrue (is_planned (plan_of calls.Read self.old)) → OnOk result ⊥ }
+        ensures all_planned { IsTrue (is_planned (plan_of calls.Read self.old))
+            → IsErrOf result reading.Failed ⊎ IsErrOf result reading.Memory }
         ensures counted { CountsCall calls.Read self.old self.new }
+        ensures faults { mem_read_faults self.new ≡ count_after_read result (mem_read_faults self.old) }
     {
         if self.reads.call() {
             let name = String::from_str(self.alloc, name)?;
@@ -162,10 +165,11 @@ impl Files for MemFiles {
         ensures named { mem_fault_name self.new ≡ name_after_write result (Some name.now) (mem_fault_name self.old) }
         ensures reads { mem_read_faults self.new ≡ mem_read_faults self.old }
 
-        // Exactly the planned calls fail.
+        // Exactly the planned calls fail, and each is counted.
         ensures only_planned { IsErrOf result writing.Failed → IsTrue (is_planned (plan_of calls.Begin self.old)) }
         ensures all_planned { IsTrue (is_planned (plan_of calls.Begin self.old)) → OnOk result ⊥ }
         ensures counted { CountsCall calls.Begin self.old self.new }
+        ensures faults { mem_write_faults self.new ≡ count_after_write result (mem_write_faults self.old) }
     {
         self.is_open = false;
         let fails = self.begins.call();
@@ -190,10 +194,13 @@ impl Files for MemFiles {
         ensures named { mem_fault_name self.new ≡ name_after_write result (mem_current self.old) (mem_fault_name self.old) }
         ensures reads { mem_read_faults self.new ≡ mem_read_faults self.old }
 
-        // Exactly the planned calls fail.
+        // Exactly the planned calls fail, append the first half, and each is counted.
         ensures only_planned { IsErrOf result writing.Failed → IsTrue (is_planned (plan_of calls.Put self.old)) }
         ensures all_planned { IsTrue (is_planned (plan_of calls.Put self.old)) → OnOk result ⊥ }
         ensures counted { CountsCall calls.Put self.old self.new }
+        ensures half { IsErrOf result writing.Failed
+            → mem_told self.new ≡ appending (mem_told self.old) (mem_current self.old) (take (length piece.now / 2) piece.now) }
+        ensures faults { mem_write_faults self.new ≡ count_after_write result (mem_write_faults self.old) }
     {
         if self.puts.call() {
             let name = newest_name(self.alloc, self.entries.as_slice())?;
@@ -215,10 +222,11 @@ impl Files for MemFiles {
         ensures named { mem_fault_name self.new ≡ name_after_write result (mem_current self.old) (mem_fault_name self.old) }
         ensures reads { mem_read_faults self.new ≡ mem_read_faults self.old }
 
-        // Exactly the planned calls fail.
+        // Exactly the planned calls fail, and each is counted.
         ensures only_planned { IsErrOf result writing.Failed → IsTrue (is_planned (plan_of calls.Finish self.old)) }
         ensures all_planned { IsTrue (is_planned (plan_of calls.Finish self.old)) → OnOk result ⊥ }
         ensures counted { CountsCall calls.Finish self.old self.new }
+        ensures faults { mem_write_faults self.new ≡ count_after_write result (mem_write_faults self.old) }
     {
         self.is_open = false;
         if self.finishes.call() {

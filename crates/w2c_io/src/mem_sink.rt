@@ -1,7 +1,7 @@
 // A sink in memory. Chosen puts fail.
 ghost use Rattle.std.specs.Prelude.{◌≡◌, ◌++◌, ◌/◌, ℕ, List, [], IsTrue, Some, OnOk, OnErr, IsErrOf, length, take};
 ghost use Rattle.w2c_io.specs.Contents.{extended, IsPrefix};
-ghost use Rattle.w2c_io.specs.Causes.{WriteCause};
+ghost use Rattle.w2c_io.specs.Causes.{WriteCause, count_after_write};
 ghost use Rattle.w2c_io.specs.declared.answers.WriteAnswer.TheVariants as writing;
 
 use crate::plan::FaultPlan;
@@ -26,6 +26,7 @@ impl MemSink {
         ensures bytes { mem_bytes result ≡ [] }
         ensures calls { (plan_of_puts result).calls ≡ 0 }
         ensures planned { (plan_of_puts result).planned.items ≡ [] }
+        ensures faults { mem_faults result ≡ 0 }
     {
         MemSink {
             bytes: Vec::new(alloc),
@@ -68,10 +69,11 @@ impl Sink for MemSink {
             × (Some (mem_bytes self.new) ≡ extended (Some (mem_bytes self.old)) part)) }
         ensures cause { WriteCause (mem_faults self.old) (mem_faults self.new) result }
 
-        // Exactly the planned puts fail, and append the first half.
+        // Exactly the planned puts fail, append the first half, and each is counted.
         ensures only_planned { IsErrOf result writing.Failed → IsTrue (is_planned (plan_of_puts self.old)) }
         ensures all_planned { IsTrue (is_planned (plan_of_puts self.old)) → OnOk result ⊥ }
         ensures counted { CountsOne (plan_of_puts self.old) (plan_of_puts self.new) }
+        ensures faults { mem_faults self.new ≡ count_after_write result (mem_faults self.old) }
         ensures half { IsErrOf result writing.Failed → mem_bytes self.new ≡ mem_bytes self.old ++ take (length piece.now / 2) piece.now }
     {
         if self.puts.call() {

@@ -30,8 +30,15 @@ pub struct StdFiles<'a> {
 }
 
 impl<'a> StdFiles<'a> {
+    ghost use Rattle.w2c_io.specs.Stored.{name_bytes, written_name};
+
     /// No file is current, and no call has failed.
-    pub fn new(rt: &'a HostRuntime, alloc: Global) -> StdFiles<'a> {
+    pub fn new(rt: &'a HostRuntime, alloc: Global) -> StdFiles<'a>
+        ensures current { written_name result.begun ≡ None }
+        ensures read_faults { result.read_faults ≡ 0 }
+        ensures write_faults { result.write_faults ≡ 0 }
+        ensures fault_name { name_bytes result.fault_name ≡ None }
+    {
         StdFiles {
             rt,
             alloc,

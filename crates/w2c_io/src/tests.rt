@@ -41,6 +41,8 @@ fn planned_calls_fail(rt: HostRuntime) -> Result<(), Fail> {
     assert!(rt; files.read(alloc, "a", 9).is_ok());
     assert!(rt; files.read(alloc, "a", 9).err() == Some(ReadAnswer::Failed));
     assert!(rt; files.read(alloc, "b", 9).err() == Some(ReadAnswer::Absent));
+    files.fail(FileCall::Read, 4)?;
+    assert!(rt; files.read(alloc, "b", 9).err() == Some(ReadAnswer::Failed));
     assert!(rt; files.begin("a").is_err());
     files.begin("a")?;
     assert!(rt; files.put(b"12345").is_err());
