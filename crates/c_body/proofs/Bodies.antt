@@ -79,7 +79,14 @@ enters p s count pending below depth u m index own machine args fit =
     ap (λ (d : Option Definition). go_on p pending (begin d u machine (map state.Number args) below)) own.defined
     ∙ ap (λ (o : Option state.Vars). go_on p pending (elim o [
       | None ↦ Stops machine state.Stuck
-      | Some vars ↦ next machine (record { unit = u; item = own.item; stmts = stmts; rest = stmts; vars = vars }) below
+      | Some vars ↦ next machine (record {
+        unit = u;
+        item = own.item;
+        result = c_result_of own.ty.result;
+        stmts = stmts;
+        rest = stmts;
+        vars = vars;
+      }) below
     ])) (first_vars_are m index own.item own.ty own.entry args fit)
 
 -- ---- calls of a module's function
@@ -160,6 +167,7 @@ code_follows all p s served count room calls calls_follow pending below u m inde
       before = passes.there + 2;
       back = passes.back;
       few = omega (arith, passes.few);
+      result_is = refl;
       comes = join p passes.there 2 from begun start
           (subst (λ x. Reaches p passes.there from x) (enters p s count pending frames depth u m index own machine args fit) passes.calls)
           (begins g machine code vars places refl (omega (arith, sum, together.depth_is)));
@@ -233,12 +241,12 @@ host_call : (p : Program) (s : link.LinkedSet) → AreServed p s
     → link.func_type s (link.HostFunc h k) ≡ Some ty → StandsFor p s (link.HostFunc h k) a → types_of args ≡ ty.params
     → Together p s count depth machine made trail
     → CallFollows p s count depth pending below ty (called p pending a machine args below) n
-    (exec.replied (link.func_type s (link.HostFunc h k)) trail.replies
-    (trail.asks ++ record { host = h; function = k; args = args } ∷ []) n made)
+    (exec.replied (link.func_type s (link.HostFunc h k)) trail.replies trail.events
+    (record { host = h; function = k; args = args }) n made)
 host_call p s served count room h k a ty args n depth made trail machine pending below typed stands fit together =
     subst (λ o. CallFollows p s count depth pending below ty (called p pending a machine args below) n
-    (exec.replied o trail.replies (trail.asks ++ record { host = h; function = k; args = args } ∷ []) n made)) (sym typed)
-    (host_follows p s count depth pending below ty a h k args n made trail machine served.hosts typed
+    (exec.replied o trail.replies trail.events (record { host = h; function = k; args = args }) n made)) (sym typed)
+    (host_follows p s count depth pending below ty a h k args n made trail machine served.hosts typed fit
     (passes_as p s (link.HostFunc h k) a ty pending machine args below stands typed fit) together)
 
 no_room : (p : Program) (s : link.LinkedSet) → AreServed p s → (count : ℕ) → CallsFollow p s count 0 (exec.call_within s 0)

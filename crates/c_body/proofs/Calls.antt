@@ -85,7 +85,8 @@ resumes_with : (g : Site) → SlotIsSet g → (v : Value) (whole locals : List V
     (waiting g (result_slot (Some (type_of v)) (length (types_of whole))) rest vars) rest
 resumes_with g set v whole locals machine m rest vars declared number agree = record {
   vars = with_named (slot (type_of v) (length (types_of whole))) (state.Number v) vars;
-  there = assigned v (agree.declared (type_of v) (length (types_of whole)) declared);
+  there = ap (go_on g.program g.pending) (assign_slot machine r (type_of v) (length (types_of whole)) v g.below
+      (agree.declared (type_of v) (length (types_of whole)) declared) refl);
   agree = set v whole locals vars declared number agree;
   types = refl;
 }
@@ -93,28 +94,21 @@ resumes_with g set v whole locals machine m rest vars declared number agree = re
     r : state.Running
     r = (state_at g m rest vars).running
 
-    assigned : (v : Value) → is_some (named (slot (type_of v) (length (types_of whole))) vars) ≡ true
-        → given g.program g.pending machine (Some v) (waiting g (result_slot (Some (type_of v)) (length (types_of whole))) rest vars)
-        ≡ at g machine rest (with_named (slot (type_of v) (length (types_of whole))) (state.Number v) vars)
-    assigned (I32 n) there = rw there refl
-    assigned (I64 n) there = rw there refl
-
 resumes : (g : Site) → SlotIsSet g → (t : Option ValType) (value : Option Value) (whole locals : List Value) (machine m : state.Machine)
     (rest : List tree.Stmt) (vars : state.Vars)
     → is_result t value ≡ true → ((u : ValType) → t ≡ Some u → g.slots u (length (types_of whole)) ≡ true)
-    → ((v : Value) → value ≡ Some v → IsNumber v)
     → VarsAgree g.slots g.has_element whole locals vars
     → Resumes g t whole locals value machine (waiting g (result_slot t (length (types_of whole))) rest vars) rest
-resumes g set None None whole locals machine m rest vars typed declared number agree =
+resumes g set None None whole locals machine m rest vars typed declared agree =
     record { vars = vars; there = refl; agree = agree; types = refl }
-resumes g set None (Some v) whole locals machine m rest vars typed declared number agree = absurd cc
-resumes g set (Some t) None whole locals machine m rest vars typed declared number agree = absurd cc
-resumes g set (Some type.I32) (Some (I32 n)) whole locals machine m rest vars typed declared number agree =
-    resumes_with g set (I32 n) whole locals machine m rest vars (declared type.I32 refl) (number (I32 n) refl) agree
-resumes g set (Some type.I64) (Some (I64 n)) whole locals machine m rest vars typed declared number agree =
-    resumes_with g set (I64 n) whole locals machine m rest vars (declared type.I64 refl) (number (I64 n) refl) agree
-resumes g set (Some type.I32) (Some (I64 n)) whole locals machine m rest vars typed declared number agree = absurd cc
-resumes g set (Some type.I64) (Some (I32 n)) whole locals machine m rest vars typed declared number agree = absurd cc
+resumes g set None (Some v) whole locals machine m rest vars typed declared agree = absurd cc
+resumes g set (Some t) None whole locals machine m rest vars typed declared agree = absurd cc
+resumes g set (Some type.I32) (Some (I32 n)) whole locals machine m rest vars typed declared agree =
+    resumes_with g set (I32 n) whole locals machine m rest vars (declared type.I32 refl) (result_is_number (Some type.I32) (I32 n) typed) agree
+resumes g set (Some type.I64) (Some (I64 n)) whole locals machine m rest vars typed declared agree =
+    resumes_with g set (I64 n) whole locals machine m rest vars (declared type.I64 refl) (result_is_number (Some type.I64) (I64 n) typed) agree
+resumes g set (Some type.I32) (Some (I64 n)) whole locals machine m rest vars typed declared agree = absurd cc
+resumes g set (Some type.I64) (Some (I32 n)) whole locals machine m rest vars typed declared agree = absurd cc
 
 result_over : (value : Option Value) (xs ys : List Value) → exec.with_result value xs ++ ys ≡ exec.with_result value (xs ++ ys)
 result_over None xs ys = refl
@@ -139,7 +133,7 @@ pub call_done : (g : Site) → SlotIsSet g → (targets : List Target) (exit : T
     → Follows g 0 targets exit base rest outs from (suc left) (exec.came_back o under now)
 call_done g set targets exit base under rest outs ty now m vars from to left k
     (exec.Back after value made trail) way least most agree locals declared outs_are c =
-    let r = resumes g set ty.result value (under ++ base) now.locals c.machine m rest vars c.typed declared c.is_number agree in (
+    let r = resumes g set ty.result value (under ++ base) now.locals c.machine m rest vars c.typed declared agree in (
       result_types value under ty.result r.types ∙ sym outs_are,
       [],
       record {

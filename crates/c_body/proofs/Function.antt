@@ -9,7 +9,12 @@ use Rattle.w2c_base.specs.declared.value.Value.{Value}
 use Rattle.w2c_base.specs.declared.value.Value.TheVariants.{I32, I64}
 use Rattle.w2c_base.specs.declared.signature.FuncType.{FuncType}
 use Rattle.w2c_base.specs.declared.trap.TrapKind.TheVariants as trap
-use Rattle.w2c_base.specs.Values.{type_of, types_of, number_of, is_result, IsNumber}
+use Rattle.w2c_base.specs.Values.{type_of, types_of, number_of, equal_type, is_result, IsNumber}
+use Rattle.w2c_base.proofs.Numbers.{number_is_found, result_is_typed}
+use Rattle.wasm_meaning.proofs.Typed.{of_its_type}
+use Rattle.std.proofs.lemmas.Option.{same_Some}
+use Rattle.c_meaning.specs.Linking.{c_result_of}
+use Rattle.c_meaning.proofs.Takes.{number_is_returned}
 use Rattle.w2c_base.specs.Lookup.{named}
 use Rattle.wasm_tree.specs.Instructions.{Code}
 use Rattle.wasm_valid.specs.Typing.{values}
@@ -20,7 +25,7 @@ use Rattle.c_tree.specs.Tree as tree
 use Rattle.c_meaning.specs.State as state
 use Rattle.c_meaning.specs.Machine.{with_depth}
 use Rattle.c_meaning.specs.Operators.{truth}
-use Rattle.c_meaning.specs.Step.{Next, Stops, place_of, at_rest, next, with_value, after_label, jump, give, c_step}
+use Rattle.c_meaning.specs.Step.{Next, Stops, place_of, at_rest, next, with_value, after_label, jump, give, is_returned, returned, c_step}
 use Rattle.c_meaning.specs.Run.{Progress, Over, Stopped, over}
 use Rattle.c_meaning.specs.Reaches.{Reaches}
 use Rattle.c_meaning.proofs.Ways.{step, join}
@@ -97,57 +102,58 @@ record Result (t : Option ValType) (kept : List Value) : Type 0 where
   value : Option Value
   typed : is_result t value ≡ true
   kept_is : kept ≡ exec.with_result value []
-  number : AllByRecursion IsNumber kept → (v : Value) → value ≡ Some v → IsNumber v
 
-result_of : (t : Option ValType) (kept : List Value) → types_of kept ≡ values t → Result t kept
-result_of None [] e = record { value = None; typed = refl; kept_is = refl; number = λ numbers v is. absurd cc }
-result_of None (v ∷ kept) e = absurd cc
-result_of (Some t) [] e = absurd cc
-result_of (Some type.I32) (I32 n ∷ []) e = record {
+result_of : (t : Option ValType) (kept : List Value) → types_of kept ≡ values t → AllByRecursion IsNumber kept → Result t kept
+result_of None [] e numbers = record { value = None; typed = refl; kept_is = refl }
+result_of None (v ∷ kept) e numbers = absurd cc
+result_of (Some t) [] e numbers = absurd cc
+result_of (Some type.I32) (I32 n ∷ []) e numbers = record {
   value = Some (I32 n);
-  typed = refl;
+  typed = number_is_found (I32 n) numbers.0;
   kept_is = refl;
-  number =
-      λ numbers v is. let same : I32 n ≡ v = cc in subst IsNumber same numbers.0;
 }
-result_of (Some type.I64) (I64 n ∷ []) e = record {
+result_of (Some type.I64) (I64 n ∷ []) e numbers = record {
   value = Some (I64 n);
-  typed = refl;
+  typed = number_is_found (I64 n) numbers.0;
   kept_is = refl;
-  number =
-      λ numbers v is. let same : I64 n ≡ v = cc in subst IsNumber same numbers.0;
 }
-result_of (Some type.I32) (I64 n ∷ []) e = absurd cc
-result_of (Some type.I64) (I32 n ∷ []) e = absurd cc
-result_of (Some t) (v ∷ w ∷ kept) e = absurd cc
+result_of (Some type.I32) (I64 n ∷ []) e numbers = absurd cc
+result_of (Some type.I64) (I32 n ∷ []) e numbers = absurd cc
+result_of (Some t) (v ∷ w ∷ kept) e numbers = absurd cc
 
-returned : (g : Site) (m : state.Machine) (vars : state.Vars) (v : Value) → named (slot (type_of v) 0) vars ≡ Some (state.Number v)
+value_returned : (g : Site) (m : state.Machine) (vars : state.Vars) (v : Value) → g.setting.context.result ≡ Some (type_of v)
+    → named (slot (type_of v) 0) vars ≡ Some (state.Number v)
     → Reaches g.program 1 (at g m (give_back (Some (type_of v)) ∷ []) vars) (given g.program g.pending m (Some v) g.below)
-returned g m vars v there =
+value_returned g m vars v typed there =
     let code : List tree.Stmt = give_back (Some (type_of v)) ∷ [] in
     let r : state.Running = (state_at g m code vars).running in
     way_by g m code vars (give m (Some (state.Number v)) g.below)
-    (ap (λ (o : Option state.CValue). with_value m (place_of r []) (state.found o) (λ x. give m (Some x) g.below))
-    (slot_value m r (type_of v) 0 (state.Number v) there))
+    (ap (λ (o : Option state.CValue). with_value m (place_of r []) (state.found o) (λ x. returned m r (Some x) g.below))
+    (slot_value m r (type_of v) 0 (state.Number v) there)
+    ∙ ap (λ b. if b then give m (Some (state.Number v)) g.below else Stops m state.Stuck)
+    (ap (λ (t : Option ValType). is_returned (c_result_of t) (Some (state.Number v))) typed ∙ number_is_returned v))
 
 gives_back : (g : Site) (m : state.Machine) (vars : state.Vars) (t : Option ValType) (value : Option Value) (locals : List Value)
-    → is_result t value ≡ true
+    → g.setting.context.result ≡ t → is_result t value ≡ true
     → VarsAgree g.slots g.has_element (exec.with_result value []) locals vars
     → Reaches g.program 1 (at g m (give_back t ∷ []) vars) (given g.program g.pending m value g.below)
-gives_back g m vars None None locals typed agree = step g.program g.pending (state_at g m (tree.ReturnNone ∷ []) vars)
-gives_back g m vars None (Some v) locals typed agree = absurd cc
-gives_back g m vars (Some t) None locals typed agree = absurd cc
-gives_back g m vars (Some type.I32) (Some (I32 n)) locals typed agree = returned g m vars (I32 n) agree.stacked.0
-gives_back g m vars (Some type.I64) (Some (I64 n)) locals typed agree = returned g m vars (I64 n) agree.stacked.0
-gives_back g m vars (Some type.I32) (Some (I64 n)) locals typed agree = absurd cc
-gives_back g m vars (Some type.I64) (Some (I32 n)) locals typed agree = absurd cc
+gives_back g m vars None None locals is typed agree =
+    let r : state.Running = (state_at g m (tree.ReturnNone ∷ []) vars).running in
+    way_by g m (tree.ReturnNone ∷ []) vars (give m None g.below)
+    (ap (λ (t : Option ValType). if is_returned (c_result_of t) None then give m None g.below else Stops m state.Stuck) is)
+gives_back g m vars None (Some v) locals is typed agree = absurd cc
+gives_back g m vars (Some t) None locals is typed agree = absurd cc
+gives_back g m vars (Some type.I32) (Some (I32 n)) locals is typed agree = value_returned g m vars (I32 n) is agree.stacked.0
+gives_back g m vars (Some type.I64) (Some (I64 n)) locals is typed agree = value_returned g m vars (I64 n) is agree.stacked.0
+gives_back g m vars (Some type.I32) (Some (I64 n)) locals is typed agree = absurd cc
+gives_back g m vars (Some type.I64) (Some (I32 n)) locals is typed agree = absurd cc
 
 -- the exit gives the value, at the depth of before
 exit_gives : (g : Site) (m : state.Machine) (vars : state.Vars) (t : Option ValType) (value : Option Value) (locals : List Value) (d : ℕ)
-    → is_result t value ≡ true
+    → g.setting.context.result ≡ t → is_result t value ≡ true
     → VarsAgree g.slots g.has_element (exec.with_result value []) locals vars → m.depth ≡ suc d → d < 1024
     → Reaches g.program 2 (at g m (exit_stmts t) vars) (given g.program g.pending (with_depth m d) value g.below)
-exit_gives g m vars t value locals d typed agree deep room =
+exit_gives g m vars t value locals d is typed agree deep room =
     let down : (m.depth + (2 ^ 32 - 1)) % 2 ^ 32 ≡ d = omega (arith, deep, room) in
     let counts : c_step g.program (state_at g m (exit_stmts t) vars) ≡ Next (state_at g (with_depth m d) (give_back t ∷ []) vars) =
     ap (λ (k : ℕ). Next (state_at g (with_depth m k) (give_back t ∷ []) vars)) down
@@ -155,7 +161,7 @@ exit_gives g m vars t value locals d typed agree deep room =
     join g.program 1 1 (at g m (exit_stmts t) vars) (at g (with_depth m d) (give_back t ∷ []) vars)
     (given g.program g.pending (with_depth m d) value g.below)
     (way_by g m (exit_stmts t) vars (Next (state_at g (with_depth m d) (give_back t ∷ []) vars)) counts)
-    (gives_back g (with_depth m d) vars t value locals typed agree)
+    (gives_back g (with_depth m d) vars t value locals is typed agree)
 
 -- ---- the end of a call
 
@@ -164,7 +170,8 @@ result_all : (t : Option ValType) (value : Option Value) → is_result t value �
 result_all None None typed = refl
 result_all None (Some v) typed = absurd cc
 result_all (Some t) None typed = absurd cc
-result_all (Some t) (Some v) typed = refl
+result_all (Some t) (Some v) typed =
+    of_its_type t v (Some v) (same_Some t (type_of v) (result_is_typed (Some t) v typed))
 
 result_top : (t : Option ValType) (stack kept : List Value) (value : Option Value) → exec.top t stack ≡ Some kept
     → kept ≡ exec.with_result value [] → is_result t value ≡ true
@@ -173,16 +180,21 @@ result_top None stack kept None e is typed = refl
 result_top None stack kept (Some v) e is typed = absurd cc
 result_top (Some t) stack kept None e is typed = absurd cc
 result_top (Some t) [] kept (Some w) e is typed = absurd cc
-result_top (Some t) (v ∷ stack) kept (Some w) e is typed =
-    let front : v ∷ [] ≡ w ∷ [] = cc in
-    let same : v ≡ w = cc in
-    ap (λ (x : Value). Some (Some x)) same
+result_top (Some t) (v ∷ stack) kept (Some w) e is typed = go (equal_type t (type_of v)) e
+  where
+    go : (b : Bool) → (if b then Some (v ∷ []) else None) ≡ Some kept → (if b then Some (Some v) else None) ≡ Some (Some w)
+    go true e =
+        let front : v ∷ [] ≡ w ∷ [] = cc in
+        let same : v ≡ w = cc in
+        ap (λ (x : Value). Some (Some x)) same
+    go false e = absurd cc
 
 -- what stands around a function that is called: what comes before its code, and how its value comes to those who wait
 pub record Around (g : Site) (ty : FuncType) (below : List state.Frame) (from start : Progress) : Type 0 where
   pub before : ℕ
   pub back : ℕ
   pub few : before + back ≤ 50
+  pub result_is : g.setting.context.result ≡ ty.result
   pub comes : Reaches g.program before from start
   pub gives : (after : state.Machine) (value : Option Value) → is_result ty.result value ≡ true
       → Reaches g.program back (given g.program g.pending after value g.below) (given g.program g.pending after value below)
@@ -202,13 +214,12 @@ exit_comes_back g ty below from start around room n left kept now names x r =
     let agree : VarsAgree g.slots g.has_element (exec.with_result r.value []) now.locals x.vars =
     subst (λ values. VarsAgree g.slots g.has_element values now.locals x.vars) r.kept_is x.stands.variables in
     let leaves : Reaches p 2 arrived inner = past_way g x.machine names (exit_stmts ty.result) x.vars 1 inner
-    (exit_gives g x.machine x.vars ty.result r.value now.locals g.depth r.typed agree x.stands.together.depth_is room)
+    (exit_gives g x.machine x.vars ty.result r.value now.locals g.depth around.result_is r.typed agree x.stands.together.depth_is room)
     in
     record {
       machine = machine;
       together = with_depth_together p g.linked g.count (suc g.depth) g.depth x.machine now.store now.trail x.stands.together;
       typed = r.typed;
-      is_number = r.number x.stands.variables.stack_numbers;
       statements = around.before + (x.statements + (2 + around.back));
       way = join p around.before (x.statements + (2 + around.back)) from start outer around.comes
           (join p x.statements (2 + around.back) start arrived outer x.way
@@ -237,9 +248,9 @@ finish_follows g ty below from start around room code n r h = go r h
     by_top : (left : ℕ) (stack : List Value) (now : store.State) → Branches g 0 (exit_target ty) start n left stack now
         → CallFollows g.program g.linked g.count g.depth g.pending below ty from n (exec.gave (exec.gives_top ty.result stack) left now)
     by_top left stack now b =
-        let r = result_of ty.result b.kept b.typed in
         let x : Arrives g 0 (exit_stmts ty.result) start n left b.kept now =
         subst (λ values. Arrives g 0 (exit_stmts ty.result) start n left values now) (append-nil b.kept) b.arrives in
+        let r = result_of ty.result b.kept b.typed x.stands.variables.stack_numbers in
         let top : exec.gives_top ty.result stack ≡ Some r.value = result_top ty.result stack b.kept r.value b.kept_is r.kept_is r.typed in
         subst (λ o. CallFollows g.program g.linked g.count g.depth g.pending below ty from n (exec.gave o left now)) (sym top)
         (exit_comes_back g ty below from start around room n left b.kept now [] x r)
@@ -252,7 +263,7 @@ finish_follows g ty below from start around room code n r h = go r h
         subst (λ values. Arrives g 0 (labelled named.0 (exit_stmts ty.result)) start n left values now) (append-nil stack)
         (subst (λ rest. Arrives g 0 rest start n left (stack ++ []) now) named.1 h.2)
         in
-        let r = result_of ty.result stack h.0 in
+        let r = result_of ty.result stack h.0 x.stands.variables.stack_numbers in
         let all : exec.gives_all ty.result stack ≡ Some r.value = ap (exec.gives_all ty.result) r.kept_is
         ∙ result_all ty.result r.value r.typed in
         subst (λ o. CallFollows g.program g.linked g.count g.depth g.pending below ty from n (exec.gave o left now)) (sym all)

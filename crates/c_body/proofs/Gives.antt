@@ -1,6 +1,6 @@
 -- What a plain instruction owes, and the two statements that give a value: an assignment to the slot on top, and a
 -- call of a helper whose value goes there.
-use Rattle.std.proofs.Common.{◌≡◌, ℕ, zero, suc, ◌<◌, ◌≤◌, ◌^◌, true, false, List, [], ◌∷◌, ◌++◌, length, Option, Some, None, IsSome, bytes_eq, refl, sym, ap, ◌∙◌, subst, arith}
+use Rattle.std.proofs.Common.{◌≡◌, ℕ, zero, suc, ◌<◌, ◌≤◌, ◌^◌, true, false, List, [], ◌∷◌, ◌++◌, length, Option, Some, None, is_some, bytes_eq, refl, sym, ap, ◌∙◌, subst, arith}
 use Rattle.w2c_base.specs.declared.value.ValType.{ValType}
 use Rattle.w2c_base.specs.declared.value.ValType.TheVariants as type
 use Rattle.w2c_base.specs.declared.value.Value.{Value}
@@ -17,6 +17,7 @@ use Rattle.c_meaning.specs.Linking.{Program}
 use Rattle.c_meaning.specs.Step.{Step, Next, depth_name, value_of, number_in, evaluate, evaluate_arg, evaluate_args, with_value, place_of, at_rest, with_vars, next, assign, c_step}
 use Rattle.c_meaning.specs.Run.{Pending, Progress, Going, Over, go_on}
 use Rattle.c_meaning.specs.Reaches.{Reaches}
+use Rattle.c_meaning.proofs.Takes.{put_where_held}
 use Rattle.c_meaning.proofs.Ways.{step}
 use Rattle.c_prelude.specs.declared.operation.Helper.{Helper}
 use Rattle.c_prelude.specs.Helpers.{helper_of}
@@ -27,12 +28,13 @@ use Rattle.c_prelude.proofs.CallStatements.{statement_comes_to}
 use Rattle.c_body.specs.Names.{slot}
 use Rattle.c_body.specs.Plain.{operand, set_slot, call_helper}
 use Rattle.c_body.specs.Serves.{Defines}
+use Rattle.c_body.specs.Agree.{HoldsNumber}
 use Rattle.c_body.specs.Follows.{Site, Target, StandsAt, Arrives, EndsAlike, labelled, Follows, state_at, at}
 use Rattle.c_body.proofs.Names.{slot_is_no_depth}
 use Rattle.c_body.proofs.Slots.{SlotIsSet}
 use Rattle.c_body.proofs.Before.{spends}
-use Rattle.c_body.proofs.Operands.{value_number}
-use Rattle.c_body.proofs.Vars.{height, under}
+use Rattle.c_body.proofs.Operands.{type_of-value, value_number}
+use Rattle.c_body.proofs.Vars.{height, under, Takes, number_taken}
 
 -- ---- what an instruction without control owes, once its step is paid
 
@@ -75,7 +77,7 @@ plain_follows g targets exit base rest outs m vars n before emitted stmts done c
 -- ---- evaluation in a function that runs
 
 abbrev pub running : Site → List tree.Stmt → state.Vars → state.Running
-running g rest vars = record { unit = g.unit; item = g.item; stmts = g.body.stmts; rest = rest; vars = vars }
+running g rest vars = (state_at g (record { depth = 0; units = []; trail = record { replies = []; events = [] } }) rest vars).running
 
 pub value_of_variable : (m : state.Machine) (r : state.Running) (name : List ℕ) (v : state.CValue) → bytes_eq name depth_name ≡ false
     → named name r.vars ≡ Some v
@@ -113,27 +115,28 @@ number_arg p m r e v is = ap (λ (x : Evaluated Value). then_evaluate x (λ u. I
 pub one_step : (p : Program) (pending : Pending) (s t : state.State) → c_step p s ≡ Next t → Reaches p 1 (Going pending s) (Going pending t)
 one_step p pending s t is = subst (λ (x : Step). Reaches p 1 (Going pending s) (go_on p pending x)) is (step p pending s)
 
--- a variable of the function is assigned
+-- a variable of the function is assigned a value of the type that it holds
 pub assign_variable : (m : state.Machine) (r : state.Running) (name : List ℕ) (v : state.CValue) (below : List state.Frame)
-    → bytes_eq name depth_name ≡ false → IsSome (named name r.vars)
-    → assign m r name v below
-    ≡ Next (record {
-      machine = m;
-      running = record { unit = r.unit; item = r.item; stmts = r.stmts; rest = r.rest; vars = with_named name v r.vars };
-      below = below;
-    })
-assign_variable m r name v below no_depth there = rw (no_depth, there) refl
+    → bytes_eq name depth_name ≡ false → Takes (named name r.vars) v
+    → assign m r name v below ≡ next m (with_vars r (with_named name v r.vars)) below
+assign_variable m r name v below no_depth takes =
+    let there : is_some (named name r.vars) ≡ true = ap is_some takes.1 in
+    rw (no_depth, there) (put_where_held m (named name r.vars) takes.0 v (next m (with_vars r (with_named name v r.vars)) below)
+    takes.1 takes.2)
 
 -- so is a slot
-pub assign_slot : (m : state.Machine) (r : state.Running) (t : ValType) (height : ℕ) (v : state.CValue) (below : List state.Frame)
-    → IsSome (named (slot t height) r.vars)
-    → assign m r (slot t height) v below ≡ next m (with_vars r (with_named (slot t height) v r.vars)) below
-assign_slot m r t height v below there = assign_variable m r (slot t height) v below (slot_is_no_depth t height) there
+pub assign_slot : (m : state.Machine) (r : state.Running) (t : ValType) (height : ℕ) (v : Value) (below : List state.Frame)
+    → HoldsNumber t (named (slot t height) r.vars) → type_of v ≡ t
+    → assign m r (slot t height) (state.Number v) below
+    ≡ next m (with_vars r (with_named (slot t height) (state.Number v) r.vars)) below
+assign_slot m r t height v below holds typed =
+    assign_variable m r (slot t height) (state.Number v) below (slot_is_no_depth t height)
+    (number_taken t (named (slot t height) r.vars) v holds typed)
 
 -- a variable is set to what an expression gives
 pub arg_reaches : (g : Site) (m : state.Machine) (rest : List tree.Stmt) (vars : state.Vars) (name : List ℕ) (e : tree.Expr)
     (v : state.CValue)
-    → bytes_eq name depth_name ≡ false → IsSome (named name vars)
+    → bytes_eq name depth_name ≡ false → Takes (named name vars) v
     → evaluate_arg g.program m (running g (tree.Set name (tree.Value e) ∷ rest) vars) (tree.Value e) ≡ Is v
     → Reaches g.program 1 (at g m (tree.Set name (tree.Value e) ∷ rest) vars) (at g m rest (with_named name v vars))
 arg_reaches g m rest vars name e v no_depth there is =
@@ -145,7 +148,7 @@ arg_reaches g m rest vars name e v no_depth there is =
     )
 
 pub set_reaches : (g : Site) (m : state.Machine) (rest : List tree.Stmt) (vars : state.Vars) (name : List ℕ) (e : tree.Expr) (v : Value)
-    → bytes_eq name depth_name ≡ false → IsSome (named name vars)
+    → bytes_eq name depth_name ≡ false → Takes (named name vars) (state.Number v)
     → evaluate g.program m (running g (tree.Set name (tree.Value e) ∷ rest) vars) e ≡ Is v
     → Reaches g.program 1 (at g m (tree.Set name (tree.Value e) ∷ rest) vars) (at g m rest (with_named name (state.Number v) vars))
 set_reaches g m rest vars name e v no_depth there is =
@@ -165,10 +168,6 @@ pub record Place (g : Site) (base under : List Value) (u : ValType) (outs : Stac
 -- the variables behind the assignment
 abbrev pub with_top : ValType → List Value → ℕ → state.Vars → state.Vars
 with_top u whole n vars = with_named (slot u (height whole)) (state.Number (value u n)) vars
-
-pub type_of-value : (u : ValType) (n : ℕ) → type_of (value u n) ≡ u
-type_of-value type.I32 n = refl
-type_of-value type.I64 n = refl
 
 -- A value is on top of what lies under it, in a machine and a store that may have changed; the run came there in 1 to 400
 -- statements, or to labels in front.
@@ -238,7 +237,8 @@ sets g base under u outs now m vars place n fits rest left e is =
     let h : ℕ = height (under ++ base) in
     leaves_number g base under u outs now m vars place n fits (at g m (set_slot u h e ∷ rest) vars) rest [] left 1 (omega arith)
     (omega arith)
-    (set_reaches g m rest vars (slot u h) e (value u n) (slot_is_no_depth u h) (place.stands.variables.declared u h place.there) is)
+    (set_reaches g m rest vars (slot u h) e (value u n) (slot_is_no_depth u h)
+    (number_taken u (named (slot u h) vars) (value u n) (place.stands.variables.declared u h place.there) (type_of-value u n)) is)
 
 -- ---- a call of a helper
 
@@ -279,16 +279,16 @@ takes_one g m after s rest vars new (suc n) way = omega arith
 
 -- the value of a call goes to the slot on top
 pub back_to_top : (g : Site) (m after : state.Machine) (vars : state.Vars) (s : tree.Stmt) (rest : List tree.Stmt) (t : ValType)
-    (height most : ℕ) (v : state.CValue)
-    → IsSome (named (slot t height) vars)
+    (height most : ℕ) (v : Value)
+    → HoldsNumber t (named (slot t height) vars) → type_of v ≡ t
     → ComesWithin g.program most (at g m (s ∷ rest) vars)
-    (go_on g.program g.pending (assign after (running g rest vars) (slot t height) v g.below))
-    → ComesWithin g.program most (at g m (s ∷ rest) vars) (at g after rest (with_named (slot t height) v vars))
-back_to_top g m after vars s rest t height most v there came = record {
+    (go_on g.program g.pending (assign after (running g rest vars) (slot t height) (state.Number v) g.below))
+    → ComesWithin g.program most (at g m (s ∷ rest) vars) (at g after rest (with_named (slot t height) (state.Number v) vars))
+back_to_top g m after vars s rest t height most v there typed came = record {
   statements = came.statements;
   few = came.few;
   way = subst (λ (x : Step). Reaches g.program came.statements (at g m (s ∷ rest) vars) (go_on g.program g.pending x))
-      (assign_slot after (running g rest vars) t height v g.below there) came.way;
+      (assign_slot after (running g rest vars) t height v g.below there typed) came.way;
 }
 
 -- a helper that changes nothing gives its answer to the slot on top, or traps
@@ -301,7 +301,7 @@ pub answer_does : (g : Site) → SlotIsSet g → (base under : List Value) (outs
     → Does g base rest outs (at g m (s ∷ rest) vars) left now (exec.answered t answer under now)
 answer_does g set base under outs now m vars t (Gives n) s rest left stood there typed fits came =
     let h : ℕ = length (types_of (under ++ base)) in
-    let back = back_to_top g m m vars s rest t h 391 (number t n) (stood.variables.declared t h there) came in
+    let back = back_to_top g m m vars s rest t h 391 (value t n) (stood.variables.declared t h there) (type_of-value t n) came in
     leaves_value g set base under t outs now now m vars (value t n) (type_of-value t n) (value_number t n fits) typed there stood
     (at g m (s ∷ rest) vars) rest [] left back.statements
     (takes_one g m m s rest vars (with_named (slot t h) (number t n) vars) back.statements back.way) (omega (arith, back.few)) back.way

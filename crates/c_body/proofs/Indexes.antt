@@ -11,7 +11,8 @@ use Rattle.wasm_tree.specs.declared.entries.Import.{Import}
 use Rattle.wasm_tree.specs.declared.entries.ImportKind.{ImportKind}
 use Rattle.wasm_tree.specs.declared.entries.ImportKind.TheVariants.{Func as ImportFunc, Table as ImportTable, Memory as ImportMemory, Global as ImportGlobal}
 use Rattle.wasm_tree.specs.declared.entries.FuncEntry.{FuncEntry}
-use Rattle.wasm_tree.specs.IndexSpaces.{func_of_import, func_space, type_in, is_func_import, imported_funcs}
+use Rattle.wasm_tree.specs.IndexSpaces.{func_of_import, func_space, type_in, is_func_import, imported_funcs, at_defined}
+use Rattle.wasm_tree.proofs.BehindImports.{defined_behind_imports}
 use Rattle.wasm_meaning.specs.LinkedSet as link
 use Rattle.c_body.specs.Agree.{IsDefined, IsCallable}
 use Rattle.c_body.specs.Symbols.{func_imports}
@@ -86,7 +87,7 @@ import_in_space (y ∷ imports) k x e = by_kind y.kind refl k e (λ j h. import_
 
 type_is : (s : link.LinkedSet) (u : ℕ) (m : link.NamedModule) (t : ℕ) → slice_get s.modules u ≡ Some m
     → link.type_at s u t ≡ type_in m.tree t
-type_is s u m t is = ap (λ (o : Option Module). if_found o (λ y. option_map (λ x. x.ty) (slice_get y.types t))) (module_is s u m is)
+type_is s u m t is = ap (λ (o : Option Module). if_found o (λ y. type_in y t)) (module_is s u m is)
 
 -- the type of the j-th function that a module defines
 pub own_type : (s : link.LinkedSet) (u : ℕ) (m : link.NamedModule) (j : ℕ) (entry : FuncEntry) → slice_get s.modules u ≡ Some m
@@ -94,10 +95,10 @@ pub own_type : (s : link.LinkedSet) (u : ℕ) (m : link.NamedModule) (j : ℕ) (
     → link.func_type s (link.ModuleFunc u (imported_funcs m.tree + j)) ≡ type_in m.tree entry.type_index
 own_type s u m j entry is at =
     let a = imported_funcs m.tree in
-    let place : (a + j) - a ≡ j = omega arith in
-    ap (λ (o : Option Module). if_found o (λ y. if_found (slice_get y.funcs ((a + j) - imported_funcs y))
+    ap (λ (o : Option Module). if_found o (λ y. if_found (at_defined y y.funcs (a + j))
     (λ f. link.type_at s u f.type_index))) (module_is s u m is)
-    ∙ (ap (λ (k : ℕ). if_found (slice_get m.tree.funcs k) (λ f. link.type_at s u f.type_index)) place
+    ∙ (ap (λ (o : Option FuncEntry). if_found o (λ f. link.type_at s u f.type_index))
+    (defined_behind_imports m.tree m.tree.funcs (a + j) j refl)
     ∙ (ap (λ (o : Option FuncEntry). if_found o (λ f. link.type_at s u f.type_index)) at
     ∙ type_is s u m entry.type_index is))
 

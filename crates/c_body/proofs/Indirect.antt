@@ -45,7 +45,7 @@ use Rattle.c_body.specs.Symbols.{c_func_type}
 use Rattle.c_body.specs.Stack.{stands, after_call}
 use Rattle.c_body.specs.Objects.{table_arg}
 use Rattle.c_body.specs.Passing.{StandsFor, called}
-use Rattle.c_body.specs.Agree.{VarsAgree, ElementAgrees, ElementsAgree, IsCallable, IsCallableIfAny}
+use Rattle.c_body.specs.Agree.{HoldsFunction, VarsAgree, ElementAgrees, ElementsAgree, IsCallable, IsCallableIfAny}
 use Rattle.c_body.specs.Plain.{call_helper, operand}
 use Rattle.c_body.specs.Code.{operands_from, result_slot, call_of, call_element, emit_kind}
 use Rattle.c_body.specs.Serves.{Defines}
@@ -53,7 +53,7 @@ use Rattle.c_body.specs.Follows.{Site, Target, StandsAt, Follows, state_at, at}
 use Rattle.c_body.specs.Parts.{IsSite, IndirectCallsFollow, aims_of}
 use Rattle.c_body.proofs.Store.{table_object}
 use Rattle.c_body.proofs.Seen.{TableFound, table_found}
-use Rattle.c_body.proofs.Vars.{under as below, set_element}
+use Rattle.c_body.proofs.Vars.{under as below, set_element, function_taken}
 use Rattle.c_body.proofs.Heights.{stands_top}
 use Rattle.c_body.proofs.Slots.{slots_are_set}
 use Rattle.c_body.proofs.Operands.{arguments, arguments_are_numbers, no_operand, first_type, other_types, reversed}
@@ -63,7 +63,7 @@ use Rattle.c_body.proofs.Memories.{types_differ}
 use Rattle.c_body.proofs.Lists.{all_at}
 use Rattle.c_body.proofs.Types.{equal_func_types_tell, sig_number_some, NumbersTellTypes, numbers_decide}
 use Rattle.c_body.proofs.Spaces.{module_is}
-use Rattle.c_body.proofs.Gives.{running, operand_is, waiting, helper_comes}
+use Rattle.c_body.proofs.Gives.{assign_variable, running, operand_is, waiting, helper_comes}
 use Rattle.c_body.proofs.Jumps.{way_by}
 
 -- ---- types and their numbers
@@ -223,10 +223,13 @@ through_follows g room calls site targets exit base stack left rest outs more ty
     (sym (invoked calls f ty.params left stack args split.under now split.is split.args_types)) result
 
 -- the element's variable is set to what the helper gives
-element_assigned : (g : Site) (m : state.Machine) (rest : List tree.Stmt) (vars : state.Vars) (v : state.CValue)
-    → IsSome (named element_name vars)
-    → assign m (running g rest vars) element_name v g.below ≡ Next (state_at g m rest (with_named element_name v vars))
-element_assigned g m rest vars v there = rw there refl
+element_assigned : (g : Site) (m : state.Machine) (rest : List tree.Stmt) (vars : state.Vars) (to : Option state.FuncAddress)
+    → HoldsFunction (named element_name vars)
+    → assign m (running g rest vars) element_name (FuncPointer to) g.below
+    ≡ Next (state_at g m rest (with_named element_name (FuncPointer to) vars))
+element_assigned g m rest vars to there =
+    assign_variable m (running g rest vars) element_name (FuncPointer to) g.below refl
+    (function_taken (named element_name vars) to there)
 
 -- the helper has looked the element up
 element_follows : NumbersTellTypes → (g : Site) (room : ℕ) (calls : exec.Calls) → IsSite g room calls
@@ -235,7 +238,7 @@ element_follows : NumbersTellTypes → (g : Site) (room : ℕ) (calls : exec.Cal
     → types_of stack ≡ reverse ty.params ++ more → outs ≡ reverse (values ty.result) ++ more
     → ((u : ValType) → ty.result ≡ Some u → (types : Stack) → drop (length ty.params) (types_of (stack ++ base)) ≡ types
     → g.slots u (length types) ≡ true)
-    → StandsAt g (stack ++ base) now m vars → IsSome (named element_name vars)
+    → StandsAt g (stack ++ base) now m vars → g.has_element ≡ true
     → (element : Option (Option link.FuncAddress)) (other : Option (Option Element)) → ElementAt g.program g.linked element other
     → ((f : link.FuncAddress) → element ≡ Some (Some f) → IsCallable g.linked g.count f)
     → (from : Progress)
@@ -302,15 +305,15 @@ element_follows law g room calls site targets exit base stack left rest outs mor
         let new : state.Vars = with_named element_name v vars in
         let way : Reaches g.program came.statements from (at g m (second ∷ rest) new) =
         subst (λ (x : Step). Reaches g.program came.statements from (go_on g.program g.pending x))
-        (element_assigned g m (second ∷ rest) vars v there) came.way in
+        (element_assigned g m (second ∷ rest) vars (Some e.func) (stood.variables.element there)) came.way in
         let after : StandsAt g (stack ++ base) now m new = record {
           together = stood.together;
-          variables = set_element g.slots g.has_element (stack ++ base) now.locals vars v stood.variables;
+          variables = set_element g.slots g.has_element (stack ++ base) now.locals vars (Some e.func) there stood.variables;
           local_types = stood.local_types;
         } in
         let result = through_follows g room calls site targets exit base stack left rest outs more ty now m new f e.func
         (agree.same.ty_is ∙ ap Some same) (callable f refl) agree.stands fit outs_are slots after
-        (named-with_named element_name v vars there) from came.statements way (omega (arith, came.few)) in
+        (named-with_named element_name v vars (ap is_some (stood.variables.element there).1)) from came.statements way (omega (arith, came.few)) in
         subst (λ b. Follows g 0 targets exit base rest outs from (suc left)
         (if b then exec.invoke calls f own.params left stack now else exec.Stops (exec.Trapped trap.Signature) now)) (sym (decided ∙ is))
         (subst (λ (t : FuncType). Follows g 0 targets exit base rest outs from (suc left) (exec.invoke calls f t.params left stack now))

@@ -118,10 +118,11 @@ ne_more c = rw (eqb-suc-zero c) refl
 
 -- a slot's value goes to another slot
 pub move_reaches : (g : Site) (m : state.Machine) (vars : state.Vars) (t : ValType) (h h' : ℕ) (v : Value) (rest : List tree.Stmt)
-    → named (slot t h) vars ≡ Some (state.Number v) → IsSome (named (slot t h') vars)
+    → named (slot t h) vars ≡ Some (state.Number v) → type_of v ≡ t → HoldsNumber t (named (slot t h') vars)
     → Reaches g.program 1 (at g m (set_slot t h' (operand t h) ∷ rest) vars) (at g m rest (with_named (slot t h') (state.Number v) vars))
-move_reaches g m vars t h h' v rest is there =
-    arg_reaches g m rest vars (slot t h') (operand t h) (state.Number v) (slot_is_no_depth t h') there
+move_reaches g m vars t h h' v rest is typed there =
+    arg_reaches g m rest vars (slot t h') (operand t h) (state.Number v) (slot_is_no_depth t h')
+    (number_taken t (named (slot t h') vars) v there typed)
     (operand_is g.program m (state_at g m (set_slot t h' (operand t h) ∷ rest) vars).running t h (state.Number v) is)
 
 -- ---- targets
@@ -209,7 +210,7 @@ straight_by g base l h (Some t) b to (v ∷ stack) more now m vars is e straight
     subst (λ i. named (slot (type_of v) i) vars ≡ Some (state.Number v)) same s.variables.stacked.0 in
     record {
       kept = v ∷ [];
-      kept_is = refl;
+      kept_is = of_its_type t v (v ∷ []) (sym (same_type v stack t more e));
       typed = ap (λ u. u ∷ []) (same_type v stack t more e);
       stands = stands_with g v b now m vars there s.variables.stack_numbers.0
           (stands_low g base (v ∷ stack) (target_by l h (Some t) b to) now m vars is s);
@@ -267,7 +268,7 @@ lands_by g set base l h (Some t) b to (v ∷ stack) more rest now m vars is foun
     let code : ValType → ℕ → List tree.Stmt = λ u j. set_slot u j (operand u i) ∷ (tree.Goto (label_name l) ∷ rest) in
     let way : Reaches g.program 2 (at g m (code (type_of v) (length (types_of b))) vars) (at g m to new) =
     join g.program 1 1 (at g m (code (type_of v) (length (types_of b))) vars) (at g m (tree.Goto (label_name l) ∷ rest) new) (at g m to new)
-    (move_reaches g m vars (type_of v) i (length (types_of b)) v (tree.Goto (label_name l) ∷ rest) s.variables.stacked.0
+    (move_reaches g m vars (type_of v) i (length (types_of b)) v (tree.Goto (label_name l) ∷ rest) s.variables.stacked.0 refl
     (s.variables.declared (type_of v) (length (types_of b)) declared))
     (goto_reaches g m new (label_name l) to rest found) in
     let way_there : Reaches g.program 2 (at g m (code t h) vars) (at g m to new) =
@@ -278,7 +279,7 @@ lands_by g set base l h (Some t) b to (v ∷ stack) more rest now m vars is foun
       vars = new;
       keeps = record {
         kept = v ∷ [];
-        kept_is = refl;
+        kept_is = of_its_type t v (v ∷ []) (sym type_is);
         typed = ap (λ u. u ∷ []) type_is;
         stands = record {
           together = s.together;

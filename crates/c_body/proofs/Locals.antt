@@ -25,8 +25,9 @@ use Rattle.c_body.specs.Plain.{operand, set_slot, selected, plain_stmts}
 use Rattle.c_body.specs.Follows.{Site, Target, StandsAt, Arrives, Follows, at}
 use Rattle.c_body.specs.Parts.{KindFollows, IsSite, IsPlaced}
 use Rattle.c_body.proofs.Names.{slot_is_no_depth, local_is_no_depth}
-use Rattle.c_body.proofs.Vars.{height, set_local, local_at, stands_below}
-use Rattle.c_body.proofs.Gives.{Does, Place, owes, running, evaluate-variable, set_reaches, with_top, type_of-value, leaves_number, sets}
+use Rattle.wasm_meaning.proofs.Typed.{of_the_same_type}
+use Rattle.c_body.proofs.Vars.{height, set_local, local_at, local_taken, number_taken, stands_below}
+use Rattle.c_body.proofs.Gives.{Does, Place, owes, running, evaluate-variable, set_reaches, with_top, leaves_number, sets}
 use Rattle.c_body.proofs.Numeric.{one_of, evaluate-slot, One, one_stands, Two, two_stand, place_of, Finds, labels_of}
 use Rattle.c_body.proofs.Operands.{types_length, types_set, value_number, other_types}
 use Rattle.c_body.proofs.Jumps.{if_passes, if_goes, ne_zero, ne_more}
@@ -159,24 +160,26 @@ sets_local g room calls site whole now m vars agree index t h n k is fits old re
       stands = record {
         together = agree.together;
         variables = set_local g.slots g.has_element whole now.locals vars index (value t n) (value t k)
-            (few_locals g room calls site now.locals agree.local_types) old (value_number t n fits) agree.variables;
+            (few_locals g room calls site now.locals agree.local_types) old (type_of-value t n ∙ sym (type_of-value t k)) (value_number t n fits)
+            agree.variables;
         local_types = types_set now.locals index (value t n) (value t k) old (type_of-value t n ∙ sym (type_of-value t k))
             ∙ agree.local_types;
       };
       statements = 1;
       way = set_reaches g m rest vars (local_name index) (operand t h) (value t n) (local_is_no_depth index)
-          (ap is_some (local_at index now.locals (value t k) vars agree.variables.located old))
+          (local_taken index now.locals (value t n) (value t k) vars agree.variables.located old
+          (type_of-value t n ∙ sym (type_of-value t k)))
           (evaluate-slot g m stmts vars t h (value t n) is);
       paid = record { least = omega arith; most = omega arith };
     }
 
 local_set_done : (index : ℕ) (v old : Value) (stack : List Value) (now : store.State) → slice_get now.locals index ≡ Some old
+    → type_of old ≡ type_of v
     → exec.local_set index v stack now ≡ exec.Leaves stack (exec.in_locals now (slice_set now.locals index v))
-local_set_done index v old stack now e =
-    ap (λ (o : Option Value). elim o [
-      | None ↦ exec.NoRule
-      | Some w ↦ exec.Leaves stack (exec.in_locals now (slice_set now.locals index v))
-    ]) e
+local_set_done index v old stack now e typed =
+    let does : exec.Done = exec.Leaves stack (exec.in_locals now (slice_set now.locals index v)) in
+    ap (λ (o : Option Value). elim o [ None ↦ exec.NoRule | Some w ↦ exec.of_one_type w v does ]) e
+    ∙ of_the_same_type old v does typed
 
 pub local_set_follows : (g : Site) (room : ℕ) (calls : exec.Calls) (index : ℕ) → IsSite g room calls
     → KindFollows g calls (wasm.LocalSet index)
@@ -194,7 +197,7 @@ local_set_follows g room calls index site targets exit base stack l n rest outs 
     let one : One g (below ++ base) t x now m vars = one_stands g (below ++ base) t x now m vars agree in
     subst (Does g base rest outs (at g m
     (plain_stmts g.setting (type_of (value t x) ∷ types_of (below ++ base)) l (wasm.LocalSet index) ++ rest) vars) left now)
-    (sym (local_set_done index (value t x) (value t found.0) below now found.1))
+    (sym (local_set_done index (value t x) (value t found.0) below now found.1 (type_of-value t found.0 ∙ sym (type_of-value t x))))
     (rw typed.1 (
       same ∙ sym typed.2.2,
       [],
@@ -219,7 +222,8 @@ local_tee_follows g room calls index site targets exit base stack l n rest outs 
     let one : One g (below ++ base) t x now m vars = one_stands g (below ++ base) t x now m vars agree in
     subst (Does g base rest outs (at g m
     (plain_stmts g.setting (type_of (value t x) ∷ types_of (below ++ base)) l (wasm.LocalTee index) ++ rest) vars) left now)
-    (sym (local_set_done index (value t x) (value t found.0) (value t x ∷ below) now found.1))
+    (sym (local_set_done index (value t x) (value t found.0) (value t x ∷ below) now found.1
+    (type_of-value t found.0 ∙ sym (type_of-value t x))))
     (rw typed.1 (
       ap (λ (u : ValType). u ∷ types_of below) (type_of-value t x)
           ∙ (ap (λ (ts : Stack). t ∷ ts) same ∙ sym typed.2.2),
@@ -239,6 +243,8 @@ selects : (g : Site) (base below : List Value) (t : ValType) (outs : Stack) (now
     → Does g base rest outs (at g m (selected l (height (below ++ base)) t ++ rest) vars) left now
     (exec.selected (I32 c ∷ value t y ∷ value t x ∷ below) now)
 selects g base below t outs now m vars place x y two first zero l condition rest found left =
+    subst (Does g base rest outs (at g m (selected l (height (below ++ base)) t ++ rest) vars) left now)
+    (sym (of_the_same_type (value t x) (value t y) (exec.Leaves (value t y ∷ below) now) (type_of-value t x ∙ sym (type_of-value t y)))) (
     let h : ℕ = height (below ++ base) in
     let move : tree.Stmt = set_slot t h (operand t (1 + h)) in
     let label : List tree.Stmt = tree.Label (label_name l) ∷ rest in
@@ -248,11 +254,13 @@ selects g base below t outs now m vars place x y two first zero l condition rest
     (join_one g.program 1 from (at g m (move ∷ label) vars) to
     (if_passes g m vars op.Ne (2 + h) 0 l (move ∷ label) condition ne_zero)
     (set_reaches g m label vars (slot t h) (operand t (1 + h)) (value t y) (slot_is_no_depth t h)
-    (place.stands.variables.declared t h place.there)
-    (evaluate-slot g m (move ∷ label) vars t (1 + h) (value t y) two.is)))
+    (number_taken t (named (slot t h) vars) (value t y) (place.stands.variables.declared t h place.there) (type_of-value t y))
+    (evaluate-slot g m (move ∷ label) vars t (1 + h) (value t y) two.is))))
 selects g base below t outs now m vars place x y two first (suc c) l condition rest found left =
     let h : ℕ = height (below ++ base) in
-    let move : tree.Stmt = set_slot t h (operand t (1 + h)) in (
+    let move : tree.Stmt = set_slot t h (operand t (1 + h)) in
+    subst (Does g base rest outs (at g m (selected l (height (below ++ base)) t ++ rest) vars) left now)
+    (sym (of_the_same_type (value t x) (value t y) (exec.Leaves (value t x ∷ below) now) (type_of-value t x ∙ sym (type_of-value t y)))) (
       ap (λ (u : ValType). u ∷ types_of below) (type_of-value t x) ∙ sym place.typed,
       [],
       record {

@@ -13,6 +13,10 @@ use Rattle.c_body.proofs.Lists.{all_append, all_front}
 
 -- ---- types
 
+pub type_of-value : (t : ValType) (n : ℕ) → type_of (value t n) ≡ t
+type_of-value type.I32 n = refl
+type_of-value type.I64 n = refl
+
 pub types_append : (xs ys : List Value) → types_of (xs ++ ys) ≡ types_of xs ++ types_of ys
 types_append [] ys = refl
 types_append (x ∷ xs) ys = ap (λ types. type_of x ∷ types) (types_append xs ys)

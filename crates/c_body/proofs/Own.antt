@@ -10,7 +10,8 @@ use Rattle.wasm_tree.specs.declared.tree.Module.{Module}
 use Rattle.wasm_tree.specs.declared.entries.TypeEntry.{TypeEntry}
 use Rattle.wasm_tree.specs.declared.entries.FuncEntry.{FuncEntry}
 use Rattle.wasm_tree.specs.declared.entries.BodyEntry.{BodyEntry}
-use Rattle.wasm_tree.specs.IndexSpaces.{type_in, declared_locals, imported_funcs}
+use Rattle.wasm_tree.specs.IndexSpaces.{type_in, declared_locals, imported_funcs, at_defined}
+use Rattle.wasm_tree.proofs.BehindImports.{defined_behind_imports}
 use Rattle.wasm_valid.specs.Context.{Context, context_of, body_context}
 use Rattle.wasm_valid.specs.Typing.{BodyHasType}
 use Rattle.wasm_valid.specs.Verdict.{bodies_of, IsTyped, AreTyped}
@@ -18,7 +19,7 @@ use Rattle.wasm_meaning.specs.LinkedSet as link
 use Rattle.c_tree.specs.Tree as tree
 use Rattle.c_tree.specs.Scope.{func_type_of}
 use Rattle.c_meaning.specs.State as state
-use Rattle.c_meaning.specs.Linking.{Program, Definition, definition_at, c_type_of, c_params_of}
+use Rattle.c_meaning.specs.Linking.{Program, Definition, definition_at, func_type, c_type_of, c_params_of}
 use Rattle.c_meaning.specs.Primitives.{primitive}
 use Rattle.c_meaning.proofs.Ways.{stays}
 use Rattle.alike.specs.Alike.{func_name}
@@ -53,6 +54,7 @@ pub record IsOwn (p : Program) (s : link.LinkedSet) (u : ℕ) (m : link.NamedMod
   pub code_is : link.body_of s u index ≡ Some entry
   pub defined : definition_at p u (func_name index) ≡ Some
       (record { item = item; func = func_of m index ty entry; body = func_body m ty entry })
+  pub c_typed : func_type p (state.UnitFunc u (func_name index)) ≡ Some (func_type_of (func_of m index ty entry))
   pub is_no_primitive : primitive (func_name index) ≡ None
   pub valid : BodyHasType (context_of m.tree ty entry) entry.code
   pub within : BodyIsWithin entry
@@ -115,7 +117,9 @@ own_is p s u m index served is known =
     let d = found.0 in
     let j = index - imported_funcs m.tree in
     let place : imported_funcs m.tree + j ≡ index = omega (arith, known.behind) in
-    let parts = get_zipped m.tree.funcs m.tree.bodies j d found.2 in
+    let entries : slice_get (bodies_of m.tree) j ≡ Some d =
+    sym (defined_behind_imports m.tree (bodies_of m.tree) index j (sym place)) ∙ found.2 in
+    let parts = get_zipped m.tree.funcs m.tree.bodies j d entries in
     let body_is : func_body m found.1 d.1 ≡ defines.body = same_Some (func_body m found.1 d.1) defines.body
     (ap (λ (f : tree.Func). f.body) (sym found.4) ∙ defines.has_body) in
     record {
@@ -125,13 +129,14 @@ own_is p s u m index served is known =
       place = j;
       body_at = parts.1;
       typed = ap (λ (k : ℕ). link.func_type s (link.ModuleFunc u k)) (sym place) ∙ (own_type s u m j d.0 is parts.0 ∙ found.3);
-      code_is = ap (λ (o : Option Module). if_found o (λ y. slice_get y.bodies (index - imported_funcs y)))
-          (module_is s u m is) ∙ parts.1;
+      code_is = ap (λ (o : Option Module). if_found o (λ y. at_defined y y.bodies index)) (module_is s u m is)
+          ∙ (defined_behind_imports m.tree m.tree.bodies index j (sym place) ∙ parts.1);
       defined = subst (λ (f : tree.Func). definition_at p u f.name ≡ Some (record { item = defines.item; func = f; body = defines.body }))
           found.4 defines.defined
           ∙ ap (λ (b : tree.Body). Some (record { item = defines.item; func = func_of m index found.1 d.1; body = b })) (sym body_is);
+      c_typed = subst (λ (f : tree.Func). func_type p (state.UnitFunc u f.name) ≡ Some (func_type_of f)) found.4 defines.typed;
       is_no_primitive = ap (λ (f : tree.Func). primitive f.name) (sym found.4) ∙ defines.is_no_primitive;
-      valid = typed_body m.tree (bodies_of m.tree) j d found.1 (served.valid u m is).bodies found.2 found.3;
+      valid = typed_body m.tree (bodies_of m.tree) j d found.1 (served.valid u m is).bodies entries found.3;
       within = all_at BodyIsWithin m.tree.bodies j d.1 (served.within u m is).bodies parts.1;
       few = few_params m.tree d.0.type_index found.1 (served.within u m is) found.3;
     }
@@ -160,8 +165,7 @@ own_stands p s u m index served is known =
       alike = inl (record { index = index; name_is = refl; func_is = refl });
       ty = own.ty;
       ty_is = own.typed;
-      c_ty_is = ap (option_map (λ (d : Definition). func_type_of d.func)) own.defined
-          ∙ ap (λ t. Some t) (func_type_is m index own.ty own.entry);
+      c_ty_is = own.c_typed ∙ ap (λ t. Some t) (func_type_is m index own.ty own.entry);
       passes = λ pending machine args below fit. record {
         frames = [];
         there = 0;

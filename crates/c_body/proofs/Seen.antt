@@ -26,7 +26,8 @@ use Rattle.c_meaning.specs.Linking.{Program}
 use Rattle.wasm_meaning.specs.Execution.{Calls}
 use Rattle.wasm_valid.specs.Context.{Context}
 use Rattle.c_body.specs.Serves.{AreServed}
-use Rattle.c_meaning.specs.Step.{Step, Next, Stops, depth_name, in_unit, value_of, number_in, as_object, evaluate_arg, with_value, place_of, with_vars, next, assign, act, c_step}
+use Rattle.c_meaning.specs.Step.{Step, Next, Stops, depth_name, in_unit, value_of, number_in, as_object, evaluate_arg, with_value, place_of, with_vars, next, assign, act, c_step, put_in}
+use Rattle.c_meaning.proofs.Takes.{put_number}
 use Rattle.alike.specs.Alike.{memory_name, table_name, global_name, first_global}
 use Rattle.c_body.specs.Names.{pointer_name}
 use Rattle.c_body.specs.Limits.{IsWithin}
@@ -340,11 +341,11 @@ global_found g room calls index ty stack now m vars site at stands = record {
 pub global_assigned : (g : Site) (room : ℕ) (calls : Calls) (index : ℕ) (ty : ValType × Bool) (stack : List Value) (now : store.State)
     (m : state.Machine) (vars : state.Vars)
     → IsSite g room calls → StandsAt g stack now m vars → (f : GlobalFound g index ty now.store m vars)
-    → (operand : state.Name) (v : Value) (rest : List tree.Stmt)
+    → (operand : state.Name) (v : Value) → type_of f.value ≡ type_of v → (rest : List tree.Stmt)
     → ((rest : List tree.Stmt) → value_of m (running g rest vars) operand ≡ Some (Number v))
     → c_step g.program (state_at g m (set_global g.setting.named.tree index (tree.Name operand) ∷ rest) vars)
     ≡ Next (state_at g (machine.with_var m (global_object g.linked f.known.address) (Number v)) rest vars)
-global_assigned g room calls index ty stack now m vars site stands f operand v rest is =
+global_assigned g room calls index ty stack now m vars site stands f operand v typed rest is =
     go (slice_get (global_imports g.setting.named.tree) index) refl
   where
     place : List tree.Stmt → state.Place
@@ -366,8 +367,8 @@ global_assigned g room calls index ty stack now m vars site stands f operand v r
         (global_name index) (tree.Value (tree.Name operand)) in
         act g.program m (running g (stmt ∷ rest) vars) (stmt ∷ rest) g.below
 
-    own : (a : state.ObjectAddress) → global_object g.linked f.known.address ≡ a → is_some (machine.var_in m a) ≡ true
-    own a e = ap (λ a. is_some (machine.var_in m a)) (sym e) ∙ ap is_some seen
+    own : (a : state.ObjectAddress) → global_object g.linked f.known.address ≡ a → machine.var_in m a ≡ Some (Number f.value)
+    own a e = ap (machine.var_in m) (sym e) ∙ seen
 
     go : (imported : Option Import) → slice_get (global_imports g.setting.named.tree) index ≡ imported
         → act_at (slice_get (global_imports g.setting.named.tree) index) ≡ assigned
@@ -381,10 +382,11 @@ global_assigned g room calls index ty stack now m vars site stands f operand v r
         let r : state.Running = running g rest vars in
         ap act_at none
         ∙ ap (λ (o : Option state.CValue). with_value m (place stmts) (found o) (λ v. assign m r (global_name index) v g.below)) (is stmts)
-        ∙ ap (λ (o : Option state.CValue). if is_some o then next m (with_vars r (with_named (global_name index) (Number v) vars)) g.below
-        else (if is_some (machine.var_in m a) then next (machine.with_var m a (Number v)) r g.below else Stops m state.Stuck))
+        ∙ ap (λ (o : Option state.CValue). if is_some o
+        then put_in m o (Number v) (next m (with_vars r (with_named (global_name index) (Number v) vars)) g.below)
+        else put_in m (machine.var_in m a) (Number v) (next (machine.with_var m a (Number v)) r g.below))
         (stands.variables.globals_seen index)
-        ∙ ap (λ (b : Bool). if b then next (machine.with_var m a (Number v)) r g.below else Stops m state.Stuck) (own a object)
+        ∙ put_number m (machine.var_in m a) f.value v (next (machine.with_var m a (Number v)) r g.below) (own a object) typed
         ∙ ap (λ a. next (machine.with_var m a (Number v)) r g.below) (sym object)
     go (Some i) some =
         let pointer = ready.globals index i some in
@@ -400,12 +402,11 @@ global_assigned g room calls index ty stack now m vars site stands f operand v r
         ∙ ap (λ (o : Option state.CValue). with_value m (place stmts) (number_in o) (λ v.
         with_value m (place stmts) (then_evaluate
         (found (value_of m (running g stmts vars) (pointer_name (global_name index)))) as_object) (λ a.
-        with_value m (place stmts) (found (machine.var_in m a)) (λ old. next (machine.with_var m a (Number v)) r g.below)))) (is stmts)
+        put_in m (machine.var_in m a) (Number v) (next (machine.with_var m a (Number v)) r g.below)))) (is stmts)
         ∙ ap (λ (o : Option state.CValue).
         with_value m (place stmts) (then_evaluate (found o) as_object) (λ a.
-        with_value m (place stmts) (found (machine.var_in m a)) (λ old. next (machine.with_var m a (Number v)) r g.below))) points
-        ∙ ap (λ (o : Option state.CValue). with_value m (place stmts) (found o)
-        (λ old. next (machine.with_var m a (Number v)) r g.below)) seen
+        put_in m (machine.var_in m a) (Number v) (next (machine.with_var m a (Number v)) r g.below))) points
+        ∙ put_number m (machine.var_in m a) f.value v (next (machine.with_var m a (Number v)) r g.below) seen typed
 
 -- ---- memory and table
 

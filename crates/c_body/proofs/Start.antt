@@ -19,16 +19,18 @@ use Rattle.c_tree.specs.declared.tree.Num.TheVariants.{Plain}
 use Rattle.c_tree.specs.Tree as tree
 use Rattle.c_meaning.specs.State as state
 use Rattle.c_meaning.specs.Machine.{initial_of}
-use Rattle.c_meaning.specs.Step.{param_names, bind, locals_of, first_vars}
+use Rattle.c_meaning.specs.Linking.{c_type_of}
+use Rattle.c_meaning.specs.Step.{param_names, param_types, are_of_types, bind, locals_of, first_vars}
+use Rattle.c_meaning.proofs.Takes.{numbers_of_their_types}
 use Rattle.c_meaning.proofs.Lookups.{bytes_equal, bytes_differ}
 use Rattle.alike.specs.Alike.{global_name}
 use Rattle.c_body.specs.Names.{slot, local_name, element_name, pointer_name}
 use Rattle.c_body.specs.Limits.{BodyIsWithin}
 use Rattle.c_body.specs.Agree.{Located, VarsAgree}
 use Rattle.c_body.specs.Body.{params_from, params_of, zero_local, locals_from, has_slot, most_operands, slots_of, has_element, element_local, func_of}
-use Rattle.c_body.proofs.Names.{local_at_another_place, slot_is_no_global, slot_is_no_pointer}
+use Rattle.c_body.proofs.Names.{local_at_another_place, local_is_no_element, slot_is_no_element, slot_is_no_global, slot_is_no_local, slot_is_no_pointer}
 use Rattle.c_body.proofs.Slots.{slots_are_low}
-use Rattle.c_body.proofs.Operands.{types_length, zeros_types, zeros_numbers}
+use Rattle.c_body.proofs.Operands.{type_of-value, types_length, zeros_types, zeros_numbers}
 use Rattle.c_body.proofs.Own.{func_body}
 use Rattle.c_body.proofs.Lists.{all_append}
 
@@ -69,6 +71,21 @@ params_bound : (types : List ValType) (args : List Value) → types_of args ≡ 
 params_bound [] [] e = refl
 params_bound [] (v ∷ args) e = absurd cc
 params_bound (t ∷ types) args e = bound 0 (t ∷ types) args e
+
+-- arguments have the types of the parameters
+types_from : (k : ℕ) (types : List ValType) → param_types (params_from k types) ≡ map c_type_of types
+types_from k [] = refl
+types_from k (t ∷ types) = ap (λ others. c_type_of t ∷ others) (types_from (suc k) types)
+
+types_of_params : (types : List ValType) → param_types (params_of types) ≡ map c_type_of types
+types_of_params [] = refl
+types_of_params (t ∷ types) = types_from 0 (t ∷ types)
+
+args_fit : (types : List ValType) (args : List Value) → types_of args ≡ types
+    → are_of_types (param_types (params_of types)) (map state.Number args) ≡ true
+args_fit types args e =
+    ap (λ wanted. are_of_types wanted (map state.Number args)) (types_of_params types ∙ ap (map c_type_of) (sym e))
+    ∙ numbers_of_their_types args
 
 locals_join : (xs ys : List tree.Local) (vs ws : state.Vars) → locals_of xs ≡ Some vs → locals_of ys ≡ Some ws
     → locals_of (xs ++ ys) ≡ Some (vs ++ ws)
@@ -142,13 +159,17 @@ first_vars_are m index item ty entry args fit =
     (slots_behind c code) (zero_locals (length ty.params) declared) behind
     in
     let long : length ty.params ≡ 0 + length args = omega (arith, ap length fit, types_length args) in
-    ap (λ (o : Option state.Vars). if_found o (λ params. option_map (λ locals. params ++ locals) (locals_of all)))
+    ap (λ fits. if fits
+    then if_found (bind (param_names (params_of ty.params)) (map state.Number args)) (λ params.
+        option_map (λ locals. params ++ locals) (locals_of all))
+    else None) (args_fit ty.params args fit)
+    ∙ (ap (λ (o : Option state.Vars). if_found o (λ params. option_map (λ locals. params ++ locals) (locals_of all)))
     (params_bound ty.params args fit)
     ∙ (ap (option_map (λ (locals : state.Vars). local_vars 0 args ++ locals)) made
     ∙ ap (λ (vars : state.Vars). Some vars)
     (ap (λ n. local_vars 0 args ++ (local_vars n (zeros declared) ++ slots_behind c code)) long
     ∙ (sym (append_assoc (local_vars 0 args) (local_vars (0 + length args) (zeros declared)) (slots_behind c code))
-    ∙ ap (λ vars. vars ++ slots_behind c code) (locals_joined 0 args (zeros declared)))))
+    ∙ ap (λ vars. vars ++ slots_behind c code) (locals_joined 0 args (zeros declared))))))
 
 -- ---- what their names hold
 
@@ -161,23 +182,16 @@ named_behind name (x ∷ xs) ys none = go (bytes_eq x.0 name) none (named_behind
     go true none more = absurd cc
     go false none more = more none
 
-some_left : (name : state.Name) (xs ys : state.Vars) → is_some (named name xs) ≡ true → is_some (named name (xs ++ ys)) ≡ true
-some_left name [] ys e = absurd cc
-some_left name (x ∷ xs) ys e = go (bytes_eq x.0 name) e (some_left name xs ys)
+-- what is found stays found in front of others
+found_left : (name : state.Name) (xs ys : state.Vars) (v : state.CValue) → named name xs ≡ Some v → named name (xs ++ ys) ≡ Some v
+found_left name [] ys v e = absurd cc
+found_left name (x ∷ xs) ys v e = go (bytes_eq x.0 name) e (found_left name xs ys v)
   where
-    go : (b : Bool) → is_some (if b then Some x.1 else named name xs) ≡ true
-        → (is_some (named name xs) ≡ true → is_some (named name (xs ++ ys)) ≡ true)
-        → is_some (if b then Some x.1 else named name (xs ++ ys)) ≡ true
-    go true e more = refl
+    go : (b : Bool) → (if b then Some x.1 else named name xs) ≡ Some v
+        → (named name xs ≡ Some v → named name (xs ++ ys) ≡ Some v)
+        → (if b then Some x.1 else named name (xs ++ ys)) ≡ Some v
+    go true e more = e
     go false e more = more e
-
-some_right : (name : state.Name) (xs ys : state.Vars) → is_some (named name ys) ≡ true → is_some (named name (xs ++ ys)) ≡ true
-some_right name [] ys e = e
-some_right name (x ∷ xs) ys e = go (bytes_eq x.0 name) (some_right name xs ys e)
-  where
-    go : (b : Bool) → is_some (named name (xs ++ ys)) ≡ true → is_some (if b then Some x.1 else named name (xs ++ ys)) ≡ true
-    go true e = refl
-    go false e = e
 
 -- behind variables that hide none of them, locals are found
 located : (before : state.Vars) (k : ℕ) (locals : List Value) (rest : state.Vars) → k + length locals < 2 ^ 64
@@ -230,26 +244,33 @@ unnamed c entry args name no_local no_slot no_element =
     no_variable true = ap (λ b. if b then Some (state.FuncPointer None) else None) no_element
     no_variable false = refl
 
--- a height that passes has its slot
+-- a height that passes has its slot, which is 0
 slot_there : (t : ValType) (test : ℕ → Bool) (a n h : ℕ) → test h ≡ true → a ≤ h → h < a + n
-    → is_some (named (slot t h) (slot_vars t (filter test (range_with_len a n)))) ≡ true
+    → named (slot t h) (slot_vars t (filter test (range_with_len a n))) ≡ Some (state.Number (value t 0))
 slot_there t test a zero h passes from to = absurd (omega (arith, from, to))
 slot_there t test a (suc n) h passes from to = elim (cases_eq a h) [
   | inl same ↦
       let kept : test a ≡ true = ap test same ∙ passes in
       let found : bytes_eq (slot t a) (slot t h) ≡ true = ap (λ k. bytes_eq (slot t a) (slot t k)) (sym same) ∙ bytes_equal (slot t a) in
-      ap (λ keep. is_some (named (slot t h) (slot_vars t
-      (cond keep (a ∷ filter test (range_with_len (a + 1) n)) (filter test (range_with_len (a + 1) n)))))) kept
-      ∙ ap (λ b. is_some (if b then Some (state.Number (value t 0)) else named (slot t h)
-      (slot_vars t (filter test (range_with_len (a + 1) n))))) found
+      ap (λ keep. named (slot t h) (slot_vars t
+      (cond keep (a ∷ filter test (range_with_len (a + 1) n)) (filter test (range_with_len (a + 1) n))))) kept
+      ∙ ap (λ b. if b then Some (state.Number (value t 0)) else named (slot t h)
+      (slot_vars t (filter test (range_with_len (a + 1) n)))) found
   | inr differ ↦ by_test (test a) (slot_there t test (a + 1) n h passes (omega (arith, from, differ)) (omega (arith, to)))
 ]
   where
-    by_test : (keep : Bool) → is_some (named (slot t h) (slot_vars t (filter test (range_with_len (a + 1) n)))) ≡ true
-        → is_some (named (slot t h) (slot_vars t
-        (cond keep (a ∷ filter test (range_with_len (a + 1) n)) (filter test (range_with_len (a + 1) n))))) ≡ true
-    by_test true e = some_right (slot t h) ((slot t a, state.Number (value t 0)) ∷ [])
-        (slot_vars t (filter test (range_with_len (a + 1) n))) e
+    hidden : (b : Bool) (rest : Option state.CValue) → rest ≡ Some (state.Number (value t 0))
+        → (if b then Some (state.Number (value t 0)) else rest) ≡ Some (state.Number (value t 0))
+    hidden true rest e = refl
+    hidden false rest e = e
+
+    by_test : (keep : Bool)
+        → named (slot t h) (slot_vars t (filter test (range_with_len (a + 1) n))) ≡ Some (state.Number (value t 0))
+        → named (slot t h) (slot_vars t
+        (cond keep (a ∷ filter test (range_with_len (a + 1) n)) (filter test (range_with_len (a + 1) n))))
+        ≡ Some (state.Number (value t 0))
+    by_test true e = hidden (bytes_eq (slot t a) (slot t h))
+        (named (slot t h) (slot_vars t (filter test (range_with_len (a + 1) n)))) e
     by_test false e = e
 
 -- the arguments and zeros are its locals, and it has all its slots
@@ -267,12 +288,27 @@ start_agrees c entry args within few numbers =
       located = located [] 0 locals (slots_behind c entry.code) (omega (arith, long, few, within.locals)) (λ i from to. refl);
       stack_numbers = tt;
       local_numbers = all_append IsNumber args (zeros declared) numbers (zeros_numbers declared);
-      declared = λ t height is. some_right (slot t height) (local_vars 0 locals) (slots_behind c entry.code) (slot_here t height is);
-      element = λ is. some_right element_name (local_vars 0 locals) (slots_behind c entry.code)
-          (some_right element_name (slot_vars type.I32 (heights_of type.I32 c entry.code))
-          (slot_vars type.I64 (heights_of type.I64 c entry.code) ++ element_vars (has_element entry.code))
-          (some_right element_name (slot_vars type.I64 (heights_of type.I64 c entry.code)) (element_vars (has_element entry.code))
-          (element_here (has_element entry.code) is)));
+      declared = λ t height is. (
+        value t 0,
+        named_behind (slot t height) (local_vars 0 locals) (slots_behind c entry.code)
+            (unnamed_locals (slot t height) 0 locals (λ i. bytes_differ (local_name i) (slot t height)
+            (λ e. slot_is_no_local t height i (sym e))))
+            ∙ slot_here t height is,
+        type_of-value t 0,
+      );
+      element = λ is. (
+        None,
+        named_behind element_name (local_vars 0 locals) (slots_behind c entry.code)
+            (unnamed_locals element_name 0 locals (λ i. bytes_differ (local_name i) element_name (local_is_no_element i)))
+            ∙ (named_behind element_name (slot_vars type.I32 (heights_of type.I32 c entry.code))
+            (slot_vars type.I64 (heights_of type.I64 c entry.code) ++ element_vars (has_element entry.code))
+            (unnamed_slots element_name type.I32 (heights_of type.I32 c entry.code) (λ h. bytes_differ (slot type.I32 h) element_name
+            (slot_is_no_element type.I32 h)))
+            ∙ (named_behind element_name (slot_vars type.I64 (heights_of type.I64 c entry.code)) (element_vars (has_element entry.code))
+            (unnamed_slots element_name type.I64 (heights_of type.I64 c entry.code) (λ h. bytes_differ (slot type.I64 h) element_name
+            (slot_is_no_element type.I64 h)))
+            ∙ element_here (has_element entry.code) is)),
+      );
       globals_seen = λ k. unnamed c entry args (global_name k) (λ i. refl)
           (λ t h. bytes_differ (slot t h) (global_name k) (slot_is_no_global t h k)) refl;
       pointers_seen = λ object. unnamed c entry args (pointer_name object) (λ i. refl)
@@ -280,19 +316,22 @@ start_agrees c entry args within few numbers =
     }
   where
     slot_here : (t : ValType) (height : ℕ) → has_slot t c entry.code height ≡ true
-        → is_some (named (slot t height) (slots_behind c entry.code)) ≡ true
+        → named (slot t height) (slots_behind c entry.code) ≡ Some (state.Number (value t 0))
     slot_here type.I32 height is =
-        some_left (slot type.I32 height) (slot_vars type.I32 (heights_of type.I32 c entry.code))
+        found_left (slot type.I32 height) (slot_vars type.I32 (heights_of type.I32 c entry.code))
         (slot_vars type.I64 (heights_of type.I64 c entry.code) ++ element_vars (has_element entry.code))
+        (state.Number (value type.I32 0))
         (slot_there type.I32 (has_slot type.I32 c entry.code) 0 (most_operands c entry.code) height is (omega arith)
         (omega (arith, slots_are_low type.I32 c entry.code height is)))
     slot_here type.I64 height is =
-        some_right (slot type.I64 height) (slot_vars type.I32 (heights_of type.I32 c entry.code))
+        named_behind (slot type.I64 height) (slot_vars type.I32 (heights_of type.I32 c entry.code))
         (slot_vars type.I64 (heights_of type.I64 c entry.code) ++ element_vars (has_element entry.code))
-        (some_left (slot type.I64 height) (slot_vars type.I64 (heights_of type.I64 c entry.code)) (element_vars (has_element entry.code))
+        (unnamed_slots (slot type.I64 height) type.I32 (heights_of type.I32 c entry.code) (λ h. refl))
+        ∙ found_left (slot type.I64 height) (slot_vars type.I64 (heights_of type.I64 c entry.code)) (element_vars (has_element entry.code))
+        (state.Number (value type.I64 0))
         (slot_there type.I64 (has_slot type.I64 c entry.code) 0 (most_operands c entry.code) height is (omega arith)
-        (omega (arith, slots_are_low type.I64 c entry.code height is))))
+        (omega (arith, slots_are_low type.I64 c entry.code height is)))
 
-    element_here : (has : Bool) → IsTrue has → is_some (named element_name (element_vars has)) ≡ true
+    element_here : (has : Bool) → IsTrue has → named element_name (element_vars has) ≡ Some (state.FuncPointer None)
     element_here true is = refl
     element_here false is = absurd cc

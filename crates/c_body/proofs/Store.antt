@@ -15,7 +15,7 @@ use Rattle.c_meaning.specs.Linking.{Program}
 use Rattle.c_meaning.proofs.Lookups.{named-with_named, named-with_another}
 use Rattle.alike.specs.Alike.{memory_name, table_name, global_name, GlobalsAlike, first_global}
 use Rattle.c_body.specs.Names.{pointer_name}
-use Rattle.c_body.specs.Agree.{MemoryAgrees, MemoriesAgree, TableAgrees, TablesAgree, ObjectsAgree, StoresAgree, Agrees, PointersAreSet, IsMade, IsCallableIfAny, ReplyIsNumber}
+use Rattle.c_body.specs.Agree.{MemoryAgrees, MemoriesAgree, TableAgrees, TablesAgree, ObjectsAgree, StoresAgree, Agrees, PointersAreSet, IsMade, IsCallableIfAny}
 use Rattle.c_body.specs.Follows.{Together}
 use Rattle.c_body.proofs.Lists.{all_at, all_set, unseen, still_there, still_all}
 use Rattle.c_body.proofs.Operands.{types_set}
@@ -77,7 +77,6 @@ agrees_set p s m made trail k new other agree a =
     record {
       objects = stores_set p s 0 k made m.units new other a.objects (subst (λ i. ObjectsAgree p s i new other) at agree);
       same_trail = a.same_trail;
-      replies = a.replies;
     }
 
 -- a module's pointers stay set where their variables are as before
@@ -362,10 +361,10 @@ table_seen p s m made trail owner table a e =
 -- what agrees does so at another depth, and with another trail
 together_with : (p : Program) (s : LinkedSet) (count old new : ℕ) (m : state.Machine) (made : store.Store) (trail other : Trail) (depth : ℕ)
     (seen : Trail)
-    → Together p s count old m made trail → depth ≡ new → seen ≡ other → AllByRecursion ReplyIsNumber other.replies
+    → Together p s count old m made trail → depth ≡ new → seen ≡ other
     → Together p s count new (record { depth = depth; units = m.units; trail = seen }) made other
-together_with p s count old new m made trail other depth seen t deep same numbers = record {
-  agrees = record { objects = t.agrees.objects; same_trail = same; replies = numbers };
+together_with p s count old new m made trail other depth seen t deep same = record {
+  agrees = record { objects = t.agrees.objects; same_trail = same };
   ready = record {
     pointers = λ u tree less is. let q = t.ready.pointers u tree less is in
         record { memory = q.memory; table = q.table; globals = q.globals };
@@ -378,10 +377,9 @@ together_with p s count old new m made trail other depth seen t deep same number
 pub with_depth_together : (p : Program) (s : LinkedSet) (count old new : ℕ) (m : state.Machine) (made : store.Store) (trail : Trail)
     → Together p s count old m made trail → Together p s count new (machine.with_depth m new) made trail
 with_depth_together p s count old new m made trail t =
-    together_with p s count old new m made trail trail new m.trail t refl t.agrees.same_trail t.agrees.replies
+    together_with p s count old new m made trail trail new m.trail t refl t.agrees.same_trail
 
 pub with_trail_together : (p : Program) (s : LinkedSet) (count depth : ℕ) (m : state.Machine) (made : store.Store) (old new : Trail)
-    → Together p s count depth m made old → AllByRecursion ReplyIsNumber new.replies
-    → Together p s count depth (machine.with_trail m new) made new
-with_trail_together p s count depth m made old new t numbers =
-    together_with p s count depth depth m made old new m.depth new t t.depth_is refl numbers
+    → Together p s count depth m made old → Together p s count depth (machine.with_trail m new) made new
+with_trail_together p s count depth m made old new t =
+    together_with p s count depth depth m made old new m.depth new t t.depth_is refl

@@ -1,5 +1,5 @@
 -- The function with an index, by what is found of it.
-use Rattle.std.proofs.Common.{◌≡◌, ◌∙◌, ℕ, zero, suc, ◌-◌, List, [], ◌∷◌, map, Option, Some, None, refl, ap, sym}
+use Rattle.std.proofs.Common.{◌≡◌, ◌∙◌, ℕ, zero, suc, ◌-◌, nat_lt, Bool, true, false, if◌then◌else◌, List, [], ◌∷◌, map, Option, Some, None, refl, ap, sym}
 use Rattle.std.specs.Prelude.{slice_get, option_map, unwrap_or, zip}
 use Rattle.w2c_base.specs.Lookup.{if_found}
 use Rattle.c_tree.specs.Tree as tree
@@ -9,7 +9,7 @@ use Rattle.wasm_tree.specs.declared.tree.Module.{Module}
 use Rattle.wasm_tree.specs.declared.entries.FuncEntry.{FuncEntry}
 use Rattle.wasm_tree.specs.declared.entries.BodyEntry.{BodyEntry}
 use Rattle.wasm_tree.specs.declared.entries.TypeEntry.{TypeEntry}
-use Rattle.wasm_tree.specs.IndexSpaces.{type_in, imported_funcs}
+use Rattle.wasm_tree.specs.IndexSpaces.{type_in, imported_funcs, at_defined}
 use Rattle.c_body.specs.Body.{body_of, func_of, no_func}
 
 none_left : {A B : Type 0} (xs : List A) (ys : List B) (i : ℕ) → slice_get xs i ≡ None → slice_get (zip xs ys) i ≡ None
@@ -30,27 +30,60 @@ both (x ∷ xs) [] i a b e f = cc
 both (x ∷ xs) (y ∷ ys) zero a b e f = cc
 both (x ∷ xs) (y ∷ ys) (suc i) a b e f = both xs ys i a b e f
 
+-- what stands at an index in two lists stands there in pairs
+pub pair_at : {A B : Type 0} (m : Module) (xs : List A) (ys : List B) (index : ℕ) (a : A) (b : B)
+    → at_defined m xs index ≡ Some a → at_defined m ys index ≡ Some b → at_defined m (zip xs ys) index ≡ Some (a, b)
+pair_at {A} {B} m xs ys index a b = go (nat_lt index (imported_funcs m))
+  where
+    go : (imported : Bool) → (if imported then None else slice_get xs (index - imported_funcs m)) ≡ Some a
+        → (if imported then None else slice_get ys (index - imported_funcs m)) ≡ Some b
+        → (if imported then None else slice_get (zip xs ys) (index - imported_funcs m)) ≡ Some {A = A × B} (a, b)
+    go true e f = absurd cc
+    go false e f = both xs ys (index - imported_funcs m) a b e f
+
+no_pair_left : {A B : Type 0} (m : Module) (xs : List A) (ys : List B) (index : ℕ) → at_defined m xs index ≡ None
+    → at_defined m (zip xs ys) index ≡ None
+no_pair_left m xs ys index = go (nat_lt index (imported_funcs m))
+  where
+    go : (imported : Bool) → (if imported then None else slice_get xs (index - imported_funcs m)) ≡ None
+        → (if imported then None else slice_get (zip xs ys) (index - imported_funcs m)) ≡ None
+    go true e = refl
+    go false e = none_left xs ys (index - imported_funcs m) e
+
+no_pair_right : {A B : Type 0} (m : Module) (xs : List A) (ys : List B) (index : ℕ) → at_defined m ys index ≡ None
+    → at_defined m (zip xs ys) index ≡ None
+no_pair_right m xs ys index = go (nat_lt index (imported_funcs m))
+  where
+    go : (imported : Bool) → (if imported then None else slice_get ys (index - imported_funcs m)) ≡ None
+        → (if imported then None else slice_get (zip xs ys) (index - imported_funcs m)) ≡ None
+    go true e = refl
+    go false e = none_right xs ys (index - imported_funcs m) e
+
 -- what is looked up for the function with an index, by its entry
 abbrev entry_of : Module → List ℕ → ℕ → Option (FuncEntry × BodyEntry) → tree.Func
-entry_of m name index d = unwrap_or (if_found d (λ e. option_map (λ ty. func_of (record { name = name; tree = m }) index ty e.1) (type_in m e.0.type_index))) no_func
+entry_of m name index d =
+    unwrap_or
+    (if_found d (λ e. option_map (λ ty. func_of (record { name = name; tree = m }) index ty e.1) (type_in m e.0.type_index)))
+    no_func
 
-by_entry : (m : Module) (name : List ℕ) (index place : ℕ) (d : Option (FuncEntry × BodyEntry)) → place ≡ index - imported_funcs m
-    → slice_get (zip m.funcs m.bodies) place ≡ d → entry_of m name index d ≡ body_of m name index
-by_entry m name index place d at e =
-    ap (entry_of m name index) (sym e ∙ ap (λ i. slice_get (zip m.funcs m.bodies) i) at)
+by_entry : (m : Module) (name : List ℕ) (index : ℕ) (d : Option (FuncEntry × BodyEntry)) → at_defined m (zip m.funcs m.bodies) index ≡ d
+    → entry_of m name index d ≡ body_of m name index
+by_entry m name index d e = ap (entry_of m name index) (sym e)
 
-pub no_function : (m : Module) (name : List ℕ) (index place : ℕ) → place ≡ index - imported_funcs m → None ≡ slice_get m.funcs place → no_func ≡ body_of m name index
-no_function m name index place at e = by_entry m name index place None at (none_left m.funcs m.bodies place (sym e))
+pub no_function : (m : Module) (name : List ℕ) (index : ℕ) → None ≡ at_defined m m.funcs index → no_func ≡ body_of m name index
+no_function m name index e = by_entry m name index None (no_pair_left m m.funcs m.bodies index (sym e))
 
-pub no_body : (m : Module) (name : List ℕ) (index place : ℕ) → place ≡ index - imported_funcs m → None ≡ slice_get m.bodies place → no_func ≡ body_of m name index
-no_body m name index place at e = by_entry m name index place None at (none_right m.funcs m.bodies place (sym e))
+pub no_body : (m : Module) (name : List ℕ) (index : ℕ) → None ≡ at_defined m m.bodies index → no_func ≡ body_of m name index
+no_body m name index e = by_entry m name index None (no_pair_right m m.funcs m.bodies index (sym e))
 
 abbrev typed_entry : Module → List ℕ → ℕ → BodyEntry → Option FuncType → tree.Func
-typed_entry m name index body found = unwrap_or (option_map (λ ty. func_of (record { name = name; tree = m }) index ty body) found) no_func
+typed_entry m name index body found =
+    unwrap_or (option_map (λ ty. func_of (record { name = name; tree = m }) index ty body) found) no_func
 
-pub by_its_type : (m : Module) (name : List ℕ) (index place : ℕ) (func : FuncEntry) (body : BodyEntry) (found : Option FuncType) → place ≡ index - imported_funcs m
-    → Some func ≡ slice_get m.funcs place → Some body ≡ slice_get m.bodies place → found ≡ slice_get (map (λ (t : TypeEntry). t.ty) m.types) func.type_index
+pub by_its_type : (m : Module) (name : List ℕ) (index : ℕ) (func : FuncEntry) (body : BodyEntry) (found : Option FuncType)
+    → Some func ≡ at_defined m m.funcs index → Some body ≡ at_defined m m.bodies index
+    → found ≡ slice_get (map (λ (t : TypeEntry). t.ty) m.types) func.type_index
     → typed_entry m name index body found ≡ body_of m name index
-by_its_type m name index place func body found at e f g =
+by_its_type m name index func body found e f g =
     ap (typed_entry m name index body) (g ∙ slice_get-map (λ (t : TypeEntry). t.ty) m.types func.type_index)
-    ∙ by_entry m name index place (Some (func, body)) at (both m.funcs m.bodies place func body (sym e) (sym f))
+    ∙ by_entry m name index (Some (func, body)) (pair_at m m.funcs m.bodies index func body (sym e) (sym f))

@@ -74,7 +74,6 @@ pub record ComesBack (p : Program) (s : link.LinkedSet) (count depth : ℕ) (pen
   pub machine : state.Machine
   pub together : Together p s count depth machine made trail
   pub typed : is_result ty.result value ≡ true
-  pub is_number : (v : Value) → value ≡ Some v → IsNumber v
   pub statements : ℕ
   pub way : Reaches p statements from (given p pending machine value below)
   pub paid : Paid call_spare n left statements

@@ -1,7 +1,7 @@
 // The function of a body.
 ghost use Rattle.std.specs.Prelude.{◌≡◌, ◌-◌, ◌++◌, replicate, slice_get, IfOk, OnOk};
 ghost use Rattle.std.specs.Option.{option_copied};
-ghost use Rattle.wasm_tree.specs.IndexSpaces.{declared_locals, imported_funcs as imported_func_count};
+ghost use Rattle.wasm_tree.specs.IndexSpaces.{declared_locals, at_defined};
 ghost use Rattle.c_tree.specs.View.{body_of as body_seen, func_of as func_seen};
 ghost use Rattle.w2c_base.specs.declared.value.ValType.TheVariants as type;
 ghost use Rattle.c_body.specs.Around.{named_of, setting_of};
@@ -117,33 +117,37 @@ impl<'a> IndexSpaces<'a> {
         })
     }
 
-    // Where the entry of a function that the module defines stands.
-    fn place_of(&self, index: u32) -> usize
-        ensures { result ≡ index - imported_func_count self.now.tree.now }
+    fn func_at(&self, index: u32) -> Option<&'a FuncEntry>
+        ensures { option_copied result ≡ at_defined self.now.tree.now self.now.tree.now.funcs index }
     {
-        (index as usize).saturating_sub(self.imported_funcs())
+        let index = index as usize;
+        let imported = self.imported_funcs();
+        if index < imported {
+            None
+        } else {
+            self.tree.funcs.as_slice().get(index - imported)
+        }
     }
 
-    fn func_at(&self, place: usize) -> Option<&'a FuncEntry>
-        ensures { option_copied result ≡ slice_get self.now.tree.now.funcs place }
+    fn body_at(&self, index: u32) -> Option<&'a BodyEntry>
+        ensures { option_copied result ≡ at_defined self.now.tree.now self.now.tree.now.bodies index }
     {
-        self.tree.funcs.as_slice().get(place)
-    }
-
-    fn body_at(&self, place: usize) -> Option<&'a BodyEntry>
-        ensures { option_copied result ≡ slice_get self.now.tree.now.bodies place }
-    {
-        self.tree.bodies.as_slice().get(place)
+        let index = index as usize;
+        let imported = self.imported_funcs();
+        if index < imported {
+            None
+        } else {
+            self.tree.bodies.as_slice().get(index - imported)
+        }
     }
 
     /// The function with an index. It is the translation of the function that the module defines with it.
     pub fn function(&self, alloc: Global, index: u32) -> Result<Func, Memory>
         ensures { IfOk result (λ f. func_seen f ≡ function.body_of self.now.tree.now self.now.name.now index) }
     {
-        let place = self.place_of(index);
-        match self.func_at(place) {
+        match self.func_at(index) {
             None => no_func(alloc),
-            Some(func) => match self.body_at(place) {
+            Some(func) => match self.body_at(index) {
                 None => no_func(alloc),
                 Some(body) => match self.ty(func.type_index) {
                     None => no_func(alloc),
