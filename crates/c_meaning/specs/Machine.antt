@@ -1,6 +1,6 @@
 -- The objects of file scope that a machine holds (C11, 6.2.4 static storage duration, 6.7.9
 -- initialisation), and how one of them is read and changed.
-use Rattle.std.specs.Prelude.{ℕ, Bool, false, ◌||◌, List, [], map, filter_map, is_some, slice_get, slice_set, Option, Some, None, option_map}
+use Rattle.std.specs.Prelude.{ℕ, Bool, true, false, ◌||◌, List, [], map, filter_map, is_some, slice_get, slice_set, Option, Some, None, option_map}
 use Rattle.w2c_base.specs.declared.value.Value.TheVariants.{I32, I64}
 use Rattle.w2c_base.specs.Lookup.{if_found, named, with_named}
 use Rattle.w2c_base.specs.Run.{Trail, Reply}
@@ -9,7 +9,7 @@ use Rattle.c_tree.specs.declared.tree.CType.TheVariants as type
 use Rattle.c_tree.specs.declared.tree.Num.{Num}
 use Rattle.c_tree.specs.declared.tree.Num.TheVariants.{N32, N64, Plain}
 use Rattle.c_tree.specs.Tree as tree
-use Rattle.c_meaning.specs.State.{Name, ObjectAddress, CValue, Number, Pointer, FuncPointer, Memory, Table, Objects, Machine, of_one_type}
+use Rattle.c_meaning.specs.State.{Name, ObjectAddress, CValue, Number, Pointer, FuncPointer, Memory, Table, Objects, Machine}
 use Rattle.c_meaning.specs.Linking.{Program}
 
 -- what a variable of this type holds where nothing else is said
@@ -25,9 +25,16 @@ zero_of type.Void = None
 zero_of type.Mem = None
 zero_of type.Tab = None
 
--- a value of this type: one of the type of its zero
+-- a value of this type. What a pointer points to is looked at where it is used
 abbrev pub of_type : CType → CValue → Bool
-of_type ty v = elim (zero_of ty) [ None ↦ false | Some zero ↦ of_one_type zero v ]
+of_type type.U32 (Number (I32 n)) = true
+of_type type.U64 (Number (I64 n)) = true
+of_type type.PtrU32 (Pointer to) = true
+of_type type.PtrU64 (Pointer to) = true
+of_type type.PtrMem (Pointer to) = true
+of_type type.PtrTab (Pointer to) = true
+of_type type.FnPtr (FuncPointer to) = true
+of_type _ _ = false
 
 -- what it holds after its initialiser, which fits the type
 abbrev pub initial_of : CType → Num → Option CValue

@@ -17,7 +17,7 @@ use Rattle.c_meaning.proofs.Goes.{step_on, walk}
 use Rattle.c_prelude.specs.declared.rows.Form.TheVariants as form
 use Rattle.c_prelude.specs.Pieces.{num}
 use Rattle.c_prelude.specs.Rows.{Unary}
-use Rattle.c_prelude.specs.Helpers.{number_helper}
+use Rattle.c_prelude.specs.Helpers.{number_helper, c_type}
 use Rattle.c_prelude.specs.Operators.{DoesOperator}
 use Rattle.c_prelude.proofs.Computed.{computed}
 use Rattle.c_prelude.proofs.Widths.{widths, evaluate-num, seen}
@@ -43,7 +43,14 @@ sum_stages t (suc i) rest = sum_stages t i (sum_stage t i ∷ rest)
 abbrev at : ValType → Call → List tree.Stmt → ℕ → Progress
 at t call rest a = Going call.pending (record {
   machine = call.machine;
-  running = record { unit = call.unit; item = call.item; stmts = call.stmts; rest = rest; vars = (codes "x", Number (value t a)) ∷ [] };
+  running = record {
+    unit = call.unit;
+    item = call.item;
+    result = c_type t;
+    stmts = call.stmts;
+    rest = rest;
+    vars = (codes "x", Number (value t a)) ∷ [];
+  };
   below = call.below;
 })
 
@@ -69,13 +76,20 @@ stages_run t call rest (suc i) a l h =
     ∙ (ap (step_on call.program) (stages_run t call (sum_stage t i ∷ rest) i a (omega arith) h)
     ∙ stage_step t call rest i (sums i (steps_of t) a) l b)
 
+-- the last statement
+returns : (t : ValType) (call : Call) (a : ℕ)
+    → step_on call.program (Some (at t call (tree.Return (tree.Value x) ∷ []) a)) ≡ Some (gives t call a)
+returns type.I32 call a = refl
+returns type.I64 call a = refl
+
 -- all stages and the last statement
 ones_run : (t : ValType) (call : Call) (a : ℕ) → a < 2 ^ bits t
     → walk call.program (suc (steps_of t)) (Some (at t call (sum_stages t (steps_of t) (tree.Return (tree.Value x) ∷ [])) a)) ≡ Some (gives t call (ones a))
 ones_run t call a h =
     walk-suc call.program (steps_of t) (Some (at t call (sum_stages t (steps_of t) (tree.Return (tree.Value x) ∷ [])) a))
     ∙ (ap (step_on call.program) (stages_run t call (tree.Return (tree.Value x) ∷ []) (steps_of t) a (le_refl (steps_of t)) h)
-    ∙ ap (λ n. Some (gives t call n)) (sums-ones (steps_of t) a (rw whole_width h)))
+    ∙ (returns t call (sums (steps_of t) (steps_of t) a)
+    ∙ ap (λ n. Some (gives t call n)) (sums-ones (steps_of t) a (rw whole_width h))))
 
 pub popcnt_right : (t : ValType) → DoesOperator (number_helper (record { ty = t; form = form.Popcnt })) t (Unary wasm.Popcnt)
 popcnt_right type.I32 m x p = computed 6 (omega arith) (λ program pending unit item below. ones_run type.I32 (called form.Popcnt type.I32 program pending m unit item below) x p)

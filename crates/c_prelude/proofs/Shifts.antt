@@ -19,9 +19,12 @@ use Rattle.c_prelude.specs.declared.rows.Row.{Row}
 use Rattle.c_prelude.specs.Calls.{call_begun, call_ended}
 use Rattle.c_prelude.specs.declared.rows.Form.TheVariants as form
 use Rattle.c_prelude.specs.Rows.{Binary}
-use Rattle.c_prelude.specs.Helpers.{number_helper, number_stmts}
+use Rattle.c_tree.specs.declared.tree.COp.TheVariants as op
+use Rattle.c_tree.specs.Tree as tree
+use Rattle.c_prelude.specs.Pieces.{num}
+use Rattle.c_prelude.specs.Helpers.{number_helper, c_type}
 use Rattle.c_prelude.specs.Operators.{DoesOperator, number, answered}
-use Rattle.c_prelude.proofs.Computed.{computed}
+use Rattle.c_prelude.proofs.Computed.{BeginsWith, computed, computed_from}
 use Rattle.c_prelude.proofs.Widths.{widths, evaluate-num, seen, at_operands, twice, half_pos, answers, sides, bits-below}
 use Rattle.c_prelude.proofs.Signs.{is_low, is_high, pattern_of-pos}
 
@@ -89,10 +92,28 @@ shifting t x y s = (codes "x", Number (value t x)) ∷ (codes "y", Number (value
 abbrev shift_row : ValType → Row
 shift_row t = record { ty = t; form = form.ShrS }
 
+-- its statements
+abbrev shift_stmts : ValType → List tree.Stmt
+shift_stmts t =
+    let x : tree.Expr = tree.Name (codes "x") in
+    let y : tree.Expr = tree.Name (codes "y") in
+    let s : tree.Expr = tree.Name (codes "s") in
+    tree.Set (codes "y") (tree.Value (tree.Op op.Rem y (num t (bits t))))
+    ∷ tree.Set (codes "s") (tree.Value (tree.Op op.Sub (num t 0) (tree.Op op.Shr x (num t (bits t - 1)))))
+    ∷ tree.Return (tree.Value (tree.Op op.Xor (tree.Op op.Shr (tree.Op op.Xor x s) y) s))
+    ∷ []
+
 abbrev shift_begun : ValType → Pending → Machine → ℕ → ℕ → List Frame → ℕ → ℕ → Progress
 shift_begun t pending m unit item below x y = Going pending (record {
   machine = m;
-  running = record { unit = unit; item = item; stmts = number_stmts (shift_row t); rest = number_stmts (shift_row t); vars = shifting t x y 0 };
+  running = record {
+    unit = unit;
+    item = item;
+    result = c_type t;
+    stmts = shift_stmts t;
+    rest = shift_stmts t;
+    vars = shifting t x y 0;
+  };
   below = below;
 })
 
@@ -152,11 +173,15 @@ rotated N zero x b h l =
     rw (e, f, g, or_self x) (sym (add-zero x))
 rotated N (suc k) x b h l = rw (other-some N (suc k) b (omega arith) l) (parts N (suc k) (N - suc k) x (omega arith) h)
 
+rotl_begins : (t : ValType) (m : Machine) (x y : ℕ) → BeginsWith form.Rotl t m x y
+rotl_begins type.I32 m x y p pending unit item below = refl
+rotl_begins type.I64 m x y p pending unit item below = refl
+
 pub rotl_right : (t : ValType) → DoesOperator (number_helper (record { ty = t; form = form.Rotl })) t (Binary wasm.Rotl)
 rotl_right t m x y p q =
     let N = bits t in
     let l : y % N < N = count-lt t y in
-    answers t (Gives _) _ (ap Gives (sym (rotated N (y % N) x (bits-below t) p l))) (computed 2 (omega arith) (λ program pending unit item below.
+    answers t (Gives _) _ (ap Gives (sym (rotated N (y % N) x (bits-below t) p l))) (computed_from form.Rotl t m x y 2 (omega arith) (rotl_begins t m x y) (λ program pending unit item below.
     simp (widths, at_operands program m unit t x y, at_operands program m unit t x (y % N), bits-not_zero t, count-below t y, count-below t ((N + (2 ^ N - y % N)) % 2 ^ N))))
 
 pub rotated_r : (N k x : ℕ) → N < 2 ^ N → x < 2 ^ N → k < N → bit_or (x * 2 ^ other N k % 2 ^ N) (x / 2 ^ k) ≡ x * 2 ^ (N - k) % 2 ^ N + x / 2 ^ k
@@ -167,9 +192,13 @@ rotated_r N zero x b h l =
     rw (e, f, g, or_self x) (sym (zero-add x))
 rotated_r N (suc k) x b h l = rw (other-some N (suc k) b (omega arith) l) (parts N (N - suc k) (suc k) x (omega arith) h)
 
+rotr_begins : (t : ValType) (m : Machine) (x y : ℕ) → BeginsWith form.Rotr t m x y
+rotr_begins type.I32 m x y p pending unit item below = refl
+rotr_begins type.I64 m x y p pending unit item below = refl
+
 pub rotr_right : (t : ValType) → DoesOperator (number_helper (record { ty = t; form = form.Rotr })) t (Binary wasm.Rotr)
 rotr_right t m x y p q =
     let N = bits t in
     let l : y % N < N = count-lt t y in
-    answers t (Gives _) _ (ap Gives (sym (rotated_r N (y % N) x (bits-below t) p l))) (computed 2 (omega arith) (λ program pending unit item below.
+    answers t (Gives _) _ (ap Gives (sym (rotated_r N (y % N) x (bits-below t) p l))) (computed_from form.Rotr t m x y 2 (omega arith) (rotr_begins t m x y) (λ program pending unit item below.
     simp (widths, at_operands program m unit t x y, at_operands program m unit t x (y % N), bits-not_zero t, count-below t y, count-below t ((N + (2 ^ N - y % N)) % 2 ^ N))))

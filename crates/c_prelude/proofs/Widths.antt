@@ -7,11 +7,15 @@ use Rattle.w2c_base.specs.declared.value.ValType.{ValType}
 use Rattle.w2c_base.specs.declared.value.ValType.TheVariants as type
 use Rattle.w2c_base.specs.declared.value.Value.{Value}
 use Rattle.w2c_base.specs.declared.value.Value.TheVariants.{I32, I64}
-use Rattle.w2c_base.specs.Values.{bits, value, number_of}
+use Rattle.w2c_base.specs.Values.{bits, value, type_of, number_of}
 use Rattle.c_tree.specs.declared.tree.COp.{COp}
 use Rattle.c_tree.specs.Tree as tree
 use Rattle.wasm_meaning.specs.Operators.{Answer}
+use Rattle.c_tree.specs.declared.tree.CType.TheVariants.{Void}
 use Rattle.c_meaning.specs.State.{CValue, Number, Vars, Machine, Running, Evaluated, Is, then_evaluate}
+use Rattle.w2c_base.proofs.Types.{type_equals_itself}
+use Rattle.c_meaning.specs.Machine.{of_type}
+use Rattle.c_prelude.specs.Helpers.{c_type}
 use Rattle.c_meaning.specs.Linking.{Program}
 use Rattle.c_meaning.specs.Operators.{operate, operate_at}
 use Rattle.c_meaning.specs.Step.{evaluate}
@@ -48,11 +52,20 @@ pub flagged-bit : (t : ValType) (b : Bool) → flagged t (Is (I32 (if b then 1 e
 flagged-bit type.I32 b = ap (λ n. Is (I32 n)) (bit_stays b)
 flagged-bit type.I64 b = ap (λ n. Is (I64 n)) (bit_stays b)
 
-pub ruleset widths = (operate-value, number_of-value, flagged-bit)
+-- a number goes where its type is wanted or one of its type is held
+pub of_type-value : (t : ValType) (n : ℕ) → of_type (c_type t) (Number (value t n)) ≡ true
+of_type-value type.I32 n = refl
+of_type-value type.I64 n = refl
+
+pub type_of-value : (t : ValType) (n : ℕ) → type_of (value t n) ≡ t
+type_of-value type.I32 n = refl
+type_of-value type.I64 n = refl
+
+pub ruleset widths = (operate-value, number_of-value, flagged-bit, of_type-value, type_of-value, type_equals_itself)
 
 -- a function as expressions see it: its unit and its variables
 abbrev pub seen : ℕ → Vars → Running
-seen unit vars = record { unit = unit; item = 0; stmts = []; rest = []; vars = vars }
+seen unit vars = record { unit = unit; item = 0; result = Void; stmts = []; rest = []; vars = vars }
 
 -- the operands
 abbrev pub operands : ValType → ℕ → ℕ → Vars

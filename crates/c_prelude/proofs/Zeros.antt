@@ -21,7 +21,7 @@ use Rattle.c_prelude.specs.declared.rows.Form.{Form}
 use Rattle.c_prelude.specs.declared.rows.Form.TheVariants as form
 use Rattle.c_prelude.specs.Pieces.{num, flag}
 use Rattle.c_prelude.specs.Rows.{Unary}
-use Rattle.c_prelude.specs.Helpers.{number_helper, number_stmts}
+use Rattle.c_prelude.specs.Helpers.{number_helper, number_stmts, c_type}
 use Rattle.c_prelude.specs.Calls.{call_ended}
 use Rattle.c_prelude.specs.Operators.{DoesOperator, answered}
 use Rattle.c_prelude.proofs.Computed.{computed}
@@ -88,7 +88,14 @@ pub record Call : Type 0 where
 abbrev at : ValType → Call → List tree.Stmt → ℕ → ℕ → ℕ → Progress
 at t call rest a b c = Going call.pending (record {
   machine = call.machine;
-  running = record { unit = call.unit; item = call.item; stmts = call.stmts; rest = rest; vars = counting t a b c };
+  running = record {
+    unit = call.unit;
+    item = call.item;
+    result = c_type t;
+    stmts = call.stmts;
+    rest = rest;
+    vars = counting t a b c;
+  };
   below = call.below;
 })
 

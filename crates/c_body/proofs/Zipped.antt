@@ -1,0 +1,89 @@
+-- The function with an index, by what is found of it.
+use Rattle.std.proofs.Common.{◌≡◌, ◌∙◌, ℕ, zero, suc, ◌-◌, nat_lt, Bool, true, false, if◌then◌else◌, List, [], ◌∷◌, map, Option, Some, None, refl, ap, sym}
+use Rattle.std.specs.Prelude.{slice_get, option_map, unwrap_or, zip}
+use Rattle.w2c_base.specs.Lookup.{if_found}
+use Rattle.c_tree.specs.Tree as tree
+use Rattle.std.proofs.lemmas.Option.{slice_get-map}
+use Rattle.w2c_base.specs.declared.signature.FuncType.{FuncType}
+use Rattle.wasm_tree.specs.declared.tree.Module.{Module}
+use Rattle.wasm_tree.specs.declared.entries.FuncEntry.{FuncEntry}
+use Rattle.wasm_tree.specs.declared.entries.BodyEntry.{BodyEntry}
+use Rattle.wasm_tree.specs.declared.entries.TypeEntry.{TypeEntry}
+use Rattle.wasm_tree.specs.IndexSpaces.{type_in, imported_funcs, at_defined}
+use Rattle.c_body.specs.Body.{body_of, func_of, no_func}
+
+none_left : {A B : Type 0} (xs : List A) (ys : List B) (i : ℕ) → slice_get xs i ≡ None → slice_get (zip xs ys) i ≡ None
+none_left [] ys i e = refl
+none_left (x ∷ xs) [] i e = refl
+none_left (x ∷ xs) (y ∷ ys) zero e = cc
+none_left (x ∷ xs) (y ∷ ys) (suc i) e = none_left xs ys i e
+
+none_right : {A B : Type 0} (xs : List A) (ys : List B) (i : ℕ) → slice_get ys i ≡ None → slice_get (zip xs ys) i ≡ None
+none_right [] ys i e = refl
+none_right (x ∷ xs) [] i e = refl
+none_right (x ∷ xs) (y ∷ ys) zero e = cc
+none_right (x ∷ xs) (y ∷ ys) (suc i) e = none_right xs ys i e
+
+both : {A B : Type 0} (xs : List A) (ys : List B) (i : ℕ) (a : A) (b : B) → slice_get xs i ≡ Some a → slice_get ys i ≡ Some b → slice_get (zip xs ys) i ≡ Some (a, b)
+both [] ys i a b e f = cc
+both (x ∷ xs) [] i a b e f = cc
+both (x ∷ xs) (y ∷ ys) zero a b e f = cc
+both (x ∷ xs) (y ∷ ys) (suc i) a b e f = both xs ys i a b e f
+
+-- what stands at an index in two lists stands there in pairs
+pub pair_at : {A B : Type 0} (m : Module) (xs : List A) (ys : List B) (index : ℕ) (a : A) (b : B)
+    → at_defined m xs index ≡ Some a → at_defined m ys index ≡ Some b → at_defined m (zip xs ys) index ≡ Some (a, b)
+pair_at {A} {B} m xs ys index a b = go (nat_lt index (imported_funcs m))
+  where
+    go : (imported : Bool) → (if imported then None else slice_get xs (index - imported_funcs m)) ≡ Some a
+        → (if imported then None else slice_get ys (index - imported_funcs m)) ≡ Some b
+        → (if imported then None else slice_get (zip xs ys) (index - imported_funcs m)) ≡ Some (a, b)
+    go true e f = absurd cc
+    go false e f = both xs ys (index - imported_funcs m) a b e f
+
+no_pair_left : {A B : Type 0} (m : Module) (xs : List A) (ys : List B) (index : ℕ) → at_defined m xs index ≡ None
+    → at_defined m (zip xs ys) index ≡ None
+no_pair_left m xs ys index = go (nat_lt index (imported_funcs m))
+  where
+    go : (imported : Bool) → (if imported then None else slice_get xs (index - imported_funcs m)) ≡ None
+        → (if imported then None else slice_get (zip xs ys) (index - imported_funcs m)) ≡ None
+    go true e = refl
+    go false e = none_left xs ys (index - imported_funcs m) e
+
+no_pair_right : {A B : Type 0} (m : Module) (xs : List A) (ys : List B) (index : ℕ) → at_defined m ys index ≡ None
+    → at_defined m (zip xs ys) index ≡ None
+no_pair_right m xs ys index = go (nat_lt index (imported_funcs m))
+  where
+    go : (imported : Bool) → (if imported then None else slice_get ys (index - imported_funcs m)) ≡ None
+        → (if imported then None else slice_get (zip xs ys) (index - imported_funcs m)) ≡ None
+    go true e = refl
+    go false e = none_right xs ys (index - imported_funcs m) e
+
+-- what is looked up for the function with an index, by its entry
+abbrev entry_of : Module → List ℕ → ℕ → Option (FuncEntry × BodyEntry) → tree.Func
+entry_of m name index d =
+    unwrap_or
+    (if_found d (λ e. option_map (λ ty. func_of (record { name = name; tree = m }) index ty e.1) (type_in m e.0.type_index)))
+    no_func
+
+by_entry : (m : Module) (name : List ℕ) (index : ℕ) (d : Option (FuncEntry × BodyEntry)) → at_defined m (zip m.funcs m.bodies) index ≡ d
+    → entry_of m name index d ≡ body_of m name index
+by_entry m name index d e = ap (entry_of m name index) (sym e)
+
+pub no_function : (m : Module) (name : List ℕ) (index : ℕ) → None ≡ at_defined m m.funcs index → no_func ≡ body_of m name index
+no_function m name index e = by_entry m name index None (no_pair_left m m.funcs m.bodies index (sym e))
+
+pub no_body : (m : Module) (name : List ℕ) (index : ℕ) → None ≡ at_defined m m.bodies index → no_func ≡ body_of m name index
+no_body m name index e = by_entry m name index None (no_pair_right m m.funcs m.bodies index (sym e))
+
+abbrev typed_entry : Module → List ℕ → ℕ → BodyEntry → Option FuncType → tree.Func
+typed_entry m name index body found =
+    unwrap_or (option_map (λ ty. func_of (record { name = name; tree = m }) index ty body) found) no_func
+
+pub by_its_type : (m : Module) (name : List ℕ) (index : ℕ) (func : FuncEntry) (body : BodyEntry) (found : Option FuncType)
+    → Some func ≡ at_defined m m.funcs index → Some body ≡ at_defined m m.bodies index
+    → found ≡ slice_get (map (λ (t : TypeEntry). t.ty) m.types) func.type_index
+    → typed_entry m name index body found ≡ body_of m name index
+by_its_type m name index func body found e f g =
+    ap (typed_entry m name index body) (g ∙ slice_get-map (λ (t : TypeEntry). t.ty) m.types func.type_index)
+    ∙ by_entry m name index (Some (func, body)) (pair_at m m.funcs m.bodies index func body (sym e) (sym f))

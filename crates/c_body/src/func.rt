@@ -1,0 +1,182 @@
+// The function of a body.
+ghost use Rattle.std.specs.Prelude.{◌≡◌, ◌-◌, ◌++◌, replicate, slice_get, IfOk, OnOk};
+ghost use Rattle.std.specs.Option.{option_copied};
+ghost use Rattle.wasm_tree.specs.IndexSpaces.{declared_locals, at_defined};
+ghost use Rattle.c_tree.specs.View.{body_of as body_seen, func_of as func_seen};
+ghost use Rattle.w2c_base.specs.declared.value.ValType.TheVariants as type;
+ghost use Rattle.c_body.specs.Around.{named_of, setting_of};
+ghost use Rattle.c_body.specs.Body as function;
+
+use crate::around::Around;
+use crate::call::c_result;
+use crate::content::{declared, params, put_element, put_slots};
+use crate::emitter::Emitter;
+use crate::index_spaces::IndexSpaces;
+use crate::naming::func_name;
+use c_tree::{Body, CType, Func, Name, Params, Stmts};
+use std::alloc::Global;
+use w2c_base::{FuncType, Memory, ValType};
+use wasm_tree::{BodyEntry, Code, FuncEntry, Run};
+use wasm_valid::ValidModule;
+
+// Locals of one type.
+fn put_run(types: &mut Vec<ValType>, run: Run) -> Result<(), Memory>
+    ensures { OnOk result (types.new.items ≡ types.old.items ++ replicate run.count run.ty) }
+{
+    for _ in 0..run.count {
+        types.push(run.ty)?;
+    }
+    Ok(())
+}
+
+// The types of the declared locals.
+fn declared_types(alloc: Global, body: &BodyEntry) -> Result<Vec<ValType>, Memory>
+    ensures { IfOk result (λ types. types.items ≡ declared_locals body.now.runs) }
+{
+    let mut types = Vec::new(alloc);
+    for run in body.runs.as_slice() {
+        put_run(&mut types, *run)?;
+    }
+    Ok(types)
+}
+
+// The parameters' types, and then those of the declared locals.
+fn all_types(alloc: Global, ty: &FuncType, own: &[ValType]) -> Result<Vec<ValType>, Memory>
+    ensures { IfOk result (λ types. types.items ≡ ty.now.params ++ own.now) }
+{
+    let mut types = Vec::from_slice(alloc, ty.params.as_slice())?;
+    types.extend_from_slice(own)?;
+    Ok(types)
+}
+
+fn statements(emitter: Emitter) -> Stmts
+    ensures { result ≡ emitter.stmts.items }
+{
+    let Emitter { stmts, .. } = emitter;
+    Stmts::from_vec(stmts)
+}
+
+// The variables and the statements of a body, whose own locals are numbered from the first on.
+fn whole_body(around: &Around, first: usize, own: &[ValType], code: &Code) -> Result<Body, Memory>
+    ensures { IfOk result (λ b. body_seen b ≡ record {
+      locals = function.locals_from first own.now
+          ++ (function.slots_of type.I32 (setting_of around.now).context code.now
+          ++ (function.slots_of type.I64 (setting_of around.now).context code.now
+          ++ function.element_local code.now));
+      stmts = function.stmts_of (setting_of around.now) code.now;
+    }) }
+{
+    let alloc = around.alloc;
+    let emitter = Emitter::body(around, code)?;
+    let mut locals = declared(alloc, first, own)?;
+    put_slots(
+        alloc,
+        &mut locals,
+        ValType::I32,
+        emitter.operands.marks.as_slice(),
+    )?;
+    put_slots(
+        alloc,
+        &mut locals,
+        ValType::I64,
+        emitter.operands.marks.as_slice(),
+    )?;
+    put_element(alloc, &mut locals, emitter.is_indirect)?;
+    let stmts = statements(emitter);
+    Ok(Body { locals, stmts })
+}
+
+impl<'a> IndexSpaces<'a> {
+    // The function with an index, of this type and this body.
+    fn defined(
+        &self,
+        alloc: Global,
+        index: u32,
+        ty: &FuncType,
+        body: &BodyEntry,
+    ) -> Result<Func, Memory>
+        ensures { IfOk result (λ f. func_seen f ≡ function.func_of (named_of self.now) index ty.now body.now) }
+    {
+        let own = declared_types(alloc, body)?;
+        let all = all_types(alloc, ty, own.as_slice())?;
+        let around = Around {
+            alloc,
+            spaces: self,
+            locals: all.as_slice(),
+            result: ty.result,
+        };
+        let content = whole_body(&around, ty.params.len(), own.as_slice(), &body.code)?;
+        let name = func_name(alloc, index)?;
+        let params = params(alloc, ty.params.as_slice())?;
+        Ok(Func {
+            is_static: true,
+            result: c_result(ty.result),
+            name,
+            params,
+            body: Some(content),
+        })
+    }
+
+    fn func_at(&self, index: u32) -> Option<&'a FuncEntry>
+        ensures { option_copied result ≡ at_defined self.now.tree.now self.now.tree.now.funcs index }
+    {
+        let index = index as usize;
+        let imported = self.imported_funcs();
+        if index < imported {
+            None
+        } else {
+            self.tree.funcs.as_slice().get(index - imported)
+        }
+    }
+
+    fn body_at(&self, index: u32) -> Option<&'a BodyEntry>
+        ensures { option_copied result ≡ at_defined self.now.tree.now self.now.tree.now.bodies index }
+    {
+        let index = index as usize;
+        let imported = self.imported_funcs();
+        if index < imported {
+            None
+        } else {
+            self.tree.bodies.as_slice().get(index - imported)
+        }
+    }
+
+    /// The function with an index. It is the translation of the function that the module defines with it.
+    pub fn function(&self, alloc: Global, index: u32) -> Result<Func, Memory>
+        ensures { IfOk result (λ f. func_seen f ≡ function.body_of self.now.tree.now self.now.name.now index) }
+    {
+        match self.func_at(index) {
+            None => no_func(alloc),
+            Some(func) => match self.body_at(index) {
+                None => no_func(alloc),
+                Some(body) => match self.ty(func.type_index) {
+                    None => no_func(alloc),
+                    Some(ty) => self.defined(alloc, index, ty, body),
+                },
+            },
+        }
+    }
+}
+
+// What stands for a function that is not there.
+fn no_func(alloc: Global) -> Result<Func, Memory>
+    ensures { IfOk result (λ f. func_seen f ≡ function.no_func) }
+{
+    Ok(Func {
+        is_static: true,
+        result: CType::Void,
+        name: Name::new(alloc),
+        params: Params::new(alloc),
+        body: None,
+    })
+}
+
+/// The function that the function of a module with an index is translated to, under the module's name. Of many
+/// functions of one module it is better to make `IndexSpaces` once. `Memory` comes where memory was wanting, and
+/// where code takes operands that no typed code takes, or has more labels than a `usize` counts.
+pub fn body(alloc: Global, m: &ValidModule, name: &[u8], index: u32) -> Result<Func, Memory>
+    ensures { IfOk result (λ f. func_seen f ≡ function.body_of m.now name.now index) }
+{
+    let spaces = IndexSpaces::new(alloc, m.module(), name)?;
+    spaces.function(alloc, index)
+}

@@ -1,0 +1,260 @@
+// What a body's translation reads of its module, made once for all bodies.
+ghost use Rattle.std.specs.Prelude.{◌≡◌, ◌++◌, map, filter, length, slice_get, flat_map, is_some, option_map, IfOk, OnOk};
+ghost use Rattle.std.specs.Option.{option_copied};
+ghost use Rattle.w2c_base.specs.Lookup.{at_index};
+ghost use Rattle.wasm_tree.specs.IndexSpaces.{func_of_import, func_space, global_of_import, global_space, type_in, imported_funcs as imported_func_count};
+ghost use Rattle.c_tree.specs.View.{arg_of, expr_of, stmt_of};
+ghost use Rattle.c_body.specs.Objects as objects;
+ghost use Rattle.c_body.specs.Symbols.{global_imports, memory_imports, table_imports, func_imports};
+ghost use Rattle.c_body.specs.Reached.{usable_symbol};
+
+use crate::naming::{func_name, global_name, global_pointer, name_of};
+use crate::symbols::callees;
+use c_tree::{Arg, Expr, Name, Stmt};
+use std::alloc::Global;
+use w2c_base::{FuncType, Memory, ValType};
+use wasm_tree::{Import, ImportKind, Module};
+
+/// The index spaces of a module under its name, and how its functions, globals, memory and table are
+/// reached, so that nothing is searched for at an instruction.
+#[derive(Drop)]
+pub struct IndexSpaces<'a> {
+    pub(crate) tree: &'a Module,
+    pub(crate) name: &'a [u8],
+    /// The index of each function's type.
+    funcs: Vec<u32>,
+    globals: Vec<(ValType, bool)>,
+    /// The symbols of the imported functions, where they may be called.
+    callees: Vec<Option<Name>>,
+    imported_globals: usize,
+    imports_memory: bool,
+    imports_table: bool,
+    ghost funcs_are: { funcs.items ≡ func_space tree.now },
+    ghost globals_are: { globals.items ≡ global_space tree.now },
+    ghost callees_are: { callees.items ≡ map (usable_symbol (record { name = name.now; tree = tree.now })) (func_imports tree.now) },
+    ghost globals_imported: { imported_globals ≡ length (global_imports tree.now) },
+    ghost memory_imported: { imports_memory ≡ is_some (slice_get (memory_imports tree.now) 0) },
+    ghost table_imported: { imports_table ≡ is_some (slice_get (table_imports tree.now) 0) },
+}
+
+// What an import brings into the index space of functions.
+fn put_func(funcs: &mut Vec<u32>, import: &Import) -> Result<(), Memory>
+    ensures { OnOk result (funcs.new.items ≡ funcs.old.items ++ func_of_import import.now) }
+{
+    match import.kind {
+        ImportKind::Func(type_index) => funcs.push(type_index)?,
+        ImportKind::Table(_) | ImportKind::Memory(_) | ImportKind::Global(_, _) => {}
+    }
+    Ok(())
+}
+
+fn imported_funcs(alloc: Global, m: &Module) -> Result<Vec<u32>, Memory>
+    ensures { IfOk result (λ funcs. funcs.items ≡ flat_map func_of_import m.now.imports) }
+{
+    let mut funcs = Vec::new(alloc);
+    for import in m.imports.as_slice() {
+        put_func(&mut funcs, import)?;
+    }
+    Ok(funcs)
+}
+
+fn all_funcs(alloc: Global, m: &Module) -> Result<Vec<u32>, Memory>
+    ensures { IfOk result (λ funcs. funcs.items ≡ func_space m.now) }
+{
+    let mut funcs = imported_funcs(alloc, m)?;
+    for func in m.funcs.as_slice() {
+        funcs.push(func.type_index)?;
+    }
+    Ok(funcs)
+}
+
+// What an import brings into the index space of globals.
+fn put_global(globals: &mut Vec<(ValType, bool)>, import: &Import) -> Result<(), Memory>
+    ensures { OnOk result (globals.new.items ≡ globals.old.items ++ global_of_import import.now) }
+{
+    match import.kind {
+        ImportKind::Global(ty, mutable) => globals.push((ty, mutable))?,
+        ImportKind::Func(_) | ImportKind::Table(_) | ImportKind::Memory(_) => {}
+    }
+    Ok(())
+}
+
+fn imported_globals(alloc: Global, m: &Module) -> Result<Vec<(ValType, bool)>, Memory>
+    ensures { IfOk result (λ globals. globals.items ≡ flat_map global_of_import m.now.imports) }
+{
+    let mut globals = Vec::new(alloc);
+    for import in m.imports.as_slice() {
+        put_global(&mut globals, import)?;
+    }
+    Ok(globals)
+}
+
+fn all_globals(alloc: Global, m: &Module) -> Result<Vec<(ValType, bool)>, Memory>
+    ensures { IfOk result (λ globals. globals.items ≡ global_space m.now) }
+{
+    let mut globals = imported_globals(alloc, m)?;
+    for global in m.globals.as_slice() {
+        globals.push((global.ty, global.mutable))?;
+    }
+    Ok(globals)
+}
+
+fn count_globals(m: &Module) -> usize
+    ensures { result ≡ length (global_imports m.now) }
+{
+    let mut count = 0usize;
+    for import in m.imports.as_slice() {
+        if let ImportKind::Global(_, _) = import.kind {
+            count += 1;
+        }
+    }
+    count
+}
+
+fn imports_memory(m: &Module) -> bool
+    ensures { result ≡ is_some (slice_get (memory_imports m.now) 0) }
+{
+    for import in m.imports.as_slice() {
+        if let ImportKind::Memory(_) = import.kind {
+            return true;
+        }
+    }
+    false
+}
+
+fn imports_table(m: &Module) -> bool
+    ensures { result ≡ is_some (slice_get (table_imports m.now) 0) }
+{
+    for import in m.imports.as_slice() {
+        if let ImportKind::Table(_) = import.kind {
+            return true;
+        }
+    }
+    false
+}
+
+impl<'a> IndexSpaces<'a> {
+    ghost use Rattle.c_body.specs.Around.{named_of};
+
+    /// What is read of a module under its name.
+    pub fn new(alloc: Global, tree: &'a Module, name: &'a [u8]) -> Result<IndexSpaces<'a>, Memory>
+        ensures { IfOk result (λ s. named_of s ≡ record { name = name.now; tree = tree.now }) }
+    {
+        let funcs = all_funcs(alloc, tree)?;
+        let globals = all_globals(alloc, tree)?;
+        let callees = callees(alloc, name, tree)?;
+        Ok(IndexSpaces {
+            tree,
+            name,
+            funcs,
+            globals,
+            callees,
+            imported_globals: count_globals(tree),
+            imports_memory: imports_memory(tree),
+            imports_table: imports_table(tree),
+        })
+    }
+
+    /// How many functions are imported.
+    #[tactic(auto, using(crate::proofs::LookedUp::as_many))]
+    pub(crate) fn imported_funcs(&self) -> usize
+        ensures { result ≡ imported_func_count self.now.tree.now }
+    {
+        self.callees.len()
+    }
+
+    /// The type with an index.
+    #[tactic(auto, using(crate::proofs::LookedUp::type_found))]
+    pub(crate) fn ty(&self, type_index: u32) -> Option<&'a FuncType>
+        ensures { option_copied result ≡ slice_get (map (λ t. t.ty) self.now.tree.now.types) type_index }
+    {
+        match self.tree.types.as_slice().get(type_index as usize) {
+            Some(entry) => Some(&entry.ty),
+            None => None,
+        }
+    }
+
+    /// The type of the function with an index.
+    #[tactic(auto, using(crate::proofs::LookedUp::at_index_map))]
+    pub(crate) fn func_type(&self, index: u32) -> Option<&'a FuncType>
+        ensures { option_copied result ≡ at_index (map (type_in self.now.tree.now) (func_space self.now.tree.now)) index }
+    {
+        match self.funcs.get(index as usize) {
+            Some(type_index) => self.ty(*type_index),
+            None => None,
+        }
+    }
+
+    /// The type of the global with an index.
+    pub(crate) fn global_type(&self, index: u32) -> Option<ValType>
+        ensures { result ≡ option_map (λ g. g.0) (slice_get (global_space self.now.tree.now) index) }
+    {
+        match self.globals.get(index as usize) {
+            Some((ty, _)) => Some(*ty),
+            None => None,
+        }
+    }
+
+    /// The name of the function with an index, where it may be called.
+    #[tactic(auto, using(crate::proofs::LookedUp::callee_imported, crate::proofs::LookedUp::callee_own))]
+    pub(crate) fn callee(&self, alloc: Global, index: u32) -> Result<Option<Name>, Memory>
+        ensures { IfOk result (λ name. name ≡ objects.callee (named_of self.now) index) }
+    {
+        match self.callees.get(index as usize) {
+            None => Ok(Some(func_name(alloc, index)?)),
+            Some(None) => Ok(None),
+            Some(Some(symbol)) => Ok(Some(symbol.copy(alloc)?)),
+        }
+    }
+
+    /// A pointer to the memory.
+    pub(crate) fn memory_arg(&self, alloc: Global) -> Result<Arg, Memory>
+        ensures { IfOk result (λ a. arg_of a ≡ objects.memory_arg self.now.tree.now) }
+    {
+        if self.imports_memory {
+            Ok(Arg::Value(Expr::Name(name_of(alloc, b"pm0")?)))
+        } else {
+            Ok(Arg::Address(name_of(alloc, b"m0")?))
+        }
+    }
+
+    /// A pointer to the table.
+    pub(crate) fn table_arg(&self, alloc: Global) -> Result<Arg, Memory>
+        ensures { IfOk result (λ a. arg_of a ≡ objects.table_arg self.now.tree.now) }
+    {
+        if self.imports_table {
+            Ok(Arg::Value(Expr::Name(name_of(alloc, b"pt0")?)))
+        } else {
+            Ok(Arg::Address(name_of(alloc, b"t0")?))
+        }
+    }
+
+    #[tactic(auto, using(crate::proofs::LookedUp::is_some_within, crate::proofs::LookedUp::is_some_past))]
+    fn is_imported_global(&self, index: u32) -> bool
+        ensures { result ≡ is_some (slice_get (global_imports self.now.tree.now) index) }
+    {
+        (index as usize) < self.imported_globals
+    }
+
+    /// The value of a global.
+    pub(crate) fn global_value(&self, alloc: Global, index: u32) -> Result<Expr, Memory>
+        ensures { IfOk result (λ e. expr_of e ≡ objects.global_value self.now.tree.now index) }
+    {
+        if self.is_imported_global(index) {
+            Ok(Expr::Star(global_pointer(alloc, index)?))
+        } else {
+            Ok(Expr::Name(global_name(alloc, index)?))
+        }
+    }
+
+    /// An assignment to a global.
+    pub(crate) fn set_global(&self, alloc: Global, index: u32, e: Expr) -> Result<Stmt, Memory>
+        ensures { IfOk result (λ s. stmt_of s ≡ objects.set_global self.now.tree.now index (expr_of e)) }
+    {
+        if self.is_imported_global(index) {
+            Ok(Stmt::SetStar(global_pointer(alloc, index)?, e))
+        } else {
+            Ok(Stmt::Set(global_name(alloc, index)?, Arg::Value(e)))
+        }
+    }
+}
