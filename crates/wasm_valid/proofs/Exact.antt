@@ -6,6 +6,7 @@ use Rattle.w2c_base.specs.declared.value.ValType.{ValType}
 use Rattle.w2c_base.specs.declared.value.ValType.TheVariants.{I32, I64}
 use Rattle.w2c_base.specs.declared.signature.FuncType.{FuncType}
 use Rattle.w2c_base.specs.Values.{equal_type, equal_results}
+use Rattle.w2c_base.proofs.Types.{equal_results-eq, results_equal_themselves}
 use Rattle.wasm_tree.specs.Instructions.{Code, end_code, then_code, Kind, Otherwise, no_else, else_code, Unreachable, Return, Drop, Select, MemorySize, MemoryGrow, Block, Loop, If, Br, BrIf, BrTable, Call, CallIndirect, LocalGet, LocalSet, LocalTee, GlobalGet, GlobalSet, Load, Store}
 use Rattle.wasm_tree.specs.InstructionTable.{Typing, of_types, by_rule}
 use Rattle.wasm_tree.specs.AccessWidths.{load_width, store_width}
@@ -194,32 +195,12 @@ pub and_true : (a b : Bool) → (a && b) ≡ true → (a ≡ true) × (b ≡ tru
 and_true true b e = (refl, e)
 and_true false b e = cc
 
-pub equal_type-eq : (t u : ValType) → equal_type t u ≡ true → t ≡ u
-equal_type-eq I32 I32 e = refl
-equal_type-eq I64 I64 e = refl
-equal_type-eq I32 I64 e = cc
-equal_type-eq I64 I32 e = cc
-
-pub equal_type_refl : (t : ValType) → equal_type t t ≡ true
-equal_type_refl I32 = refl
-equal_type_refl I64 = refl
-
-pub equal_results-eq : (r s : Option ValType) → equal_results r s ≡ true → r ≡ s
-equal_results-eq None None e = refl
-equal_results-eq None (Some t) e = cc
-equal_results-eq (Some t) None e = cc
-equal_results-eq (Some t) (Some u) e = ap Some (equal_type-eq t u e)
-
-pub equal_results_refl : (r : Option ValType) → equal_results r r ≡ true
-equal_results_refl None = refl
-equal_results_refl (Some t) = equal_type_refl t
-
 is_label-eq : (o : Option (Option ValType)) (t : Option ValType) → is_label o t ≡ true → o ≡ Some t
 is_label-eq None t e = cc
 is_label-eq (Some u) t e = ap Some (equal_results-eq u t e)
 
 is_label-yes : (o : Option (Option ValType)) (t : Option ValType) → o ≡ Some t → is_label o t ≡ true
-is_label-yes o t e = ap (λ p. is_label p t) e ∙ equal_results_refl t
+is_label-yes o t e = ap (λ p. is_label p t) e ∙ results_equal_themselves t
 
 abbrev AllLabels : Labels → List ℕ → Option ValType → Type 0
 AllLabels labels ks t = AllByRecursion (λ k. slice_get labels k ≡ Some t) ks
