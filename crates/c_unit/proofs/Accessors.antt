@@ -174,6 +174,13 @@ passer_params of_memory symbol name = refl
 passer_params of_u32 symbol name = refl
 passer_params of_u64 symbol name = refl
 
+passer_result : {pointer : CType} → IsPointer pointer → (symbol name : Name)
+    → (passes_on (accessor_type pointer) symbol (Some name)).result ≡ pointer
+passer_result of_table symbol name = refl
+passer_result of_memory symbol name = refl
+passer_result of_u32 symbol name = refl
+passer_result of_u64 symbol name = refl
+
 passer_type : {pointer : CType} → IsPointer pointer → (symbol : Name) (name : Option Name)
     → func_type_of (passes_on (accessor_type pointer) symbol name) ≡ accessor_type pointer
 passer_type of_table symbol name = refl
@@ -202,7 +209,7 @@ export_gives s accepted v n is e o t target found imports (GivesOwn pointer is_p
     let definition = defined_as (program_of s) v found.definition.0 (export_symbol n e) (export_func n e) _ x.body
     (record { locals = []; stmts = own_stmts object }) found.definition.1 x.has_body same refl in
     let gives : GivesPointer (program_of s) 1 (UnitFunc v (export_symbol n e)) (record { unit = v; name = object }) =
-    own_gives (program_of s) v found.definition.0 (export_symbol n e) object pointer definition in
+    own_gives (program_of s) v found.definition.0 (export_symbol n e) object pointer is_pointer definition in
     let target_is : record { unit = v; name = object } ≡ t = some_same (sym own ∙ target) in
     λ pending m below there.
     let r = subst (GivesPointer (program_of s) 1 (UnitFunc v (export_symbol n e))) target_is gives pending m below there in
@@ -219,7 +226,8 @@ export_gives s accepted v n is e o t target found imports (Passes pointer is_poi
     (passer_body is_pointer (export_symbol n e) (import_symbol i)) in
     passed_gives (program_of s) (2 * v) v found.definition.0 (export_symbol n e) (import_symbol i)
     (passes_on (accessor_type pointer) (export_symbol n e) (Some (import_symbol i))) pointer inner.address t
-    is_pointer (passer_params is_pointer (export_symbol n e) (import_symbol i)) definition inner.free inner.address_is inner.gives
+    is_pointer (passer_params is_pointer (export_symbol n e) (import_symbol i))
+    (passer_result is_pointer (export_symbol n e) (import_symbol i)) definition inner.free inner.address_is inner.gives
 
 -- ---- symbols of both ends are one
 
@@ -356,7 +364,7 @@ import_next s accepted u m is earlier i o t b target = go (origin s accepted u m
           address = UnitFunc h.owner (export_symbol n e);
           address_is = outside ∙ ap (external_func p) names ∙ external_found s h.owner n e symbol;
           outside = ap (external_func p) names ∙ external_found s h.owner n e symbol;
-          typed = ap (option_map (λ (d : Definition). func_type_of d.func)) symbol.definition.1
+          typed = symbol.typed
               ∙ ap Some (does_type s h.owner n e o (export_does s h.owner n h.exporter_is x.placed e x.kind o x.kind_is x.stands)
               ∙ same_types s accepted h.owner n h.exporter_is x.placed e x.kind o x.kind_is x.stands u m.tree i i.kind
               (import_resolves s accepted u m is b.place i b.is) b.stands

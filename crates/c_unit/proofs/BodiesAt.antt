@@ -11,6 +11,7 @@ use Rattle.wasm_tree.specs.declared.entries.TypeEntry.{TypeEntry}
 use Rattle.wasm_tree.specs.declared.entries.FuncEntry.{FuncEntry}
 use Rattle.wasm_tree.specs.declared.entries.BodyEntry.{BodyEntry}
 use Rattle.wasm_tree.specs.IndexSpaces.{type_in, declared_locals, imported_funcs}
+use Rattle.wasm_tree.proofs.BehindImports.{defined_behind_imports}
 use Rattle.wasm_meaning.specs.LinkedSet.{NamedModule}
 use Rattle.wasm_valid.specs.declared.fault.ValidCause.TheVariants as cause
 use Rattle.wasm_valid.specs.Context.{context_of, body_context}
@@ -85,7 +86,7 @@ body_at m a i less =
       is = ap (λ o. unwrap_or (if_found o
           (λ (d : FuncEntry × BodyEntry). option_map (λ ty. func_of m (imported_funcs m.tree + i) ty d.1) (type_in m.tree d.0.type_index)))
           (record { is_static = true; result = Void; name = []; params = []; body = None }))
-          (ap (slice_get (bodies_of m.tree)) back ∙ found.4)
+          (defined_behind_imports m.tree (bodies_of m.tree) (imported_funcs m.tree + i) i refl ∙ found.4)
           ∙ ap (λ o. unwrap_or (option_map (λ ty. func_of m (imported_funcs m.tree + i) ty found.1) o)
           (record { is_static = true; result = Void; name = []; params = []; body = None })) known.1;
       typed = subst (λ o. IsTyped (option_map (λ ty. context_of m.tree ty found.1) o) found.1) known.1

@@ -1,20 +1,18 @@
 -- The variables that a unit declares for its module, and its arrays of data, are found by their names (C11, 6.9.2).
 use Rattle.std.proofs.Common.{◌≡◌, ◌≢◌, ℕ, zero, suc, ◌+◌, ◌^◌, ◌<◌, Bool, true, false, if◌then◌else◌, List, [], ◌∷◌, ◌++◌, length, map, filter_map, flat_map, zip, Option, Some, None, option_map, is_some, slice_get, bytes_eq, refl, sym, ap, ◌∙◌, subst, arith, append_assoc}
-use Rattle.w2c_base.specs.declared.value.Value.TheVariants.{I32, I64}
+use Rattle.std.specs.Prelude.{⊤}
 use Rattle.std.specs.List.{AllByRecursion, range_with_len, cons_option}
 use Rattle.std.proofs.lemmas.Option.{same_Some, none-some, slice_get_within}
 use Rattle.std.proofs.lemmas.Fmt.{decimal_injective}
 use Rattle.w2c_base.specs.declared.value.ValType.{ValType}
 use Rattle.w2c_base.specs.declared.value.ValType.TheVariants as type
+use Rattle.w2c_base.specs.Values.{value}
 use Rattle.w2c_base.specs.Lookup.{if_found, named, numbered}
 use Rattle.wasm_tree.specs.declared.tree.Module.{Module}
-use Rattle.wasm_tree.specs.declared.entries.Import.{Import}
-use Rattle.wasm_tree.specs.declared.entries.ImportKind.{ImportKind}
-use Rattle.wasm_tree.specs.declared.entries.ImportKind.TheVariants.{Func as ImportFunc, Table as ImportTable, Memory as ImportMemory, Global as ImportGlobal}
 use Rattle.wasm_tree.specs.declared.entries.LimitsEntry.{LimitsEntry}
 use Rattle.wasm_tree.specs.declared.entries.GlobalEntry.{GlobalEntry}
 use Rattle.wasm_tree.specs.declared.entries.SegmentEntry.{SegmentEntry}
-use Rattle.wasm_tree.specs.IndexSpaces.{type_in, imported_globals, is_global_import}
+use Rattle.wasm_tree.specs.IndexSpaces.{global_space, imported_global_space, imported_globals}
 use Rattle.wasm_meaning.specs.LinkedSet.{LinkedSet, NamedModule}
 use Rattle.c_tree.specs.declared.tree.CType.{CType}
 use Rattle.c_tree.specs.declared.tree.CType.TheVariants as c_type
@@ -26,14 +24,20 @@ use Rattle.c_meaning.specs.Machine as machine
 use Rattle.c_meaning.proofs.Lookups.{bytes_equal, bytes_differ}
 use Rattle.alike.specs.Alike.{memory_name, table_name, global_name}
 use Rattle.c_body.specs.Names.{pointer_name}
-use Rattle.c_body.specs.Symbols.{table_imports, memory_imports, global_imports, import_type, pointer_type, c_func_type_if, accessor_type}
+use Rattle.c_body.specs.Symbols.{table_imports, memory_imports, global_imports, pointer_type}
 use Rattle.c_body.specs.Objects.{pointers_of}
 use Rattle.c_unit.specs.Init.{data_name}
 use Rattle.c_unit.specs.Items.{objects_of, data_of, items}
-use Rattle.c_unit.specs.Sets.{program_of}
+use Rattle.c_unit.specs.Sets.{IsAccepted, program_of}
+use Rattle.c_unit.specs.Instantiation.{zero_like}
+use Rattle.c_unit.proofs.Held.{held}
 use Rattle.c_unit.proofs.TakeTasks.{IsDeclared}
-use Rattle.c_unit.proofs.Small.{behind_letter, all_pass}
-use Rattle.c_body.proofs.Lists.{get_behind}
+use Rattle.c_unit.proofs.KnownNames.{imported_global}
+use Rattle.c_unit.proofs.Knowledge.{own_global, imported_global_is, imported_memory_is, imported_table_is}
+use Rattle.c_unit.proofs.Small.{behind_letter, all_images}
+use Rattle.c_body.proofs.BodyRules.{vars_in}
+use Rattle.c_body.proofs.Lists.{all_append, get_behind, get_left, get_mapped, get_within}
+use Rattle.c_body.proofs.Spaces.{global_count}
 
 -- ---- what is found of lists of items
 
@@ -52,35 +56,6 @@ skip {A} {B} f (x ∷ xs) ys none = go (f x) none.0 (skip f xs ys none.1)
 none_mapped : {A B C : Type 0} (f : B → Option C) (g : A → B) (xs : List A) → ((x : A) → f (g x) ≡ None) → GivesNone f (map g xs)
 none_mapped f g [] none = tt
 none_mapped f g (x ∷ xs) none = (none x, none_mapped f g xs none)
-
--- a name that is found behind other items is found
-found_behind : {A B : Type 0} (f : A → Option (Name × B)) (name : Name) (xs ys : List A) → is_some (named name (filter_map f ys)) ≡ true
-    → is_some (named name (filter_map f (xs ++ ys))) ≡ true
-found_behind f name [] ys h = h
-found_behind {A} {B} f name (x ∷ xs) ys h = go (f x) (found_behind f name xs ys h)
-  where
-    one : (b : Bool) (v : B) → is_some (named name (filter_map f (xs ++ ys))) ≡ true
-        → is_some (if b then Some v else named name (filter_map f (xs ++ ys))) ≡ true
-    one true v h = refl
-    one false v h = h
-
-    go : (o : Option (Name × B)) → is_some (named name (filter_map f (xs ++ ys))) ≡ true
-        → is_some (named name (cons_option o (filter_map f (xs ++ ys)))) ≡ true
-    go None h = h
-    go (Some e) h = one (bytes_eq e.0 name) e.1 h
-
--- an item that gives the name is found
-found_here : {A B : Type 0} (f : A → Option (Name × B)) (name : Name) (x : A) (ys : List A) (v : B) → f x ≡ Some (name, v)
-    → is_some (named name (filter_map f (x ∷ ys))) ≡ true
-found_here {A} {B} f name x ys v e = go (f x) e
-  where
-    one : (b : Bool) → b ≡ true → is_some (if b then Some v else named name (filter_map f ys)) ≡ true
-    one true e = refl
-    one false e = absurd cc
-
-    go : (o : Option (Name × B)) → o ≡ Some (name, v) → is_some (named name (cons_option o (filter_map f ys))) ≡ true
-    go o e = subst (λ (o : Option (Name × B)). is_some (named name (cons_option o (filter_map f ys))) ≡ true) (sym e)
-        (one (bytes_eq name name) (bytes_equal name))
 
 -- ---- tables, memories, globals
 
@@ -114,105 +89,7 @@ memory_there tables memories rest some =
     first [] some = absurd (omega (arith, some))
     first (t ∷ memories) some = refl
 
-zero_there : (t : ValType) (name : Name) → (v : state.CValue) × (machine.file_var (c.Var (c_type_of t) name None) ≡ Some (name, v))
-zero_there type.I32 name = (state.Number (I32 0), refl)
-zero_there type.I64 name = (state.Number (I64 0), refl)
-
-global_there : (m : Module) (i k : ℕ) (globals : List GlobalEntry) (rest : List c.Item) → k < length globals
-    → is_some (named (global_name (imported_globals m + (i + k)))
-    (filter_map machine.file_var (map (global_var m) (zip (range_with_len i (length globals)) globals) ++ rest))) ≡ true
-global_there m i k [] rest less = absurd (omega (arith, less))
-global_there m i zero (g ∷ globals) rest less =
-    let at : i ≡ i + 0 = omega arith in
-    let v = zero_there g.ty (global_name (imported_globals m + i)) in
-    subst (λ j. is_some (named (global_name (imported_globals m + j))
-    (filter_map machine.file_var (global_var m (i, g) ∷
-    (map (global_var m) (zip (range_with_len (i + 1) (length globals)) globals) ++ rest)))) ≡ true) at
-    (found_here machine.file_var (global_name (imported_globals m + i)) (global_var m (i, g))
-    (map (global_var m) (zip (range_with_len (i + 1) (length globals)) globals) ++ rest) v.0 v.1)
-global_there m i (suc k) (g ∷ globals) rest less =
-    let at : i + 1 + k ≡ i + suc k = omega arith in
-    subst (λ j. is_some (named (global_name (imported_globals m + j))
-    (filter_map machine.file_var (global_var m (i, g) ∷
-    (map (global_var m) (zip (range_with_len (i + 1) (length globals)) globals) ++ rest)))) ≡ true) at
-    (found_behind machine.file_var (global_name (imported_globals m + (i + 1 + k))) (global_var m (i, g) ∷ [])
-    (map (global_var m) (zip (range_with_len (i + 1) (length globals)) globals) ++ rest)
-    (global_there m (i + 1) k globals rest (omega (arith, less))))
-
--- ---- pointers
-
-pointer_there : (name : Name) (pointers : List (CType × Name)) (rest : List c.Item) (k : ℕ) (t : CType)
-    → slice_get pointers k ≡ Some (t, name) → is_some (machine.zero_of t) ≡ true
-    → is_some (named name (filter_map machine.file_var (map pointer_var pointers ++ rest))) ≡ true
-pointer_there name [] rest k t at some = absurd (none-some (t, name) at)
-pointer_there name (p ∷ pointers) rest zero t at some = go (machine.zero_of t) refl some
-  where
-    same : p ≡ (t, name)
-    same = same_Some p (t, name) at
-
-    go : (o : Option state.CValue) → machine.zero_of t ≡ o → is_some o ≡ true
-        → is_some (named name (filter_map machine.file_var (pointer_var p ∷ (map pointer_var pointers ++ rest)))) ≡ true
-    go None is some = absurd cc
-    go (Some v) is some = found_here machine.file_var name (pointer_var p) (map pointer_var pointers ++ rest) v
-        (ap (λ (p : CType × Name). machine.file_var (pointer_var p)) same ∙ ap (option_map (λ (v : state.CValue). (name, v))) is)
-pointer_there name (p ∷ pointers) rest (suc k) t at some =
-    found_behind machine.file_var name (pointer_var p ∷ []) (map pointer_var pointers ++ rest)
-    (pointer_there name pointers rest k t at some)
-
-first_mapped : {A B : Type 0} (f : A → B) (b : B) (xs : List A) (ys : List B) → 0 < length xs → ((x : A) → f x ≡ b)
-    → slice_get (map f xs ++ ys) 0 ≡ Some b
-first_mapped f b [] ys some is = absurd (omega (arith, some))
-first_mapped f b (x ∷ xs) ys some is = ap Some (is x)
-
-abbrev type_as : Module → ImportKind → c.FuncType
-type_as m kind = elim kind [
-  | ImportFunc t ↦ c_func_type_if (type_in m t)
-  | ImportTable l ↦ accessor_type c_type.PtrTab
-  | ImportMemory l ↦ accessor_type c_type.PtrMem
-  | ImportGlobal t mutable ↦ accessor_type (pointer_type t)
-]
-
--- a global's import has a pointer's type
-pointer_is : (m : Module) (i : Import) → is_global_import i ≡ true → is_some (machine.zero_of (import_type m i).result) ≡ true
-pointer_is m i is = go i.kind is
-  where
-    of : (t : ValType) → is_some (machine.zero_of (pointer_type t)) ≡ true
-    of type.I32 = refl
-    of type.I64 = refl
-
-    go : (kind : ImportKind) → elim kind
-        [ ImportFunc t ↦ false | ImportTable l ↦ false | ImportMemory l ↦ false | ImportGlobal t mutable ↦ true ] ≡ true
-        → is_some (machine.zero_of (type_as m kind).result) ≡ true
-    go (ImportFunc t) e = absurd cc
-    go (ImportTable l) e = absurd cc
-    go (ImportMemory l) e = absurd cc
-    go (ImportGlobal t mutable) e = of t
-
-abbrev global_pointer : Module → ℕ × Import → CType × Name
-global_pointer m i = ((import_type m i.1).result, pointer_name (global_name i.0))
-
-numbered_at : (m : Module) (i k : ℕ) (imports : List Import) → k < length imports → AllByRecursion (λ x. is_global_import x ≡ true) imports
-    → (t : CType) × (slice_get (map (global_pointer m) (zip (range_with_len i (length imports)) imports)) k
-    ≡ Some (t, pointer_name (global_name (i + k)))) × (is_some (machine.zero_of t) ≡ true)
-numbered_at m i k [] less all = absurd (omega (arith, less))
-numbered_at m i zero (x ∷ imports) less all =
-    let at : i ≡ i + 0 = omega arith in
-    ((import_type m x).result, ap (λ j. Some ((import_type m x).result, pointer_name (global_name j))) at, pointer_is m x all.0)
-numbered_at m i (suc k) (x ∷ imports) less all =
-    let r = numbered_at m (i + 1) k imports (omega (arith, less)) all.1 in
-    let at : i + 1 + k ≡ i + suc k = omega arith in
-    (r.0, r.1 ∙ ap (λ j. Some (r.0, pointer_name (global_name j))) at, r.2)
-
 -- ---- the unit's objects
-
-abbrev memory_pointers : Module → List (CType × Name)
-memory_pointers m = map (λ (i : Import). (c_type.PtrMem, pointer_name memory_name)) (memory_imports m)
-
-abbrev table_pointers : Module → List (CType × Name)
-table_pointers m = map (λ (i : Import). (c_type.PtrTab, pointer_name table_name)) (table_imports m)
-
-abbrev all_global_pointers : Module → List (CType × Name)
-all_global_pointers m = map (global_pointer m) (numbered (global_imports m))
 
 -- what stands behind the unit's objects
 joined : (m : Module) (rest : List c.Item)
@@ -227,50 +104,117 @@ joined m rest =
     globals_and_pointers : List c.Item
     globals_and_pointers = map (global_var m) (numbered m.globals) ++ map pointer_var (pointers_of m)
 
+-- a variable of the type that is found among variables without initialisers holds the type's zero
+abbrev IsUnset : c.Item → Type 0
+IsUnset (c.Array name count bytes) = ⊥
+IsUnset (c.Var t name None) = ⊤
+IsUnset (c.Var t name (Some number)) = ⊥
+IsUnset (c.Function f) = ⊥
+
+found_unset : (q : Name) (ty : CType) (initial : state.CValue) (vars rest : List c.Item) → AllByRecursion IsUnset vars
+    → named q (vars_in vars) ≡ Some ty → machine.zero_of ty ≡ Some initial → named q (filter_map machine.file_var (vars ++ rest)) ≡ Some initial
+found_unset q ty initial [] rest unset found is = absurd (none-some ty found)
+found_unset q ty initial (c.Array name count bytes ∷ vars) rest unset found is = absurd unset.0
+found_unset q ty initial (c.Var t name (Some number) ∷ vars) rest unset found is = absurd unset.0
+found_unset q ty initial (c.Function f ∷ vars) rest unset found is = absurd unset.0
+found_unset q ty initial (c.Var t name None ∷ vars) rest unset found is =
+    go (bytes_eq name q) refl found (λ found. found_unset q ty initial vars rest unset.1 found is)
+  where
+    others : List (Name × state.CValue)
+    others = filter_map machine.file_var (vars ++ rest)
+
+    here : bytes_eq name q ≡ true → t ≡ ty
+        → named q (cons_option (option_map (λ (v : state.CValue). (name, v)) (machine.zero_of t)) others) ≡ Some initial
+    here equal same =
+        ap (λ (o : Option state.CValue). named q (cons_option (option_map (λ (v : state.CValue). (name, v)) o) others))
+        (ap machine.zero_of same ∙ is)
+        ∙ ap (λ b. if b then Some initial else named q others) equal
+
+    behind : bytes_eq name q ≡ false → named q others ≡ Some initial → (o : Option state.CValue)
+        → named q (cons_option (option_map (λ (v : state.CValue). (name, v)) o) others) ≡ Some initial
+    behind differ more None = more
+    behind differ more (Some v) = ap (λ b. if b then Some v else named q others) differ ∙ more
+
+    go : (b : Bool) → bytes_eq name q ≡ b → (if b then Some t else named q (vars_in vars)) ≡ Some ty
+        → (named q (vars_in vars) ≡ Some ty → named q others ≡ Some initial)
+        → named q (cons_option (option_map (λ (v : state.CValue). (name, v)) (machine.zero_of t)) others) ≡ Some initial
+    go true equal found more = here equal (same_Some t ty found)
+    go false differ found more = behind differ (more found) (machine.zero_of t)
+
+objects_unset : (m : Module) (pointers : List (CType × Name)) → AllByRecursion IsUnset (objects_of m pointers)
+objects_unset m pointers =
+    all_append IsUnset _ _ (all_images IsUnset _ m.tables (λ x. tt))
+    (all_append IsUnset _ _ (all_images IsUnset _ m.memories (λ x. tt))
+    (all_append IsUnset _ _ (all_images IsUnset _ (numbered m.globals) (λ x. tt))
+    (all_images IsUnset _ pointers (λ x. tt))))
+
+some_first : {A : Type 0} (xs : List A) → 0 < length xs → is_some (slice_get xs 0) ≡ true
+some_first [] some = absurd (omega (arith, some))
+some_first (x ∷ xs) some = refl
+
+none_past : {A : Type 0} (xs : List A) (k : ℕ) → is_some (slice_get xs (length xs + k)) ≡ false
+none_past [] k = refl
+none_past (x ∷ xs) k =
+    let e : length (x ∷ xs) + k ≡ suc (length xs + k) = omega arith in
+    ap (λ i. is_some (slice_get (x ∷ xs) i)) e ∙ none_past xs k
+
 -- a list that begins with the unit's objects declares them
-declares : (m : Module) (rest : List c.Item) → IsDeclared m (machine.objects_of (objects_of m (pointers_of m) ++ rest))
-declares m rest = record {
+declares : (m : NamedModule) → IsAccepted m → (rest : List c.Item)
+    → IsDeclared m.tree (machine.objects_of (objects_of m.tree (pointers_of m.tree) ++ rest))
+declares m a rest = record {
   table = λ some. subst (λ items. named table_name (filter_map machine.file_table items) ≡ Some machine.no_table) (sym whole)
-      (table_there m.tables _ some);
+      (table_there m.tree.tables _ some);
   memory = λ some. subst (λ items. named memory_name (filter_map machine.file_memory items) ≡ Some machine.no_memory) (sym whole)
-      (memory_there m.tables m.memories _ some);
-  globals = λ k less. let at : 0 + k ≡ k = omega arith in
-      subst (λ j. is_some (named (global_name (imported_globals m + j))
-      (filter_map machine.file_var (objects_of m (pointers_of m) ++ rest))) ≡ true) at
-      (subst (λ items. is_some (named (global_name (imported_globals m + (0 + k))) (filter_map machine.file_var items)) ≡ true) (sym whole)
-      (found_behind machine.file_var (global_name (imported_globals m + (0 + k))) (map table_var m.tables) _
-      (found_behind machine.file_var (global_name (imported_globals m + (0 + k))) (map memory_var m.memories) _
-      (global_there m 0 k m.globals _ less))));
-  table_pointer = λ some. at_pointers (pointer_name table_name) (length (memory_pointers m) + 0) c_type.PtrTab
-      (get_behind (memory_pointers m) (table_pointers m ++ all_global_pointers m) 0
-      ∙ first_mapped (λ (i : Import). (c_type.PtrTab, pointer_name table_name)) (c_type.PtrTab, pointer_name table_name) (table_imports m)
-      (all_global_pointers m) some (λ i. refl)) refl;
-  memory_pointer = λ some. at_pointers (pointer_name memory_name) 0 c_type.PtrMem
-      (first_mapped (λ (i : Import). (c_type.PtrMem, pointer_name memory_name)) (c_type.PtrMem, pointer_name memory_name) (memory_imports m)
-      (table_pointers m ++ all_global_pointers m) some (λ i. refl)) refl;
+      (memory_there m.tree.tables m.tree.memories _ some);
+  globals = λ k e is. holds (global_name (imported_globals m.tree + k)) (c_type_of e.ty) (state.Number (value e.ty 0))
+      (own_global m a (imported_globals m.tree + k) (e.ty, e.mutable) (in_space k e is) (none_past (global_imports m.tree) k))
+      (number_zero e.ty) (number_like e.ty);
+  table_pointer = λ some. holds (pointer_name table_name) c_type.PtrTab (state.Pointer None)
+      (imported_table_is m a (some_first (table_imports m.tree) some)) refl refl;
+  memory_pointer = λ some. holds (pointer_name memory_name) c_type.PtrMem (state.Pointer None)
+      (imported_memory_is m a (some_first (memory_imports m.tree) some)) refl refl;
   global_pointers = λ k less.
-      let r = numbered_at m 0 k (global_imports m) less (all_pass is_global_import m.imports) in
-      let at : 0 + k ≡ k = omega arith in
-      at_pointers (pointer_name (global_name k)) (length (memory_pointers m) + (length (table_pointers m) + k)) r.0
-      (get_behind (memory_pointers m) (table_pointers m ++ all_global_pointers m) (length (table_pointers m) + k)
-      ∙ (get_behind (table_pointers m) (all_global_pointers m) k ∙ (r.1 ∙ ap (λ j. Some (r.0, pointer_name (global_name j))) at))) r.2;
+      let i = get_within (global_imports m.tree) k less in
+      let g = imported_global m.tree.imports k i.0 i.1 in
+      holds (pointer_name (global_name k)) (pointer_type g.1) (state.Pointer None)
+      (imported_global_is m a k (g.1, g.0) (get_left (imported_global_space m.tree) _ k (g.1, g.0) g.2) (ap is_some i.1))
+      (pointer_zero g.1) refl;
 }
   where
-    whole : objects_of m (pointers_of m) ++ rest ≡ map table_var m.tables ++
-        (map memory_var m.memories ++ (map (global_var m) (numbered m.globals) ++ (map pointer_var (pointers_of m) ++ rest)))
-    whole = joined m rest
+    whole : objects_of m.tree (pointers_of m.tree) ++ rest ≡ map table_var m.tree.tables ++
+        (map memory_var m.tree.memories ++
+        (map (global_var m.tree) (numbered m.tree.globals) ++ (map pointer_var (pointers_of m.tree) ++ rest)))
+    whole = joined m.tree rest
 
-    at_pointers : (name : Name) (k : ℕ) (t : CType) → slice_get (pointers_of m) k ≡ Some (t, name) → is_some (machine.zero_of t) ≡ true
-        → is_some (named name (filter_map machine.file_var (objects_of m (pointers_of m) ++ rest))) ≡ true
-    at_pointers name k t at some =
-        subst (λ items. is_some (named name (filter_map machine.file_var items)) ≡ true) (sym whole)
-        (found_behind machine.file_var name (map table_var m.tables) _
-        (found_behind machine.file_var name (map memory_var m.memories) _
-        (found_behind machine.file_var name (map (global_var m) (numbered m.globals)) _
-        (pointer_there name (pointers_of m) rest k t at some))))
+    holds : (q : Name) (ty : CType) (initial : state.CValue) → named q (vars_in (objects_of m.tree (pointers_of m.tree))) ≡ Some ty
+        → machine.zero_of ty ≡ Some initial → zero_like initial ≡ initial
+        → held q (filter_map machine.file_var (objects_of m.tree (pointers_of m.tree) ++ rest)) ≡ Some initial
+    holds q ty initial found is like =
+        ap (option_map zero_like) (found_unset q ty initial (objects_of m.tree (pointers_of m.tree)) rest
+        (objects_unset m.tree (pointers_of m.tree)) found is)
+        ∙ ap Some like
 
-pub units_declare : (m : NamedModule) → IsDeclared m.tree (machine.objects_of (items m))
-units_declare m = declares m.tree _
+    number_zero : (t : ValType) → machine.zero_of (c_type_of t) ≡ Some (state.Number (value t 0))
+    number_zero type.I32 = refl
+    number_zero type.I64 = refl
+
+    number_like : (t : ValType) → zero_like (state.Number (value t 0)) ≡ state.Number (value t 0)
+    number_like type.I32 = refl
+    number_like type.I64 = refl
+
+    pointer_zero : (t : ValType) → machine.zero_of (pointer_type t) ≡ Some (state.Pointer None)
+    pointer_zero type.I32 = refl
+    pointer_zero type.I64 = refl
+
+    in_space : (k : ℕ) (e : GlobalEntry) → slice_get m.tree.globals k ≡ Some e
+        → slice_get (global_space m.tree) (imported_globals m.tree + k) ≡ Some (e.ty, e.mutable)
+    in_space k e is =
+        ap (λ count. slice_get (global_space m.tree) (count + k)) (global_count m.tree.imports)
+        ∙ (get_behind (imported_global_space m.tree) (map (λ (g : GlobalEntry). (g.ty, g.mutable)) m.tree.globals) k
+        ∙ get_mapped (λ (g : GlobalEntry). (g.ty, g.mutable)) m.tree.globals k e is)
+
+pub units_declare : (m : NamedModule) → IsAccepted m → IsDeclared m.tree (machine.objects_of (items m))
+units_declare m a = declares m a _
 
 -- ---- arrays of data
 

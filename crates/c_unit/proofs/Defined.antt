@@ -5,6 +5,7 @@ use Rattle.std.proofs.lemmas.Fmt.{decimal_injective}
 use Rattle.std.proofs.lemmas.Option.{slice_get-get_or}
 use Rattle.std.proofs.lemmas.Slice.Eq.{bytes_eq-Decides}
 use Rattle.std.specs.List.{AllByRecursion, Contains, list_all, range_with_len}
+use Rattle.std.specs.Option.{option_or}
 use Rattle.w2c_base.specs.Lookup.{if_found, numbered}
 use Rattle.w2c_base.specs.declared.value.ValType.{ValType}
 use Rattle.w2c_base.specs.declared.signature.FuncType.{FuncType}
@@ -26,7 +27,7 @@ use Rattle.c_tree.specs.declared.tree.CType.{CType}
 use Rattle.c_tree.specs.declared.tree.CType.TheVariants as c_type
 use Rattle.c_tree.specs.Tree as tree
 use Rattle.c_tree.specs.Scope.{Name}
-use Rattle.c_meaning.specs.Linking.{Definition, defined, defined_for_all}
+use Rattle.c_meaning.specs.Linking.{Definition, defined, defined_for_all, typed}
 use Rattle.c_meaning.specs.Primitives.{primitive}
 use Rattle.c_meaning.proofs.Lookups.{bytes_equal, bytes_differ}
 use Rattle.c_prelude.specs.declared.operation.Helper.{Helper}
@@ -321,6 +322,20 @@ export_external m e = by e.kind
 
 -- ---- what names stand for
 
+-- other units see no name that is no symbol
+no_symbol_undefined : (m : NamedModule) (name : Name) → nat_eq (head name) 119 ≡ false → defined_for_all (items m) name ≡ None
+no_symbol_undefined m name letter =
+    in_none (external_by name) m (no_helper_external m name) (no_body_external m name)
+    (find_none (λ e. external_by name (export_func m e)) m.tree.exports (λ i e is. rw ((export_external m e).external) (by_name e)))
+    (bytes_differ (init_symbol_of m.name) name (λ same. no_letter refl same)) 0
+  where
+    no_letter : {symbol : Name} → nat_eq (head symbol) 119 ≡ true → symbol ≡ name → ⊥
+    no_letter is same = let wrong : true ≡ false = sym is ∙ ap (λ n. nat_eq (head n) 119) same ∙ letter in cc
+
+    by_name : (e : Export) → bytes_eq (export_func m e).name name ≡ false
+    by_name e = bytes_differ (export_func m e).name name (λ same.
+        no_letter refl (sym (symbol_is m e) ∙ (sym (export_external m e).named ∙ same)))
+
 -- the unit's definition of a name, and the one that other units see
 abbrev pub IsDefinition : (Name → Option Definition) → Name → tree.Func → tree.Body → Type 0
 IsDefinition search name f body = (item : ℕ) × (search name ≡ Some (record { item = item; func = f; body = body }))
@@ -473,3 +488,28 @@ other_export_undefined m other kind field small small' differ = symbol_undefined
     (λ i e is same. differ (export_symbol_of-injective m.name other (kind_of m e) kind e.name field small small'
     (sym (symbol_is m e) ∙ same)).0)
     (λ same. init_symbol_of-not_export m.name other kind field small small' same)
+
+-- ---- types: a name that other units see has the type of what they see, another that of its definition
+
+pub typed_outside : (unit : List tree.Item) (name : Name) (f : tree.Func) (body : tree.Body)
+    → IsDefinition (defined_for_all unit) name f body → IsDefinition (typed unit) name f body
+typed_outside unit name f body d = (d.0, ap (λ (o : Option Definition). option_or o (defined unit name)) d.1)
+
+typed_inside : (m : NamedModule) (name : Name) (f : tree.Func) (body : tree.Body) → nat_eq (head name) 119 ≡ false
+    → IsDefinition (defined (items m)) name f body → IsDefinition (typed (items m)) name f body
+typed_inside m name f body letter d =
+    (d.0, ap (λ (o : Option Definition). option_or o (defined (items m) name)) (no_symbol_undefined m name letter) ∙ d.1)
+
+pub func_typed : (m : NamedModule) (index : ℕ) (f : tree.Func) (body : tree.Body)
+    → IsDefinition (defined (items m)) (func_name index) f body → IsDefinition (typed (items m)) (func_name index) f body
+func_typed m index f body d = typed_inside m (func_name index) f body refl d
+
+pub helper_typed : (m : NamedModule) (which : Helper) (f : tree.Func) (body : tree.Body)
+    → IsDefinition (defined (items m)) (helper_of which).name f body → IsDefinition (typed (items m)) (helper_of which).name f body
+helper_typed m which f body d = typed_inside m (helper_of which).name f body
+    (no_w (nat_eq (head (helper_of which).name) 102) (nat_eq (head (helper_of which).name) 119) (helper_apart which)) d
+  where
+    no_w : (b c : Bool) → (not b && not c) ≡ true → c ≡ false
+    no_w false false e = refl
+    no_w true c e = absurd (cc)
+    no_w false true e = absurd (cc)

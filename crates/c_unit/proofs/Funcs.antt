@@ -12,9 +12,10 @@ use Rattle.wasm_tree.specs.declared.entries.FuncEntry.{FuncEntry}
 use Rattle.wasm_tree.specs.declared.entries.BodyEntry.{BodyEntry}
 use Rattle.wasm_tree.specs.declared.entries.ImportKind.{ImportKind}
 use Rattle.wasm_tree.specs.declared.entries.ImportKind.TheVariants.{Func as ImportFunc, Table as ImportTable, Memory as ImportMemory, Global as ImportGlobal}
-use Rattle.wasm_tree.specs.IndexSpaces.{func_of_import, func_space, type_in, func_type_in, is_func_import, imported_funcs}
+use Rattle.wasm_tree.specs.IndexSpaces.{func_of_import, func_space, type_in, func_type_in, is_func_import, imported_funcs, at_defined}
 use Rattle.wasm_valid.specs.ModuleFaults.{module_faults, unknown_types, fault_if}
-use Rattle.wasm_valid.specs.Verdict.{IsValid}
+use Rattle.wasm_tree.proofs.BehindImports.{defined_behind_imports}
+use Rattle.wasm_valid.specs.Verdict.{IsValid, bodies_of}
 use Rattle.wasm_meaning.specs.LinkedSet.{LinkedSet, NamedModule, Instance, External, FuncAddress, ModuleFunc, IsFunc, IsTable, IsMemory, IsGlobal, as_func, instances, meaning_of, func_at, func_type, import_at, module_at, type_at}
 use Rattle.c_body.specs.Symbols.{func_imports}
 use Rattle.c_body.specs.Agree.{IsDefined}
@@ -210,6 +211,7 @@ pub own_func : (s : LinkedSet) → IsAcceptedSet s → (u : ℕ) (m : NamedModul
 own_func s accepted u m is k there =
     let a : IsAccepted m = accepted_at s accepted u m is in
     let j : ℕ = k - imported_funcs m.tree in
+    let place : k ≡ imported_funcs m.tree + j = omega (arith, there.behind) in
     let f = get_within m.tree.funcs j (omega (arith, there.behind, there.within)) in
     let b = get_within m.tree.bodies j (omega (arith, there.behind, there.within, a.within.bodies_are_there)) in
     let t = func_has_type m.tree a.valid j f.0 f.1 in
@@ -222,12 +224,14 @@ own_func s accepted u m is k there =
     record {
       entry = (f.0, b.0);
       ty = t.0;
-      entry_is = zip_at m.tree.funcs m.tree.bodies j f.0 b.0 f.1 b.1;
+      entry_is = defined_behind_imports m.tree (bodies_of m.tree) k j place
+          ∙ zip_at m.tree.funcs m.tree.bodies j f.0 b.0 f.1 b.1;
       typed = t.1;
       in_module = ap (λ (x : Option ℕ). if_found x (type_in m.tree)) in_space ∙ t.1;
       in_set = ap (λ (x : Option Module). if_found x
-          (λ (m : Module). if_found (slice_get m.funcs (k - imported_funcs m)) (λ f. type_at s u f.type_index))) module_is
-          ∙ ap (λ (x : Option FuncEntry). if_found x (λ f. type_at s u f.type_index)) f.1
+          (λ (m : Module). if_found (at_defined m m.funcs k) (λ f. type_at s u f.type_index))) module_is
+          ∙ ap (λ (x : Option FuncEntry). if_found x (λ f. type_at s u f.type_index))
+          (defined_behind_imports m.tree m.tree.funcs k j place ∙ f.1)
           ∙ type_at_is s u m is f.0.type_index
           ∙ t.1;
     }

@@ -202,7 +202,7 @@ units_are_known inits functions gives s accepted u m is =
     let instantiable : IsInstantiable m.tree = modules_are_instantiable m.tree a.valid a.within in
     record {
       init = inits s accepted u m is;
-      declared = units_declare m;
+      declared = units_declare m a;
       array = arrays_are_found s u m is (let few : length m.tree.segments + 2 < 2 ^ 32 = instantiable.few_segments in omega (arith, few));
       table = table_owned s u m is accepted.linked;
       memory = memory_owned s u m is accepted.linked;

@@ -1,13 +1,14 @@
 -- The statements that make a table, a memory and globals against their tasks (WebAssembly Core 1.0, 4.5.4).
-use Rattle.std.proofs.Common.{◌≡◌, ◌≢◌, ℕ, zero, suc, ◌+◌, ◌*◌, ◌^◌, ◌<◌, ◌≤◌, inl, inr, ◌||◌, Bool, true, false, if◌then◌else◌, List, [], ◌∷◌, ◌++◌, length, map, replicate, zip, Option, Some, None, is_some, IsSome, slice_get, slice_set, nat_lt, refl, sym, ap, ◌∙◌, subst, arith, codes, append_assoc, append-nil}
+use Rattle.std.proofs.Common.{◌≡◌, ◌≢◌, ℕ, zero, suc, ◌+◌, ◌*◌, ◌^◌, ◌<◌, ◌≤◌, inl, inr, ◌||◌, Bool, true, false, if◌then◌else◌, List, [], ◌∷◌, ◌++◌, length, map, replicate, zip, Option, Some, None, option_map, is_some, IsSome, slice_get, slice_set, nat_lt, refl, sym, ap, ◌∙◌, subst, arith, codes, append_assoc, append-nil}
 use Rattle.c_meaning.specs.Reaches.{Reaches}
 use Rattle.std.specs.List.{AllByRecursion, range_with_len}
-use Rattle.std.proofs.lemmas.Option.{same_Some}
+use Rattle.std.proofs.lemmas.Option.{same_Some, slice_get_within}
+use Rattle.c_body.proofs.Lists.{get_behind}
 use Rattle.std.proofs.lemmas.List.{length-replicate}
 use Rattle.w2c_base.specs.declared.value.ValType.{ValType}
 use Rattle.w2c_base.specs.declared.value.Value.{Value}
 use Rattle.w2c_base.specs.declared.value.Value.TheVariants.{I32, I64}
-use Rattle.w2c_base.specs.Values.{type_of, types_of, IsNumber}
+use Rattle.w2c_base.specs.Values.{value, type_of, types_of, IsNumber}
 use Rattle.w2c_base.specs.Lookup.{if_found, named, with_named, numbered}
 use Rattle.w2c_base.specs.Run.{Trail}
 use Rattle.wasm_tree.specs.declared.tree.Module.{Module}
@@ -18,13 +19,15 @@ use Rattle.wasm_tree.specs.IndexSpaces.{imported_global_space, imported_globals}
 use Rattle.wasm_valid.specs.ModuleFaults.{shape_of}
 use Rattle.wasm_meaning.specs.LinkedSet.{LinkedSet, NamedModule}
 use Rattle.wasm_meaning.specs.Store as store
-use Rattle.wasm_meaning.specs.Run.{Task, MakeTable, MakeMemory, MakeGlobal, done, with_found}
+use Rattle.wasm_meaning.specs.Execution.{of_type}
+use Rattle.wasm_meaning.specs.Run.{Task, MakeTable, MakeMemory, MakeGlobal, done, with_found, first_value as wasm_first}
+use Rattle.wasm_meaning.proofs.Typed.{of_its_type}
 use Rattle.c_tree.specs.Tree as c
 use Rattle.c_meaning.specs.State as state
 use Rattle.c_meaning.specs.Linking.{Program}
 use Rattle.c_meaning.specs.Machine as machine
 use Rattle.c_meaning.specs.Primitives.{Effect, Gives, NoEffect, IsUndefined, tab_new, mem_new}
-use Rattle.c_meaning.proofs.Lookups.{named-with_named, named-with_another, is_some-with_named}
+use Rattle.c_meaning.proofs.Lookups.{named-with_named, named-with_another}
 use Rattle.c_prelude.proofs.Widths.{sides}
 use Rattle.alike.specs.Alike.{memory_name, table_name, global_name, first_global, GlobalsAlike}
 use Rattle.c_body.specs.Names.{pointer_name}
@@ -33,6 +36,9 @@ use Rattle.c_body.specs.Follows.{Together}
 use Rattle.c_body.proofs.Names.{global_at_another_place, global_is_no_pointer}
 use Rattle.c_body.proofs.Store.{with_unit, table_object, memory_object, objects_at, store_is, machine_is, pointers_kept}
 use Rattle.c_unit.specs.Init.{n32, n64, max_number, make_table, make_memory, make_global, constant_expr}
+use Rattle.c_unit.specs.Instantiation.{zero_like}
+use Rattle.c_unit.proofs.Held.{held, held_there, held_kept}
+use Rattle.c_unit.proofs.TakeTasks.{HoldsGlobal}
 use Rattle.c_unit.proofs.InitStatements.{Seat, GetsAll, gets_one, effect_goes, set_global_goes, at as going_at}
 use Rattle.c_unit.proofs.InitRuns.{FollowsTask, FollowsTasks, and_others}
 use Rattle.c_unit.proofs.InitConstants.{ShapeFits, ConstantFound, constant_found, value_gets}
@@ -59,7 +65,7 @@ pub record IsMaking (s : LinkedSet) (g : Seat) (m : NamedModule) (has_table has_
   pub memory_made : has_memory ≡ true → 0 < length m.tree.memories → IsSome o.memory
   pub memory_new : has_memory ≡ false → 0 < length m.tree.memories → named memory_name x.memories ≡ Some machine.no_memory
   pub types : types_of o.globals ≡ map (λ (e : GlobalEntry). e.ty) front
-  pub declared : (k : ℕ) → k < length m.tree.globals → is_some (named (global_name (imported_globals m.tree + k)) x.vars) ≡ true
+  pub declared : (k : ℕ) (e : GlobalEntry) → slice_get m.tree.globals k ≡ Some e → HoldsGlobal m.tree k e x.vars
 
 -- what the unit's objects are before the change
 module _ (s : LinkedSet) (g : Seat) (m : NamedModule) (has_table has_memory : Bool) (front : List GlobalEntry) (mach : state.Machine)
@@ -344,15 +350,15 @@ types_length (v ∷ globals) (x ∷ front) e = ap suc (types_length globals fron
     behind (t ∷ ts) = ts
 
 pub global_follows : (s : LinkedSet) (g : Seat) (m : NamedModule) (front : List GlobalEntry) (k : ℕ) (e : GlobalEntry) (rest : List c.Stmt)
-    → Surroundings s g m → k ≡ length front → k < length m.tree.globals → ShapeFits e.ty (shape_of (imported_global_space m.tree) e.code)
-    → FollowsTask s g (IsMaking s g m true true front) (MakeGlobal e.code) (IsMaking s g m true true (front ++ e ∷ []))
+    → Surroundings s g m → k ≡ length front → slice_get m.tree.globals k ≡ Some e → ShapeFits e.ty (shape_of (imported_global_space m.tree) e.code)
+    → FollowsTask s g (IsMaking s g m true true front) (MakeGlobal e.ty e.code) (IsMaking s g m true true (front ++ e ∷ []))
     (make_global m.tree (k, e) ∷ rest) rest
-global_follows s g m front k e rest a at less fits mach made trail vars here = inl (record {
+global_follows s g m front k e rest a at is fits mach made trail vars here = inl (record {
   machine = with_unit mach g.unit x';
   new = slice_set made g.unit o';
   locals = vars;
   does = λ n. ap (λ v. with_found v made trail (λ v. done n
-      (store.with_objects made g.unit (λ o. record { memory = o.memory; table = o.table; globals = o.globals ++ v ∷ [] })) trail)) found.is
+      (store.with_objects made g.unit (λ o. record { memory = o.memory; table = o.table; globals = o.globals ++ v ∷ [] })) trail)) first_is
       ∙ ap (λ x. done n x trail) (store_is made g.unit here.o change here.o_is);
   reached = record {
     together = own_kept g.program s g.unit mach made trail here.o o' x' here.o_is agree
@@ -371,8 +377,8 @@ global_follows s g m front k e rest a at less fits mach made trail vars here = i
     memory_new = λ is some. absurd cc;
     types = types_push here.o.globals found.value ∙ ap (λ ts. ts ++ type_of found.value ∷ []) here.types
         ∙ ap (λ t. map (λ (e : GlobalEntry). e.ty) front ++ t ∷ []) found.typed ∙ sym (map_push front e);
-    declared = λ i within. is_some-with_named (global_name (imported_globals m.tree + i)) (global_name j)
-        (state.Number found.value) here.x.vars (here.declared i within);
+    declared = λ i x there. held_kept (global_name (imported_globals m.tree + i)) (global_name j)
+        (state.Number found.value) here.x.vars of_type_there ∙ here.declared i x there;
   };
   statements = 1;
   some = omega arith;
@@ -381,7 +387,8 @@ global_follows s g m front k e rest a at less fits mach made trail vars here = i
       (machine_is mach g.unit here.x changes here.x_is)
       (set_global_goes g mach (global_name j) (c.Value (constant_expr m.tree e.code)) (state.Number found.value) rest vars refl
       (here.locals.globals_seen j)
-      (ap (λ (x : Option state.Objects). is_some (if_found x (λ o. named (global_name j) o.vars))) here.x_is ∙ there)
+      (ap (λ (x : Option state.Objects). option_map zero_like (if_found x (λ o. named (global_name j) o.vars))) here.x_is
+      ∙ of_type_there)
       (value_gets g mach vars (constant_expr m.tree e.code) found.value found.evaluates));
 })
   where
@@ -394,8 +401,16 @@ global_follows s g m front k e rest a at less fits mach made trail vars here = i
         global_found s g m.tree mach made trail vars index g.unit e.ty (module_is s g.unit m a.module_is) o.0 o.1
         here.together.agrees here.together.ready here.pointers here.locals.pointers_seen here.locals.globals_seen)
 
-    there : is_some (named (global_name j) here.x.vars) ≡ true
-    there = here.declared k less
+    -- the value has the global's type, and so has the one that its variable holds
+    first_is : wasm_first s g.unit made e.ty e.code ≡ Some found.value
+    first_is = ap (λ (o : Option Value). if_found o (λ v. of_type e.ty v v)) found.is
+        ∙ of_its_type e.ty found.value found.value (sym found.typed)
+
+    of_type_there : held (global_name j) here.x.vars ≡ Some (zero_like (state.Number found.value))
+    of_type_there = here.declared k e is ∙ ap (λ (t : ValType). Some (state.Number (value t 0))) (sym found.typed)
+
+    less : k < length m.tree.globals
+    less = slice_get_within m.tree.globals k e is
 
     change : store.Objects → store.Objects
     change o = record { memory = o.memory; table = o.table; globals = o.globals ++ found.value ∷ [] }
@@ -423,7 +438,8 @@ global_follows s g m front k e rest a at less fits mach made trail vars here = i
       memory = old.memory;
       table = old.table;
       globals = globals_push (first_global s g.unit) j here.o.globals found.value here.x.vars place
-          (omega (arith, less, a.instantiable.few_globals)) there old.globals;
+          (omega (arith, less, a.instantiable.few_globals))
+          (held_there (global_name j) here.x.vars (zero_like (state.Number found.value)) of_type_there) old.globals;
       are_numbers = all_push IsNumber here.o.globals found.value old.are_numbers found.is_number;
     }
 
@@ -431,24 +447,31 @@ global_follows s g m front k e rest a at less fits mach made trail vars here = i
 
 make_globals : (s : LinkedSet) (g : Seat) (m : NamedModule) (spare k : ℕ) (front es : List GlobalEntry) (rest : List c.Stmt)
     (tasks : List Task)
-    → Surroundings s g m → k ≡ length front → k + length es ≤ length m.tree.globals
+    → Surroundings s g m → k ≡ length front → front ++ es ≡ m.tree.globals
     → AllByRecursion (λ (e : GlobalEntry). ShapeFits e.ty (shape_of (imported_global_space m.tree) e.code)) es
     → FollowsTasks s g spare (IsMaking s g m true true (front ++ es)) rest tasks
     → FollowsTasks s g spare (IsMaking s g m true true front) (map (make_global m.tree) (zip (range_with_len k (length es)) es) ++ rest)
-    (map (λ (e : GlobalEntry). MakeGlobal e.code) es ++ tasks)
-make_globals s g m spare k front [] rest tasks a at few fits behind =
+    (map (λ (e : GlobalEntry). MakeGlobal e.ty e.code) es ++ tasks)
+make_globals s g m spare k front [] rest tasks a at whole fits behind =
     subst (λ es. FollowsTasks s g spare (IsMaking s g m true true es) rest tasks) (append-nil front) behind
-make_globals s g m spare k front (e ∷ es) rest tasks a at few fits behind =
-    and_others s g spare (IsMaking s g m true true front) (MakeGlobal e.code) (IsMaking s g m true true (front ++ e ∷ []))
+make_globals s g m spare k front (e ∷ es) rest tasks a at whole fits behind =
+    and_others s g spare (IsMaking s g m true true front) (MakeGlobal e.ty e.code) (IsMaking s g m true true (front ++ e ∷ []))
     (make_global m.tree (k, e) ∷ (map (make_global m.tree) (zip (range_with_len (k + 1) (length es)) es) ++ rest))
     (map (make_global m.tree) (zip (range_with_len (k + 1) (length es)) es) ++ rest)
-    (map (λ (e : GlobalEntry). MakeGlobal e.code) es ++ tasks)
+    (map (λ (e : GlobalEntry). MakeGlobal e.ty e.code) es ++ tasks)
     refl
     (global_follows s g m front k e (map (make_global m.tree) (zip (range_with_len (k + 1) (length es)) es) ++ rest) a at
-    (omega (arith, few)) fits.0)
-    (make_globals s g m spare (k + 1) (front ++ e ∷ []) es rest tasks a (omega (arith, at, length_push front e)) (omega (arith, few)) fits.1
+    entry fits.0)
+    (make_globals s g m spare (k + 1) (front ++ e ∷ []) es rest tasks a (omega (arith, at, length_push front e))
+    (append_assoc front (e ∷ []) es ∙ whole) fits.1
     (subst (λ es. FollowsTasks s g spare (IsMaking s g m true true es) rest tasks) (sym (append_assoc front (e ∷ []) es)) behind))
   where
+    entry : slice_get m.tree.globals k ≡ Some e
+    entry =
+        let place : k ≡ length front + 0 = omega (arith, at) in
+        ap (λ (es : List GlobalEntry). slice_get es k) (sym whole)
+        ∙ (ap (slice_get (front ++ e ∷ es)) place ∙ get_behind front (e ∷ es) 0)
+
     length_push : (xs : List GlobalEntry) (x : GlobalEntry) → length (xs ++ x ∷ []) ≡ suc (length xs)
     length_push [] x = refl
     length_push (y ∷ xs) x = ap suc (length_push xs x)
@@ -541,7 +564,7 @@ abbrev pub tasks_making : Module → List Task → List Task
 tasks_making m tasks =
     map (λ (t : LimitsEntry). MakeTable t.limits) m.tables
     ++ (map (λ (t : LimitsEntry). MakeMemory t.limits) m.memories
-    ++ (map (λ (g : GlobalEntry). MakeGlobal g.code) m.globals ++ tasks))
+    ++ (map (λ (g : GlobalEntry). MakeGlobal g.ty g.code) m.globals ++ tasks))
 
 abbrev pub stmts_making : Module → List c.Stmt → List c.Stmt
 stmts_making m rest =
@@ -555,5 +578,5 @@ pub making_follows : (s : LinkedSet) (g : Seat) (m : NamedModule) (spare : ℕ) 
 making_follows s g m spare rest tasks a behind =
     make_tables s g m spare m.tree.tables _ _ refl a.instantiable.one_table a.instantiable.table_limits
     (make_memories s g m spare m.tree.memories _ _ refl a.instantiable.one_memory a.instantiable.memory_limits
-    (make_globals s g m spare 0 [] m.tree.globals rest tasks a refl (omega arith) a.instantiable.globals
+    (make_globals s g m spare 0 [] m.tree.globals rest tasks a refl refl a.instantiable.globals
     (λ n made trail mach vars here. behind n made trail mach vars (making_is_filled s g m mach made trail vars a here))))

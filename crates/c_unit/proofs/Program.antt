@@ -15,7 +15,7 @@ use Rattle.wasm_meaning.specs.LinkedSet.{LinkedSet, NamedModule, Instance, Exter
 use Rattle.c_tree.specs.Tree as tree
 use Rattle.c_tree.specs.Scope.{Name}
 use Rattle.c_meaning.specs.State.{UnitFunc}
-use Rattle.c_meaning.specs.Linking.{defined, defined_for_all, definition_at}
+use Rattle.c_meaning.specs.Linking.{defined, defined_for_all, definition_at, func_type}
 use Rattle.c_meaning.specs.Primitives.{primitive}
 use Rattle.c_prelude.specs.declared.operation.Helper.{Helper}
 use Rattle.c_prelude.specs.Helpers.{helper_of}
@@ -25,10 +25,10 @@ use Rattle.c_body.specs.Body.{body_of}
 use Rattle.c_body.specs.Needs.{helpers_of}
 use Rattle.c_body.specs.Serves.{Defines, Reached}
 use Rattle.c_unit.specs.Sets.{IsAcceptedSet, UnitsServe, program_of, symbol_call}
-use Rattle.c_unit.proofs.Defined.{helper_defined, helper_is_no_primitive, func_is_no_primitive, export_is_no_primitive}
+use Rattle.c_unit.proofs.Defined.{helper_defined, helper_typed, helper_is_no_primitive, func_is_no_primitive, export_is_no_primitive}
 use Rattle.c_unit.proofs.Instances.{IsPlaced, placed, earlier_is}
 use Rattle.c_unit.proofs.Linked.{ExportedBy, exported_by, accepted_at}
-use Rattle.c_unit.proofs.External.{SymbolFound, unit_at, symbol_found}
+use Rattle.c_unit.proofs.External.{SymbolFound, unit_at, type_found, symbol_found}
 use Rattle.c_unit.proofs.Usable.{origin, import_kind, import_symbol_is, import_resolves, usable}
 use Rattle.c_unit.proofs.Funcs.{ImportedFunc, imported_func, func_space_at, as_func_is}
 use Rattle.c_unit.proofs.Stands.{ExportedFunc, ImportStands, exported_func, import_stands, func_stands, own_definition, stands_for}
@@ -49,6 +49,7 @@ body_found s accepted u m is k there =
       body = d.0;
       has_body = d.1;
       defined = ap (definition_at (program_of s) u) d.2 ∙ d.4.1;
+      typed = ap (λ name. func_type (program_of s) (UnitFunc u name)) d.2 ∙ d.5;
       is_no_primitive = ap primitive d.2 ∙ func_is_no_primitive k;
     }
 
@@ -62,6 +63,7 @@ helper_found s u m is which there =
       has_body = d.1;
       defined = ap (λ (unit : Option (List tree.Item)). if_found unit (λ items. defined items (helper_of which).name))
           (unit_at s u m is) ∙ d.2.1;
+      typed = type_found s u m is (helper_of which).name (helper_of which) d.0 (helper_typed m which (helper_of which) d.0 d.2);
       is_no_primitive = helper_is_no_primitive which;
     }
 

@@ -18,11 +18,13 @@ use Rattle.c_meaning.specs.Primitives.{primitive}
 use Rattle.alike.specs.Alike.{func_name}
 use Rattle.c_body.specs.Symbols.{func_imports, import_symbol, is_usable}
 use Rattle.c_body.specs.Objects.{callee, function_name}
+use Rattle.c_unit.specs.Init.{init_func}
+use Rattle.c_unit.specs.Items.{items}
 use Rattle.c_unit.specs.Sets.{IsAcceptedSet, program_of}
-use Rattle.c_unit.proofs.Defined.{init_defined}
+use Rattle.c_unit.proofs.Defined.{init_defined, typed_outside}
 use Rattle.c_unit.proofs.Instances.{placed}
 use Rattle.c_unit.proofs.Linked.{accepted_at}
-use Rattle.c_unit.proofs.External.{unit_at}
+use Rattle.c_unit.proofs.External.{unit_at, type_found}
 use Rattle.c_unit.proofs.Usable.{import_resolves}
 use Rattle.c_unit.proofs.Funcs.{ImportedFunc, imported_func, count_funcs, func_space_at}
 use Rattle.c_unit.proofs.Stands.{FuncStands, func_stands, stands_for}
@@ -43,6 +45,8 @@ inits_are_defined s accepted u m is =
       has_body = d.1;
       defined = ap (λ (unit : Option (List tree.Item)). if_found unit (λ items. defined items (init_symbol_of m.name)))
           (unit_at s u m is) ∙ d.2.1;
+      typed = type_found s u m is (init_symbol_of m.name) (init_func m) d.0
+          (typed_outside (items m) (init_symbol_of m.name) (init_func m) d.0 d.3);
       is_no_primitive = refl;
     }
 

@@ -25,7 +25,7 @@ use Rattle.c_tree.specs.declared.tree.CType.TheVariants as c_type
 use Rattle.c_tree.specs.Tree as tree
 use Rattle.c_tree.specs.Scope.{Name, func_type_of}
 use Rattle.c_meaning.specs.State.{FuncAddress, UnitFunc, HostFunc, Machine, Frame}
-use Rattle.c_meaning.specs.Linking.{Program, Definition, definition_at, defined, external_func, func_named, func_type, c_type_of, c_params_of, c_result_of}
+use Rattle.c_meaning.specs.Linking.{Program, Definition, definition_at, defined, external_func, func_named, func_type, c_func_type_of, c_type_of, c_params_of, c_result_of}
 use Rattle.c_meaning.specs.Primitives.{primitive}
 use Rattle.c_meaning.specs.Run.{Pending}
 use Rattle.c_meaning.specs.Reaches.{Reaches}
@@ -40,10 +40,10 @@ use Rattle.c_body.specs.Body.{params_of, params_from, func_of, body_of}
 use Rattle.c_unit.specs.Exports.{export_func, passes_on, accessor}
 use Rattle.c_unit.specs.Sets.{IsAccepted, IsAcceptedSet, program_of}
 use Rattle.c_unit.proofs.Found.{find_join}
-use Rattle.c_unit.proofs.Defined.{IsDefinition, IsExternal, export_external, body_with, body_defined, func_is_no_primitive, export_is_no_primitive}
+use Rattle.c_unit.proofs.Defined.{IsDefinition, IsExternal, export_external, body_with, body_defined, func_typed, func_is_no_primitive, export_is_no_primitive}
 use Rattle.c_unit.proofs.Instances.{IsPlaced, spaces_at, placed, earlier_is}
 use Rattle.c_unit.proofs.Linked.{ExportedBy, accepted_at}
-use Rattle.c_unit.proofs.External.{SymbolFound, unit_at, symbol_found, external_found, named_external}
+use Rattle.c_unit.proofs.External.{SymbolFound, unit_at, type_found, symbol_found, external_found, named_external}
 use Rattle.c_unit.proofs.HostSymbols.{OfferedBy}
 use Rattle.c_unit.proofs.Usable.{Origin, FromModule, FromHost, origin, origin_bytes, origin_differs, import_kind, import_symbol_is, import_resolves, type_at_is, usable}
 use Rattle.c_unit.proofs.Funcs.{ImportedFunc, IsImport, IsOwn, OwnFunc, imported_func, func_case, func_space_at, own_func}
@@ -156,6 +156,7 @@ pub own_definition : (s : LinkedSet) (accepted : IsAcceptedSet s) (u : ℕ) (m :
     → (body : tree.Body) × ((body_of m.tree m.name k).body ≡ Some body) × ((body_of m.tree m.name k).name ≡ func_name k)
     × (func_type_of (body_of m.tree m.name k) ≡ c_func_type (own_func s accepted u m is k there).ty)
     × IsDefinition (definition_at (program_of s) u) (func_name k) (body_of m.tree m.name k) body
+    × (func_type (program_of s) (UnitFunc u (func_name k)) ≡ Some (func_type_of (body_of m.tree m.name k)))
 own_definition s accepted u m is k there =
     let a : IsAccepted m = accepted_at s accepted u m is in
     let own : OwnFunc s u m k = own_func s accepted u m is k there in
@@ -176,6 +177,7 @@ own_definition s accepted u m is k there =
         ap (λ (unit : Option (List tree.Item)). if_found unit (λ items. defined items (func_name k))) (unit_at s u m is)
             ∙ definition.1,
       ),
+      type_found s u m is (func_name k) (body_of m.tree m.name k) _ (func_typed m k (body_of m.tree m.name k) _ definition),
     )
 
 own_stands : (s : LinkedSet) → IsAcceptedSet s → (u : ℕ) (m : NamedModule) → slice_get s.modules u ≡ Some m → (k : ℕ) (f : link.FuncAddress)
@@ -199,7 +201,7 @@ own_stands s accepted u m is k f h =
         alike = inl (record { index = k; name_is = refl; func_is = refl });
         ty = own.ty;
         ty_is = own.in_set;
-        c_ty_is = ap (option_map (λ (d : Definition). func_type_of d.func)) d.4.1 ∙ ap Some d.3;
+        c_ty_is = d.5 ∙ ap Some d.3;
         passes = λ pending machine args below fit. passes_itself (program_of s) (3 * u) own.ty
             (UnitFunc u (func_name k)) pending machine args below;
       };
@@ -330,7 +332,7 @@ exported_func s accepted many module_name name f h found inner =
         });
         ty = ty;
         ty_is = at.stands.ty_is;
-        c_ty_is = ap (option_map (λ (d : Definition). func_type_of d.func)) definition
+        c_ty_is = found_symbol.typed ∙ ap (λ (f : tree.Func). Some (func_type_of f)) func_is
             ∙ ap Some (wrapper_type ty (export_symbol n e) (Some at.name));
         passes = λ pending machine args below fit.
             let w = once pending machine args below fit in
@@ -393,9 +395,9 @@ host_stands s most host_name name f h = subst (λ (g : link.FuncAddress). Stands
       ty = h.its.ty;
       ty_is = ap (λ (x : Option Host). if_found x (λ host. option_map (λ f. f.ty) (slice_get host.functions h.function))) h.host_is
           ∙ ap (option_map (λ (f : HostFunction). f.ty)) h.function_is;
-      c_ty_is = ap (λ (x : Option Host). if_found x (λ host. option_map
-          (λ f. record { params = c_params_of f.ty.params; result = c_result_of f.ty.result }) (slice_get host.functions h.function))) h.host_is
-          ∙ ap (option_map (λ (f : HostFunction). record { params = c_params_of f.ty.params; result = c_result_of f.ty.result })) h.function_is;
+      c_ty_is = ap (λ (x : Option Host). option_map c_func_type_of
+          (if_found x (λ host. option_map (λ f. f.ty) (slice_get host.functions h.function)))) h.host_is
+          ∙ ap (λ (x : Option HostFunction). option_map c_func_type_of (option_map (λ f. f.ty) x)) h.function_is;
       passes = λ pending machine args below fit. passes_itself (program_of s) most h.its.ty
           (HostFunc h.host h.function) pending machine args below;
     })

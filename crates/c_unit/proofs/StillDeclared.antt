@@ -1,5 +1,6 @@
--- A unit that is untouched still declares what its module needs: the names are there, and nothing is made.
-use Rattle.std.proofs.Common.{◌≡◌, ℕ, zero, suc, ◌+◌, Bool, true, false, if◌then◌else◌, List, [], ◌∷◌, map, bytes_eq, is_some, Option, Some, None, slice_get, refl, ap, ◌∙◌, subst, arith}
+-- A unit that is untouched still declares what its module needs: the names are there, with their types, and nothing
+-- is made.
+use Rattle.std.proofs.Common.{◌≡◌, ℕ, zero, suc, ◌+◌, Bool, true, false, if◌then◌else◌, List, [], ◌∷◌, map, bytes_eq, is_some, Option, Some, None, slice_get, refl, sym, ap, ◌∙◌, subst, arith}
 use Rattle.w2c_base.specs.Lookup.{named}
 use Rattle.w2c_base.specs.Run.{Trail}
 use Rattle.wasm_tree.specs.IndexSpaces.{imported_globals}
@@ -14,6 +15,7 @@ use Rattle.c_body.specs.Agree.{StoresAgree, ObjectsAgree, MemoriesAgree, TablesA
 use Rattle.c_body.specs.Follows.{Together}
 use Rattle.c_unit.specs.Items.{items}
 use Rattle.c_unit.specs.Instantiation.{IsUntouched}
+use Rattle.c_unit.proofs.Held.{held, named_zeroed}
 use Rattle.c_unit.proofs.TakeTasks.{IsDeclared}
 
 -- whether a name is there depends on the names alone
@@ -64,7 +66,7 @@ pub still_declared : (p : Program) (s : LinkedSet) (u : ℕ) (m : NamedModule) (
 still_declared p s u m mach made trail together h d = record {
   table = λ some. no_table_there p s (named table_name h.now.tables) (table table_name ∙ ap is_some (d.table some)) agree.table;
   memory = λ some. no_memory_there (named memory_name h.now.memories) (memory memory_name ∙ ap is_some (d.memory some)) agree.memory;
-  globals = λ k less. var (global_name (imported_globals m.tree + k)) ∙ d.globals k less;
+  globals = λ k e is. var (global_name (imported_globals m.tree + k)) ∙ d.globals k e is;
   table_pointer = λ some. var (pointer_name table_name) ∙ d.table_pointer some;
   memory_pointer = λ some. var (pointer_name memory_name) ∙ d.memory_pointer some;
   global_pointers = λ k less. var (pointer_name (global_name k)) ∙ d.global_pointers k less;
@@ -73,14 +75,15 @@ still_declared p s u m mach made trail together h d = record {
     agree : ObjectsAgree p s (0 + u) store.no_objects h.now
     agree = agree_at p s 0 made mach.units u store.no_objects h.now together.agrees.objects h.objects h.unit
 
-    var : (name : state.Name) → is_some (named name h.now.vars) ≡ is_some (named name (machine.objects_of (items m)).vars)
-    var name = named_names name h.now.vars (machine.objects_of (items m)).vars
-        (ap (λ (names : List state.Name × List state.Name × List state.Name). names.0) h.same_names)
+    var : (name : state.Name) → held name h.now.vars ≡ held name (machine.objects_of (items m)).vars
+    var name = sym (named_zeroed name h.now.vars)
+        ∙ (ap (λ (types : state.Vars × List state.Name × List state.Name). named name types.0) h.same_types
+        ∙ named_zeroed name (machine.objects_of (items m)).vars)
 
     memory : (name : state.Name) → is_some (named name h.now.memories) ≡ is_some (named name (machine.objects_of (items m)).memories)
     memory name = named_names name h.now.memories (machine.objects_of (items m)).memories
-        (ap (λ (names : List state.Name × List state.Name × List state.Name). names.1) h.same_names)
+        (ap (λ (types : state.Vars × List state.Name × List state.Name). types.1) h.same_types)
 
     table : (name : state.Name) → is_some (named name h.now.tables) ≡ is_some (named name (machine.objects_of (items m)).tables)
     table name = named_names name h.now.tables (machine.objects_of (items m)).tables
-        (ap (λ (names : List state.Name × List state.Name × List state.Name). names.2) h.same_names)
+        (ap (λ (types : state.Vars × List state.Name × List state.Name). types.2) h.same_types)

@@ -1,17 +1,18 @@
 -- The statements that take imports against the task Take: a pointer is set, and limits are tested (WebAssembly
 -- Core 1.0, 4.5.4).
-use Rattle.std.proofs.Common.{◌≡◌, ◌≢◌, ℕ, suc, ◌+◌, ◌/◌, ◌^◌, ◌<◌, ◌≤◌, ◌⊎◌, inl, inr, ◌||◌, Bool, true, false, if◌then◌else◌, List, [], ◌∷◌, ◌++◌, length, Option, Some, None, is_some, slice_get, refl, sym, ap, ◌∙◌, subst, arith, codes, div-one}
+use Rattle.std.proofs.Common.{◌≡◌, ◌≢◌, ℕ, suc, ◌+◌, ◌/◌, ◌^◌, ◌<◌, ◌≤◌, ◌⊎◌, inl, inr, ◌||◌, Bool, true, false, if◌then◌else◌, List, [], ◌∷◌, ◌++◌, length, Option, Some, None, option_map, is_some, slice_get, refl, sym, ap, ◌∙◌, subst, arith, codes, div-one}
 use Rattle.std.specs.Prelude.{⊤}
 use Rattle.std.proofs.lemmas.Option.{same_Some, none-some}
 use Rattle.w2c_base.specs.declared.value.ValType.{ValType}
 use Rattle.w2c_base.specs.declared.value.Value.{Value}
 use Rattle.w2c_base.specs.declared.value.Value.TheVariants.{I64}
-use Rattle.w2c_base.specs.Values.{type_of}
+use Rattle.w2c_base.specs.Values.{value, type_of}
 use Rattle.w2c_base.specs.declared.trap.TrapKind.TheVariants.{ImportLimits}
 use Rattle.w2c_base.specs.Lookup.{if_found, named, with_named}
 use Rattle.w2c_base.specs.Run.{Trail}
 use Rattle.wasm_tree.specs.declared.tree.Module.{Module}
 use Rattle.wasm_tree.specs.declared.entries.Import.{Import}
+use Rattle.wasm_tree.specs.declared.entries.GlobalEntry.{GlobalEntry}
 use Rattle.wasm_tree.specs.declared.entries.Limits.{Limits}
 use Rattle.wasm_tree.specs.declared.entries.ImportKind.{ImportKind}
 use Rattle.wasm_tree.specs.declared.entries.ImportKind.TheVariants.{Func as ImportFunc, Table as ImportTable, Memory as ImportMemory, Global as ImportGlobal}
@@ -28,7 +29,7 @@ use Rattle.c_meaning.specs.Primitives.{primitive, tab_len, tab_max, mem_len, mem
 use Rattle.c_meaning.specs.Step.{call, give}
 use Rattle.c_meaning.specs.Run.{Pending, Over, Stopped, over, go_on}
 use Rattle.c_meaning.specs.Reaches.{Reaches}
-use Rattle.c_meaning.proofs.Lookups.{named-with_named, named-with_another, is_some-with_named}
+use Rattle.c_meaning.proofs.Lookups.{named-with_named, named-with_another}
 use Rattle.c_meaning.proofs.Ways.{join}
 use Rattle.alike.specs.Alike.{memory_name, table_name, global_name}
 use Rattle.c_body.specs.Names.{pointer_name}
@@ -39,6 +40,8 @@ use Rattle.c_body.specs.Follows.{Together}
 use Rattle.c_body.proofs.Names.{global_at_another_place}
 use Rattle.c_body.proofs.Store.{with_unit, table_object, memory_object, global_object, objects_at, table_seen, memory_seen, global_seen, machine_is}
 use Rattle.c_unit.specs.Init.{set_pointer, test_limits, max_number, asks_something}
+use Rattle.c_unit.specs.Instantiation.{zero_like}
+use Rattle.c_unit.proofs.Held.{held, held_there, held_kept}
 use Rattle.c_unit.proofs.InitStatements.{Seat, at, running, call_goes, pointer_goes}
 use Rattle.c_unit.proofs.InitRuns.{Stage, FollowsTask, IsDone, Traps}
 use Rattle.c_unit.proofs.InitTests.{HasLocals}
@@ -50,14 +53,22 @@ use Rattle.c_unit.proofs.OwnObjects.{set_gets, set_same, own_kept}
 use Rattle.c_unit.proofs.Small.{behind_letter, same_or_less}
 use Rattle.c_body.proofs.Seen.{or_middle, or_last}
 
+-- the variable of a pointer to an object, and that of the global with this number among those that the module defines,
+-- hold values of their types
+abbrev pub HoldsPointer : state.Name → state.Vars → Type 0
+HoldsPointer object vars = held (pointer_name object) vars ≡ Some (state.Pointer None)
+
+abbrev pub HoldsGlobal : Module → ℕ → GlobalEntry → state.Vars → Type 0
+HoldsGlobal m k e vars = held (global_name (imported_globals m + k)) vars ≡ Some (state.Number (value e.ty 0))
+
 -- the variables of a unit before its init function has made or set one, as far as its module needs them
 pub record IsDeclared (m : Module) (x : state.Objects) : Type 0 where
   pub table : 0 < length m.tables → named table_name x.tables ≡ Some machine.no_table
   pub memory : 0 < length m.memories → named memory_name x.memories ≡ Some machine.no_memory
-  pub globals : (k : ℕ) → k < length m.globals → is_some (named (global_name (imported_globals m + k)) x.vars) ≡ true
-  pub table_pointer : 0 < length (table_imports m) → is_some (named (pointer_name table_name) x.vars) ≡ true
-  pub memory_pointer : 0 < length (memory_imports m) → is_some (named (pointer_name memory_name) x.vars) ≡ true
-  pub global_pointers : (k : ℕ) → k < imported_globals m → is_some (named (pointer_name (global_name k)) x.vars) ≡ true
+  pub globals : (k : ℕ) (e : GlobalEntry) → slice_get m.globals k ≡ Some e → HoldsGlobal m k e x.vars
+  pub table_pointer : 0 < length (table_imports m) → HoldsPointer table_name x.vars
+  pub memory_pointer : 0 < length (memory_imports m) → HoldsPointer memory_name x.vars
+  pub global_pointers : (k : ℕ) → k < imported_globals m → HoldsPointer (global_name k) x.vars
 
 -- the function of an import's symbol gives a pointer to what the import stands for
 pub record GivesPointer (p : Program) (s : LinkedSet) (u : ℕ) (m : NamedModule) (i : Import) (object : state.ObjectAddress) : Type 0 where
@@ -157,7 +168,7 @@ pointers_differ a b differ e = differ (ap behind_letter e)
 pointer_set : (s : LinkedSet) (g : Seat) (m : NamedModule) (i : Import) (object : state.Name) (a : state.ObjectAddress)
     (table memory : Bool) (number : ℕ) (rest : List c.Stmt) (mach : state.Machine) (made : store.Store) (trail : Trail) (vars : state.Vars)
     → GivesPointer g.program s g.unit m i a → (here : IsTaking s g m table memory number mach made trail vars)
-    → is_some (named (pointer_name object) here.x.vars) ≡ true
+    → HoldsPointer object here.x.vars
     → machine.is_object mach a ≡ true
     → PointerSet s g m object a (set_pointer m i object ∷ rest) rest mach made trail vars
 pointer_set s g m i object a table memory number rest mach made trail vars p here there object_there = record {
@@ -170,16 +181,13 @@ pointer_set s g m i object a table memory number rest mach made trail vars p her
   declared = record {
     table = here.declared.table;
     memory = here.declared.memory;
-    globals = λ k less. is_some-with_named (global_name (imported_globals m.tree + k)) (pointer_name object) v here.x.vars
-        (here.declared.globals k less);
-    table_pointer = λ some. is_some-with_named (pointer_name table_name) (pointer_name object) v here.x.vars
-        (here.declared.table_pointer some);
-    memory_pointer = λ some. is_some-with_named (pointer_name memory_name) (pointer_name object) v here.x.vars
-        (here.declared.memory_pointer some);
-    global_pointers = λ k less. is_some-with_named (pointer_name (global_name k)) (pointer_name object) v here.x.vars
-        (here.declared.global_pointers k less);
+    globals = λ k e is. kept (global_name (imported_globals m.tree + k)) ∙ here.declared.globals k e is;
+    table_pointer = λ some. kept (pointer_name table_name) ∙ here.declared.table_pointer some;
+    memory_pointer = λ some. kept (pointer_name memory_name) ∙ here.declared.memory_pointer some;
+    global_pointers = λ k less. kept (pointer_name (global_name k)) ∙ here.declared.global_pointers k less;
   };
-  set = seen (pointer_name object) ∙ named-with_named (pointer_name object) v here.x.vars there;
+  set = seen (pointer_name object)
+      ∙ named-with_named (pointer_name object) v here.x.vars (held_there (pointer_name object) here.x.vars (state.Pointer None) there);
   others = λ other differ b set.
       seen (pointer_name other)
       ∙ (named-with_another (pointer_name other) (pointer_name object) v here.x.vars (pointers_differ other object differ)
@@ -206,6 +214,9 @@ pointer_set s g m i object a table memory number rest mach made trail vars p her
 
     after : state.Machine
     after = with_unit mach g.unit x'
+
+    kept : (name : state.Name) → held name x'.vars ≡ held name here.x.vars
+    kept name = held_kept name (pointer_name object) v here.x.vars there
 
     old : ObjectsAgree g.program s g.unit store.no_objects here.x
     old =
@@ -235,7 +246,7 @@ pointer_set s g m i object a table memory number rest mach made trail vars p her
 
     arrives : go_on g.program g.pending (give mach (Some v) (frame ∷ g.below)) ≡ at g after rest vars
     arrives = pointer_goes g mach (pointer_name object) v rest vars refl (here.locals.pointers_seen object)
-        (ap is_some (before (pointer_name object)) ∙ there)
+        (ap (option_map zero_like) (before (pointer_name object)) ∙ there)
         ∙ ap (λ m. at g m rest vars) (machine_is mach g.unit here.x changes here.x_is)
 
 -- ---- the imports of each kind

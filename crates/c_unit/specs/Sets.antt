@@ -6,7 +6,6 @@ use Rattle.w2c_base.specs.Run.{Reply, Host}
 use Rattle.w2c_mangle.specs.declared.symbol.SymbolKind.TheVariants.{Func}
 use Rattle.w2c_mangle.specs.Symbols.{export_symbol_of}
 use Rattle.wasm_valid.specs.Verdict.{IsValid}
-use Rattle.w2c_base.specs.Values.{IsNumber}
 use Rattle.wasm_meaning.specs.LinkedSet.{LinkedSet, NamedModule, IsLinked}
 use Rattle.wasm_meaning.specs.Execution as exec
 use Rattle.wasm_meaning.specs.Run.{ListedCall, Fits, WasmRun, wasm_run}
@@ -17,7 +16,6 @@ use Rattle.c_meaning.specs.Run.{CRun, c_run}
 use Rattle.c_meaning.specs.Run as c
 use Rattle.alike.specs.Alike.{Alike}
 use Rattle.c_body.specs.Limits.{IsWithin}
-use Rattle.c_body.specs.Agree.{ReplyIsNumber}
 use Rattle.c_body.specs.Serves.{AreServed}
 use Rattle.c_unit.specs.Items.{items}
 
@@ -47,11 +45,9 @@ symbol_call call = record { symbol = export_symbol_of call.module_name Func call
 abbrev pub c_run_of : LinkedSet → List ListedCall → ℕ → List Reply → CRun
 c_run_of s calls m replies = c_run (program_of s) (map symbol_call calls) m replies
 
--- the calls name exported functions and have arguments of their types; replies are any
-pub record IsListing (s : LinkedSet) (calls : List ListedCall) (replies : List Reply) : Type 0 where
-  pub fit : AllByRecursion (Fits s) calls
-  pub args : AllByRecursion (λ (call : ListedCall). AllByRecursion IsNumber call.args) calls
-  pub replies_are_numbers : AllByRecursion ReplyIsNumber replies
+-- the calls name exported functions and have arguments of their types
+abbrev pub IsListing : LinkedSet → List ListedCall → Type 0
+IsListing s calls = AllByRecursion (Fits s) calls
 
 -- With n steps the module's run ends and with 400 n + 400 statements the units' run ends alike, or both
 -- are out of steps with n.
@@ -61,28 +57,28 @@ Paired s calls replies n =
     ⊎ ((wasm_run s calls n replies).outcome ≡ wasm.Stopped exec.OutOfSteps) × ((c_run_of s calls n replies).outcome ≡ c.OutOfSteps)
 
 abbrev pub Pairing : LinkedSet → Type 0
-Pairing s = (calls : List ListedCall) (replies : List Reply) (n : ℕ) → IsListing s calls replies → Paired s calls replies n
+Pairing s = (calls : List ListedCall) (replies : List Reply) (n : ℕ) → IsListing s calls → Paired s calls replies n
 
 -- a run of the modules that ends in n steps has a run of the units that ends alike within 400 n + 400
 -- statements
 abbrev pub Forward : LinkedSet → Type 0
-Forward s = (calls : List ListedCall) (replies : List Reply) (n : ℕ) → IsListing s calls replies
+Forward s = (calls : List ListedCall) (replies : List Reply) (n : ℕ) → IsListing s calls
     → (wasm_run s calls n replies).outcome ≢ wasm.Stopped exec.OutOfSteps
     → (m : ℕ) × (m ≤ 400 * n + 400) × Alike s (wasm_run s calls n replies) (c_run_of s calls m replies)
 
 -- a run of the units that ends in m statements has a run of the modules that ends alike within m steps
 abbrev pub Backward : LinkedSet → Type 0
-Backward s = (calls : List ListedCall) (replies : List Reply) (m : ℕ) → IsListing s calls replies
+Backward s = (calls : List ListedCall) (replies : List Reply) (m : ℕ) → IsListing s calls
     → (c_run_of s calls m replies).outcome ≢ c.OutOfSteps
     → (n : ℕ) × (n ≤ m) × Alike s (wasm_run s calls n replies) (c_run_of s calls m replies)
 
 -- no run of the units is undefined or stuck, and none of the modules is stuck
 pub record NeverStops (s : LinkedSet) : Type 0 where
-  pub never_undefined : (calls : List ListedCall) (replies : List Reply) (m kind : ℕ) (place : Place) → IsListing s calls replies
+  pub never_undefined : (calls : List ListedCall) (replies : List Reply) (m kind : ℕ) (place : Place) → IsListing s calls
       → (c_run_of s calls m replies).outcome ≢ c.Stopped (Undefined kind place)
-  pub never_stuck : (calls : List ListedCall) (replies : List Reply) (m : ℕ) → IsListing s calls replies
+  pub never_stuck : (calls : List ListedCall) (replies : List Reply) (m : ℕ) → IsListing s calls
       → (c_run_of s calls m replies).outcome ≢ c.Stopped Stuck
-  pub modules_never_stuck : (calls : List ListedCall) (replies : List Reply) (n : ℕ) → IsListing s calls replies
+  pub modules_never_stuck : (calls : List ListedCall) (replies : List Reply) (n : ℕ) → IsListing s calls
       → (wasm_run s calls n replies).outcome ≢ wasm.Stopped exec.Stuck
 
 pub record DoTheSame (s : LinkedSet) : Type 0 where
