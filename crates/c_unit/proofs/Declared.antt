@@ -112,7 +112,8 @@ IsUnset (c.Var t name (Some number)) = ⊥
 IsUnset (c.Function f) = ⊥
 
 found_unset : (q : Name) (ty : CType) (initial : state.CValue) (vars rest : List c.Item) → AllByRecursion IsUnset vars
-    → named q (vars_in vars) ≡ Some ty → machine.zero_of ty ≡ Some initial → named q (filter_map machine.file_var (vars ++ rest)) ≡ Some initial
+    → named q (vars_in vars) ≡ Some ty → machine.zero_of ty ≡ Some initial
+    → named q (filter_map machine.file_var (vars ++ rest)) ≡ Some initial
 found_unset q ty initial [] rest unset found is = absurd (none-some ty found)
 found_unset q ty initial (c.Array name count bytes ∷ vars) rest unset found is = absurd unset.0
 found_unset q ty initial (c.Var t name (Some number) ∷ vars) rest unset found is = absurd unset.0

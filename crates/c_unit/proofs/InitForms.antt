@@ -300,7 +300,8 @@ module _ (m : NamedModule) (s : Scope) (k : InitKnows m s) where
             (no_object g.ty)
             (value_arg s _ (c_type_of g.ty) (constant_typed (imported_global_space t) g.ty g.code fits.0
             (λ index x e. get_left (imported_global_space t) _ index x e))),
-        globals_pass (n + 1) xs fits.1 (λ j x e. ap (λ i. slice_get (global_space t) (imported_globals t + i)) (on n j) ∙ at (suc j) x e) own,
+        globals_pass (n + 1) xs fits.1
+            (λ j x e. ap (λ i. slice_get (global_space t) (imported_globals t + i)) (on n j) ∙ at (suc j) x e) own,
       )
     where
       on : (a b : ℕ) → a + 1 + b ≡ a + suc b

@@ -551,11 +551,13 @@ module _ (m : NamedModule) (a : IsAccepted m) where
         (all_append (Passes s) (map (λ x. make_table x.limits) t.tables) _ (tables_pass m s knows t.tables knows.made_table)
         (all_append (Passes s) (map (λ x. make_memory x.limits) t.memories) _ (memories_pass m s knows t.memories knows.made_memory)
         (all_append (Passes s) (map (make_global t) (numbered t.globals)) _
-        (globals_pass m s knows 0 t.globals (all_unmapped Fits _ t.globals (all_front Fits global_exprs (element_exprs ++ segment_exprs) fit))
+        (globals_pass m s knows 0 t.globals
+        (all_unmapped Fits _ t.globals (all_front Fits global_exprs (element_exprs ++ segment_exprs) fit))
         globals_at (λ j. get_out (global_imports t) (imported_globals t + j) (omega arith)))
         (all_append (Passes s) (flat_map (test_elements t) t.elements) _
         (element_tests_pass m s knows bounds_label_there t.elements valid_elements)
-        (all_append (Passes s) (flat_map (test_data t) t.segments) _ (data_tests_pass m s knows bounds_label_there t.segments valid_segments)
+        (all_append (Passes s) (flat_map (test_data t) t.segments) _
+        (data_tests_pass m s knows bounds_label_there t.segments valid_segments)
         (all_append (Passes s) (flat_map (write_elements t) t.elements) _ (elements_pass m s knows t.elements valid_elements)
         (all_append (Passes s) (flat_map (write_data t) (numbered t.segments)) behind_data
         (data_pass m s knows 0 t.segments valid_segments knows.bytes

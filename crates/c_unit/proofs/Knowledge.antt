@@ -80,7 +80,8 @@ module _ (m : NamedModule) (a : IsAccepted m) where
       (omega (arith, late, counted))) ∙ e) in
       let same : 0 + (k - length (imported_global_space t)) ≡ k - imported_globals t = omega (arith, counted) in
       let class_is : class (global_name k) ≡ 3 = class_lettered 103 k
-      (omega (arith, few_globals m a, late, slice_get_within t.globals (k - length (imported_global_space t)) there.0 there.1, counted)) refl in
+      (omega (arith, few_globals m a, late, slice_get_within t.globals (k - length (imported_global_space t)) there.0 there.1, counted))
+      refl in
       past_vars (global_name k) tabs _ (no_var (global_name k) 1 tabs (tabs_class m a) (λ f. absurd (grind (arith, f, class_is))))
       ∙ (past_vars (global_name k) mems _ (no_var (global_name k) 2 mems (mems_class m a) (λ f. absurd (grind (arith, f, class_is))))
       ∙ in_vars (global_name k) globals pointers (c_type_of g.0)

@@ -350,7 +350,8 @@ types_length (v ∷ globals) (x ∷ front) e = ap suc (types_length globals fron
     behind (t ∷ ts) = ts
 
 pub global_follows : (s : LinkedSet) (g : Seat) (m : NamedModule) (front : List GlobalEntry) (k : ℕ) (e : GlobalEntry) (rest : List c.Stmt)
-    → Surroundings s g m → k ≡ length front → slice_get m.tree.globals k ≡ Some e → ShapeFits e.ty (shape_of (imported_global_space m.tree) e.code)
+    → Surroundings s g m → k ≡ length front → slice_get m.tree.globals k ≡ Some e
+    → ShapeFits e.ty (shape_of (imported_global_space m.tree) e.code)
     → FollowsTask s g (IsMaking s g m true true front) (MakeGlobal e.ty e.code) (IsMaking s g m true true (front ++ e ∷ []))
     (make_global m.tree (k, e) ∷ rest) rest
 global_follows s g m front k e rest a at is fits mach made trail vars here = inl (record {

@@ -334,7 +334,8 @@ module _ (m : NamedModule) (a : IsAccepted m) where
       (all_append IsTypedAs (map (export_func m) t.exports) (init_func m ∷ [])
       (all_map IsTypedAs (export_func m) t.exports
       (all_weaker (λ e. symbol_type m (export_symbol m e) ≡ Some (export_type t e)) (λ e. IsTypedAs (export_func m e)) t.exports
-      (λ e known there. ap (symbol_type m) (export_external m e).named ∙ (known ∙ ap Some (sym (export_shape m e).1))) (symbol_types m a))) (
+      (λ e known there. ap (symbol_type m) (export_external m e).named ∙ (known ∙ ap Some (sym (export_shape m e).1)))
+      (symbol_types m a))) (
         (λ there. absurd (let wrong : true ≡ false = sym there
             ∙ none_among (init_symbol_of m.name) import_symbols (imports_apart m a t.imports a.within.import_names) in cc)),
         tt,
