@@ -19,7 +19,7 @@ use Rattle.wasm_meaning.specs.LinkedSet as link
 use Rattle.wasm_meaning.specs.Store as store
 use Rattle.wasm_meaning.specs.Execution as exec
 use Rattle.c_meaning.specs.State as state
-use Rattle.c_meaning.specs.Linking.{Program, Definition}
+use Rattle.c_meaning.specs.Linking.{Program, Definition, c_result_of}
 use Rattle.c_meaning.specs.Machine.{with_depth}
 use Rattle.c_meaning.specs.Step.{Stops, next, begin}
 use Rattle.c_meaning.specs.Run.{Pending, Progress, Over, Stopped, over, go_on}

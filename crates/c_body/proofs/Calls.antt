@@ -24,7 +24,7 @@ use Rattle.c_meaning.specs.State as state
 use Rattle.c_meaning.specs.Linking.{Program, func_named}
 use Rattle.c_meaning.specs.Primitives.{Effect, primitive}
 use Rattle.c_meaning.specs.Step.{Stops, evaluate_args, place_of, with_value, call, call_callee, take_effect, c_step}
-use Rattle.c_meaning.specs.Run.{Progress}
+use Rattle.c_meaning.specs.Run.{Progress, go_on}
 use Rattle.c_meaning.specs.Reaches.{Reaches}
 use Rattle.c_meaning.proofs.Ways.{stays, join}
 use Rattle.alike.specs.Alike.{func_name}
@@ -47,8 +47,9 @@ use Rattle.c_body.proofs.Before.{stops_before}
 use Rattle.c_body.proofs.Operands.{types_length, reversed_front, arguments, arguments_are_numbers, types_append, reversed}
 use Rattle.c_body.proofs.Own.{own_is, own_stands}
 use Rattle.c_body.proofs.Types.{equal_types_same}
-use Rattle.c_body.proofs.Gives.{slot_value, waiting}
+use Rattle.c_body.proofs.Gives.{slot_value, waiting, assign_slot}
 use Rattle.c_body.proofs.Jumps.{way_by}
+use Rattle.w2c_base.proofs.Numbers.{result_is_number}
 
 -- ---- operands and arguments
 

@@ -1,5 +1,5 @@
 -- A call through the table: the element's traps in both languages, and then the call through the element.
-use Rattle.std.proofs.Common.{◌≡◌, ℕ, zero, suc, ◌+◌, ◌≤◌, Bool, true, false, ◌&&◌, if◌then◌else◌, nat_eq, List, [], ◌∷◌, ◌++◌, length, map, reverse, drop, slice_get, IsSome, Option, Some, None, option_map, refl, sym, ap, ◌∙◌, subst, arith, append_assoc}
+use Rattle.std.proofs.Common.{◌≡◌, ℕ, zero, suc, ◌+◌, ◌≤◌, Bool, true, false, ◌&&◌, if◌then◌else◌, nat_eq, List, [], ◌∷◌, ◌++◌, length, map, reverse, drop, slice_get, IsSome, Option, Some, None, option_map, refl, sym, ap, ◌∙◌, subst, arith, append_assoc, is_some}
 use Rattle.std.specs.List.{AllByRecursion}
 use Rattle.std.specs.Option.{option_or}
 use Rattle.std.proofs.lemmas.Bool.Decides.{nat_tests}
@@ -399,7 +399,7 @@ indirect_calls_follow law g room calls type_index site has targets exit base (I3
     ∙ ap (λ (t : Option ValType). stands u (length low) (values t ++ low)) e
     ∙ stands_top u low) in
     let followed = element_follows law g room calls site targets exit base stack left rest outs more ty now m vars fit typed.3.2 slots under
-    (stood.variables.element (has.element refl))
+    (has.element refl)
     (slice_get f.table.elements i) (slice_get f.other.elements i)
     (element_at g.program g.linked f.table.elements f.other.elements i f.agrees.elements)
     (λ function is. callable_at g.linked g.count f.table.elements i function f.callable is)

@@ -25,11 +25,13 @@ use Rattle.c_body.specs.Plain.{operand, set_slot, jump_if}
 use Rattle.c_body.specs.Code.{is_straight, jump}
 use Rattle.c_body.specs.Follows.{Site, Target, StandsAt, Branches, BranchesTo, state_at, at}
 use Rattle.c_body.specs.Parts.{IsTarget, IsFoundIf, AreTargets, aims_of}
-use Rattle.c_body.proofs.Vars.{stands_below}
+use Rattle.c_body.proofs.Vars.{stands_below, number_taken}
 use Rattle.c_body.proofs.Slots.{SlotIsSet}
 use Rattle.c_body.proofs.Before.{target_by}
 use Rattle.c_body.proofs.Gives.{arg_reaches, operand_is, slot_value}
 use Rattle.c_body.proofs.Names.{slot_is_no_depth}
+use Rattle.c_body.specs.Agree.{HoldsNumber}
+use Rattle.wasm_meaning.proofs.Typed.{of_its_type}
 
 -- ---- variables
 

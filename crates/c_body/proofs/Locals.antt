@@ -29,7 +29,7 @@ use Rattle.wasm_meaning.proofs.Typed.{of_the_same_type}
 use Rattle.c_body.proofs.Vars.{height, set_local, local_at, local_taken, number_taken, stands_below}
 use Rattle.c_body.proofs.Gives.{Does, Place, owes, running, evaluate-variable, set_reaches, with_top, leaves_number, sets}
 use Rattle.c_body.proofs.Numeric.{one_of, evaluate-slot, One, one_stands, Two, two_stand, place_of, Finds, labels_of}
-use Rattle.c_body.proofs.Operands.{types_length, types_set, value_number, other_types}
+use Rattle.c_body.proofs.Operands.{types_length, types_set, value_number, other_types, type_of-value}
 use Rattle.c_body.proofs.Jumps.{if_passes, if_goes, ne_zero, ne_more}
 use Rattle.c_body.proofs.Lists.{all_at}
 use Rattle.wasm_valid.specs.Context.{Context}

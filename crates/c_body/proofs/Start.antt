@@ -161,7 +161,7 @@ first_vars_are m index item ty entry args fit =
     let long : length ty.params ≡ 0 + length args = omega (arith, ap length fit, types_length args) in
     ap (λ fits. if fits
     then if_found (bind (param_names (params_of ty.params)) (map state.Number args)) (λ params.
-        option_map (λ locals. params ++ locals) (locals_of all))
+    option_map (λ locals. params ++ locals) (locals_of all))
     else None) (args_fit ty.params args fit)
     ∙ (ap (λ (o : Option state.Vars). if_found o (λ params. option_map (λ locals. params ++ locals) (locals_of all)))
     (params_bound ty.params args fit)

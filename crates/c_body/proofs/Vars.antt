@@ -11,7 +11,7 @@ use Rattle.wasm_meaning.specs.Store as store
 use Rattle.wasm_meaning.specs.Execution as exec
 use Rattle.c_meaning.specs.State as state
 use Rattle.c_meaning.specs.State.{of_one_type}
-use Rattle.w2c_base.proofs.Types.{equal_type-eq}
+use Rattle.wasm_valid.proofs.Exact.{equal_type-eq}
 use Rattle.c_meaning.proofs.Lookups.{named-with_named, named-with_another}
 use Rattle.c_meaning.proofs.Takes.{numbers_of_one_type}
 use Rattle.c_body.specs.Names.{slot, local_name, element_name, pointer_name}

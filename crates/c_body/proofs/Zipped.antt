@@ -37,7 +37,7 @@ pair_at {A} {B} m xs ys index a b = go (nat_lt index (imported_funcs m))
   where
     go : (imported : Bool) → (if imported then None else slice_get xs (index - imported_funcs m)) ≡ Some a
         → (if imported then None else slice_get ys (index - imported_funcs m)) ≡ Some b
-        → (if imported then None else slice_get (zip xs ys) (index - imported_funcs m)) ≡ Some {A = A × B} (a, b)
+        → (if imported then None else slice_get (zip xs ys) (index - imported_funcs m)) ≡ Some (a, b)
     go true e f = absurd cc
     go false e f = both xs ys (index - imported_funcs m) a b e f
 
