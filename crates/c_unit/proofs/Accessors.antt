@@ -23,7 +23,7 @@ use Rattle.c_tree.specs.declared.tree.Num.TheVariants.{Plain}
 use Rattle.c_tree.specs.Tree as tree
 use Rattle.c_tree.specs.Scope.{Name, func_type_of}
 use Rattle.c_meaning.specs.State.{FuncAddress, UnitFunc, ObjectAddress}
-use Rattle.c_meaning.specs.Linking.{Program, Definition, definition_at, external_func, func_named, func_type}
+use Rattle.c_meaning.specs.Linking.{Program, definition_at, external_func, func_named, func_type}
 use Rattle.c_meaning.specs.Primitives.{primitive}
 use Rattle.alike.specs.Alike.{memory_name, table_name, global_name, first_global}
 use Rattle.c_body.specs.Symbols.{accessor_type, global_accessor_type, import_symbol, import_type, is_usable, export_symbol, export_type}

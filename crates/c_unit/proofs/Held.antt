@@ -1,6 +1,6 @@
 -- The type of what a variable holds, as the zero of that type. An assignment of a value of this type goes on, and
 -- keeps the types of all variables (C11, 6.5.16.1).
-use Rattle.std.proofs.Common.{◌≡◌, Bool, true, false, if◌then◌else◌, List, [], ◌∷◌, bytes_eq, is_some, Option, Some, None, option_map, refl, sym, ap, ◌∙◌}
+use Rattle.std.proofs.Common.{◌≡◌, Bool, true, false, if◌then◌else◌, [], ◌∷◌, bytes_eq, is_some, Option, Some, None, option_map, refl, sym, ap, ◌∙◌}
 use Rattle.std.proofs.lemmas.Option.{same_Some}
 use Rattle.w2c_base.specs.declared.value.Value.TheVariants.{I32, I64}
 use Rattle.w2c_base.specs.Lookup.{named, with_named}

@@ -9,7 +9,6 @@ use Rattle.w2c_mangle.specs.declared.symbol.SymbolKind.TheVariants.{Func}
 use Rattle.w2c_mangle.specs.Symbols.{export_symbol_of}
 use Rattle.wasm_tree.specs.declared.entries.Import.{Import}
 use Rattle.wasm_tree.specs.declared.entries.ImportKind.TheVariants.{Func as ImportFunc}
-use Rattle.wasm_tree.specs.IndexSpaces.{imported_funcs, is_func_import}
 use Rattle.wasm_meaning.specs.LinkedSet as link
 use Rattle.wasm_meaning.specs.LinkedSet.{LinkedSet, NamedModule, Instance, External, IsFunc, instances, exported, as_func, func_at, import_at, meaning_of}
 use Rattle.c_tree.specs.Tree as tree
