@@ -1,0 +1,114 @@
+-- What stands behind the functions of a module that is accepted: each has a type and a body that is typed.
+use Rattle.std.proofs.Common.{◌≡◌, ℕ, zero, suc, ◌+◌, ◌-◌, ◌<◌, ◌≤◌, ◌^◌, refl, ap, ◌∙◌, subst, arith, true, Bool, List, [], ◌∷◌, length, Option, Some, None, option_map}
+use Rattle.std.specs.Prelude.{slice_get, zip, flat_map, is_none, unwrap_or}
+use Rattle.std.specs.List.{list_any}
+use Rattle.w2c_base.specs.declared.value.ValType.{ValType}
+use Rattle.w2c_base.specs.declared.signature.FuncType.{FuncType}
+use Rattle.w2c_base.specs.Lookup.{if_found}
+use Rattle.wasm_tree.specs.Instructions.{Code}
+use Rattle.wasm_tree.specs.declared.tree.Module.{Module}
+use Rattle.wasm_tree.specs.declared.entries.TypeEntry.{TypeEntry}
+use Rattle.wasm_tree.specs.declared.entries.FuncEntry.{FuncEntry}
+use Rattle.wasm_tree.specs.declared.entries.BodyEntry.{BodyEntry}
+use Rattle.wasm_tree.specs.IndexSpaces.{type_in, declared_locals, imported_funcs}
+use Rattle.wasm_tree.proofs.BehindImports.{defined_behind_imports}
+use Rattle.wasm_meaning.specs.LinkedSet.{NamedModule}
+use Rattle.wasm_valid.specs.declared.fault.ValidCause.TheVariants as cause
+use Rattle.wasm_valid.specs.Context.{context_of, body_context}
+use Rattle.wasm_valid.specs.Typing.{values, BodyHasType}
+use Rattle.wasm_valid.specs.Verdict.{IsTyped, AreTyped, bodies_of}
+use Rattle.wasm_valid.specs.ModuleFaults.{fault_if, unknown_import_type, unknown_types, module_faults}
+use Rattle.c_body.specs.Limits.{IsWithin, BodyIsWithin}
+use Rattle.c_body.specs.Stack.{peak}
+use Rattle.c_body.specs.Body.{func_of, body_of, most_operands}
+use Rattle.c_unit.specs.Sets.{IsAccepted}
+use Rattle.c_unit.proofs.Small.{no_left, no_right, none_at, no_fault, there_is}
+use Rattle.c_body.proofs.Lists.{all_at}
+use Rattle.c_tree.specs.declared.tree.CType.TheVariants.{Void}
+use Rattle.std.proofs.lemmas.Option.{same_Some}
+use Rattle.std.proofs.lemmas.Map.Keys.{any_passes_from_place}
+
+pub record BodyAt (m : NamedModule) (k : ℕ) : Type 0 where
+  pub ty : FuncType
+  pub entry : BodyEntry
+  pub is : body_of m.tree m.name k ≡ func_of m k ty entry
+  pub typed : BodyHasType (context_of m.tree ty entry) entry.code
+  pub within : BodyIsWithin entry
+  pub listed : (test : Code → Bool) → test entry.code ≡ true → list_any (λ (b : BodyEntry). test b.code) m.tree.bodies ≡ true
+  pub params : length ty.params ≤ 60
+  pub func : FuncEntry
+  pub func_is : slice_get m.tree.funcs (k - imported_funcs m.tree) ≡ Some func
+  pub type_is : type_in m.tree func.type_index ≡ Some ty
+
+-- ---- no faults
+
+pub types_known : (m : Module) → module_faults m ≡ [] → unknown_types m ≡ []
+unfolding module_faults
+types_known m e = no_left (unknown_types m) _ e
+
+-- ---- lists
+
+pub get_zip : {A B : Type 0} (xs : List A) (ys : List B) (i : ℕ) → i < length xs → length ys ≡ length xs
+    → (x : A) × (y : B) × (slice_get xs i ≡ Some x) × (slice_get ys i ≡ Some y) × (slice_get (zip xs ys) i ≡ Some (x, y))
+get_zip [] ys i less e = absurd (omega arith)
+get_zip (x ∷ xs) [] i less e = absurd (omega arith)
+get_zip (x ∷ xs) (y ∷ ys) zero less e = (x, y, refl, refl, refl)
+get_zip (x ∷ xs) (y ∷ ys) (suc i) less e = let h : suc (length ys) ≡ suc (length xs) = e in get_zip xs ys i (omega arith) (omega (arith, h))
+
+typed_at : (m : Module) (bodies : List (FuncEntry × BodyEntry)) (i : ℕ) (b : FuncEntry × BodyEntry) → AreTyped m bodies
+    → slice_get bodies i ≡ Some b → IsTyped (body_context m b.0 b.1) b.1
+typed_at m [] i b all e = absurd cc
+typed_at m (c ∷ bodies) zero b all e = subst (λ (d : FuncEntry × BodyEntry). IsTyped (body_context m d.0 d.1) d.1) (same_Some c b e) all.0
+typed_at m (c ∷ bodies) (suc i) b all e = typed_at m bodies i b all.1 e
+
+pub few_params : (m : Module) → IsWithin m → (x : ℕ) (ty : FuncType) → type_in m x ≡ Some ty → length ty.params ≤ 60
+few_params m w x ty e = by (slice_get m.types x) refl e
+  where
+    by : (o : Option TypeEntry) → slice_get m.types x ≡ o → option_map (λ (t : TypeEntry). t.ty) o ≡ Some ty → length ty.params ≤ 60
+    by None f g = absurd cc
+    by (Some t) f g = let h : t.ty ≡ ty = cc in subst (λ (u : FuncType). length u.params ≤ 60) h
+        (all_at (λ (t : TypeEntry). length t.ty.params ≤ 60) m.types x t w.params f)
+
+-- ---- each function
+
+pub body_at : (m : NamedModule) → IsAccepted m → (i : ℕ) → i < length m.tree.funcs → BodyAt m (imported_funcs m.tree + i)
+body_at m a i less =
+    let found = get_zip m.tree.funcs m.tree.bodies i less a.within.bodies_are_there in
+    let fault = none_at (λ (f : FuncEntry). fault_if (is_none (type_in m.tree f.type_index)) f.place cause.UnknownType)
+    m.tree.funcs i found.0
+    (no_right (flat_map (unknown_import_type m.tree) m.tree.imports) _ (types_known m.tree a.valid.no_faults)) found.2 in
+    let known = there_is (type_in m.tree found.0.type_index)
+    (no_fault (is_none (type_in m.tree found.0.type_index)) found.0.place cause.UnknownType fault) in
+    let back : imported_funcs m.tree + i - imported_funcs m.tree ≡ i = omega arith in
+    record {
+      ty = known.0;
+      entry = found.1;
+      is = ap (λ o. unwrap_or (if_found o
+          (λ (d : FuncEntry × BodyEntry). option_map (λ ty. func_of m (imported_funcs m.tree + i) ty d.1) (type_in m.tree d.0.type_index)))
+          (record { is_static = true; result = Void; name = []; params = []; body = None }))
+          (defined_behind_imports m.tree (bodies_of m.tree) (imported_funcs m.tree + i) i refl ∙ found.4)
+          ∙ ap (λ o. unwrap_or (option_map (λ ty. func_of m (imported_funcs m.tree + i) ty found.1) o)
+          (record { is_static = true; result = Void; name = []; params = []; body = None })) known.1;
+      typed = subst (λ o. IsTyped (option_map (λ ty. context_of m.tree ty found.1) o) found.1) known.1
+          (typed_at m.tree (bodies_of m.tree) i (found.0, found.1) a.valid.bodies found.4);
+      within = all_at BodyIsWithin m.tree.bodies i found.1 a.within.bodies found.3;
+      listed = λ test e. any_passes_from_place (λ (b : BodyEntry). test b.code) m.tree.bodies i found.1 found.3 e;
+      params = few_params m.tree a.within found.0.type_index known.0 known.1;
+      func = found.0;
+      func_is = ap (slice_get m.tree.funcs) back ∙ found.2;
+      type_is = known.1;
+    }
+
+-- the limits that the body's names rest on
+pub few_locals : (m : NamedModule) (k : ℕ) (b : BodyAt m k) → length b.ty.params + length (declared_locals b.entry.runs) ≤ 2 ^ 64
+few_locals m k b = omega (arith, b.params, b.within.locals)
+
+pub few_operands : (m : NamedModule) (k : ℕ) (b : BodyAt m k) → most_operands (context_of m.tree b.ty b.entry) b.entry.code ≤ 2 ^ 64
+few_operands m k b =
+    let low : peak (context_of m.tree b.ty b.entry) [] b.entry.code < 2 ^ 32 = b.within.operands (context_of m.tree b.ty b.entry) in
+    let one : length (values b.ty.result) ≤ 1 = at_most b.ty.result in
+    omega (arith, low, one)
+  where
+    at_most : (r : Option ValType) → length (values r) ≤ 1
+    at_most None = omega arith
+    at_most (Some t) = omega arith

@@ -1,0 +1,291 @@
+-- The prototypes and the functions of bodies keep the rules in a module's unit.
+use Rattle.std.proofs.Common.{◌≡◌, ◌≢◌, ℕ, suc, ◌+◌, ◌-◌, ◌<◌, ◌≤◌, ◌^◌, ◌||◌, ◌⊎◌, inl, inr, refl, sym, ap, ◌∙◌, subst, arith, append_assoc, true, false, not, List, [], ◌∷◌, ◌++◌, length, map, None}
+use Rattle.std.proofs.lemmas.List.{length-append}
+use Rattle.std.proofs.lemmas.List.Folds.{list_any-append}
+use Rattle.std.specs.Prelude.{bytes_eq}
+use Rattle.std.specs.List.{AllByRecursion, list_any, list_all}
+use Rattle.w2c_base.specs.declared.value.ValType.{ValType}
+use Rattle.w2c_base.specs.declared.value.ValType.TheVariants.{I32, I64}
+use Rattle.w2c_base.specs.declared.signature.FuncType.{FuncType}
+use Rattle.wasm_tree.specs.declared.tree.Module.{Module}
+use Rattle.wasm_tree.specs.IndexSpaces.{declared_locals, imported_funcs}
+use Rattle.wasm_meaning.specs.LinkedSet.{NamedModule}
+use Rattle.c_tree.specs.declared.tree.CType.{CType}
+use Rattle.c_tree.specs.declared.tree.CType.TheVariants as type
+use Rattle.c_tree.specs.Tree as tree
+use Rattle.c_tree.specs.Runtime.{same_type, same_types}
+use Rattle.c_tree.specs.Scope.{name_of, param_variables}
+use Rattle.c_tree.specs.Rules.{may_both_stand, defines, is_value_type, proper_params}
+use Rattle.c_meaning.specs.Linking.{c_result_of}
+use Rattle.alike.specs.Alike.{func_name}
+use Rattle.c_prelude.specs.Helpers.{helper_of}
+use Rattle.c_body.specs.Symbols.{declared_symbols}
+use Rattle.c_body.specs.Objects.{pointers_of}
+use Rattle.c_body.specs.Needs.{helpers_of}
+use Rattle.c_body.specs.Body.{func_of, body_of, params_from, params_of}
+use Rattle.c_body.proofs.Heights.{after_typed}
+use Rattle.c_body.proofs.BodyRules.{FileKnows, body_keeps_rules}
+use Rattle.c_body.proofs.RulesOfFunctions.{all_at}
+use Rattle.c_body.proofs.RulesOfLabels.{lettered}
+use Rattle.c_body.proofs.Classes.{class}
+use Rattle.c_unit.specs.Items.{objects_of, data_of, declaration, prototype, bodies}
+use Rattle.c_unit.specs.Sets.{IsAccepted}
+use Rattle.c_unit.proofs.BodiesAt.{BodyAt, body_at, few_locals, few_operands}
+use Rattle.c_unit.proofs.Pairs.{AllPairs, pairs_at, all_range, pairs_range}
+use Rattle.c_unit.proofs.ItemRules.{AllShow, Keeps, Apart, apart_joined, apart_classes, apart_names, once, declared_func, declaration_keeps}
+use Rattle.c_unit.proofs.Sections.{AllClass, tabs_class, mems_class, globals_class, pointers_class, data_class, declared_class, prototypes_class, bodies_class, helpers_class, body_name, few_funcs}
+use Rattle.c_unit.proofs.PlainItems.{ItemKeeps, NotSame, NoClass, other_class, section_keeps}
+use Rattle.c_unit.proofs.NeedsDeclared.{all_known}
+use Rattle.c_body.proofs.Lists.{all_append, all_map}
+use Rattle.std.proofs.lemmas.Bool.{or_left, or_right}
+use Rattle.c_body.proofs.RulesOfCode.{result_type}
+
+abbrev Proto : tree.Func → tree.Func
+Proto x = record {
+  is_static = x.is_static;
+  result = x.result;
+  name = x.name;
+  params =
+      map (λ (p : tree.Param). (p.0, None)) x.params;
+  body = None;
+}
+
+-- ---- the parameters of a prototype
+
+nameless : (params : List tree.Param) → param_variables
+    (declared_func true type.Void [] (map (λ (p : tree.Param). (p.0, None)) params)) ≡ []
+nameless [] = refl
+nameless (p ∷ params) = nameless params
+
+each_value : (k : ℕ) (types : List ValType) → list_all (λ (q : tree.Param). is_value_type q.0)
+    (map (λ (p : tree.Param). (p.0, None)) (params_from k types)) ≡ true
+each_value k [] = refl
+each_value k (I32 ∷ types) = each_value (suc k) types
+each_value k (I64 ∷ types) = each_value (suc k) types
+
+values : (types : List ValType) → list_all (λ (q : tree.Param). is_value_type q.0)
+    (proper_params (map (λ (p : tree.Param). (p.0, None)) (params_of types))) ≡ true
+values [] = refl
+values (I32 ∷ types) = each_value 1 types
+values (I64 ∷ types) = each_value 1 types
+
+-- ---- a prototype and its function may both stand
+
+same_refl : (t : CType) → same_type t t ≡ true
+same_refl type.Void = refl
+same_refl type.U32 = refl
+same_refl type.U64 = refl
+same_refl type.PtrU32 = refl
+same_refl type.PtrU64 = refl
+same_refl type.Mem = refl
+same_refl type.PtrMem = refl
+same_refl type.Tab = refl
+same_refl type.PtrTab = refl
+same_refl type.FnPtr = refl
+
+same_params : (params : List tree.Param) → same_types (map (λ (p : tree.Param). p.0) (map (λ (p : tree.Param). (p.0, None)) params))
+    (map (λ (p : tree.Param). p.0) params) ≡ true
+same_params [] = refl
+same_params (p ∷ params) = rw (same_refl p.0) (same_params params)
+
+proto_stands : (m : NamedModule) (index : ℕ) (ty : FuncType) (entry : _)
+    → may_both_stand (tree.Function (Proto (func_of m index ty entry))) (tree.Function (func_of m index ty entry)) ≡ true
+proto_stands m index ty entry = rw (same_params (params_of ty.params), same_refl (c_result_of ty.result)) refl
+
+seven_not_nine : (n : ℕ) → n ≡ 7 → n ≢ 9
+seven_not_nine n e f = absurd (omega (arith, e, f))
+
+pairs_mapped : {A B : Type 0} (R : B → B → Type 0) (g : A → B) (xs : List A) → AllPairs (λ x y. R (g x) (g y)) xs → AllPairs R (map g xs)
+pairs_mapped R g [] h = tt
+pairs_mapped R g (x ∷ xs) h = (all_map (R (g x)) g xs h.0, pairs_mapped R g xs h.1)
+
+module _ (m : NamedModule) (a : IsAccepted m) where
+  abbrev t : Module
+  t = m.tree
+
+  abbrev imp : ℕ
+  imp = imported_funcs t
+
+  name_at : (k : ℕ) → imp ≤ k → k < imp + length t.funcs → (body_of t m.name k).name ≡ func_name k
+  name_at k low high = subst (λ k. (body_of t m.name k).name ≡ func_name k) (omega (arith, low))
+      (body_name m a (k - imp) (omega (arith, low, high)))
+
+  names_differ : AllPairs (λ (x y : tree.Func). bytes_eq x.name y.name ≡ false) (bodies m)
+  names_differ = pairs_range (λ (x y : tree.Func). bytes_eq x.name y.name ≡ false) (body_of t m.name) imp (length t.funcs)
+      (imp + length t.funcs) (omega arith)
+      (λ i j low less high. ap (λ n. bytes_eq n (body_of t m.name j).name) (name_at i low (omega (arith, less, high)))
+      ∙ (ap (bytes_eq (func_name i)) (name_at j (omega (arith, low, less)) high)
+      ∙ lettered 102 i j (omega (arith, less, high, few_funcs m a)) (omega (arith, high, few_funcs m a))
+      (λ e. absurd (omega (arith, e, less)))))
+
+  body_here : (k : ℕ) → imp ≤ k → k < imp + length t.funcs → BodyAt m k
+  body_here k low high = subst (BodyAt m) (omega (arith, low)) (body_at m a (k - imp) (omega (arith, low, high)))
+
+  -- ---- prototypes
+
+  pub prototypes_keep : (front back : List tree.Item) → NoClass 7 front
+      → ((k : ℕ) → imp ≤ k → k < imp + length t.funcs → list_any (defines (func_name k)) back ≡ true)
+      → AllShow Keeps front (map prototype (bodies m)) back
+  prototypes_keep front back none in_back = section_keeps 7 front (map prototype (bodies m)) back none (prototypes_class m a)
+      (pairs_mapped NotSame prototype (bodies m) names_differ)
+      (all_map (ItemKeeps back) prototype (bodies m)
+      (all_range (λ f. ItemKeeps back (prototype f)) (body_of t m.name) imp (length t.funcs) (imp + length t.funcs) (omega arith)
+      (λ k low high. one k (body_here k low high) (in_back k low high))))
+    where
+      one : (k : ℕ) → BodyAt m k → list_any (defines (func_name k)) back ≡ true → ItemKeeps back (prototype (body_of t m.name k))
+      one k b there = subst (λ f. ItemKeeps back (prototype f)) (sym b.is)
+          (λ before behind apart. declaration_keeps before (behind ++ back) true (c_result_of b.ty.result) (func_name k)
+          (map (λ (p : tree.Param). (p.0, None)) (params_of b.ty.params)) apart
+          (record {
+            result_is = result_type b.ty.result;
+            params_are = values b.ty.params;
+            nameless =
+                nameless (params_of b.ty.params);
+            free = refl;
+          })
+          (λ s. list_any-append (defines (func_name k)) before _ ∙ or_right (list_any (defines (func_name k)) before) _
+          (or_right (defines (func_name k) (prototype (func_of m k b.ty b.entry))) _
+          (list_any-append (defines (func_name k)) behind back ∙ or_right (list_any (defines (func_name k)) behind) _ there))))
+
+  -- ---- bodies
+
+  abbrev objects : List tree.Item
+  objects = objects_of t (pointers_of t)
+
+  abbrev declarations : List tree.Item
+  declarations = map declaration (declared_symbols m)
+
+  abbrev helpers : List tree.Item
+  helpers = map (λ which. tree.Function (helper_of which)) (helpers_of t)
+
+  abbrev front : List tree.Item
+  front = (((objects_of t (pointers_of t) ++ data_of t) ++ map declaration (declared_symbols m)) ++ map prototype (bodies m)) ++ map
+      (λ which. tree.Function (helper_of which)) (helpers_of t)
+
+  front_none : (k : ℕ) → NoClass k (objects_of t (pointers_of t)) → NoClass k (data_of t) → NoClass k (map declaration (declared_symbols m))
+      → NoClass k (map prototype (bodies m)) → NoClass k (map (λ which. tree.Function (helper_of which)) (helpers_of t)) → NoClass k front
+  front_none k o d s p h =
+      all_append (λ o. class (name_of o) ≢ k) _ _ (all_append (λ o. class (name_of o) ≢ k) _ _
+      (all_append (λ o. class (name_of o) ≢ k) _ _ (all_append (λ o. class (name_of o) ≢ k) _ _ o d) s) p) h
+
+  pub objects_none : (k : ℕ) → 5 ≤ k → NoClass k (objects_of t (pointers_of t))
+  objects_none k le =
+      all_append (λ o. class (name_of o) ≢ k) _ _ (other_class 1 k _ (λ e. absurd (omega (arith, e, le))) (tabs_class m a))
+      (all_append (λ o. class (name_of o) ≢ k) _ _ (other_class 2 k _ (λ e. absurd (omega (arith, e, le))) (mems_class m a))
+      (all_append (λ o. class (name_of o) ≢ k) _ _ (other_class 3 k _ (λ e. absurd (omega (arith, e, le))) (globals_class m a))
+      (other_class 4 k _ (λ e. absurd (omega (arith, e, le))) (pointers_class m a))))
+
+  pub front_none_own : NoClass 9 front
+  front_none_own = front_none 9 (objects_none 9 (omega arith)) (other_class 5 9 _ (λ e. absurd (grind (arith, e))) (data_class m a))
+      (other_class 6 9 _ (λ e. absurd (grind (arith, e))) (declared_class m a))
+      (other_class 7 9 _ (λ e. absurd (grind (arith, e))) (prototypes_class m a))
+      (other_class 8 9 _ (λ e. absurd (grind (arith, e))) (helpers_class m a))
+
+  record IsBody (x : tree.Item) : Type 0 where
+    k : ℕ
+    low : imp ≤ k
+    high : k < imp + length t.funcs
+    x_is : x ≡ tree.Function (body_of t m.name k)
+
+  each_is : AllByRecursion IsBody (map tree.Function (bodies m))
+  each_is = all_map IsBody tree.Function (bodies m)
+      (all_range (λ f. IsBody (tree.Function f)) (body_of t m.name) imp (length t.funcs) (imp + length t.funcs) (omega arith)
+      (λ k low high. record { k = k; low = low; high = high; x_is = refl }))
+
+  apart_protos : (k : ℕ) (b : BodyAt m k) → imp ≤ k → k < imp + length t.funcs
+      → Apart (tree.Function (func_of m k b.ty b.entry)) (map prototype (bodies m))
+  apart_protos k b low high =
+      all_map _ prototype (bodies m)
+      (all_range _ (body_of t m.name) imp (length t.funcs) (imp + length t.funcs) (omega arith)
+      (λ j lo hi. one j lo hi (same_or_other j k)))
+    where
+      same_or_other : (j k : ℕ) → (j ≡ k) ⊎ (j ≢ k)
+      same_or_other j k = grind arith
+
+      one : (j : ℕ) → imp ≤ j → j < imp + length t.funcs → (j ≡ k) ⊎ (j ≢ k)
+          → not (bytes_eq (body_of t m.name j).name (func_name k)) || may_both_stand (prototype (body_of t m.name j))
+          (tree.Function (func_of m k b.ty b.entry)) ≡ true
+      one j lo hi (inl same) = or_right (not (bytes_eq (body_of t m.name j).name (func_name k))) _
+          (ap (λ f. may_both_stand (prototype f) (tree.Function (func_of m k b.ty b.entry))) (ap (body_of t m.name) same ∙ b.is)
+          ∙ proto_stands m k b.ty b.entry)
+      one j lo hi (inr other) = or_left (not (bytes_eq (body_of t m.name j).name (func_name k))) _
+          (ap not (ap (λ n. bytes_eq n (func_name k)) (name_at j lo hi)
+          ∙ lettered 102 j k (omega (arith, hi, few_funcs m a)) (omega (arith, high, few_funcs m a)) other))
+
+  pub all_before : (P : tree.Item → Type 0) (before : List tree.Item) (x : tree.Item) (behind : List tree.Item)
+      → AllByRecursion P (before ++ x ∷ behind) → AllByRecursion P before
+  all_before P [] x behind h = tt
+  all_before P (y ∷ before) x behind h = (h.0, all_before P before x behind h.1)
+
+  joined : (xs ys : List tree.Item) (k : ℕ) → NoClass k xs → NoClass k ys → NoClass k (xs ++ ys)
+  joined xs ys k p q = all_append (λ o. class (name_of o) ≢ k) xs ys p q
+
+  -- the front of a body, as what is known is stated
+  regroup : (o d s p h r : List tree.Item) → ((((o ++ d) ++ s) ++ p) ++ h) ++ r ≡ o ++ (d ++ (s ++ (p ++ (h ++ r))))
+  regroup o d s p h r = append_assoc (((o ++ d) ++ s) ++ p) h r
+      ∙ (append_assoc ((o ++ d) ++ s) p (h ++ r) ∙ (append_assoc (o ++ d) s (p ++ (h ++ r)) ∙ append_assoc o d (s ++ (p ++ (h ++ r)))))
+
+  pub bodies_keep : (back : List tree.Item) → NoClass 9 back → AllShow Keeps front (map tree.Function (bodies m)) back
+  bodies_keep back none before x behind e = one (all_at IsBody before x behind (subst (AllByRecursion IsBody) e each_is))
+    where
+      classes : AllClass 7 (before ++ x ∷ behind)
+      classes = subst (AllClass 7) e (bodies_class m a)
+
+      one : IsBody x → Keeps (front ++ before) x (behind ++ back)
+      one i = subst (λ y. Keeps (front ++ before) y (behind ++ back)) (sym item_is)
+          (body_keeps_rules m i.k b.ty b.entry declared (front ++ before) (behind ++ back) refl
+          (subst (FileKnows m) (sym (append_assoc front before (tree.Function f ∷ []) ∙ regroup objects (data_of t) declarations
+          (map prototype (bodies m)) helpers (before ++ tree.Function f ∷ [])))
+          (all_known m a (before ++ tree.Function f ∷ [])
+          (all_append (λ o. class (name_of o) ≡ 7) before (tree.Function f ∷ [])
+          (all_before (λ o. class (name_of o) ≡ 7) before x behind classes)
+          (subst (λ y. class (name_of y) ≡ 7) item_is (all_at (λ o. class (name_of o) ≡ 7) before x behind classes), tt))))
+          after_typed (subst (λ n. n ≤ 2 ^ 64) (sym (length-append b.ty.params (declared_locals b.entry.runs))) (few_locals m i.k b))
+          (few_operands m i.k b) b.within.labels b.typed b.listed
+          (once (tree.Function f) (front ++ before) (behind ++ back) (apart_joined (tree.Function f) front before apart_front
+          (apart_names (tree.Function f) before (pairs_at NotSame before (tree.Function f) behind
+          (subst (λ y. AllPairs NotSame (before ++ y ∷ behind)) item_is
+          (subst (AllPairs NotSame) e (pairs_mapped NotSame tree.Function (bodies m) names_differ)))))))
+          (all_map (λ n. class n ≢ 9) name_of ((front ++ before) ++ tree.Function f ∷ (behind ++ back))
+          (joined (front ++ before) (tree.Function f ∷ (behind ++ back)) 9
+          (joined front before 9 front_none_own (other_class 7 9 before (λ e. absurd (grind (arith, e)))
+          (all_before (λ o. class (name_of o) ≡ 7) before x behind classes))) (
+            seven_not_nine (class (name_of (tree.Function f)))
+                (subst (λ y. class (name_of y) ≡ 7) item_is (all_at (λ o. class (name_of o) ≡ 7) before x behind classes)),
+            joined behind back 9 (other_class 7 9 behind (λ e. absurd (grind (arith, e))) (all_behind before behind classes)) none,
+          ))))
+        where
+          b : BodyAt m i.k
+          b = body_here i.k i.low i.high
+
+          f : tree.Func
+          f = func_of m i.k b.ty b.entry
+
+          declared : List tree.Item
+          declared = (front ++ before) ++ tree.Function f ∷ []
+
+          item_is : x ≡ tree.Function f
+          item_is = i.x_is ∙ ap tree.Function b.is
+
+          all_behind : (before behind : List tree.Item) → AllClass 7 (before ++ x ∷ behind) → AllClass 7 behind
+          all_behind [] behind h = h.1
+          all_behind (y ∷ before) behind h = all_behind before behind h.1
+
+          own_class : class (func_name i.k) ≡ 7
+          own_class = subst (λ y. class (name_of y) ≡ 7) item_is (all_at (λ o. class (name_of o) ≡ 7) before x behind classes)
+
+          by_class : (k : ℕ) (items : List tree.Item) → k ≢ 7 → AllClass k items → Apart (tree.Function f) items
+          by_class k items ne h = apart_classes (tree.Function f) items
+              (subst (λ j. NoClass j items) (sym own_class) (other_class k 7 items ne h))
+
+          apart_front : Apart (tree.Function f) front
+          apart_front =
+              apart_joined (tree.Function f) (((objects ++ data_of t) ++ declarations) ++ map prototype (bodies m)) helpers
+              (apart_joined (tree.Function f) ((objects ++ data_of t) ++ declarations) (map prototype (bodies m))
+              (apart_joined (tree.Function f) (objects ++ data_of t) declarations
+              (apart_joined (tree.Function f) objects (data_of t)
+              (apart_classes (tree.Function f) objects (subst (λ j. NoClass j objects) (sym own_class) (objects_none 7 (omega arith))))
+              (by_class 5 (data_of t) (λ e. absurd (grind (arith, e))) (data_class m a)))
+              (by_class 6 declarations (λ e. absurd (grind (arith, e))) (declared_class m a)))
+              (apart_protos i.k b i.low i.high))
+              (by_class 8 helpers (λ e. absurd (grind (arith, e))) (helpers_class m a))

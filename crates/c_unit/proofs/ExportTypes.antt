@@ -1,0 +1,147 @@
+-- The function of each export is one of the external functions that keep the rules.
+use Rattle.std.proofs.Common.{◌≡◌, ℕ, zero, suc, refl, sym, ap, ◌∙◌, if◌then◌else◌, true, false, Bool, not, List, [], ◌∷◌, map, codes, Option, Some, None}
+use Rattle.std.specs.Prelude.{slice_get, filter, bytes_eq, is_some}
+use Rattle.w2c_base.specs.declared.value.ValType.{ValType}
+use Rattle.w2c_base.specs.declared.value.ValType.TheVariants.{I32, I64}
+use Rattle.w2c_base.specs.declared.signature.FuncType.{FuncType}
+use Rattle.w2c_base.specs.Lookup.{named}
+use Rattle.wasm_tree.specs.declared.tree.Module.{Module}
+use Rattle.wasm_tree.specs.declared.entries.Import.{Import}
+use Rattle.wasm_tree.specs.declared.entries.ImportKind.{ImportKind}
+use Rattle.wasm_tree.specs.declared.entries.ImportKind.TheVariants.{Func as ImportFunc, Table as ImportTable, Memory as ImportMemory, Global as ImportGlobal}
+use Rattle.wasm_tree.specs.IndexSpaces.{is_table_import, is_memory_import}
+use Rattle.wasm_meaning.specs.LinkedSet.{NamedModule}
+use Rattle.c_tree.specs.declared.tree.CType.{CType}
+use Rattle.c_tree.specs.declared.tree.CType.TheVariants as type
+use Rattle.c_tree.specs.Tree as tree
+use Rattle.c_tree.specs.Runtime.{same_func_type}
+use Rattle.c_tree.specs.Scope.{Name, Scope, is_among, pointer_to, is_object_type}
+use Rattle.c_tree.specs.Rules.{is_symbol, is_void, proper_types}
+use Rattle.c_meaning.specs.Linking.{c_type_of, c_params_of}
+use Rattle.c_meaning.proofs.Lookups.{bytes_equal}
+use Rattle.c_body.specs.Symbols.{c_func_type_if, accessor_type, import_symbol, import_type, symbol_type, is_usable, declared_symbols, firsts}
+use Rattle.c_body.proofs.Rules.{address_arg, return_passes}
+use Rattle.c_body.proofs.OwnNames.{named_in}
+use Rattle.c_body.proofs.BodyRules.{vars_in, funcs_in}
+use Rattle.c_unit.specs.Exports.{params_from, named_params, external}
+use Rattle.c_unit.specs.Items.{declaration}
+use Rattle.c_unit.proofs.KnownNames.{func_types_same}
+use Rattle.c_unit.proofs.KnownFuncs.{symbol_named, firsts_have, params_back}
+use Rattle.c_unit.proofs.ExportRules.{IsExternal}
+use Rattle.std.proofs.lemmas.Bool.{or_left, or_right}
+use Rattle.c_unit.proofs.Small.{some_same}
+
+-- ---- an accessor of an own object
+
+pub address_is : (declared : List tree.Item) (pointer u : CType) (object symbol : Name) → is_symbol symbol ≡ true
+    → named object (vars_in declared) ≡ Some u → pointer_to u ≡ Some pointer
+    → is_void pointer ≡ false → is_object_type pointer ≡ false
+    → IsExternal declared (external (accessor_type pointer) symbol [] (tree.Return (tree.Address object) ∷ []))
+address_is declared pointer u object symbol s found p no_void no_object = record {
+  body = body;
+  body_is = refl;
+  is = record {
+    result_is = ap not no_object;
+    params_are = refl;
+    params_named = refl;
+    locals_are = refl;
+    locals_suit = refl;
+    free = s;
+    own_free = refl;
+    own_distinct = refl;
+    some = refl;
+    passes = (
+      return_passes here (tree.Address object) no_void
+          (address_arg here object u pointer (ap is_some (named_in object (vars_in declared) ((codes "w2c_depth", type.U32) ∷ []) u found))
+          found p),
+      tt,
+    );
+    labels = refl;
+    ends = refl;
+  };
+  classes = tt;
+}
+  where
+    body : tree.Body
+    body = record { locals = []; stmts = tree.Return (tree.Address object) ∷ [] }
+
+    here : Scope
+    here = record {
+      declared = declared;
+      func = external (accessor_type pointer) symbol [] (tree.Return (tree.Address object) ∷ []);
+      body =
+          record { locals = []; stmts = tree.Return (tree.Address object) ∷ [] };
+    }
+
+-- ---- types of functions with names for their parameters
+
+from_types : (k : ℕ) (types : List CType) → map (λ (p : tree.Param). p.0) (params_from k types) ≡ types
+from_types k [] = refl
+from_types k (t ∷ types) = ap (λ ts. t ∷ ts) (from_types (suc k) types)
+
+-- types that come to themselves: one `void`, or no `void` in front
+pub wrapper_types : (o : Option FuncType) → map (λ (p : tree.Param). p.0) (named_params (proper_types (c_func_type_if o).params)) ≡
+    (c_func_type_if o).params
+wrapper_types None = refl
+wrapper_types (Some ty) = by ty.params
+  where
+    by : (params : List ValType) → map (λ (p : tree.Param). p.0) (named_params (proper_types (c_params_of params))) ≡ c_params_of params
+    by [] = refl
+    by (I32 ∷ params) = ap (λ ts. type.U32 ∷ ts) (from_types 1 (map c_type_of params))
+    by (I64 ∷ params) = ap (λ ts. type.U64 ∷ ts) (from_types 1 (map c_type_of params))
+
+-- ---- the symbol of an import that may be used
+
+pub kept_among : {A : Type 0} (f : A → Name) (test : A → Bool) (xs : List A) (k : ℕ) (x : A) → slice_get (filter test xs) k ≡ Some x
+    → (is_among (f x) (map f xs) ≡ true) × (test x ≡ true)
+kept_among f test [] k x e = absurd cc
+kept_among {A = A} f test (y ∷ xs) k x e = by (test y) refl k e (kept_among f test xs)
+  where
+    by : (b : Bool) → test y ≡ b → (k : ℕ) → slice_get (if b then y ∷ filter test xs else filter test xs) k ≡ Some x
+        → ((k : ℕ) (x : A) → slice_get (filter test xs) k ≡ Some x → (is_among (f x) (map f xs) ≡ true) × (test x ≡ true))
+        → (is_among (f x) (map f (y ∷ xs)) ≡ true) × (test x ≡ true)
+    by true t zero e rest = (
+      or_left (bytes_eq (f x) (f y)) (is_among (f x) (map f xs)) (ap (λ z. bytes_eq (f x) (f z)) (some_same e) ∙ bytes_equal (f x)),
+      ap test (sym (some_same e)) ∙ t,
+    )
+    by true t (suc k) e rest = let h = rest k x e in (or_right (bytes_eq (f x) (f y)) (is_among (f x) (map f xs)) h.0, h.1)
+    by false t k e rest = let h = rest k x e in (or_right (bytes_eq (f x) (f y)) (is_among (f x) (map f xs)) h.0, h.1)
+
+abbrev typed_or : Option tree.FuncType → tree.FuncType
+typed_or None = accessor_type type.Void
+typed_or (Some ty) = ty
+
+pub usable_named : (m : NamedModule) (i : Import) → is_among (import_symbol i) (map import_symbol m.tree.imports) ≡ true
+    → is_usable m i ≡ true
+    → named (import_symbol i) (funcs_in (map declaration (declared_symbols m))) ≡ Some (import_type m.tree i)
+usable_named m i there usable =
+    symbol_named (λ name. typed_or (symbol_type m name)) (import_symbol i) (firsts [] (map import_symbol m.tree.imports))
+    (firsts_have (import_symbol i) [] (map import_symbol m.tree.imports) there refl)
+    ∙ ap Some (ap (λ ps. record { params = ps; result = (typed_or (symbol_type m (import_symbol i))).result })
+    (params_back (typed_or (symbol_type m (import_symbol i))).params)
+    ∙ usable_type (symbol_type m (import_symbol i)) usable)
+  where
+    usable_type : (o : Option tree.FuncType) → (elim o [ None ↦ false | Some u ↦ same_func_type u (import_type m.tree i) ]) ≡ true
+        → typed_or o ≡ import_type m.tree i
+    usable_type None f = absurd cc
+    usable_type (Some u) f = func_types_same u (import_type m.tree i) f
+
+pub table_import_type : (m : Module) (i : Import) → is_table_import i ≡ true → import_type m i ≡ accessor_type type.PtrTab
+table_import_type m i = by i.kind
+  where
+    by : (kind : ImportKind) → is_table_import (record { «module» = i.«module»; field = i.field; kind = kind; place = i.place }) ≡ true
+        → import_type m (record { «module» = i.«module»; field = i.field; kind = kind; place = i.place }) ≡ accessor_type type.PtrTab
+    by (ImportFunc x) e = absurd cc
+    by (ImportTable l) e = refl
+    by (ImportMemory l) e = absurd cc
+    by (ImportGlobal t u) e = absurd cc
+
+pub memory_import_type : (m : Module) (i : Import) → is_memory_import i ≡ true → import_type m i ≡ accessor_type type.PtrMem
+memory_import_type m i = by i.kind
+  where
+    by : (kind : ImportKind) → is_memory_import (record { «module» = i.«module»; field = i.field; kind = kind; place = i.place }) ≡ true
+        → import_type m (record { «module» = i.«module»; field = i.field; kind = kind; place = i.place }) ≡ accessor_type type.PtrMem
+    by (ImportFunc x) e = absurd cc
+    by (ImportTable l) e = absurd cc
+    by (ImportMemory l) e = refl
+    by (ImportGlobal t u) e = absurd cc

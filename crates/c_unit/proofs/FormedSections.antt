@@ -1,0 +1,457 @@
+-- Each section of a module's unit is well formed, up to the init function.
+use Rattle.std.proofs.Common.{◌≡◌, ℕ, suc, ◌+◌, ◌<◌, ◌≤◌, ◌^◌, refl, sym, ap, ◌∙◌, subst, arith, if◌then◌else◌, true, false, Bool, List, [], ◌∷◌, ◌++◌, length, map, Option, Some, None}
+use Rattle.std.proofs.lemmas.List.{length-append}
+use Rattle.std.specs.Prelude.{slice_get, flat_map, filter, zip, bytes_eq, is_none, option_map}
+use Rattle.std.specs.List.{AllByRecursion, range_with_len}
+use Rattle.w2c_base.specs.declared.value.ValType.{ValType}
+use Rattle.w2c_base.specs.declared.signature.FuncType.{FuncType}
+use Rattle.w2c_base.specs.Lookup.{numbered, named, if_found}
+use Rattle.wasm_tree.specs.declared.tree.Module.{Module}
+use Rattle.wasm_tree.specs.declared.entries.Import.{Import}
+use Rattle.wasm_tree.specs.declared.entries.ImportKind.{ImportKind}
+use Rattle.wasm_tree.specs.declared.entries.ImportKind.TheVariants.{Func as ImportFunc, Table as ImportTable, Memory as ImportMemory, Global as ImportGlobal}
+use Rattle.wasm_tree.specs.declared.entries.Export.{Export}
+use Rattle.wasm_tree.specs.declared.entries.ExportKind.{ExportKind}
+use Rattle.wasm_tree.specs.declared.entries.ExportKind.TheVariants.{Func as ExportFunc, Table as ExportTable, Memory as ExportMemory, Global as ExportGlobal}
+use Rattle.wasm_tree.specs.declared.entries.LimitsEntry.{LimitsEntry}
+use Rattle.wasm_tree.specs.declared.entries.GlobalEntry.{GlobalEntry}
+use Rattle.wasm_tree.specs.declared.entries.SegmentEntry.{SegmentEntry}
+use Rattle.wasm_tree.specs.declared.entries.TypeEntry.{TypeEntry}
+use Rattle.wasm_tree.specs.IndexSpaces.{type_in, func_space, global_space, func_of_import, global_type_in, func_type_in, declared_locals, imported_global_space, imported_funcs, imported_globals, is_func_import, is_table_import, is_memory_import, is_global_import}
+use Rattle.wasm_meaning.specs.LinkedSet.{NamedModule}
+use Rattle.wasm_valid.specs.Context.{context_of}
+use Rattle.wasm_valid.specs.declared.fault.ValidCause.TheVariants as cause
+use Rattle.wasm_valid.specs.ModuleFaults.{unknown_export}
+use Rattle.c_tree.specs.declared.tree.CType.{CType}
+use Rattle.c_tree.specs.declared.tree.CType.TheVariants as type
+use Rattle.c_tree.specs.Tree as tree
+use Rattle.c_tree.specs.Scope.{Name, name_of}
+use Rattle.c_tree.specs.Rules.{proper_types}
+use Rattle.c_tree.specs.Spelled.{FitsItem, FitsArg, FitsStmt, FitsNum, depth_limit}
+use Rattle.c_tree.specs.WellFormed.{IsName, IsNamedIfAny, NamedArg, NamedStmt, NamedItem}
+use Rattle.c_tree.proofs.Names.{numbered as numbered_name}
+use Rattle.c_meaning.specs.Linking.{c_type_of, c_params_of}
+use Rattle.c_prelude.specs.Helpers.{helper_of}
+use Rattle.alike.specs.Alike.{memory_name, table_name, func_name, global_name}
+use Rattle.c_body.specs.Symbols.{Typed, c_func_type_if, accessor_type, pointer_type, global_accessor_type, import_symbol, import_type, is_usable, symbol_type, exported_symbols, imported_symbols, export_symbol, export_type, func_imports, memory_imports, table_imports, global_imports, declared_symbols, firsts}
+use Rattle.c_body.specs.Objects.{callee, pointers_of}
+use Rattle.c_body.specs.Body.{params_of, func_of, body_of, stmts_of}
+use Rattle.c_body.specs.Needs.{helpers_of}
+use Rattle.c_body.proofs.Heights.{after_typed}
+use Rattle.c_body.proofs.OwnNames.{body_locals}
+use Rattle.c_body.proofs.RulesOfBodies.{body_passes}
+use Rattle.c_body.proofs.BodyRules.{scope_knows, depth_known}
+use Rattle.c_body.proofs.Classes.{all_kept}
+use Rattle.c_body.proofs.FormedItems.{NamedItems, body_named, body_item_fits}
+use Rattle.c_unit.specs.Exports.{param_name, result_name, first_value, params_from, named_params, args_from, call_if, passes_on, accessor, usable_symbol, export_func, external}
+use Rattle.c_unit.specs.Items.{objects_of, data_of, declaration, prototype, bodies}
+use Rattle.c_unit.specs.Sets.{IsAccepted}
+use Rattle.c_unit.proofs.BodiesAt.{BodyAt, few_locals, few_operands, few_params}
+use Rattle.c_unit.proofs.NeedsDeclared.{all_known}
+use Rattle.c_unit.proofs.ExportFacts.{exports_known, each_of}
+use Rattle.c_unit.proofs.ExportSection.{few_types, first_there}
+use Rattle.c_unit.proofs.Pairs.{all_range}
+use Rattle.c_unit.proofs.Sections.{bodies_class, few_funcs, few_globals, length_map}
+use Rattle.c_unit.proofs.InitSegments.{data_item}
+use Rattle.c_unit.proofs.UnitNames.{import_named, export_named, func_named, global_named, helper_formed, objects_named, data_names, symbols_named, body_here, prototypes_named, helpers_named, bodies_named, declarations_named}
+use Rattle.c_body.proofs.Lists.{all_map, all_append, all_at, get_unmapped, all_front, all_behind}
+use Rattle.c_unit.proofs.Small.{no_fault, all_images, each_none}
+use Rattle.c_body.proofs.Spaces.{global_count, func_count}
+
+abbrev pub IsFormed : tree.Item → Type 0
+IsFormed o = NamedItem o × FitsItem depth_limit o
+
+vars_formed : {A : Type 0} (ty : A → CType) (name : A → Name) (xs : List A) → NamedItems (map (λ x. tree.Var (ty x) (name x) None) xs)
+    → AllByRecursion IsFormed (map (λ x. tree.Var (ty x) (name x) None) xs)
+vars_formed ty name [] h = tt
+vars_formed ty name (x ∷ xs) h = ((h.0, tt), vars_formed ty name xs h.1)
+
+-- ---- lists of parameters are not empty
+
+abbrev HasParams : tree.FuncType → Type 0
+HasParams ty = 0 < length ty.params
+
+func_has : (o : Option FuncType) → HasParams (c_func_type_if o)
+func_has None = omega arith
+func_has (Some ty) = by ty.params
+  where
+    by : (params : List ValType) → 0 < length (c_params_of params)
+    by [] = omega arith
+    by (x ∷ params) = omega arith
+
+global_has : (o : Option (ValType × Bool)) → HasParams (global_accessor_type o)
+global_has None = omega arith
+global_has (Some g) = omega arith
+
+import_has : (m : Module) (i : Import) → HasParams (import_type m i)
+import_has m i = by i.kind
+  where
+    by : (kind : ImportKind) → HasParams (import_type m (record { «module» = i.«module»; field = i.field; kind = kind; place = i.place }))
+    by (ImportFunc x) = func_has (type_in m x)
+    by (ImportTable x) = omega arith
+    by (ImportMemory x) = omega arith
+    by (ImportGlobal x mutable) = omega arith
+
+export_has : (m : Module) (e : Export) → HasParams (export_type m e)
+export_has m e = by e.kind
+  where
+    by : (kind : ExportKind) → HasParams (export_type m
+        (record { name = e.name; kind = kind; index = e.index; name_place = e.name_place; index_place = e.index_place }))
+    by ExportFunc = func_has (func_type_in m e.index)
+    by ExportTable = omega arith
+    by ExportMemory = omega arith
+    by ExportGlobal = global_has (global_type_in m e.index)
+
+found_has : (name : Name) (symbols : List Typed) (ty : tree.FuncType) → AllByRecursion (λ (s : Typed). HasParams s.1) symbols
+    → named name symbols ≡ Some ty → HasParams ty
+found_has name [] ty h e = absurd cc
+found_has name (s ∷ symbols) ty h e = by (bytes_eq s.0 name) e (found_has name symbols ty h.1)
+  where
+    by : (b : Bool) → (if b then Some s.1 else named name symbols) ≡ Some ty → (named name symbols ≡ Some ty → HasParams ty) → HasParams ty
+    by true e rest = let f : s.1 ≡ ty = cc in subst HasParams f h.0
+    by false e rest = rest e
+
+abbrev typed_or : Option tree.FuncType → tree.FuncType
+typed_or None = accessor_type type.Void
+typed_or (Some ty) = ty
+
+symbol_has : (m : NamedModule) (name : Name) → HasParams (typed_or (symbol_type m name))
+symbol_has m name = by (symbol_type m name) refl
+  where
+    by : (o : Option tree.FuncType) → symbol_type m name ≡ o → HasParams (typed_or o)
+    by None e = omega arith
+    by (Some ty) e =
+        found_has name (exported_symbols m ++ imported_symbols m) ty
+        (all_append (λ (s : Typed). HasParams s.1) (exported_symbols m) (imported_symbols m)
+        (all_images (λ (s : Typed). HasParams s.1) (λ e. (export_symbol m e, export_type m.tree e)) m.tree.exports (export_has m.tree))
+        (all_images (λ (s : Typed). HasParams s.1) (λ i. (import_symbol i, import_type m.tree i)) m.tree.imports (import_has m.tree)))
+        e
+
+mapped_has : {A B : Type 0} (f : A → B) (xs : List A) → 0 < length xs → 0 < length (map f xs)
+mapped_has f [] h = h
+mapped_has f (x ∷ xs) h = omega arith
+
+body_has : (types : List ValType) → 0 < length (params_of types)
+body_has [] = omega arith
+body_has (x ∷ types) = omega arith
+
+-- ---- functions that pass a call on
+
+param_named : (k : ℕ) → k < 2 ^ 64 → IsName (param_name k)
+param_named k less = numbered_name 97 k refl (λ e. absurd (grind (arith, e))) (λ e. absurd (grind (arith, e))) less
+
+params_named : (k : ℕ) (types : List CType) → k + length types ≤ 2 ^ 64
+    → AllByRecursion (λ (p : tree.Param). IsNamedIfAny p.1) (params_from k types)
+params_named k [] few = tt
+params_named k (x ∷ types) few = (param_named k (omega (arith, few)), params_named (suc k) types (omega (arith, few)))
+
+named_params_are : (types : List CType) → length types ≤ 2 ^ 64 → AllByRecursion (λ (p : tree.Param). IsNamedIfAny p.1) (named_params types)
+named_params_are [] few = (tt, tt)
+named_params_are (x ∷ types) few = params_named 0 (x ∷ types) (omega (arith, few))
+
+named_params_there : (types : List CType) → 0 < length (named_params types)
+named_params_there [] = omega arith
+named_params_there (x ∷ types) = omega arith
+
+args_named : (k : ℕ) (types : List CType) → k + length types ≤ 2 ^ 64 → AllByRecursion NamedArg (args_from k types)
+args_named k [] few = tt
+args_named k (x ∷ types) few = (param_named k (omega (arith, few)), args_named (suc k) types (omega (arith, few)))
+
+args_fit : (k : ℕ) (types : List CType) → AllByRecursion (FitsArg 99) (args_from k types)
+args_fit k [] = tt
+args_fit k (x ∷ types) = (tt, args_fit (suc k) types)
+
+args_fit_here : (k : ℕ) (types : List CType) → AllByRecursion (FitsArg 100) (args_from k types)
+args_fit_here k [] = tt
+args_fit_here k (x ∷ types) = (tt, args_fit_here (suc k) types)
+
+call_formed : (o target : Option Name) (types : List CType) → length types ≤ 2 ^ 64 → IsNamedIfAny o → IsNamedIfAny target
+    → NamedStmt (call_if o target types) × FitsStmt depth_limit (call_if o target types)
+call_formed None target types few name result = (tt, tt)
+call_formed (Some n) None types few name result = ((result, name, args_named 0 types (omega (arith, few))), (tt, args_fit_here 0 types))
+call_formed (Some n) (Some r) types few name result = ((result, name, args_named 0 types (omega (arith, few))), (tt, args_fit 0 types))
+
+value_fits : (r : CType) → FitsNum (first_value r)
+value_fits type.U32 = omega arith
+value_fits type.U64 = omega arith
+value_fits _ = omega arith
+
+pub passes_formed : (ty : tree.FuncType) (symbol : Name) (o : Option Name) → length (proper_types ty.params) ≤ 2 ^ 64 → IsName symbol
+    → IsNamedIfAny o → IsFormed (tree.Function (passes_on ty symbol o))
+passes_formed ty symbol o few name known = by ty.result
+  where
+    value : (r : CType) → NamedItem (tree.Function
+        (external (record { params = ty.params; result = r }) symbol ((r, result_name, first_value r) ∷ [])
+        (call_if o (Some result_name) (proper_types ty.params) ∷ tree.Return (tree.Value (tree.Name result_name)) ∷ [])))
+        × FitsItem depth_limit (tree.Function
+        (external (record { params = ty.params; result = r }) symbol ((r, result_name, first_value r) ∷ [])
+        (call_if o (Some result_name) (proper_types ty.params) ∷ tree.Return (tree.Value (tree.Name result_name)) ∷ [])))
+    value r =
+        let call = call_formed o (Some result_name) (proper_types ty.params) few known refl in (
+          (name, named_params_are (proper_types ty.params) few, ((refl, tt), (call.0, (refl, tt)))),
+          (named_params_there (proper_types ty.params), ((value_fits r, tt), (call.1, (tt, tt)))),
+        )
+
+    by : (r : CType) → IsFormed (tree.Function (passes_on (record { params = ty.params; result = r }) symbol o))
+    by type.Void =
+        let call = call_formed o None (proper_types ty.params) few known tt in (
+          (name, named_params_are (proper_types ty.params) few, (tt, (call.0, (tt, tt)))),
+          (named_params_there (proper_types ty.params), (tt, (call.1, (tt, tt)))),
+        )
+    by type.U32 = value type.U32
+    by type.U64 = value type.U64
+    by type.PtrU32 = value type.PtrU32
+    by type.PtrU64 = value type.PtrU64
+    by type.Mem = value type.Mem
+    by type.PtrMem = value type.PtrMem
+    by type.Tab = value type.Tab
+    by type.PtrTab = value type.PtrTab
+    by type.FnPtr = value type.FnPtr
+
+accessor_formed : (m : NamedModule) (pointer : CType) (symbol : Name) (o : Option Import) (object : Name) → IsName symbol → IsName object
+    → ((i : Import) → o ≡ Some i → IsName (import_symbol i))
+    → IsFormed (tree.Function (accessor m (accessor_type pointer) symbol o object))
+accessor_formed m pointer symbol None object name own imported = ((name, (tt, tt), (tt, (own, tt))), (omega arith, (tt, (tt, tt))))
+accessor_formed m pointer symbol (Some i) object name own imported =
+    passes_formed (accessor_type pointer) symbol (usable_symbol m i) (omega arith) name (by (is_usable m i))
+  where
+    by : (b : Bool) → IsNamedIfAny (if b then Some (import_symbol i) else None)
+    by true = imported i refl
+    by false = tt
+
+-- ---- sections
+
+module _ (m : NamedModule) (a : IsAccepted m) where
+  abbrev t : Module
+  t = m.tree
+
+  abbrev tabs : List tree.Item
+  tabs = map (λ (x : LimitsEntry). tree.Var type.Tab table_name None) t.tables
+
+  abbrev mems : List tree.Item
+  mems = map (λ (x : LimitsEntry). tree.Var type.Mem memory_name None) t.memories
+
+  abbrev globals : List tree.Item
+  globals = map (λ (g : ℕ × GlobalEntry). tree.Var (c_type_of g.1.ty) (global_name (imported_globals t + g.0)) None) (numbered t.globals)
+
+  abbrev pointers : List tree.Item
+  pointers = map (λ (p : CType × Name). tree.Var p.0 p.1 None) (pointers_of t)
+
+  abbrev Named : tree.Item → Type 0
+  Named o = IsName (name_of o)
+
+  pub objects_formed : AllByRecursion IsFormed (objects_of t (pointers_of t))
+  objects_formed =
+      let names = objects_named m a in
+      let behind_tabs = all_behind Named tabs (mems ++ (globals ++ pointers)) names in
+      let behind_mems = all_behind Named mems (globals ++ pointers) behind_tabs in
+      all_append IsFormed tabs (mems ++ (globals ++ pointers))
+      (vars_formed (λ (x : LimitsEntry). type.Tab) (λ (x : LimitsEntry). table_name) t.tables
+      (all_front Named tabs (mems ++ (globals ++ pointers)) names))
+      (all_append IsFormed mems (globals ++ pointers)
+      (vars_formed (λ (x : LimitsEntry). type.Mem) (λ (x : LimitsEntry). memory_name) t.memories
+      (all_front Named mems (globals ++ pointers) behind_tabs))
+      (all_append IsFormed globals pointers
+      (vars_formed (λ (g : ℕ × GlobalEntry). c_type_of g.1.ty) (λ (g : ℕ × GlobalEntry). global_name (imported_globals t + g.0))
+      (numbered t.globals) (all_front Named globals pointers behind_mems))
+      (vars_formed (λ (p : CType × Name). p.0) (λ (p : CType × Name). p.1) (pointers_of t)
+      (all_behind Named globals pointers behind_mems))))
+
+  abbrev of_bytes : SegmentEntry → List ℕ → SegmentEntry
+  of_bytes d bytes = record { memory = d.memory; offset = d.offset; bytes = bytes; place = d.place; offset_place = d.offset_place }
+
+  pub data_formed : AllByRecursion IsFormed (data_of t)
+  data_formed = each 0 t.segments (data_names m a) a.within.bytes a.within.are_bytes
+    where
+      each : (n : ℕ) (xs : List SegmentEntry) → NamedItems (flat_map data_item (zip (range_with_len n (length xs)) xs))
+          → AllByRecursion (λ (d : SegmentEntry). length d.bytes < 2 ^ 32) xs
+          → AllByRecursion (λ (d : SegmentEntry). AllByRecursion (λ b. b < 256) d.bytes) xs
+          → AllByRecursion IsFormed (flat_map data_item (zip (range_with_len n (length xs)) xs))
+      each n [] names few small = tt
+      each n (d ∷ xs) names few small = by d.bytes names few.0 small.0 (λ rest. each (n + 1) xs rest few.1 small.1)
+        where
+          by : (bytes : List ℕ) → NamedItems (data_item (n, of_bytes d bytes) ++ flat_map data_item
+              (zip (range_with_len (n + 1) (length xs)) xs)) → length bytes < 2 ^ 32 → AllByRecursion (λ b. b < 256) bytes
+              → (NamedItems (flat_map data_item (zip (range_with_len (n + 1) (length xs)) xs))
+              → AllByRecursion IsFormed (flat_map data_item (zip (range_with_len (n + 1) (length xs)) xs)))
+              → AllByRecursion IsFormed (data_item (n, of_bytes d bytes) ++ flat_map data_item
+              (zip (range_with_len (n + 1) (length xs)) xs))
+          by [] names few small rest = rest names
+          by (b ∷ bytes) names few small rest = ((names.0, (few, omega arith, small)), rest names.1)
+
+  no_names : (types : List CType) → AllByRecursion (λ (p : tree.Param). IsNamedIfAny p.1) (map (λ t. (t, None)) types)
+  no_names [] = tt
+  no_names (x ∷ types) = (tt, no_names types)
+
+  nameless : (params : List tree.Param) → AllByRecursion (λ (p : tree.Param). IsNamedIfAny p.1)
+      (map (λ (p : tree.Param). (p.0, None)) params)
+  nameless [] = tt
+  nameless (p ∷ params) = (tt, nameless params)
+
+  pub declarations_formed : AllByRecursion IsFormed (map declaration (declared_symbols m))
+  declarations_formed = each (firsts [] (map import_symbol t.imports)) (symbols_named m a)
+    where
+      each : (names : List Name) → AllByRecursion IsName names
+          → AllByRecursion IsFormed (map declaration (map (λ name. (name, typed_or (symbol_type m name))) names))
+      each [] h = tt
+      each (n ∷ names) h = (
+        (
+          (h.0, no_names (typed_or (symbol_type m n)).params, tt),
+          (mapped_has (λ t. (t, None)) (typed_or (symbol_type m n)).params (symbol_has m n), tt),
+        ),
+        each names h.1,
+      )
+
+  pub prototypes_formed : AllByRecursion IsFormed (map prototype (bodies m))
+  prototypes_formed = all_map IsFormed prototype (bodies m)
+      (all_range (λ (f : tree.Func). IsFormed (prototype f)) (body_of t m.name) (imported_funcs t) (length t.funcs)
+      (imported_funcs t + length t.funcs) (omega arith)
+      (λ k low high. one k (omega (arith, high, few_funcs m a)) (body_here m a k low high)))
+    where
+      one : (k : ℕ) → k < 2 ^ 64 → BodyAt m k → IsFormed (prototype (body_of t m.name k))
+      one k less b = subst (λ (f : tree.Func). IsFormed (prototype f)) (sym b.is) (
+        (func_named k less, nameless (params_of b.ty.params), tt),
+        (mapped_has (λ (p : tree.Param). (p.0, None)) (params_of b.ty.params) (body_has b.ty.params), tt),
+      )
+
+  pub helpers_formed : AllByRecursion IsFormed (map (λ which. tree.Function (helper_of which)) (helpers_of t))
+  helpers_formed = all_images IsFormed (λ which. tree.Function (helper_of which)) (helpers_of t) helper_formed
+
+  abbrev functions_of : List tree.Item
+  functions_of = map tree.Function (bodies m)
+
+  abbrev declared : List tree.Item
+  declared = objects_of t (pointers_of t) ++ (data_of t ++
+      (map declaration (declared_symbols m) ++ (map prototype (bodies m) ++
+      (map (λ which. tree.Function (helper_of which)) (helpers_of t) ++ functions_of))))
+
+  declared_named : NamedItems declared
+  declared_named =
+      all_append Named (objects_of t (pointers_of t)) _ (objects_named m a)
+      (all_append Named (data_of t) _ (data_names m a) (all_append Named (map declaration (declared_symbols m)) _ (declarations_named m a)
+      (all_append Named (map prototype (bodies m)) _ (prototypes_named m a)
+      (all_append Named (map (λ which. tree.Function (helper_of which)) (helpers_of t)) functions_of (helpers_named m a)
+      (bodies_named m a)))))
+
+  signatures : (x : ℕ) (ty : FuncType) → slice_get (map (λ (e : TypeEntry). e.ty) t.types) x ≡ Some ty → length ty.params ≤ 60
+  signatures x ty e =
+      let found = get_unmapped (λ (e : TypeEntry). e.ty) t.types x ty e in
+      few_params t a.within x ty (ap (option_map (λ (e : TypeEntry). e.ty)) found.1 ∙ ap Some found.2)
+
+  pub bodies_formed : AllByRecursion IsFormed functions_of
+  bodies_formed = all_map IsFormed tree.Function (bodies m)
+      (all_range (λ (f : tree.Func). IsFormed (tree.Function f)) (body_of t m.name) (imported_funcs t) (length t.funcs)
+      (imported_funcs t + length t.funcs) (omega arith)
+      (λ k low high. one k (omega (arith, high, few_funcs m a)) (body_here m a k low high)))
+    where
+      one : (k : ℕ) → k < 2 ^ 64 → BodyAt m k → IsFormed (tree.Function (body_of t m.name k))
+      one k less b =
+          let known = all_known m a functions_of (bodies_class m a) in
+          let few : length (context_of t b.ty b.entry).locals ≤ 2 ^ 64 =
+          subst (λ n. n ≤ 2 ^ 64) (sym (length-append b.ty.params (declared_locals b.entry.runs))) (few_locals m k b) in
+          subst (λ (f : tree.Func). IsFormed (tree.Function f)) (sym b.is) (
+            body_named m k b.ty b.entry declared (func_named k less) declared_named (few_locals m k b) (few_operands m k b) b.within.labels
+                (body_passes (record {
+                  declared = declared;
+                  func = func_of m k b.ty b.entry;
+                  body =
+                      record {
+                        locals = body_locals b.ty b.entry (context_of t b.ty b.entry);
+                        stmts =
+                            stmts_of (record { named = m; context = context_of t b.ty b.entry }) b.entry.code;
+                      };
+                })
+                (record { named = m; context = context_of t b.ty b.entry }) b.entry.code
+                (scope_knows m k b.ty b.entry declared known few b.listed) after_typed b.typed refl refl
+                (depth_known m k b.ty b.entry declared known)),
+            body_item_fits m k b.ty b.entry (few_locals m k b) (few_operands m k b) b.within.numbers signatures,
+          )
+
+  import_names : AllByRecursion (λ (i : Import). IsName (import_symbol i)) t.imports
+  import_names = each t.imports a.within.import_names
+    where
+      each : (imports : List Import) → AllByRecursion
+          (λ (i : Import). AllByRecursion (λ b. b < 256) i.«module» × AllByRecursion (λ b. b < 256) i.field) imports
+          → AllByRecursion (λ (i : Import). IsName (import_symbol i)) imports
+      each [] h = tt
+      each (i ∷ imports) h = (import_named i h.0.0 h.0.1, each imports h.1)
+
+  kept_named : (test : Import → Bool) (k : ℕ) (i : Import) → slice_get (filter test t.imports) k ≡ Some i → IsName (import_symbol i)
+  kept_named test k i e = all_at (λ (i : Import). IsName (import_symbol i)) (filter test t.imports) k i
+      (all_kept (λ (i : Import). IsName (import_symbol i)) test t.imports import_names) e
+
+  pub callee_named : (index : ℕ) → is_none (slice_get (func_space t) index) ≡ false → IsNamedIfAny (callee m index)
+  callee_named index out = by (slice_get (func_imports t) index) refl
+    where
+      less : index < 2 ^ 64
+      less =
+          let there = (first_there (func_space t) index out).1 in
+          let whole = length-append (flat_map func_of_import t.imports) (map (λ f. f.type_index) t.funcs) in
+          let own = length_map (λ f. f.type_index) t.funcs in
+          let counted = func_count t.imports in
+          omega (arith, there, whole, own, counted, few_funcs m a)
+
+      usable : (i : Import) (b : Bool) → slice_get (func_imports t) index ≡ Some i
+          → IsNamedIfAny (if b then Some (import_symbol i) else None)
+      usable i true e = kept_named is_func_import index i e
+      usable i false e = tt
+
+      by : (o : Option Import) → slice_get (func_imports t) index ≡ o
+          → IsNamedIfAny (elim o [ None ↦ Some (func_name index) | Some i ↦ if is_usable m i then Some (import_symbol i) else None ])
+      by None e = func_named index less
+      by (Some i) e = usable i (is_usable m i) e
+
+  func_types_few : (index : ℕ) → length (proper_types (c_func_type_if (func_type_in t index)).params) ≤ 2 ^ 64
+  func_types_few index = few_types (func_type_in t index) (λ ty e. few_at (slice_get (func_space t) index) ty e)
+    where
+      few_at : (o : Option ℕ) (ty : FuncType) → if_found o (type_in t) ≡ Some ty → length ty.params ≤ 60
+      few_at None ty e = absurd cc
+      few_at (Some x) ty e = few_params t a.within x ty e
+
+  global_low : (index : ℕ) → is_none (slice_get (global_space t) index) ≡ false → index < 2 ^ 64
+  global_low index out =
+      let there = (first_there (global_space t) index out).1 in
+      let whole = length-append {A = ValType × Bool} (imported_global_space t) (map (λ (g : GlobalEntry). (g.ty, g.mutable)) t.globals) in
+      let own = length_map {B = ValType × Bool} (λ (g : GlobalEntry). (g.ty, g.mutable)) t.globals in
+      let counted = global_count t.imports in
+      omega (arith, there, whole, own, counted, few_globals m a)
+
+  export_formed : (e : Export) → IsName (export_symbol m e) → unknown_export t e ≡ [] → IsFormed (tree.Function (export_func m e))
+  export_formed e name valid = by e.kind name valid
+    where
+      global : (o : Option (ValType × Bool)) (n : Name) → IsName n → is_none (slice_get (global_space t) e.index) ≡ false
+          → IsFormed (tree.Function (accessor m (global_accessor_type o) n (slice_get (global_imports t) e.index) (global_name e.index)))
+      global None n name out = accessor_formed m type.PtrU32 n (slice_get (global_imports t) e.index) (global_name e.index) name
+          (global_named e.index (global_low e.index out)) (λ i at. kept_named is_global_import e.index i at)
+      global (Some g) n name out = accessor_formed m (pointer_type g.0) n (slice_get (global_imports t) e.index) (global_name e.index) name
+          (global_named e.index (global_low e.index out)) (λ i at. kept_named is_global_import e.index i at)
+
+      by : (kind : ExportKind) → IsName (export_symbol m
+          (record { name = e.name; kind = kind; index = e.index; name_place = e.name_place; index_place = e.index_place }))
+          → unknown_export t (record {
+            name = e.name;
+            kind = kind;
+            index = e.index;
+            name_place = e.name_place;
+            index_place =
+                e.index_place;
+          }) ≡ []
+          → IsFormed (tree.Function (export_func m
+          (record { name = e.name; kind = kind; index = e.index; name_place = e.name_place; index_place = e.index_place })))
+      by ExportFunc name v = passes_formed (c_func_type_if (func_type_in t e.index)) _ (callee m e.index) (func_types_few e.index) name
+          (callee_named e.index (no_fault (is_none (slice_get (func_space t) e.index)) e.index_place cause.UnknownFunction v))
+      by ExportTable name v = accessor_formed m type.PtrTab _ (slice_get (table_imports t) e.index) table_name name refl
+          (λ i at. kept_named is_table_import e.index i at)
+      by ExportMemory name v = accessor_formed m type.PtrMem _ (slice_get (memory_imports t) e.index) memory_name name refl
+          (λ i at. kept_named is_memory_import e.index i at)
+      by ExportGlobal name v = global (global_type_in t e.index) _ name
+          (no_fault (is_none (slice_get (global_space t) e.index)) e.index_place cause.UnknownGlobal v)
+
+  pub exports_formed : AllByRecursion IsFormed (map (λ e. tree.Function (export_func m e)) t.exports)
+  exports_formed = each t.exports a.within.export_names (each_none (unknown_export t) t.exports (exports_known t a.valid.no_faults).0)
+    where
+      each : (exports : List Export) → AllByRecursion (λ (e : Export). AllByRecursion (λ b. b < 256) e.name) exports
+          → AllByRecursion (λ e. unknown_export t e ≡ []) exports
+          → AllByRecursion IsFormed (map (λ e. tree.Function (export_func m e)) exports)
+      each [] h v = tt
+      each (e ∷ exports) h v = (export_formed e (export_named m e (each_of (λ b. b < 256) m.name a.bytes) h.0) v.0, each exports h.1 v.1)

@@ -1,0 +1,574 @@
+-- The statements of the init function keep the rules in their unit: what they name is declared before them, or is a
+-- local variable where it is used.
+use Rattle.std.proofs.Common.{◌≡◌, ℕ, zero, suc, ◌+◌, ◌-◌, ◌≤◌, ◌||◌, refl, sym, ap, ◌∙◌, subst, arith, append_assoc, if◌then◌else◌, true, false, Bool, not, List, [], ◌∷◌, ◌++◌, length, map, codes, Option, Some, None}
+use Rattle.std.proofs.lemmas.List.Folds.{list_any-append}
+use Rattle.std.proofs.lemmas.List.Elements.{filter_map-append}
+use Rattle.std.specs.Prelude.{slice_get, filter, filter_map, flat_map, bytes_eq, is_some, is_none}
+use Rattle.std.specs.List.{AllByRecursion, list_any}
+use Rattle.w2c_base.specs.declared.value.ValType.TheVariants.{I32}
+use Rattle.w2c_base.specs.declared.trap.TrapKind.TheVariants as trap
+use Rattle.w2c_base.specs.Lookup.{named, numbered}
+use Rattle.w2c_mangle.proofs.SymbolNames.{export_symbol_of-parts, init_symbol_of-parts}
+use Rattle.wasm_tree.specs.declared.tree.Module.{Module}
+use Rattle.wasm_tree.specs.declared.entries.Import.{Import}
+use Rattle.wasm_tree.specs.declared.entries.GlobalEntry.{GlobalEntry}
+use Rattle.wasm_tree.specs.declared.entries.LimitsEntry.{LimitsEntry}
+use Rattle.wasm_tree.specs.declared.entries.ElementEntry.{ElementEntry}
+use Rattle.wasm_tree.specs.declared.entries.SegmentEntry.{SegmentEntry}
+use Rattle.wasm_tree.specs.declared.entries.FuncRef.{FuncRef}
+use Rattle.wasm_tree.specs.IndexSpaces.{func_space, table_space, memory_space, global_space, imported_global_space, imported_globals, is_func_import, is_table_import, is_memory_import}
+use Rattle.wasm_meaning.specs.LinkedSet.{NamedModule}
+use Rattle.wasm_valid.specs.declared.fault.ValidCause.TheVariants as cause
+use Rattle.wasm_valid.specs.ModuleFaults.{Expression, expressions, shape_of, constant_expected, unknown_global, type_mismatch, is_no_constant, is_got_unknown, has_other_type, is_no_first, is_out, fault_if, unknown_types, too_many, min_above_max, too_many_pages, unknown_export, duplicate_exports, start_faults, unknown_segments, unknown_elements, module_faults}
+use Rattle.c_tree.specs.declared.tree.CType.{CType}
+use Rattle.c_tree.specs.declared.tree.CType.TheVariants as type
+use Rattle.c_tree.specs.Tree as tree
+use Rattle.c_tree.specs.Runtime.{primitives}
+use Rattle.c_tree.specs.Scope as scope
+use Rattle.c_tree.specs.Scope.{Name, Scope, is_among, name_of, array_of, func_type_of, variables, functions}
+use Rattle.c_tree.specs.Rules.{is_runtime_name, labels_of}
+use Rattle.c_meaning.proofs.Lookups.{bytes_equal}
+use Rattle.c_prelude.specs.Pieces as pieces
+use Rattle.c_prelude.specs.Helpers.{helper_of}
+use Rattle.alike.specs.Alike.{memory_name, table_name, func_name, global_name}
+use Rattle.c_body.specs.Names.{pointer_name, label_name}
+use Rattle.c_body.specs.Symbols.{accessor_type, import_symbol, symbol_type, is_usable, func_imports, table_imports, memory_imports, global_imports, declared_symbols, firsts}
+use Rattle.c_body.specs.Objects.{function_name, pointers_of}
+use Rattle.c_body.specs.Needs.{helpers_of}
+use Rattle.c_body.proofs.Rules.{Passes, IsArg, name_typed, value_arg, address_arg, function_arg, null_passes, return_none_passes}
+use Rattle.c_body.proofs.RulesOfCode.{Present, right_present, left_present, first_present}
+use Rattle.c_body.proofs.BodyRules.{vars_in, funcs_in, past_none}
+use Rattle.c_body.proofs.Classes.{class}
+use Rattle.c_unit.specs.Init.{limits_label, bounds_label, size_name, byte_name, local_if, takes_from, make_table, make_memory, make_global, test_elements, test_data, write_elements, write_data, start_stmts, trap_if, has_test, tests_limits, tests_bounds, has_bytes, init_stmts, init_func}
+use Rattle.c_unit.specs.Exports.{export_func}
+use Rattle.c_unit.specs.Items.{objects_of, data_of, declaration, prototype, bodies}
+use Rattle.c_unit.specs.Sets.{IsAccepted}
+use Rattle.c_unit.proofs.KnownNames.{past_vars, in_vars, in_funcs, no_var, get_late}
+use Rattle.c_unit.proofs.KnownFuncs.{symbol_named, firsts_have}
+use Rattle.c_unit.proofs.Knowledge.{own_global, imported_global_is, own_memory_is, own_table_is, imported_memory_is, imported_table_is}
+use Rattle.c_unit.proofs.NeedsDeclared.{NoRuntime, other_classes, not_named, objects_no_runtime, declarations_no_runtime, past_objects, past_data}
+use Rattle.c_unit.proofs.Sections.{of_import, of_export, symbol_class, tabs_class, data_class, prototypes_class, helpers_class, bodies_class, export_name}
+use Rattle.c_unit.proofs.ExportFacts.{func_typed}
+use Rattle.c_unit.proofs.ExportTypes.{kept_among}
+use Rattle.c_unit.proofs.ExportSection.{Sees}
+use Rattle.c_unit.proofs.ExportsKeep.{front_sees, sees_more}
+use Rattle.c_unit.proofs.InitSection.{init_scope}
+use Rattle.c_unit.proofs.InitForms.{InitKnows, takes_pass, tables_pass, memories_pass, globals_pass}
+use Rattle.c_unit.proofs.InitSegments.{ElementIs, SegmentIs, element_tests_pass, data_tests_pass, elements_pass, data_pass, start_passes, trap_passes}
+use Rattle.c_body.proofs.Lists.{all_weaker, all_front, all_behind, get_mapped, all_append, all_unmapped}
+use Rattle.std.proofs.lemmas.Bool.{or_left, or_right}
+use Rattle.c_unit.proofs.Small.{no_left, no_right, no_fault, all_images}
+use Rattle.c_body.proofs.Spaces.{global_count}
+use Rattle.c_body.proofs.OwnNames.{named_in}
+use Rattle.c_unit.proofs.InitConstants.{ShapeFits}
+use Rattle.c_unit.proofs.Instantiable.{fits_of, is_there}
+
+-- ---- lists
+
+each_any : {A : Type 0} (test : A → Bool) (xs : List A) → AllByRecursion (λ x. test x ≡ true → list_any test xs ≡ true) xs
+each_any test [] = tt
+each_any test (x ∷ xs) = (
+  (λ e. or_left (test x) (list_any test xs) e),
+  all_weaker (λ y. test y ≡ true → list_any test xs ≡ true)
+      (λ y. test y ≡ true → list_any test (x ∷ xs) ≡ true) xs (λ y h e. or_right (test x) (list_any test xs) (h e)) (each_any test xs),
+)
+
+each_first : {A : Type 0} (test : A → Bool) (xs : List A) → AllByRecursion
+    (λ x. test x ≡ true → is_some (slice_get (filter test xs) 0) ≡ true) xs
+each_first test [] = tt
+each_first test (x ∷ xs) = (
+  (λ e. rw e refl),
+  all_weaker _ (λ y. test y ≡ true → is_some (slice_get (filter test (x ∷ xs)) 0) ≡ true) xs
+      (λ y h e. by (test x) (h e)) (each_first test xs),
+)
+  where
+    by : (b : Bool) → is_some (slice_get (filter test xs) 0) ≡ true
+        → is_some (slice_get (if b then x ∷ filter test xs else filter test xs) 0) ≡ true
+    by true e = refl
+    by false e = e
+
+each_among : {A : Type 0} (f : A → Name) (xs : List A) → AllByRecursion (λ x. is_among (f x) (map f xs) ≡ true) xs
+each_among f [] = tt
+each_among f (x ∷ xs) = (
+  rw (bytes_equal (f x)) refl,
+  all_weaker (λ y. is_among (f y) (map f xs) ≡ true)
+      (λ y. is_among (f y) (map f (x ∷ xs)) ≡ true) xs (λ y e. or_right (bytes_eq (f y) (f x)) _ e) (each_among f xs),
+)
+
+get_out : {A : Type 0} (xs : List A) (k : ℕ) → length xs ≤ k → is_some (slice_get xs k) ≡ false
+get_out [] k le = refl
+get_out (x ∷ xs) zero le = absurd (omega (arith, le))
+get_out (x ∷ xs) (suc k) le = get_out xs k (omega (arith, le))
+
+right_false : (a b : Bool) → a || b ≡ false → b ≡ false
+right_false true b e = absurd cc
+right_false false b e = e
+
+-- names of arrays stand in what follows, too
+pub self_among : (names : List Name) → AllByRecursion (λ n. is_among n names ≡ true) names
+self_among [] = tt
+self_among (n ∷ names) = (
+  rw (bytes_equal n) refl,
+  all_weaker (λ q. is_among q names ≡ true) (λ q. is_among q (n ∷ names) ≡ true) names
+      (λ q e. or_right (bytes_eq q n) _ e) (self_among names),
+)
+
+abbrev names_in : List tree.Item → List Name
+names_in items = filter_map array_of items
+
+more_arrays : (xs ys : List tree.Item) (names : List Name) → AllByRecursion (λ n. is_among n (names_in xs) ≡ true) names
+    → AllByRecursion (λ n. is_among n (names_in (xs ++ ys)) ≡ true) names
+more_arrays xs ys names h = all_weaker (λ n. is_among n (names_in xs) ≡ true) (λ n. is_among n (names_in (xs ++ ys)) ≡ true) names
+    (λ n e. ap (is_among n) (filter_map-append array_of xs ys)
+    ∙ (list_any-append (bytes_eq n) (names_in xs) (names_in ys) ∙ or_left (is_among n (names_in xs)) (is_among n (names_in ys)) e)) h
+
+behind_arrays : (xs ys : List tree.Item) (names : List Name) → AllByRecursion (λ n. is_among n (names_in ys) ≡ true) names
+    → AllByRecursion (λ n. is_among n (names_in (xs ++ ys)) ≡ true) names
+behind_arrays xs ys names h = all_weaker (λ n. is_among n (names_in ys) ≡ true) (λ n. is_among n (names_in (xs ++ ys)) ≡ true) names
+    (λ n e. ap (is_among n) (filter_map-append array_of xs ys)
+    ∙ (list_any-append (bytes_eq n) (names_in xs) (names_in ys) ∙ or_right (is_among n (names_in xs)) (is_among n (names_in ys)) e)) h
+
+-- ---- local variables
+
+abbrev locals_of : Bool → Bool → List (Name × CType)
+locals_of b c = map (λ (l : tree.Local). (l.1, l.0)) (local_if b size_name ++ local_if c byte_name)
+
+size_named : (b c : Bool) (rest : List (Name × CType)) → b ≡ true → named size_name (locals_of b c ++ rest) ≡ Some type.U64
+size_named true c rest e = refl
+size_named false c rest e = absurd cc
+
+byte_named : (b c : Bool) (rest : List (Name × CType)) → c ≡ true → named byte_name (locals_of b c ++ rest) ≡ Some type.U64
+byte_named true true rest e = refl
+byte_named false true rest e = refl
+byte_named b false rest e = absurd cc
+
+past_locals : (b c : Bool) (q : Name) (rest : List (Name × CType)) → bytes_eq size_name q ≡ false → bytes_eq byte_name q ≡ false
+    → named q (locals_of b c ++ rest) ≡ named q rest
+past_locals true true q rest e f = rw (e, f) refl
+past_locals true false q rest e f = rw e refl
+past_locals false true q rest e f = rw f refl
+past_locals false false q rest e f = refl
+
+-- ---- no faults
+
+record NoInitFaults (m : Module) : Type 0 where
+  constants : flat_map constant_expected (expressions m) ≡ []
+  globals : flat_map unknown_global (expressions m) ≡ []
+  types : flat_map type_mismatch (expressions m) ≡ []
+  start : start_faults m m.start ≡ []
+  segments : unknown_segments m ≡ []
+  elements : unknown_elements m ≡ []
+
+no_init_faults : (m : Module) → module_faults m ≡ [] → NoInitFaults m
+unfolding module_faults
+no_init_faults m e =
+    let constant_tail =
+    no_right (flat_map too_many_pages (memory_space m)) _
+    (no_right (flat_map min_above_max (table_space m ++ memory_space m)) _
+    (no_right (too_many cause.TooManyTables (table_space m) ++ too_many cause.TooManyMemories (memory_space m)) _
+    (no_right (unknown_types m) _ e))) in
+    let global_tail = no_right (flat_map constant_expected (expressions m)) _ constant_tail in
+    let type_tail = no_right (flat_map unknown_global (expressions m)) _ global_tail in
+    let start_tail = no_right (duplicate_exports [] m.exports) _
+    (no_right (flat_map (unknown_export m) m.exports) _ (no_right (flat_map type_mismatch (expressions m)) _ type_tail)) in
+    let segment_tail = no_right (start_faults m m.start) _ start_tail in
+    record {
+      constants = no_left (flat_map constant_expected (expressions m)) _ constant_tail;
+      globals = no_left (flat_map unknown_global (expressions m)) _ global_tail;
+      types = no_left (flat_map type_mismatch (expressions m)) _ type_tail;
+      start = no_left (start_faults m m.start) _ start_tail;
+      segments = no_left (unknown_segments m) _ segment_tail;
+      elements = no_right (unknown_segments m) _ segment_tail;
+    }
+
+shapes_fit : (es : List Expression) → flat_map constant_expected es ≡ [] → flat_map unknown_global es ≡ [] → flat_map type_mismatch es ≡ []
+    → AllByRecursion (λ (e : Expression). ShapeFits e.ty (shape_of e.globals e.code)) es
+shapes_fit [] c g u = tt
+shapes_fit (e ∷ es) c g u = (
+  fits_of e.ty (shape_of e.globals e.code)
+      (no_fault (is_no_constant (shape_of e.globals e.code)) e.place cause.ConstantExpected (no_left (constant_expected e) _ c))
+      (no_fault (is_got_unknown (shape_of e.globals e.code)) e.place cause.UnknownGlobal (no_left (unknown_global e) _ g))
+      (no_fault (has_other_type e.ty (shape_of e.globals e.code)) e.place cause.TypeMismatch (no_left (type_mismatch e) _ u)),
+  shapes_fit es (no_right (constant_expected e) _ c) (no_right (unknown_global e) _ g) (no_right (type_mismatch e) _ u),
+)
+
+element_funcs : (m : Module) (fs : List FuncRef) → flat_map
+    (λ (f : FuncRef). fault_if (is_out (func_space m) f.index) f.place cause.UnknownFunction) fs ≡ []
+    → AllByRecursion (λ (f : FuncRef). is_none (slice_get (func_space m) f.index) ≡ false) fs
+element_funcs m [] e = tt
+element_funcs m (f ∷ fs) e = (
+  no_fault (is_out (func_space m) f.index) f.place cause.UnknownFunction (no_left _ _ e),
+  element_funcs m fs
+      (no_right (fault_if (is_out (func_space m) f.index) f.place cause.UnknownFunction) _ e),
+)
+
+elements_are : (m : Module) (xs : List ElementEntry) → AllByRecursion
+    (λ (e : ElementEntry). ShapeFits I32 (shape_of (global_space m) e.offset)) xs
+    → flat_map (λ (e : ElementEntry). fault_if (is_no_first (table_space m) e.table) e.place cause.UnknownTable) xs ≡ []
+    → flat_map (λ (e : ElementEntry). flat_map (λ (f : FuncRef). fault_if (is_out (func_space m) f.index) f.place cause.UnknownFunction)
+    e.funcs) xs ≡ []
+    → ((x : ElementEntry) (rest : List ElementEntry) → xs ≡ x ∷ rest → tests_bounds m ≡ true)
+    → AllByRecursion (ElementIs m) xs
+elements_are m [] fits tables funcs tested = tt
+elements_are m (e ∷ xs) fits tables funcs tested = (
+  record {
+    fits = fits.0;
+    has = is_there (slice_get (table_space m) 0) (right_false _ _
+        (no_fault (is_no_first (table_space m) e.table) e.place cause.UnknownTable (no_left _ _ tables)));
+    funcs = element_funcs m e.funcs (no_left _ _ funcs);
+    tested = tested e xs refl;
+  },
+  elements_are m xs fits.1 (no_right (fault_if (is_no_first (table_space m) e.table) e.place cause.UnknownTable) _ tables)
+      (no_right (flat_map (λ (f : FuncRef). fault_if (is_out (func_space m) f.index) f.place cause.UnknownFunction) e.funcs) _ funcs)
+      (λ x rest same. tested e xs refl),
+)
+
+segments_are : (m : Module) (xs : List SegmentEntry) → AllByRecursion
+    (λ (d : SegmentEntry). ShapeFits I32 (shape_of (global_space m) d.offset)) xs
+    → flat_map (λ (d : SegmentEntry). fault_if (is_no_first (memory_space m) d.memory) d.place cause.UnknownMemory) xs ≡ []
+    → AllByRecursion (λ d. has_bytes d ≡ true → list_any has_bytes m.segments ≡ true) xs
+    → ((x : SegmentEntry) (rest : List SegmentEntry) → xs ≡ x ∷ rest → tests_bounds m ≡ true)
+    → AllByRecursion (SegmentIs m) xs
+segments_are m [] fits memories listed tested = tt
+segments_are m (d ∷ xs) fits memories listed tested = (
+  record {
+    fits = fits.0;
+    has = is_there (slice_get (memory_space m) 0) (right_false _ _
+        (no_fault (is_no_first (memory_space m) d.memory) d.place cause.UnknownMemory (no_left _ _ memories)));
+    listed = listed.0;
+    tested = tested d xs refl;
+  },
+  segments_are m xs fits.1 (no_right (fault_if (is_no_first (memory_space m) d.memory) d.place cause.UnknownMemory) _ memories) listed.1
+      (λ x rest same. tested d xs refl),
+)
+
+elements_tested : (m : Module) (x : ElementEntry) (rest : List ElementEntry) → m.elements ≡ x ∷ rest → tests_bounds m ≡ true
+elements_tested m x rest e = rw (e, tests_bounds) refl
+
+segments_tested : (m : Module) (x : SegmentEntry) (rest : List SegmentEntry) → m.segments ≡ x ∷ rest → tests_bounds m ≡ true
+segments_tested m x rest e = rw (e, tests_bounds) (or_right _ true refl)
+
+-- ---- the scope of the init function
+
+module _ (m : NamedModule) (a : IsAccepted m) where
+  abbrev t : Module
+  t = m.tree
+
+  abbrev s : Scope
+  s = init_scope m a
+
+  abbrev objects : List tree.Item
+  objects = objects_of t (pointers_of t)
+
+  abbrev declarations : List tree.Item
+  declarations = map declaration (declared_symbols m)
+
+  abbrev prototypes : List tree.Item
+  prototypes = map prototype (bodies m)
+
+  abbrev helpers : List tree.Item
+  helpers = map (λ which. tree.Function (helper_of which)) (helpers_of t)
+
+  abbrev functions_of : List tree.Item
+  functions_of = map tree.Function (bodies m)
+
+  abbrev exports : List tree.Item
+  exports = map (λ e. tree.Function (export_func m e)) t.exports
+
+  abbrev front : List tree.Item
+  front = ((((objects ++ data_of t) ++ declarations) ++ prototypes) ++ helpers) ++ functions_of
+
+  abbrev last : List tree.Item
+  last = tree.Function (init_func m) ∷ []
+
+  abbrev declared : List tree.Item
+  declared = (front ++ exports) ++ last
+
+  sees : Sees m declared
+  sees = sees_more m a (front ++ exports) last (sees_more m a front exports (front_sees m a))
+
+  no_runtime : NoRuntime declared
+  no_runtime =
+      all_append (λ o. is_runtime_name (name_of o) ≡ false) (front ++ exports) last
+      (all_append (λ o. is_runtime_name (name_of o) ≡ false) front exports
+      (all_append (λ o. is_runtime_name (name_of o) ≡ false)
+      ((((objects ++ data_of t) ++ declarations) ++ prototypes) ++ helpers) functions_of
+      (all_append (λ o. is_runtime_name (name_of o) ≡ false) (((objects ++ data_of t) ++ declarations) ++ prototypes) helpers
+      (all_append (λ o. is_runtime_name (name_of o) ≡ false) ((objects ++ data_of t) ++ declarations) prototypes
+      (all_append (λ o. is_runtime_name (name_of o) ≡ false) (objects ++ data_of t) declarations
+      (all_append (λ o. is_runtime_name (name_of o) ≡ false) objects (data_of t) (objects_no_runtime m a functions_of (bodies_class m a))
+      (other_classes 5 (data_of t) (λ e. absurd (grind (arith, e))) (data_class m a)))
+      (declarations_no_runtime m a functions_of (bodies_class m a)))
+      (other_classes 7 prototypes (λ e. absurd (grind (arith, e))) (prototypes_class m a)))
+      (other_classes 8 helpers (λ e. absurd (grind (arith, e))) (helpers_class m a)))
+      (other_classes 7 functions_of (λ e. absurd (grind (arith, e))) (bodies_class m a)))
+      (all_images (λ o. is_runtime_name (name_of o) ≡ false) (λ e. tree.Function (export_func m e)) t.exports
+      (λ e. ap is_runtime_name (export_name m e) ∙ of_export (λ n. is_runtime_name n ≡ false) m
+      (λ k n. ap is_runtime_name (export_symbol_of-parts m.name k n)) e)))
+      (ap is_runtime_name (init_symbol_of-parts m.name), tt)
+
+  runtime_known : (q : Name) → is_runtime_name q ≡ true → named q (functions s) ≡ named q primitives
+  runtime_known q r = past_none q (funcs_in declared) primitives (not_named q declared r no_runtime).0
+
+  in_scope : (q : Name) (ty : CType) → bytes_eq size_name q ≡ false → bytes_eq byte_name q ≡ false → named q (vars_in objects) ≡ Some ty
+      → named q (variables s) ≡ Some ty
+  in_scope q ty e f found =
+      past_locals (tests_limits t || tests_bounds t) (list_any has_bytes t.segments) q
+      (vars_in declared ++ (codes "w2c_depth", type.U32) ∷ []) e f
+      ∙ named_in q (vars_in declared) ((codes "w2c_depth", type.U32) ∷ []) ty (sees.objects q ty found)
+
+  object_arg : (object : Name) (u p : CType) → scope.pointer_to u ≡ Some p → bytes_eq size_name object ≡ false
+      → bytes_eq byte_name object ≡ false → named object (vars_in objects) ≡ Some u
+      → IsArg s p (tree.Address object)
+  object_arg object u p to e f found = address_arg s object u p (ap is_some (in_scope object u e f found)) (sees.objects object u found) to
+
+  either_arg : (object : Name) (u p : CType) (imported : Bool) → scope.pointer_to u ≡ Some p → scope.is_object_type p ≡ false
+      → bytes_eq size_name object ≡ false → bytes_eq byte_name object ≡ false
+      → (imported ≡ false → named object (vars_in objects) ≡ Some u)
+      → (imported ≡ true → named (pointer_name object) (vars_in objects) ≡ Some p)
+      → IsArg s p (if imported then tree.Value (tree.Name (pointer_name object)) else tree.Address object)
+  either_arg object u p true to plain e f own imported = value_arg s _ p
+      (name_typed s (pointer_name object) p (in_scope (pointer_name object) p refl refl (imported refl)) plain)
+  either_arg object u p false to plain e f own imported = object_arg object u p to e f (own refl)
+
+  first_table : (ts : List LimitsEntry) (x : LimitsEntry) (rest : List LimitsEntry) → ts ≡ x ∷ rest
+      → named table_name (vars_in (map (λ (x : LimitsEntry). tree.Var type.Tab table_name None) ts)) ≡ Some type.Tab
+  first_table [] x rest e = absurd cc
+  first_table (y ∷ ts) x rest e = refl
+
+  first_memory : (ts : List LimitsEntry) (x : LimitsEntry) (rest : List LimitsEntry) → ts ≡ x ∷ rest
+      → named memory_name (vars_in (map (λ (x : LimitsEntry). tree.Var type.Mem memory_name None) ts)) ≡ Some type.Mem
+  first_memory [] x rest e = absurd cc
+  first_memory (y ∷ ts) x rest e = refl
+
+  abbrev typed_or : Option tree.FuncType → tree.FuncType
+  typed_or None = accessor_type type.Void
+  typed_or (Some ty) = ty
+
+  abbrev declared_type : Name → tree.FuncType
+  declared_type q = func_type_of (record {
+    is_static = false;
+    result = (typed_or (symbol_type m q)).result;
+    name = q;
+    params = map (λ t. (t, None)) (typed_or (symbol_type m q)).params;
+    body = None;
+  })
+
+  -- a function of an element segment has a name, whether it may be called or not
+  element_known : (index : ℕ) → is_none (slice_get (func_space t) index) ≡ false
+      → is_some (named (function_name t index) (funcs_in declared)) ≡ true
+  element_known index out = by (slice_get (func_imports t) index) refl
+    where
+      by : (o : Option Import) → slice_get (func_imports t) index ≡ o
+          → is_some (named (elim o [ None ↦ func_name index | Some i ↦ import_symbol i ]) (funcs_in declared)) ≡ true
+      by None e =
+          let typed = func_typed t a.valid.no_faults index out in
+          ap is_some (sees.callees index typed.0 (func_name index) typed.2
+          (ap (λ (o : Option Import). elim o [
+            | None ↦ Some (func_name index)
+            | Some i ↦ if is_usable m i then Some
+                (import_symbol i) else None
+          ]) e))
+      by (Some i) e =
+          let q : Name = import_symbol i in
+          let c : class q ≡ 6 = of_import (λ n. class n ≡ 6) symbol_class i in
+          let here : is_among q (firsts [] (map import_symbol t.imports)) ≡ true =
+          firsts_have q [] (map import_symbol t.imports) (kept_among import_symbol is_func_import t.imports index i e).0 refl in
+          let found = symbol_named (λ name. typed_or (symbol_type m name)) q (firsts [] (map import_symbol t.imports)) here in
+          let whole = past_objects m a functions_of (bodies_class m a) q (data_of t ++ declarations) (omega (arith, c))
+          ∙ (past_data m a functions_of (bodies_class m a) q declarations (omega (arith, c)) ∙ found) in
+          let first = subst (λ items. named q (funcs_in items) ≡ Some (declared_type q))
+          (sym (append_assoc objects (data_of t) declarations)) whole in
+          let ty : tree.FuncType = declared_type q in
+          ap is_some (in_funcs q (front ++ exports) last ty
+          (in_funcs q front exports ty (in_funcs q ((((objects ++ data_of t) ++ declarations) ++ prototypes) ++ helpers) functions_of ty
+          (in_funcs q (((objects ++ data_of t) ++ declarations) ++ prototypes) helpers ty
+          (in_funcs q ((objects ++ data_of t) ++ declarations) prototypes ty first)))))
+
+  arrays_known : AllByRecursion (λ n. is_among n (names_in declared) ≡ true) (names_in (data_of t))
+  arrays_known =
+      let ns : List Name = names_in (data_of t) in
+      more_arrays (front ++ exports) last ns (more_arrays front exports ns
+      (more_arrays ((((objects ++ data_of t) ++ declarations) ++ prototypes) ++ helpers) functions_of ns
+      (more_arrays (((objects ++ data_of t) ++ declarations) ++ prototypes) helpers ns
+      (more_arrays ((objects ++ data_of t) ++ declarations) prototypes ns
+      (more_arrays (objects ++ data_of t) declarations ns (behind_arrays objects (data_of t) ns (self_among ns)))))))
+
+  knows : InitKnows m s
+  knows = record {
+    own_globals = λ k g e i. in_scope (global_name k) _ refl refl (own_global m a k g e i);
+    pointed = λ k g e i. in_scope (pointer_name (global_name k)) _ refl refl (imported_global_is m a k g e i);
+    memory = λ has. either_arg memory_name type.Mem type.PtrMem (is_some (slice_get (memory_imports t) 0)) refl refl refl refl
+        (own_memory_is m a has) (imported_memory_is m a);
+    table = λ has. either_arg table_name type.Tab type.PtrTab (is_some (slice_get (table_imports t) 0)) refl refl refl refl
+        (own_table_is m a has) (imported_table_is m a);
+    memory_pointer = λ i. in_scope (pointer_name memory_name) _ refl refl (imported_memory_is m a i);
+    table_pointer = λ i. in_scope (pointer_name table_name) _ refl refl (imported_table_is m a i);
+    made_memory = λ x rest e. object_arg memory_name type.Mem type.PtrMem refl refl refl
+        (past_vars memory_name (map (λ (x : LimitsEntry). tree.Var type.Tab table_name None) t.tables) _
+        (no_var memory_name 1 _ (tabs_class m a) (λ f. absurd (grind (arith, f))))
+        ∙ in_vars memory_name (map (λ (x : LimitsEntry). tree.Var type.Mem memory_name None) t.memories) _ type.Mem
+        (first_memory t.memories x rest e));
+    made_table = λ x rest e. object_arg table_name type.Tab type.PtrTab refl refl refl
+        (in_vars table_name (map (λ (x : LimitsEntry). tree.Var type.Tab table_name None) t.tables) _ type.Tab
+        (first_table t.tables x rest e));
+    accessors = λ i there usable. named_in (import_symbol i) (funcs_in declared) primitives _ (sees.symbols i there usable);
+    callees = λ k ty name e f. named_in name (funcs_in declared) primitives _ (sees.callees k ty name e f);
+    elements = λ k out. element_arg (function_name t k) (element_known k out);
+    runtime = runtime_known;
+    size = λ e. size_named (tests_limits t || tests_bounds t) (list_any has_bytes t.segments) _ e;
+    byte = λ e. byte_named (tests_limits t || tests_bounds t) (list_any has_bytes t.segments) _ e;
+    bytes = arrays_known;
+    present = λ name e. e;
+    returns = refl;
+  }
+    where
+      some_there : (o : Option tree.FuncType) → is_some o ≡ true → (ty : tree.FuncType) × (o ≡ Some ty)
+      some_there None e = absurd cc
+      some_there (Some ty) e = (ty, refl)
+
+      element_arg : (n : Name) → is_some (named n (funcs_in declared)) ≡ true → IsArg s type.FnPtr (tree.OfFunction n)
+      element_arg n e =
+          let found = some_there (named n (funcs_in declared)) e in
+          function_arg s n (ap is_some (named_in n (funcs_in declared) primitives found.0 found.1)) e
+
+  -- ---- all of its statements
+
+  no_faults : NoInitFaults t
+  no_faults = no_init_faults t a.valid.no_faults
+
+  fit : AllByRecursion (λ (e : Expression). ShapeFits e.ty (shape_of e.globals e.code)) (expressions t)
+  fit = shapes_fit (expressions t) no_faults.constants no_faults.globals no_faults.types
+
+  abbrev global_exprs : List Expression
+  global_exprs = map (λ g. record { code = g.code; ty = g.ty; globals = imported_global_space t; place = g.place }) t.globals
+
+  abbrev element_exprs : List Expression
+  element_exprs = map (λ e. record { code = e.offset; ty = I32; globals = global_space t; place = e.offset_place }) t.elements
+
+  abbrev segment_exprs : List Expression
+  segment_exprs = map (λ d. record { code = d.offset; ty = I32; globals = global_space t; place = d.offset_place }) t.segments
+
+  abbrev Fits : Expression → Type 0
+  Fits e = ShapeFits e.ty (shape_of e.globals e.code)
+
+  valid_elements : AllByRecursion (ElementIs t) t.elements
+  valid_elements = elements_are t t.elements
+      (all_unmapped Fits _ t.elements (all_front Fits element_exprs segment_exprs
+      (all_behind Fits global_exprs (element_exprs ++ segment_exprs) fit)))
+      (no_left _ _ no_faults.segments) no_faults.elements (elements_tested t)
+
+  valid_segments : AllByRecursion (SegmentIs t) t.segments
+  valid_segments = segments_are t t.segments
+      (all_unmapped Fits _ t.segments (all_behind Fits element_exprs segment_exprs
+      (all_behind Fits global_exprs (element_exprs ++ segment_exprs) fit)))
+      (no_right (flat_map (λ (e : ElementEntry). fault_if (is_no_first (table_space t) e.table) e.place cause.UnknownTable) t.elements) _
+      no_faults.segments)
+      (each_any has_bytes t.segments) (segments_tested t)
+
+  globals_at : (j : ℕ) (g : GlobalEntry) → slice_get t.globals j ≡ Some g
+      → slice_get (global_space t) (imported_globals t + (0 + j)) ≡ Some (g.ty, g.mutable)
+  globals_at j g e =
+      let counted = global_count t.imports in
+      let back : imported_globals t + (0 + j) - length (imported_global_space t) ≡ j = omega (arith, counted) in
+      get_late (imported_global_space t) (map (λ (g : GlobalEntry). (g.ty, g.mutable)) t.globals) (imported_globals t + (0 + j))
+      (omega (arith, counted))
+      ∙ (ap (slice_get (map (λ (g : GlobalEntry). (g.ty, g.mutable)) t.globals)) back
+      ∙ get_mapped (λ (g : GlobalEntry). (g.ty, g.mutable)) t.globals j g e)
+
+  abbrev own_takes : List tree.Stmt
+  own_takes = takes_from m 0 (filter (λ i. not (is_func_import i)) t.imports)
+
+  abbrev ending : List tree.Stmt
+  ending = trap_if (tests_limits t) limits_label (pieces.trap trap.ImportLimits) ++ trap_if (tests_bounds t) bounds_label
+      (pieces.trap trap.SegmentOut)
+
+  abbrev behind_data : List tree.Stmt
+  behind_data = start_stmts m t.start ++ (tree.ReturnNone ∷ [] ++ ending)
+
+  abbrev from_data : List tree.Stmt
+  from_data = flat_map (write_data t) (numbered t.segments) ++ behind_data
+
+  abbrev from_tables : List tree.Stmt
+  from_tables =
+      map (λ x. make_table x.limits) t.tables
+      ++ (map (λ x. make_memory x.limits) t.memories
+      ++ (map (make_global t) (numbered t.globals)
+      ++ (flat_map (test_elements t) t.elements
+      ++ (flat_map (test_data t) t.segments
+      ++ (flat_map (write_elements t) t.elements
+      ++ from_data)))))
+
+  data_present : Present s.body.stmts from_data
+  data_present =
+      right_present s.body.stmts (flat_map (write_elements t) t.elements) from_data
+      (right_present s.body.stmts (flat_map (test_data t) t.segments) (flat_map (write_elements t) t.elements ++ from_data)
+      (right_present s.body.stmts (flat_map (test_elements t) t.elements)
+      (flat_map (test_data t) t.segments ++ (flat_map (write_elements t) t.elements ++ from_data))
+      (right_present s.body.stmts (map (make_global t) (numbered t.globals))
+      (flat_map (test_elements t) t.elements ++ (flat_map (test_data t) t.segments ++
+      (flat_map (write_elements t) t.elements ++ from_data)))
+      (right_present s.body.stmts (map (λ x. make_memory x.limits) t.memories)
+      (map (make_global t) (numbered t.globals) ++
+      (flat_map (test_elements t) t.elements ++ (flat_map (test_data t) t.segments ++
+      (flat_map (write_elements t) t.elements ++ from_data))))
+      (right_present s.body.stmts (map (λ x. make_table x.limits) t.tables)
+      (map (λ x. make_memory x.limits) t.memories ++
+      (map (make_global t) (numbered t.globals) ++
+      (flat_map (test_elements t) t.elements ++ (flat_map (test_data t) t.segments ++
+      (flat_map (write_elements t) t.elements ++ from_data)))))
+      (right_present s.body.stmts own_takes from_tables
+      (right_present s.body.stmts (tree.Null ∷ []) (own_takes ++ from_tables) (λ name e. e))))))))
+
+  end_present : Present s.body.stmts ending
+  end_present =
+      right_present s.body.stmts (tree.ReturnNone ∷ []) ending
+      (right_present s.body.stmts (start_stmts m t.start) (tree.ReturnNone ∷ [] ++ ending)
+      (right_present s.body.stmts (flat_map (write_data t) (numbered t.segments)) behind_data data_present))
+
+  trap_present : (b : Bool) (n : ℕ) (trap : tree.Stmt) → b ≡ true → Present s.body.stmts (trap_if b n trap)
+      → is_among (label_name n) (labels_of s.body.stmts) ≡ true
+  trap_present true n trap e p = first_present s.body.stmts (label_name n) (trap ∷ []) p
+  trap_present false n trap e p = absurd cc
+
+  limits_label_there : tests_limits t ≡ true → is_among (label_name limits_label) (labels_of s.body.stmts) ≡ true
+  limits_label_there e = trap_present (tests_limits t) limits_label (pieces.trap trap.ImportLimits) e
+      (left_present s.body.stmts (trap_if (tests_limits t) limits_label (pieces.trap trap.ImportLimits))
+      (trap_if (tests_bounds t) bounds_label (pieces.trap trap.SegmentOut)) end_present)
+
+  bounds_label_there : tests_bounds t ≡ true → is_among (label_name bounds_label) (labels_of s.body.stmts) ≡ true
+  bounds_label_there e = trap_present (tests_bounds t) bounds_label (pieces.trap trap.SegmentOut) e
+      (right_present s.body.stmts (trap_if (tests_limits t) limits_label (pieces.trap trap.ImportLimits))
+      (trap_if (tests_bounds t) bounds_label (pieces.trap trap.SegmentOut)) end_present)
+
+  pub init_passes : AllByRecursion (Passes s) (init_stmts m)
+  init_passes = (
+    null_passes s,
+    all_append (Passes s) own_takes from_tables
+        (takes_pass m s knows t.imports 0 limits_label_there (each_among import_symbol t.imports) (each_any has_test t.imports)
+        (each_first is_memory_import t.imports) (each_first is_table_import t.imports)
+        (λ j i e. ap (slice_get (global_imports t)) (from_zero j) ∙ e))
+        (all_append (Passes s) (map (λ x. make_table x.limits) t.tables) _ (tables_pass m s knows t.tables knows.made_table)
+        (all_append (Passes s) (map (λ x. make_memory x.limits) t.memories) _ (memories_pass m s knows t.memories knows.made_memory)
+        (all_append (Passes s) (map (make_global t) (numbered t.globals)) _
+        (globals_pass m s knows 0 t.globals
+        (all_unmapped Fits _ t.globals (all_front Fits global_exprs (element_exprs ++ segment_exprs) fit))
+        globals_at (λ j. get_out (global_imports t) (imported_globals t + j) (omega arith)))
+        (all_append (Passes s) (flat_map (test_elements t) t.elements) _
+        (element_tests_pass m s knows bounds_label_there t.elements valid_elements)
+        (all_append (Passes s) (flat_map (test_data t) t.segments) _
+        (data_tests_pass m s knows bounds_label_there t.segments valid_segments)
+        (all_append (Passes s) (flat_map (write_elements t) t.elements) _ (elements_pass m s knows t.elements valid_elements)
+        (all_append (Passes s) (flat_map (write_data t) (numbered t.segments)) behind_data
+        (data_pass m s knows 0 t.segments valid_segments knows.bytes
+        (left_present s.body.stmts (flat_map (write_data t) (numbered t.segments)) behind_data data_present))
+        (all_append (Passes s) (start_stmts m t.start) _ (start_passes m s knows a.valid.no_faults t.start no_faults.start) (
+          return_none_passes s refl,
+          all_append (Passes s) (trap_if (tests_limits t) limits_label (pieces.trap trap.ImportLimits)) _
+              (trap_passes m s knows (tests_limits t) limits_label trap.ImportLimits)
+              (trap_passes m s knows (tests_bounds t) bounds_label trap.SegmentOut),
+        ))))))))),
+  )
+    where
+      from_zero : (j : ℕ) → 0 + j ≡ j
+      from_zero j = omega arith

@@ -1,0 +1,129 @@
+-- What the functions of a module's unit stand for: those of bodies by their index, of exports and init by their symbol.
+use Rattle.std.proofs.Common.{◌≡◌, ◌≢◌, ℕ, zero, suc, ◌-◌, ◌<◌, refl, sym, ap, ◌∙◌, subst, arith, true, false, List, [], ◌∷◌, length, map, Some, None}
+use Rattle.std.specs.Prelude.{slice_get, flat_map, bytes_eq}
+use Rattle.std.specs.List.{AllByRecursion}
+use Rattle.w2c_base.specs.declared.value.ValType.{ValType}
+use Rattle.w2c_base.specs.Lookup.{if_found}
+use Rattle.w2c_mangle.specs.Symbols.{init_symbol_of}
+use Rattle.wasm_tree.specs.declared.tree.Module.{Module}
+use Rattle.wasm_tree.specs.declared.entries.Export.{Export}
+use Rattle.wasm_tree.specs.declared.entries.FuncEntry.{FuncEntry}
+use Rattle.wasm_tree.specs.IndexSpaces.{type_in, func_type_in, func_of_import, imported_funcs}
+use Rattle.wasm_meaning.specs.LinkedSet.{NamedModule}
+use Rattle.c_tree.specs.declared.tree.CType.TheVariants as type
+use Rattle.c_tree.specs.Tree as tree
+use Rattle.c_tree.specs.Scope.{func_type_of}
+use Rattle.c_meaning.specs.Linking.{Definition, defined, c_params_of, c_result_of}
+use Rattle.c_meaning.proofs.Lookups.{bytes_equal}
+use Rattle.alike.specs.Alike.{func_name}
+use Rattle.c_body.specs.Symbols.{c_func_type_if, export_symbol, export_type}
+use Rattle.c_body.specs.Agree.{IsDefined}
+use Rattle.c_body.specs.Body.{params_of, func_of, body_of, stmts_of}
+use Rattle.c_unit.specs.Exports.{export_func}
+use Rattle.c_unit.specs.Init.{init_func}
+use Rattle.c_unit.specs.Items.{items}
+use Rattle.c_unit.specs.Sets.{IsAccepted}
+use Rattle.c_unit.specs.Shape.{DefinesExternal}
+use Rattle.c_unit.proofs.BodiesAt.{BodyAt}
+use Rattle.c_unit.proofs.Defined.{FirstExport, head, symbol_is, export_external, export_defined, init_defined, body_defined}
+use Rattle.c_unit.proofs.ExportFacts.{symbols_differ}
+use Rattle.c_unit.proofs.ExportsKeep.{export_shape}
+use Rattle.c_unit.proofs.KnownNames.{get_late}
+use Rattle.c_unit.proofs.KnownFuncs.{prototype_types}
+use Rattle.c_unit.proofs.Pairs.{AllPairs}
+use Rattle.c_unit.proofs.Sections.{few_funcs}
+use Rattle.c_unit.proofs.UnitNames.{body_here}
+use Rattle.c_body.proofs.Spaces.{func_count}
+use Rattle.c_body.proofs.OwnNames.{body_locals}
+use Rattle.wasm_valid.specs.Context.{context_of}
+use Rattle.c_body.proofs.Lists.{get_mapped, all_at}
+
+without_names : (params : List tree.Param) → map (λ (p : tree.Param). p.0) (map (λ (p : tree.Param). (p.0, None)) params) ≡ map
+    (λ (p : tree.Param). p.0) params
+without_names [] = refl
+without_names (p ∷ params) = ap (λ ts. p.0 ∷ ts) (without_names params)
+
+param_types : (types : List ValType) → map (λ (p : tree.Param). p.0) (params_of types) ≡ c_params_of types
+param_types types = sym (without_names (params_of types)) ∙ prototype_types types
+
+-- ---- by places
+
+all_indexed : {A : Type 0} (P : A → Type 0) (xs : List A) → ((i : ℕ) (x : A) → slice_get xs i ≡ Some x → P x) → AllByRecursion P xs
+all_indexed P [] h = tt
+all_indexed P (x ∷ xs) h = (h 0 x refl, all_indexed P xs (λ i y e. h (suc i) y e))
+
+pair_at_places : {A : Type 0} (R : A → A → Type 0) (xs : List A) (i j : ℕ) (x y : A) → AllPairs R xs → i < j → slice_get xs i ≡ Some x
+    → slice_get xs j ≡ Some y → R x y
+pair_at_places R [] i j x y h less e f = absurd cc
+pair_at_places R (z ∷ xs) zero zero x y h less e f = absurd (omega (arith, less))
+pair_at_places R (z ∷ xs) (suc i) zero x y h less e f = absurd (omega (arith, less))
+pair_at_places R (z ∷ xs) zero (suc j) x y h less e f = subst (λ w. R w y) (let same : z ≡ x = cc in same) (all_at (R z) xs j y h.0 f)
+pair_at_places R (z ∷ xs) (suc i) (suc j) x y h less e f = pair_at_places R xs i j x y h.1 (omega (arith, less)) e f
+
+module _ (m : NamedModule) (a : IsAccepted m) where
+  abbrev t : Module
+  t = m.tree
+
+  pub functions_stand : (index : ℕ) → IsDefined t index
+      → (d : Definition) × (defined (items m) (func_name index) ≡ Some d) × (d.func.is_static ≡ true)
+      × (func_type_of d.func ≡ c_func_type_if (func_type_in t index))
+  functions_stand index there =
+      let b : BodyAt m index = body_here m a index there.behind there.within in
+      let full : tree.Func = func_of m index b.ty b.entry in
+      let found = body_defined m index (body_in b) there (few_funcs m a) (ap (λ (f : tree.Func). f.body) b.is)
+      (ap (λ (f : tree.Func). f.name) b.is) in (
+        record { item = found.0; func = body_of t m.name index; body = body_in b },
+        found.1,
+        ap (λ (f : tree.Func). f.is_static) b.is,
+        ap func_type_of b.is ∙ (ap (λ ps. record { params = ps; result = c_result_of b.ty.result }) (param_types b.ty.params)
+            ∙ ap c_func_type_if (sym (type_known b))),
+      )
+    where
+      body_in : BodyAt m index → tree.Body
+      body_in b = record {
+        locals = body_locals b.ty b.entry (context_of t b.ty b.entry);
+        stmts = stmts_of (record { named = m; context = context_of t b.ty b.entry }) b.entry.code;
+      }
+
+      type_known : (b : BodyAt m index) → func_type_in t index ≡ Some b.ty
+      type_known b =
+          let counted = func_count t.imports in
+          let late = there.behind in
+          let same : index - length (flat_map func_of_import t.imports) ≡ index - imported_funcs t = omega (arith, counted) in
+          ap (λ o. if_found o (type_in t))
+          (get_late (flat_map func_of_import t.imports) (map (λ (f : FuncEntry). f.type_index) t.funcs) index (omega (arith, late, counted))
+          ∙ (ap (slice_get (map (λ (f : FuncEntry). f.type_index) t.funcs)) same
+          ∙ get_mapped (λ (f : FuncEntry). f.type_index) t.funcs (index - imported_funcs t) b.func b.func_is))
+          ∙ b.type_is
+
+  pub exports_stand : AllByRecursion (λ e. DefinesExternal (items m) (export_symbol m e) (export_type t e)) t.exports
+  exports_stand = all_indexed (λ e. DefinesExternal (items m) (export_symbol m e) (export_type t e)) t.exports one
+    where
+      differ : (b e : Export) → bytes_eq (export_symbol m b) (export_symbol m e) ≡ false → export_symbol m b ≢ export_symbol m e
+      differ b e f g =
+          let same : bytes_eq (export_symbol m b) (export_symbol m e) ≡ true = ap (bytes_eq (export_symbol m b)) (sym g)
+          ∙ bytes_equal (export_symbol m b) in
+          absurd (let wrong : true ≡ false = sym same ∙ f in cc)
+
+      one : (i : ℕ) (e : Export) → slice_get t.exports i ≡ Some e → DefinesExternal (items m) (export_symbol m e) (export_type t e)
+      one i e at =
+          let first : FirstExport m (export_symbol m e) e = (
+            i,
+            at,
+            refl,
+            λ j b less is. differ b e (pair_at_places
+                (λ (x y : Export). bytes_eq (export_symbol m x) (export_symbol m y) ≡ false) t.exports j i b e
+                (symbols_differ m a) less is at),
+          ) in
+          let found = (export_defined m (export_symbol m e) e (ap head (symbol_is m e)) first).1 in
+          record {
+            definition = record { item = found.0; func = export_func m e; body = (export_external m e).body };
+            there =
+                found.1;
+            typed = (export_shape m e).1;
+          }
+
+  pub init_stands : DefinesExternal (items m) (init_symbol_of m.name) (record { params = type.Void ∷ []; result = type.Void })
+  init_stands =
+      let found = init_defined m a.bytes in
+      record { definition = record { item = found.3.0; func = init_func m; body = found.0 }; there = found.3.1; typed = refl }

@@ -1,0 +1,189 @@
+-- What an init function rests on once its module has made its objects: whose tables, memories and globals the
+-- indexes stand for, which functions names reach, and what validity says of segments.
+use Rattle.std.proofs.Common.{◌≡◌, ℕ, suc, ◌+◌, ◌^◌, ◌<◌, ◌≤◌, true, false, List, [], ◌∷◌, ◌++◌, length, Option, Some, None, IsSome, slice_get, refl, ap, arith}
+use Rattle.std.specs.List.{AllByRecursion}
+use Rattle.w2c_base.specs.declared.value.ValType.{ValType}
+use Rattle.w2c_base.specs.declared.value.ValType.TheVariants as type
+use Rattle.w2c_base.specs.declared.signature.FuncType.{FuncType}
+use Rattle.w2c_base.specs.declared.trap.TrapKind.TheVariants.{SegmentOut}
+use Rattle.w2c_base.specs.Run.{Trail}
+use Rattle.wasm_tree.specs.declared.tree.Module.{Module}
+use Rattle.wasm_tree.specs.declared.entries.ElementEntry.{ElementEntry}
+use Rattle.wasm_tree.specs.declared.entries.SegmentEntry.{SegmentEntry}
+use Rattle.wasm_tree.specs.declared.entries.Start.{Start}
+use Rattle.wasm_tree.specs.Instructions.{Code}
+use Rattle.wasm_tree.specs.IndexSpaces.{func_space, table_space, memory_space, global_space, imported_global_space, func_type_in, imported_globals}
+use Rattle.wasm_tree.specs.declared.entries.LimitsEntry.{LimitsEntry}
+use Rattle.wasm_tree.specs.declared.entries.GlobalEntry.{GlobalEntry}
+use Rattle.wasm_valid.specs.ModuleFaults.{shape_of}
+use Rattle.wasm_meaning.specs.LinkedSet.{LinkedSet, NamedModule, FuncAddress, func_at, func_type}
+use Rattle.wasm_meaning.specs.Store as store
+use Rattle.c_meaning.specs.State as state
+use Rattle.c_meaning.specs.Linking.{Program, func_named, array_named}
+use Rattle.c_meaning.specs.Machine as machine
+use Rattle.c_meaning.specs.Primitives.{primitive}
+use Rattle.c_body.specs.Limits.{IsMaximum}
+use Rattle.c_body.specs.Passing.{StandsFor}
+use Rattle.c_body.specs.Agree.{IsCallable, PointersAreSet, TableAgrees, MemoryAgrees, ElementsAgree}
+use Rattle.c_body.specs.Objects.{callee, function_name, table_arg, memory_arg}
+use Rattle.c_body.specs.Follows.{Together}
+use Rattle.c_body.proofs.Store.{table_object, memory_object, table_seen, memory_seen}
+use Rattle.c_unit.specs.Init.{data_name, tests_bounds, bounds_label, max_number}
+use Rattle.c_unit.proofs.InitStatements.{Seat, Gets}
+use Rattle.c_unit.proofs.InitObjects.{TableOwner, MemoryOwner, GlobalOwner, table_there, memory_there, table_gets, memory_gets, global_found}
+use Rattle.c_unit.proofs.InitConstants.{ShapeFits, OffsetFound, offset_found, constant_found}
+use Rattle.c_unit.proofs.InitTests.{HasLocals, IsTrapLabel}
+use Rattle.c_body.proofs.Spaces.{module_is}
+
+-- a function by its index: what it is in both, and that its name may be called
+pub record FuncIsReached (p : Program) (s : LinkedSet) (u : ℕ) (m : NamedModule) (index : ℕ) : Type 0 where
+  pub ty : FuncType
+  pub ty_is : func_type_in m.tree index ≡ Some ty
+  pub function : FuncAddress
+  pub function_is : func_at s u index ≡ Some function
+  pub typed : func_type s function ≡ Some ty
+  pub callable : IsCallable s (suc u) function
+  pub callee_is : callee m index ≡ Some (function_name m.tree index)
+  pub is_no_primitive : primitive (function_name m.tree index) ≡ None
+  pub address : state.FuncAddress
+  pub address_is : func_named p u (function_name m.tree index) ≡ Some address
+  pub stands : StandsFor p s function address
+
+-- ---- segments that are valid and within limits
+
+pub record ElementIsValid (m : Module) (e : ElementEntry) : Type 0 where
+  pub table_is : e.table ≡ 0
+  pub there : IsSome (slice_get (table_space m) 0)
+  pub offset : ShapeFits type.I32 (shape_of (global_space m) e.offset)
+  pub few : length e.funcs < 2 ^ 32
+  pub funcs : AllByRecursion (λ f. f.index < length (func_space m)) e.funcs
+
+pub record DataIsValid (m : Module) (d : SegmentEntry) : Type 0 where
+  pub memory_is : d.memory ≡ 0
+  pub there : IsSome (slice_get (memory_space m) 0)
+  pub offset : ShapeFits type.I32 (shape_of (global_space m) d.offset)
+  pub few : length d.bytes < 2 ^ 32
+  pub are_bytes : AllByRecursion (λ b. b < 256) d.bytes
+
+-- the start function takes nothing
+pub record StartIsValid (m : Module) (func : ℕ) : Type 0 where
+  pub there : func < length (func_space m)
+  pub no_params : (ty : FuncType) → func_type_in m func ≡ Some ty → ty.params ≡ []
+
+-- what a module that is valid and within limits has
+pub record IsInstantiable (m : Module) : Type 0 where
+  pub elements : AllByRecursion (ElementIsValid m) m.elements
+  pub segments : AllByRecursion (DataIsValid m) m.segments
+  pub few_segments : length m.segments + 2 < 2 ^ 32
+  pub one_table : length m.tables ≤ 1
+  pub one_memory : length m.memories ≤ 1
+  pub one_table_in_all : length (table_space m) ≤ 1
+  pub one_memory_in_all : length (memory_space m) ≤ 1
+  pub table_limits : AllByRecursion (λ (t : LimitsEntry). t.limits.min ≤ 1000000) m.tables
+  pub memory_limits : AllByRecursion (λ (t : LimitsEntry). (t.limits.min ≤ 16384) × (max_number t.limits.max ≤ 4294967296)) m.memories
+  pub globals : AllByRecursion (λ (e : GlobalEntry). ShapeFits e.ty (shape_of (imported_global_space m) e.code)) m.globals
+  pub few_globals : imported_globals m + length m.globals < 2 ^ 64
+  pub maxima : AllByRecursion (λ l. IsMaximum l.max) (table_space m ++ memory_space m)
+  pub start : (x : Start) → m.start ≡ Some x → StartIsValid m x.index
+
+-- ---- what is around
+
+pub record Surroundings (s : LinkedSet) (g : Seat) (m : NamedModule) : Type 0 where
+  pub module_is : slice_get s.modules g.unit ≡ Some m
+  pub table : IsSome (slice_get (table_space m.tree) 0) → TableOwner s g.unit m.tree
+  pub memory : IsSome (slice_get (memory_space m.tree) 0) → MemoryOwner s g.unit m.tree
+  pub global : (index : ℕ) (t : ValType) → slice_get (global_space m.tree) index ≡ Some (t, false) → GlobalOwner s g.unit m.tree index t
+  pub function : (index : ℕ) → index < length (func_space m.tree) → FuncIsReached g.program s g.unit m index
+  pub array : (k : ℕ) (d : SegmentEntry) → slice_get m.tree.segments k ≡ Some d → 0 < length d.bytes
+      → array_named g.program g.unit (data_name k) ≡ Some d.bytes
+  pub bounds : tests_bounds m.tree ≡ true → IsTrapLabel g bounds_label SegmentOut
+  pub early_global : (index : ℕ) (t : ValType) → slice_get (imported_global_space m.tree) index ≡ Some (t, false)
+      → (o : GlobalOwner s g.unit m.tree index t) × (o.global.owner < g.unit)
+  pub instantiable : IsInstantiable m.tree
+
+-- the module is ready, and its init function has its variables
+pub record IsFilled (s : LinkedSet) (g : Seat) (m : NamedModule) (machine : state.Machine) (made : store.Store) (trail : Trail)
+    (vars : state.Vars) : Type 0 where
+  pub together : Together g.program s (suc g.unit) 0 machine made trail
+  pub locals : HasLocals m.tree vars
+
+pointers_set : (s : LinkedSet) (g : Seat) (m : NamedModule) (machine : state.Machine) (made : store.Store) (trail : Trail)
+    (vars : state.Vars)
+    → Surroundings s g m → IsFilled s g m machine made trail vars → PointersAreSet s g.unit m.tree machine
+pointers_set s g m machine made trail vars a f = f.together.ready.pointers g.unit m.tree (omega arith) (module_is s g.unit m a.module_is)
+
+-- the table, in both
+pub record TableFound (s : LinkedSet) (g : Seat) (m : NamedModule) (mach : state.Machine) (made : store.Store) (vars : state.Vars)
+    (owner : ℕ) : Type 0 where
+  pub table : store.Table
+  pub table_is : store.table_in made owner ≡ Some table
+  pub other : state.Table
+  pub other_is : machine.table_in mach (table_object owner) ≡ Some other
+  pub agree : TableAgrees g.program s table other
+  pub gets : Gets g mach vars (table_arg m.tree) (state.Pointer (Some (table_object owner)))
+
+pub table_found : (s : LinkedSet) (g : Seat) (m : NamedModule) (mach : state.Machine) (made : store.Store) (trail : Trail)
+    (vars : state.Vars)
+    → (a : Surroundings s g m) → IsFilled s g m mach made trail vars → (o : TableOwner s g.unit m.tree)
+    → TableFound s g m mach made vars o.owner
+table_found s g m mach made trail vars a f o =
+    let t = table_there s (suc g.unit) mach made o.owner o.owner_tree f.together.ready (omega (arith, o.early)) o.owner_tree_is o.some in
+    let r = table_seen g.program s mach made trail o.owner t.0 f.together.agrees t.1 in
+    record {
+      table = t.0;
+      table_is = t.1;
+      other = r.0;
+      other_is = r.1;
+      agree = r.2;
+      gets = table_gets s g m.tree mach vars o r.0 f.locals.pointers_seen (pointers_set s g m mach made trail vars a f) r.1;
+    }
+
+-- the memory, in both
+pub record MemoryFound (s : LinkedSet) (g : Seat) (m : NamedModule) (mach : state.Machine) (made : store.Store) (vars : state.Vars)
+    (owner : ℕ) : Type 0 where
+  pub memory : store.Memory
+  pub memory_is : store.memory_in made owner ≡ Some memory
+  pub other : state.Memory
+  pub other_is : machine.memory_in mach (memory_object owner) ≡ Some other
+  pub agree : MemoryAgrees memory other
+  pub gets : Gets g mach vars (memory_arg m.tree) (state.Pointer (Some (memory_object owner)))
+
+pub memory_found : (s : LinkedSet) (g : Seat) (m : NamedModule) (mach : state.Machine) (made : store.Store) (trail : Trail)
+    (vars : state.Vars)
+    → (a : Surroundings s g m) → IsFilled s g m mach made trail vars → (o : MemoryOwner s g.unit m.tree)
+    → MemoryFound s g m mach made vars o.owner
+memory_found s g m mach made trail vars a f o =
+    let t = memory_there s (suc g.unit) mach made o.owner o.owner_tree f.together.ready (omega (arith, o.early)) o.owner_tree_is o.some in
+    let r = memory_seen g.program s mach made trail o.owner t.0 f.together.agrees t.1 in
+    record {
+      memory = t.0;
+      memory_is = t.1;
+      other = r.0;
+      other_is = r.1;
+      agree = r.2;
+      gets = memory_gets s g m.tree mach vars o r.0 f.locals.pointers_seen (pointers_set s g m mach made trail vars a f) r.1;
+    }
+
+-- an offset, in both
+pub offset_of : (s : LinkedSet) (g : Seat) (m : NamedModule) (mach : state.Machine) (made : store.Store) (trail : Trail) (vars : state.Vars)
+    (code : Code)
+    → Surroundings s g m → IsFilled s g m mach made trail vars → ShapeFits type.I32 (shape_of (global_space m.tree) code)
+    → OffsetFound s g m.tree mach made vars code
+offset_of s g m mach made trail vars code a f fits =
+    offset_found s g m.tree mach made vars code
+    (constant_found s g m.tree mach made vars (global_space m.tree) type.I32 code fits
+    (λ index is. let o = a.global index type.I32 is in
+    global_found s g m.tree mach made trail vars index (suc g.unit) type.I32 (module_is s g.unit m a.module_is) o (omega (arith, o.early))
+    f.together.agrees f.together.ready (pointers_set s g m mach made trail vars a f) f.locals.pointers_seen f.locals.globals_seen))
+
+-- tables that agree are of one length
+pub elements_length : (p : _) (s : LinkedSet) (xs : List (Option FuncAddress)) (ys : List (Option state.Element)) → ElementsAgree p s xs ys
+    → length ys ≡ length xs
+elements_length p s [] [] a = refl
+elements_length p s [] (y ∷ ys) a = absurd a
+elements_length p s (None ∷ xs) [] a = absurd a
+elements_length p s (Some x ∷ xs) [] a = absurd a
+elements_length p s (None ∷ xs) (None ∷ ys) a = ap suc (elements_length p s xs ys a)
+elements_length p s (None ∷ xs) (Some y ∷ ys) a = absurd a
+elements_length p s (Some x ∷ xs) (None ∷ ys) a = absurd a
+elements_length p s (Some x ∷ xs) (Some y ∷ ys) a = ap suc (elements_length p s xs ys a.1)

@@ -1,0 +1,525 @@
+-- The statements that take imports against the task Take: a pointer is set, and limits are tested (WebAssembly
+-- Core 1.0, 4.5.4).
+use Rattle.std.proofs.Common.{◌≡◌, ◌≢◌, ℕ, suc, ◌+◌, ◌/◌, ◌^◌, ◌<◌, ◌≤◌, ◌⊎◌, inl, inr, ◌||◌, Bool, true, false, if◌then◌else◌, List, [], ◌∷◌, ◌++◌, length, Option, Some, None, option_map, is_some, slice_get, refl, sym, ap, ◌∙◌, subst, arith, codes, div-one}
+use Rattle.std.specs.Prelude.{⊤}
+use Rattle.std.proofs.lemmas.Option.{same_Some, none-some}
+use Rattle.w2c_base.specs.declared.value.ValType.{ValType}
+use Rattle.w2c_base.specs.declared.value.Value.{Value}
+use Rattle.w2c_base.specs.declared.value.Value.TheVariants.{I64}
+use Rattle.w2c_base.specs.Values.{value, type_of}
+use Rattle.w2c_base.specs.declared.trap.TrapKind.TheVariants.{ImportLimits}
+use Rattle.w2c_base.specs.Lookup.{if_found, named, with_named}
+use Rattle.w2c_base.specs.Run.{Trail}
+use Rattle.wasm_tree.specs.declared.tree.Module.{Module}
+use Rattle.wasm_tree.specs.declared.entries.Import.{Import}
+use Rattle.wasm_tree.specs.declared.entries.GlobalEntry.{GlobalEntry}
+use Rattle.wasm_tree.specs.declared.entries.Limits.{Limits}
+use Rattle.wasm_tree.specs.declared.entries.ImportKind.{ImportKind}
+use Rattle.wasm_tree.specs.declared.entries.ImportKind.TheVariants.{Func as ImportFunc, Table as ImportTable, Memory as ImportMemory, Global as ImportGlobal}
+use Rattle.wasm_tree.specs.IndexSpaces.{imported_globals, is_global_import}
+use Rattle.wasm_meaning.specs.LinkedSet.{LinkedSet, NamedModule, GlobalAddress, IsTable, IsMemory, as_table, as_memory, import_at, table_at, memory_at, global_at}
+use Rattle.wasm_meaning.specs.Store as store
+use Rattle.wasm_meaning.specs.Execution as exec
+use Rattle.wasm_meaning.specs.Run.{Task, Take, do_task, done, tested, with_found, limits_fit}
+use Rattle.c_tree.specs.Tree as c
+use Rattle.c_meaning.specs.State as state
+use Rattle.c_meaning.specs.Linking.{Program, func_named}
+use Rattle.c_meaning.specs.Machine as machine
+use Rattle.c_meaning.specs.Primitives.{primitive, tab_len, tab_max, mem_len, mem_max, gives, NoEffect}
+use Rattle.c_meaning.specs.Step.{call, give}
+use Rattle.c_meaning.specs.Run.{Pending, Over, Stopped, over, go_on}
+use Rattle.c_meaning.specs.Reaches.{Reaches}
+use Rattle.c_meaning.proofs.Lookups.{named-with_named, named-with_another}
+use Rattle.c_meaning.proofs.Ways.{join}
+use Rattle.alike.specs.Alike.{memory_name, table_name, global_name}
+use Rattle.c_body.specs.Names.{pointer_name}
+use Rattle.c_body.specs.Limits.{IsMaximum}
+use Rattle.c_body.specs.Symbols.{import_symbol, is_usable, table_imports, memory_imports}
+use Rattle.c_body.specs.Agree.{PointsTo, ObjectsAgree, MemoryAgrees, TableAgrees}
+use Rattle.c_body.specs.Follows.{Together}
+use Rattle.c_body.proofs.Names.{global_at_another_place}
+use Rattle.c_body.proofs.Store.{with_unit, table_object, memory_object, global_object, objects_at, table_seen, memory_seen, global_seen, machine_is}
+use Rattle.c_unit.specs.Init.{set_pointer, test_limits, max_number, asks_something}
+use Rattle.c_unit.specs.Instantiation.{zero_like}
+use Rattle.c_unit.proofs.Held.{held, held_there, held_kept}
+use Rattle.c_unit.proofs.InitStatements.{Seat, at, running, call_goes, pointer_goes}
+use Rattle.c_unit.proofs.InitRuns.{Stage, FollowsTask, IsDone, Traps}
+use Rattle.c_unit.proofs.InitTests.{HasLocals}
+use Rattle.c_unit.proofs.InitObjects.{TableOwner, MemoryOwner, GlobalOwner, table_there, memory_there, global_there, pointer_gets}
+use Rattle.c_unit.proofs.Surroundings.{elements_length}
+use Rattle.c_unit.proofs.SegmentTests.{tab_len_is, mem_len_is}
+use Rattle.c_unit.proofs.LimitTests.{Measures, Passes, Fails, CanTest, limits_tested}
+use Rattle.c_unit.proofs.OwnObjects.{set_gets, set_same, own_kept}
+use Rattle.c_unit.proofs.Small.{behind_letter, same_or_less}
+use Rattle.c_body.proofs.Seen.{or_middle, or_last}
+
+-- the variable of a pointer to an object, and that of the global with this number among those that the module defines,
+-- hold values of their types
+abbrev pub HoldsPointer : state.Name → state.Vars → Type 0
+HoldsPointer object vars = held (pointer_name object) vars ≡ Some (state.Pointer None)
+
+abbrev pub HoldsGlobal : Module → ℕ → GlobalEntry → state.Vars → Type 0
+HoldsGlobal m k e vars = held (global_name (imported_globals m + k)) vars ≡ Some (state.Number (value e.ty 0))
+
+-- the variables of a unit before its init function has made or set one, as far as its module needs them
+pub record IsDeclared (m : Module) (x : state.Objects) : Type 0 where
+  pub table : 0 < length m.tables → named table_name x.tables ≡ Some machine.no_table
+  pub memory : 0 < length m.memories → named memory_name x.memories ≡ Some machine.no_memory
+  pub globals : (k : ℕ) (e : GlobalEntry) → slice_get m.globals k ≡ Some e → HoldsGlobal m k e x.vars
+  pub table_pointer : 0 < length (table_imports m) → HoldsPointer table_name x.vars
+  pub memory_pointer : 0 < length (memory_imports m) → HoldsPointer memory_name x.vars
+  pub global_pointers : (k : ℕ) → k < imported_globals m → HoldsPointer (global_name k) x.vars
+
+-- the function of an import's symbol gives a pointer to what the import stands for
+pub record GivesPointer (p : Program) (s : LinkedSet) (u : ℕ) (m : NamedModule) (i : Import) (object : state.ObjectAddress) : Type 0 where
+  pub usable : is_usable m i ≡ true
+  pub is_no_primitive : primitive (import_symbol i) ≡ None
+  pub address : state.FuncAddress
+  pub address_is : func_named p u (import_symbol i) ≡ Some address
+  pub gives : (pending : Pending) (mach : state.Machine) (below : List state.Frame) → machine.is_object mach object ≡ true
+      → (n : ℕ) × (n ≤ 300)
+      × Reaches p n (go_on p pending (call p address mach [] below))
+      (go_on p pending (give mach (Some (state.Pointer (Some object))) below))
+
+-- what is known of an import, with its number among the imported globals
+pub record TableIsTaken (p : Program) (s : LinkedSet) (u : ℕ) (m : NamedModule) (i : Import) (l : Limits) : Type 0 where
+  pub owner : TableOwner s u m.tree
+  pub early : owner.owner < u
+  pub import_is : import_at s u i ≡ Some (IsTable owner.owner)
+  pub pointer : GivesPointer p s u m i (table_object owner.owner)
+  pub among : 0 < length (table_imports m.tree)
+
+pub record MemoryIsTaken (p : Program) (s : LinkedSet) (u : ℕ) (m : NamedModule) (i : Import) (l : Limits) : Type 0 where
+  pub owner : MemoryOwner s u m.tree
+  pub early : owner.owner < u
+  pub import_is : import_at s u i ≡ Some (IsMemory owner.owner)
+  pub pointer : GivesPointer p s u m i (memory_object owner.owner)
+  pub among : 0 < length (memory_imports m.tree)
+
+pub record GlobalIsTaken (p : Program) (s : LinkedSet) (u : ℕ) (m : NamedModule) (number : ℕ) (i : Import) : Type 0 where
+  pub ty : ValType
+  pub owner : GlobalOwner s u m.tree number ty
+  pub early : owner.global.owner < u
+  pub pointer : GivesPointer p s u m i (global_object s owner.global)
+  pub among : number < imported_globals m.tree
+
+abbrev pub IsTakenAs : Program → LinkedSet → ℕ → NamedModule → ℕ → Import → ImportKind → Type 0
+IsTakenAs p s u m number i (ImportFunc t) = ⊥
+IsTakenAs p s u m number i (ImportTable l) = TableIsTaken p s u m i l
+IsTakenAs p s u m number i (ImportMemory l) = MemoryIsTaken p s u m i l
+IsTakenAs p s u m number i (ImportGlobal t mutable) = GlobalIsTaken p s u m number i
+
+-- the maximum that a table or memory import asks for
+abbrev pub IsLow : ImportKind → Type 0
+IsLow (ImportFunc t) = ⊤
+IsLow (ImportTable l) = IsMaximum l.max
+IsLow (ImportMemory l) = IsMaximum l.max
+IsLow (ImportGlobal t mutable) = ⊤
+
+abbrev pub next_number : ℕ → Import → ℕ
+next_number number i = if is_global_import i then suc number else number
+
+abbrev pub AreTaken : Program → LinkedSet → ℕ → NamedModule → ℕ → List Import → Type 0
+AreTaken p s u m number [] = ⊤
+AreTaken p s u m number (i ∷ imports) = IsTakenAs p s u m number i i.kind × AreTaken p s u m (next_number number i) imports
+
+-- ---- pointers that are set so far
+
+abbrev PointsToTable : LinkedSet → ℕ → state.Machine → Type 0
+PointsToTable s u mach = (owner : ℕ) × (table_at s u 0 ≡ Some owner) × PointsTo mach u table_name (table_object owner)
+
+abbrev PointsToMemory : LinkedSet → ℕ → state.Machine → Type 0
+PointsToMemory s u mach = (owner : ℕ) × (memory_at s u 0 ≡ Some owner) × PointsTo mach u memory_name (memory_object owner)
+
+abbrev PointsToGlobal : LinkedSet → ℕ → state.Machine → ℕ → Type 0
+PointsToGlobal s u mach k = (a : GlobalAddress) × (global_at s u k ≡ Some a) × PointsTo mach u (global_name k) (global_object s a)
+
+pub record IsTaking (s : LinkedSet) (g : Seat) (m : NamedModule) (table memory : Bool) (number : ℕ) (mach : state.Machine)
+    (made : store.Store) (trail : Trail) (vars : state.Vars) : Type 0 where
+  pub together : Together g.program s g.unit 0 mach made trail
+  pub locals : HasLocals m.tree vars
+  pub nothing : slice_get made g.unit ≡ Some store.no_objects
+  pub x : state.Objects
+  pub x_is : slice_get mach.units g.unit ≡ Some x
+  pub declared : IsDeclared m.tree x
+  pub table_set : table ≡ true → PointsToTable s g.unit mach
+  pub memory_set : memory ≡ true → PointsToMemory s g.unit mach
+  pub globals_set : (k : ℕ) → k < number → PointsToGlobal s g.unit mach k
+
+-- one more pointer is set
+record PointerSet (s : LinkedSet) (g : Seat) (m : NamedModule) (object : state.Name) (a : state.ObjectAddress) (start rest : List c.Stmt)
+    (mach : state.Machine) (made : store.Store) (trail : Trail) (vars : state.Vars) : Type 0 where
+  machine : state.Machine
+  together : Together g.program s g.unit 0 machine made trail
+  x : state.Objects
+  x_is : slice_get machine.units g.unit ≡ Some x
+  declared : IsDeclared m.tree x
+  set : PointsTo machine g.unit object a
+  others : (other : state.Name) → other ≢ object → (b : state.ObjectAddress) → PointsTo mach g.unit other b
+      → PointsTo machine g.unit other b
+  statements : ℕ
+  some : 1 ≤ statements
+  few : statements ≤ 301
+  way : Reaches g.program statements (at g mach start vars) (at g machine rest vars)
+
+pointers_differ : (a b : state.Name) → a ≢ b → pointer_name a ≢ pointer_name b
+pointers_differ a b differ e = differ (ap behind_letter e)
+
+pointer_set : (s : LinkedSet) (g : Seat) (m : NamedModule) (i : Import) (object : state.Name) (a : state.ObjectAddress)
+    (table memory : Bool) (number : ℕ) (rest : List c.Stmt) (mach : state.Machine) (made : store.Store) (trail : Trail) (vars : state.Vars)
+    → GivesPointer g.program s g.unit m i a → (here : IsTaking s g m table memory number mach made trail vars)
+    → HoldsPointer object here.x.vars
+    → machine.is_object mach a ≡ true
+    → PointerSet s g m object a (set_pointer m i object ∷ rest) rest mach made trail vars
+pointer_set s g m i object a table memory number rest mach made trail vars p here there object_there = record {
+  machine = after;
+  together = subst (λ made. Together g.program s g.unit 0 after made trail) (set_same made g.unit store.no_objects here.nothing)
+      (own_kept g.program s g.unit mach made trail store.no_objects store.no_objects x' here.nothing agree
+      (λ t is. absurd cc) here.together);
+  x = x';
+  x_is = set_gets mach.units g.unit here.x x' here.x_is;
+  declared = record {
+    table = here.declared.table;
+    memory = here.declared.memory;
+    globals = λ k e is. kept (global_name (imported_globals m.tree + k)) ∙ here.declared.globals k e is;
+    table_pointer = λ some. kept (pointer_name table_name) ∙ here.declared.table_pointer some;
+    memory_pointer = λ some. kept (pointer_name memory_name) ∙ here.declared.memory_pointer some;
+    global_pointers = λ k less. kept (pointer_name (global_name k)) ∙ here.declared.global_pointers k less;
+  };
+  set = seen (pointer_name object)
+      ∙ named-with_named (pointer_name object) v here.x.vars (held_there (pointer_name object) here.x.vars (state.Pointer None) there);
+  others = λ other differ b set.
+      seen (pointer_name other)
+      ∙ (named-with_another (pointer_name other) (pointer_name object) v here.x.vars (pointers_differ other object differ)
+      ∙ (sym (before (pointer_name other)) ∙ set));
+  statements = 1 + n.0;
+  some = omega arith;
+  few = omega (arith, n.1);
+  way = subst (λ stmt. Reaches g.program (1 + n.0) (at g mach (stmt ∷ rest) vars) (at g after rest vars)) (sym usable)
+      (join g.program 1 n.0 (at g mach (c.Call (Some (pointer_name object)) (c.Called (import_symbol i)) [] ∷ rest) vars)
+      (go_on g.program g.pending (call g.program p.address mach [] (frame ∷ g.below))) (at g after rest vars)
+      (call_goes g mach (Some (pointer_name object)) (import_symbol i) [] p.address rest vars []
+      (λ rest. refl) p.is_no_primitive p.address_is)
+      (subst (Reaches g.program n.0 (go_on g.program g.pending (call g.program p.address mach [] (frame ∷ g.below)))) arrives n.2));
+}
+  where
+    v : state.CValue
+    v = state.Pointer (Some a)
+
+    changes : state.Objects → state.Objects
+    changes x = record { vars = with_named (pointer_name object) v x.vars; memories = x.memories; tables = x.tables }
+
+    x' : state.Objects
+    x' = changes here.x
+
+    after : state.Machine
+    after = with_unit mach g.unit x'
+
+    kept : (name : state.Name) → held name x'.vars ≡ held name here.x.vars
+    kept name = held_kept name (pointer_name object) v here.x.vars there
+
+    old : ObjectsAgree g.program s g.unit store.no_objects here.x
+    old =
+        let r = objects_at g.program s mach made trail g.unit store.no_objects here.together.agrees here.nothing in
+        subst (ObjectsAgree g.program s g.unit store.no_objects) (same_Some r.0 here.x (sym r.1 ∙ here.x_is)) r.2
+
+    agree : ObjectsAgree g.program s g.unit store.no_objects x'
+    agree = record { memory = old.memory; table = old.table; globals = tt; are_numbers = tt }
+
+    seen : (name : state.Name) → machine.var_in after (record { unit = g.unit; name = name }) ≡ named name x'.vars
+    seen name = ap (λ (found : Option state.Objects). if_found found (λ o. named name o.vars))
+        (set_gets mach.units g.unit here.x x' here.x_is)
+
+    before : (name : state.Name) → machine.var_in mach (record { unit = g.unit; name = name }) ≡ named name here.x.vars
+    before name = ap (λ (found : Option state.Objects). if_found found (λ o. named name o.vars)) here.x_is
+
+    frame : state.Frame
+    frame = record { target = Some (pointer_name object); running = running g rest vars }
+
+    n : (n : ℕ) × (n ≤ 300)
+        × Reaches g.program n (go_on g.program g.pending (call g.program p.address mach [] (frame ∷ g.below)))
+        (go_on g.program g.pending (give mach (Some v) (frame ∷ g.below)))
+    n = p.gives g.pending mach (frame ∷ g.below) object_there
+
+    usable : set_pointer m i object ≡ c.Call (Some (pointer_name object)) (c.Called (import_symbol i)) []
+    usable = ap (λ b. if b then c.Call (Some (pointer_name object)) (c.Called (import_symbol i)) [] else c.Null) p.usable
+
+    arrives : go_on g.program g.pending (give mach (Some v) (frame ∷ g.below)) ≡ at g after rest vars
+    arrives = pointer_goes g mach (pointer_name object) v rest vars refl (here.locals.pointers_seen object)
+        (ap (option_map zero_like) (before (pointer_name object)) ∙ there)
+        ∙ ap (λ m. at g m rest vars) (machine_is mach g.unit here.x changes here.x_is)
+
+-- ---- the imports of each kind
+
+-- what the task of an import does, by its kind
+abbrev takes_as : LinkedSet → ℕ → Import → ℕ → store.Store → Trail → ImportKind → exec.Called
+takes_as s u i n made trail kind = elim kind [
+  | ImportFunc t ↦ done n made trail
+  | ImportTable want ↦ with_found (if_found (if_found (import_at s u i) as_table) (store.table_in made)) made trail
+      (λ t. tested (limits_fit (length t.elements) t.max want) ImportLimits n made trail)
+  | ImportMemory want ↦ with_found (if_found (if_found (import_at s u i) as_memory) (store.memory_in made)) made trail
+      (λ m. tested (limits_fit (store.pages m) m.max want) ImportLimits n made trail)
+  | ImportGlobal t mutable ↦ done n made trail
+]
+
+or_first : (a b d : Bool) → a ≡ true → (a || b || d) ≡ true
+or_first true b d e = refl
+or_first false b d e = absurd cc
+
+pub global_follows : (s : LinkedSet) (g : Seat) (m : NamedModule) (i : Import) (t : ValType) (mutable table memory : Bool) (number : ℕ)
+    (rest : List c.Stmt)
+    → i.kind ≡ ImportGlobal t mutable → GlobalIsTaken g.program s g.unit m number i → imported_globals m.tree < 2 ^ 64
+    → FollowsTask s g (IsTaking s g m table memory number) (Take i) (IsTaking s g m table memory (suc number))
+    (set_pointer m i (global_name number) ∷ rest) rest
+global_follows s g m i t mutable table memory number rest kind k few mach made trail vars here = inl (record {
+  machine = p.machine;
+  new = made;
+  locals = vars;
+  does = λ n. ap (takes_as s g.unit i n made trail) kind;
+  reached = record {
+    together = p.together;
+    locals = here.locals;
+    nothing = here.nothing;
+    x = p.x;
+    x_is = p.x_is;
+    declared = p.declared;
+    table_set = λ is. let r = here.table_set is in (r.0, r.1, p.others table_name (λ e. absurd (grind (arith, e))) (table_object r.0) r.2);
+    memory_set = λ is. let r = here.memory_set is in
+        (r.0, r.1, p.others memory_name (λ e. absurd (grind (arith, e))) (memory_object r.0) r.2);
+    globals_set = globals;
+  };
+  statements = p.statements;
+  some = p.some;
+  few = omega (arith, p.few);
+  way = p.way;
+})
+  where
+    v : (v : Value) × (store.global_in made k.owner.global ≡ Some v) × (type_of v ≡ k.owner.entry.ty)
+    v = global_there s g.unit mach made k.owner.global k.owner.owner_tree k.owner.entry here.together.ready k.early k.owner.owner_tree_is
+        k.owner.entry_is
+
+    object : machine.is_object mach (global_object s k.owner.global) ≡ true
+    object = or_first (is_some (machine.var_in mach (global_object s k.owner.global)))
+        (is_some (machine.memory_in mach (global_object s k.owner.global)))
+        (is_some (machine.table_in mach (global_object s k.owner.global)))
+        (ap is_some (global_seen g.program s mach made trail k.owner.global v.0 here.together.agrees v.1).0)
+
+    p : PointerSet s g m (global_name number) (global_object s k.owner.global)
+        (set_pointer m i (global_name number) ∷ rest) rest mach made trail vars
+    p = pointer_set s g m i (global_name number) (global_object s k.owner.global) table memory number rest mach made trail vars k.pointer
+        here (here.declared.global_pointers number k.among) object
+
+    globals : (j : ℕ) → j < suc number → PointsToGlobal s g.unit p.machine j
+    globals j less = elim (same_or_less j number less) [
+      | inl same ↦ subst (PointsToGlobal s g.unit p.machine) (sym same) (k.owner.global, k.owner.global_is, p.set)
+      | inr below ↦
+          let r = here.globals_set j below in (
+            r.0,
+            r.1,
+            p.others (global_name j) (global_at_another_place j number (omega (arith, below, k.among, few))
+                (omega (arith, k.among, few)) (omega (arith, below))) (global_object s r.0) r.2,
+          )
+    ]
+
+tab_max_is : (m : state.Machine) (a : state.ObjectAddress) (t : state.Table) → machine.table_in m a ≡ Some t
+    → tab_max (state.Pointer (Some a) ∷ []) m ≡ gives m (I64 t.max)
+tab_max_is m a t e = ap (λ (o : Option state.Table). elim o [ None ↦ NoEffect | Some table ↦ gives m (I64 table.max) ]) e
+
+mem_max_is : (m : state.Machine) (a : state.ObjectAddress) (t : state.Memory) → machine.memory_in m a ≡ Some t
+    → mem_max (state.Pointer (Some a) ∷ []) m ≡ gives m (I64 t.max)
+mem_max_is m a t e = ap (λ (o : Option state.Memory). elim o [ None ↦ NoEffect | Some memory ↦ gives m (I64 memory.max) ]) e
+
+is_low : (max : Option ℕ) → IsMaximum max → (k : ℕ) → max ≡ Some k → k < 4294967296
+is_low None low k e = absurd (none-some k e)
+is_low (Some max) low k e = omega (arith, low, same_Some max k e)
+
+-- a pointer is set, and then limits are tested, which the task does too
+limits_follow : (s : LinkedSet) (g : Seat) (m : NamedModule) (t : Task) (stage : Stage) (object : state.Name) (a : state.ObjectAddress)
+    (start tests rest : List c.Stmt) (mach : state.Machine) (made : store.Store) (trail : Trail) (vars : state.Vars) (fits : Bool)
+    → (p : PointerSet s g m object a start tests mach made trail vars)
+    → ((n : ℕ) → do_task s g.unit t n made trail ≡ tested fits ImportLimits n made trail)
+    → ((locals : state.Vars) → HasLocals m.tree locals → stage p.machine made trail locals)
+    → ((fits ≡ true) × Passes g m.tree tests rest 4 p.machine vars) ⊎ ((fits ≡ false) × Fails g tests 5 p.machine vars)
+    → IsDone s g t stage start rest mach made trail vars ⊎ Traps s g t start mach made trail vars
+limits_follow s g m t stage object a start tests rest mach made trail vars fits p does reached (inl h) = inl (record {
+  machine = p.machine;
+  new = made;
+  locals = h.1.locals;
+  does = λ n. does n ∙ ap (λ b. tested b ImportLimits n made trail) h.0;
+  reached = reached h.1.locals h.1.has;
+  statements = p.statements + h.1.statements;
+  some = omega (arith, p.some);
+  few = omega (arith, p.few, h.1.few);
+  way = join g.program p.statements h.1.statements (at g mach start vars) (at g p.machine tests vars)
+      (at g p.machine rest h.1.locals) p.way h.1.way;
+})
+limits_follow s g m t stage object a start tests rest mach made trail vars fits p does reached (inr h) = inr (record {
+  kind = ImportLimits;
+  machine = p.machine;
+  agrees = p.together.agrees;
+  does = λ n. does n ∙ ap (λ b. tested b ImportLimits n made trail) h.0;
+  statements = p.statements + h.1.statements;
+  few = omega (arith, p.few, h.1.few);
+  way = join g.program p.statements h.1.statements (at g mach start vars) (at g p.machine tests vars)
+      (Over (over g.pending p.machine (Stopped (state.Trapped ImportLimits)))) p.way h.1.way;
+})
+
+pub table_follows : (s : LinkedSet) (g : Seat) (m : NamedModule) (i : Import) (l : Limits) (table memory : Bool) (number : ℕ)
+    (rest : List c.Stmt)
+    → i.kind ≡ ImportTable l → TableIsTaken g.program s g.unit m i l → (asks_something l ≡ true → CanTest g m.tree) → IsMaximum l.max
+    → FollowsTask s g (IsTaking s g m table memory number) (Take i) (IsTaking s g m true memory number)
+    (set_pointer m i table_name ∷ (test_limits table_name (codes "w2c_tab_len") (codes "w2c_tab_max") 1 l ++ rest)) rest
+table_follows s g m i l table memory number rest kind k can low mach made trail vars here =
+    limits_follow s g m (Take i) (IsTaking s g m true memory number) table_name a start tests rest mach made trail vars
+    (limits_fit (length t.0.elements) t.0.max l) p does reached
+    (limits_tested g m.tree p.machine table_name (codes "w2c_tab_len") (codes "w2c_tab_max") (length other.0.elements) 1
+    (length t.0.elements) t.0.max l rest vars lens maxes refl same (is_low l.max low) can here.locals)
+  where
+    tests : List c.Stmt
+    tests = test_limits table_name (codes "w2c_tab_len") (codes "w2c_tab_max") 1 l ++ rest
+
+    start : List c.Stmt
+    start = set_pointer m i table_name ∷ tests
+
+    a : state.ObjectAddress
+    a = table_object k.owner.owner
+
+    t : (t : store.Table) × (store.table_in made k.owner.owner ≡ Some t)
+    t = table_there s g.unit mach made k.owner.owner k.owner.owner_tree here.together.ready k.early k.owner.owner_tree_is k.owner.some
+
+    before : (other : state.Table) × (machine.table_in mach a ≡ Some other) × TableAgrees g.program s t.0 other
+    before = table_seen g.program s mach made trail k.owner.owner t.0 here.together.agrees t.1
+
+    object : machine.is_object mach a ≡ true
+    object = or_last (is_some (machine.var_in mach a)) (is_some (machine.memory_in mach a)) (is_some (machine.table_in mach a))
+        (ap is_some before.1)
+
+    p : PointerSet s g m table_name a start tests mach made trail vars
+    p = pointer_set s g m i table_name a table memory number tests mach made trail vars k.pointer here
+        (here.declared.table_pointer k.among) object
+
+    other : (other : state.Table) × (machine.table_in p.machine a ≡ Some other) × TableAgrees g.program s t.0 other
+    other = table_seen g.program s p.machine made trail k.owner.owner t.0 p.together.agrees t.1
+
+    same : length other.0.elements / 1 ≡ length t.0.elements
+    same = div-one (length other.0.elements) ∙ elements_length g.program s t.0.elements other.0.elements other.2.elements
+
+    lens : Measures g p.machine table_name (codes "w2c_tab_len") (length other.0.elements)
+    lens = record {
+      does = tab_len;
+      is_primitive = refl;
+      pointer = state.Pointer (Some a);
+      gets = λ vars none. pointer_gets g p.machine vars table_name a none p.set;
+      gives = tab_len_is p.machine a other.0 other.1;
+    }
+
+    maxes : Measures g p.machine table_name (codes "w2c_tab_max") (max_number t.0.max)
+    maxes = record {
+      does = tab_max;
+      is_primitive = refl;
+      pointer = state.Pointer (Some a);
+      gets = λ vars none. pointer_gets g p.machine vars table_name a none p.set;
+      gives = tab_max_is p.machine a other.0 other.1 ∙ ap (λ n. gives p.machine (I64 n)) other.2.max;
+    }
+
+    does : (n : ℕ) → do_task s g.unit (Take i) n made trail ≡ tested (limits_fit (length t.0.elements) t.0.max l) ImportLimits n made trail
+    does n =
+        ap (takes_as s g.unit i n made trail) kind
+        ∙ (ap (λ x. with_found (if_found (if_found x as_table) (store.table_in made)) made trail
+        (λ t. tested (limits_fit (length t.elements) t.max l) ImportLimits n made trail)) k.import_is
+        ∙ ap (λ x. with_found x made trail (λ t. tested (limits_fit (length t.elements) t.max l) ImportLimits n made trail)) t.1)
+
+    reached : (locals : state.Vars) → HasLocals m.tree locals → IsTaking s g m true memory number p.machine made trail locals
+    reached locals has = record {
+      together = p.together;
+      locals = has;
+      nothing = here.nothing;
+      x = p.x;
+      x_is = p.x_is;
+      declared = p.declared;
+      table_set = λ is. (k.owner.owner, k.owner.owner_is, p.set);
+      memory_set = λ is. let r = here.memory_set is in
+          (r.0, r.1, p.others memory_name (λ e. absurd (grind (arith, e))) (memory_object r.0) r.2);
+      globals_set = λ j less. let r = here.globals_set j less in
+          (r.0, r.1, p.others (global_name j) (λ e. absurd (grind (arith, e))) (global_object s r.0) r.2);
+    }
+
+pub memory_follows : (s : LinkedSet) (g : Seat) (m : NamedModule) (i : Import) (l : Limits) (table memory : Bool) (number : ℕ)
+    (rest : List c.Stmt)
+    → i.kind ≡ ImportMemory l → MemoryIsTaken g.program s g.unit m i l → (asks_something l ≡ true → CanTest g m.tree) → IsMaximum l.max
+    → FollowsTask s g (IsTaking s g m table memory number) (Take i) (IsTaking s g m table true number)
+    (set_pointer m i memory_name ∷ (test_limits memory_name (codes "w2c_mem_len") (codes "w2c_mem_max") 65536 l ++ rest)) rest
+memory_follows s g m i l table memory number rest kind k can low mach made trail vars here =
+    limits_follow s g m (Take i) (IsTaking s g m table true number) memory_name a start tests rest mach made trail vars
+    (limits_fit (store.pages t.0) t.0.max l) p does reached
+    (limits_tested g m.tree p.machine memory_name (codes "w2c_mem_len") (codes "w2c_mem_max") (length other.0.bytes) 65536
+    (store.pages t.0) t.0.max l rest vars lens maxes refl same (is_low l.max low) can here.locals)
+  where
+    tests : List c.Stmt
+    tests = test_limits memory_name (codes "w2c_mem_len") (codes "w2c_mem_max") 65536 l ++ rest
+
+    start : List c.Stmt
+    start = set_pointer m i memory_name ∷ tests
+
+    a : state.ObjectAddress
+    a = memory_object k.owner.owner
+
+    t : (t : store.Memory) × (store.memory_in made k.owner.owner ≡ Some t)
+    t = memory_there s g.unit mach made k.owner.owner k.owner.owner_tree here.together.ready k.early k.owner.owner_tree_is k.owner.some
+
+    before : (other : state.Memory) × (machine.memory_in mach a ≡ Some other) × MemoryAgrees t.0 other
+    before = memory_seen g.program s mach made trail k.owner.owner t.0 here.together.agrees t.1
+
+    object : machine.is_object mach a ≡ true
+    object = or_middle (is_some (machine.var_in mach a)) (is_some (machine.memory_in mach a)) (is_some (machine.table_in mach a))
+        (ap is_some before.1)
+
+    p : PointerSet s g m memory_name a start tests mach made trail vars
+    p = pointer_set s g m i memory_name a table memory number tests mach made trail vars k.pointer here
+        (here.declared.memory_pointer k.among) object
+
+    other : (other : state.Memory) × (machine.memory_in p.machine a ≡ Some other) × MemoryAgrees t.0 other
+    other = memory_seen g.program s p.machine made trail k.owner.owner t.0 p.together.agrees t.1
+
+    same : length other.0.bytes / 65536 ≡ store.pages t.0
+    same = ap (λ bytes. length bytes / 65536) other.2.bytes
+
+    lens : Measures g p.machine memory_name (codes "w2c_mem_len") (length other.0.bytes)
+    lens = record {
+      does = mem_len;
+      is_primitive = refl;
+      pointer = state.Pointer (Some a);
+      gets = λ vars none. pointer_gets g p.machine vars memory_name a none p.set;
+      gives = mem_len_is p.machine a other.0 other.1;
+    }
+
+    maxes : Measures g p.machine memory_name (codes "w2c_mem_max") (max_number t.0.max)
+    maxes = record {
+      does = mem_max;
+      is_primitive = refl;
+      pointer = state.Pointer (Some a);
+      gets = λ vars none. pointer_gets g p.machine vars memory_name a none p.set;
+      gives = mem_max_is p.machine a other.0 other.1 ∙ ap (λ n. gives p.machine (I64 n)) other.2.max;
+    }
+
+    does : (n : ℕ) → do_task s g.unit (Take i) n made trail ≡ tested (limits_fit (store.pages t.0) t.0.max l) ImportLimits n made trail
+    does n =
+        ap (takes_as s g.unit i n made trail) kind
+        ∙ (ap (λ x. with_found (if_found (if_found x as_memory) (store.memory_in made)) made trail
+        (λ t. tested (limits_fit (store.pages t) t.max l) ImportLimits n made trail)) k.import_is
+        ∙ ap (λ x. with_found x made trail (λ t. tested (limits_fit (store.pages t) t.max l) ImportLimits n made trail)) t.1)
+
+    reached : (locals : state.Vars) → HasLocals m.tree locals → IsTaking s g m table true number p.machine made trail locals
+    reached locals has = record {
+      together = p.together;
+      locals = has;
+      nothing = here.nothing;
+      x = p.x;
+      x_is = p.x_is;
+      declared = p.declared;
+      table_set = λ is. let r = here.table_set is in
+          (r.0, r.1, p.others table_name (λ e. absurd (grind (arith, e))) (table_object r.0) r.2);
+      memory_set = λ is. (k.owner.owner, k.owner.owner_is, p.set);
+      globals_set = λ j less. let r = here.globals_set j less in
+          (r.0, r.1, p.others (global_name j) (λ e. absurd (grind (arith, e))) (global_object s r.0) r.2);
+    }
