@@ -11,22 +11,26 @@ use Rattle.c_prelude.specs.declared.rows.Form.TheVariants as form
 use Rattle.c_prelude.specs.Rows.{Binary}
 use Rattle.c_prelude.specs.Helpers.{number_helper}
 use Rattle.c_prelude.specs.Operators.{DoesOperator}
-use Rattle.c_prelude.proofs.Computed.{computed}
+use Rattle.c_prelude.proofs.Beginnings.{given, on_two, div_u_begins, rem_u_begins, div_s_begins, rem_s_begins}
 use Rattle.c_prelude.proofs.Widths.{widths, at_operands, twice, half_pos, answers, sides}
 use Rattle.c_prelude.proofs.Signs.{minus, minus_not_zero, quot_pp, quot_pn, quot_np, quot_nn, rem_pp, rem_pn, rem_np, rem_nn, div_s_zero, div_s_value, div_s_overflow, rem_s_zero, rem_s_value}
 
 pub div_u_right : (t : ValType) → DoesOperator (number_helper (record { ty = t; form = form.DivU })) t (Binary wasm.DivU)
 div_u_right t m x y p q =
     elim (eqb_tells y 0) [
-      | inl z ↦ computed 2 (omega arith) (λ program pending unit item below. simp (widths, at_operands program m unit t x y, z.0))
-      | inr z ↦ computed 2 (omega arith) (λ program pending unit item below. simp (widths, at_operands program m unit t x y, z.0))
+      | inl z ↦ on_two form.DivU div_u_begins t m x y 2 (omega arith) (λ program pending unit item below.
+          simp (widths, at_operands program m unit t x y, z.0))
+      | inr z ↦ on_two form.DivU div_u_begins t m x y 2 (omega arith) (λ program pending unit item below.
+          simp (widths, at_operands program m unit t x y, z.0) (given program pending m t _ below))
     ]
 
 pub rem_u_right : (t : ValType) → DoesOperator (number_helper (record { ty = t; form = form.RemU })) t (Binary wasm.RemU)
 rem_u_right t m x y p q =
     elim (eqb_tells y 0) [
-      | inl z ↦ computed 2 (omega arith) (λ program pending unit item below. simp (widths, at_operands program m unit t x y, z.0))
-      | inr z ↦ computed 2 (omega arith) (λ program pending unit item below. simp (widths, at_operands program m unit t x y, z.0))
+      | inl z ↦ on_two form.RemU rem_u_begins t m x y 2 (omega arith) (λ program pending unit item below.
+          simp (widths, at_operands program m unit t x y, z.0))
+      | inr z ↦ on_two form.RemU rem_u_begins t m x y 2 (omega arith) (λ program pending unit item below.
+          simp (widths, at_operands program m unit t x y, z.0) (given program pending m t _ below))
     ]
 
 pub div_s_right : (t : ValType) → DoesOperator (number_helper (record { ty = t; form = form.DivS })) t (Binary wasm.DivS)
@@ -35,21 +39,38 @@ div_s_right t m x y p q =
     let d = twice t in
     let h = half_pos t in
     elim (eqb_tells y 0) [
-      | inl z ↦ answers t (Traps DivByZero) _ (div_s_zero N d h x y z.1) (computed 2 (omega arith) (λ program pending unit item below. simp (widths, at_operands program m unit t x y, z.0)))
+      | inl z ↦ answers t (Traps DivByZero) _ (div_s_zero N d h x y z.1)
+          (on_two form.DivS div_s_begins t m x y 2 (omega arith) (λ program pending unit item below.
+          simp (widths, at_operands program m unit t x y, z.0)))
       | inr z ↦ elim (sides (2 ^ (N - 1)) x) [
         | inl a ↦ elim (sides (2 ^ (N - 1)) y) [
           | inl b ↦ elim (eqb_tells y (2 ^ N - 1)) [
             | inl c ↦ elim (eqb_tells x (2 ^ (N - 1))) [
-              | inl e ↦ answers t (Traps IntOverflow) _ (div_s_overflow N d h x y e.1 (omega arith)) (computed 6 (omega arith) (λ program pending unit item below. simp (widths, at_operands program m unit t x y, z.0, a.0, b.0, c.0, e.0)))
-              | inr e ↦ answers t (Gives _) _ (div_s_value N d h x y _ z.1 (inl e.1) (quot_nn N d h x y a.2 p b.2 q)) (computed 6 (omega arith) (λ program pending unit item below. simp (widths, at_operands program m unit t x y, z.0, a.0, b.0, c.0, e.0, minus_not_zero N d h y b.2 q)))
+              | inl e ↦ answers t (Traps IntOverflow) _ (div_s_overflow N d h x y e.1 (omega arith))
+                  (on_two form.DivS div_s_begins t m x y 6 (omega arith) (λ program pending unit item below.
+                  simp (widths, at_operands program m unit t x y, z.0, a.0, b.0, c.0, e.0)))
+              | inr e ↦ answers t (Gives _) _ (div_s_value N d h x y _ z.1 (inl e.1) (quot_nn N d h x y a.2 p b.2 q))
+                  (on_two form.DivS div_s_begins t m x y 6 (omega arith) (λ program pending unit item below.
+                  simp (widths, at_operands program m unit t x y, z.0, a.0, b.0, c.0, e.0, minus_not_zero N d h y b.2 q)
+                  (given program pending m t _ below)))
             ]
-            | inr c ↦ answers t (Gives _) _ (div_s_value N d h x y _ z.1 (inr (omega arith)) (quot_nn N d h x y a.2 p b.2 q)) (computed 5 (omega arith) (λ program pending unit item below. simp (widths, at_operands program m unit t x y, z.0, a.0, b.0, c.0, minus_not_zero N d h y b.2 q)))
+            | inr c ↦ answers t (Gives _) _ (div_s_value N d h x y _ z.1 (inr (omega arith)) (quot_nn N d h x y a.2 p b.2 q))
+                (on_two form.DivS div_s_begins t m x y 5 (omega arith) (λ program pending unit item below.
+                simp (widths, at_operands program m unit t x y, z.0, a.0, b.0, c.0, minus_not_zero N d h y b.2 q)
+                (given program pending m t _ below)))
           ]
-          | inr b ↦ answers t (Gives _) _ (div_s_value N d h x y _ z.1 (inr (omega arith)) (quot_np N d h x y a.2 p b.2 z.1)) (computed 4 (omega arith) (λ program pending unit item below. simp (widths, at_operands program m unit t x y, z.0, a.0, b.0)))
+          | inr b ↦ answers t (Gives _) _ (div_s_value N d h x y _ z.1 (inr (omega arith)) (quot_np N d h x y a.2 p b.2 z.1))
+              (on_two form.DivS div_s_begins t m x y 4 (omega arith) (λ program pending unit item below.
+              simp (widths, at_operands program m unit t x y, z.0, a.0, b.0) (given program pending m t _ below)))
         ]
         | inr a ↦ elim (sides (2 ^ (N - 1)) y) [
-          | inl b ↦ answers t (Gives _) _ (div_s_value N d h x y _ z.1 (inl (omega arith)) (quot_pn N d h x y a.2 b.2 q)) (computed 4 (omega arith) (λ program pending unit item below. simp (widths, at_operands program m unit t x y, z.0, a.0, b.0, minus_not_zero N d h y b.2 q)))
-          | inr b ↦ answers t (Gives _) _ (div_s_value N d h x y _ z.1 (inl (omega arith)) (quot_pp N d h x y a.2 b.2 z.1)) (computed 4 (omega arith) (λ program pending unit item below. simp (widths, at_operands program m unit t x y, z.0, a.0, b.0)))
+          | inl b ↦ answers t (Gives _) _ (div_s_value N d h x y _ z.1 (inl (omega arith)) (quot_pn N d h x y a.2 b.2 q))
+              (on_two form.DivS div_s_begins t m x y 4 (omega arith) (λ program pending unit item below.
+              simp (widths, at_operands program m unit t x y, z.0, a.0, b.0, minus_not_zero N d h y b.2 q)
+              (given program pending m t _ below)))
+          | inr b ↦ answers t (Gives _) _ (div_s_value N d h x y _ z.1 (inl (omega arith)) (quot_pp N d h x y a.2 b.2 z.1))
+              (on_two form.DivS div_s_begins t m x y 4 (omega arith) (λ program pending unit item below.
+              simp (widths, at_operands program m unit t x y, z.0, a.0, b.0) (given program pending m t _ below)))
         ]
       ]
     ]
@@ -60,15 +81,27 @@ rem_s_right t m x y p q =
     let d = twice t in
     let h = half_pos t in
     elim (eqb_tells y 0) [
-      | inl z ↦ answers t (Traps DivByZero) _ (rem_s_zero N d h x y z.1) (computed 2 (omega arith) (λ program pending unit item below. simp (widths, at_operands program m unit t x y, z.0)))
+      | inl z ↦ answers t (Traps DivByZero) _ (rem_s_zero N d h x y z.1)
+          (on_two form.RemS rem_s_begins t m x y 2 (omega arith) (λ program pending unit item below.
+          simp (widths, at_operands program m unit t x y, z.0)))
       | inr z ↦ elim (sides (2 ^ (N - 1)) x) [
         | inl a ↦ elim (sides (2 ^ (N - 1)) y) [
-          | inl b ↦ answers t (Gives _) _ (rem_s_value N d h x y _ z.1 (rem_nn N d h x y a.2 p b.2 q)) (computed 5 (omega arith) (λ program pending unit item below. simp (widths, at_operands program m unit t x y, at_operands program m unit t x (minus N y), z.0, a.0, b.1, minus_not_zero N d h y b.2 q)))
-          | inr b ↦ answers t (Gives _) _ (rem_s_value N d h x y _ z.1 (rem_np N d h x y a.2 p b.2 z.1)) (computed 4 (omega arith) (λ program pending unit item below. simp (widths, at_operands program m unit t x y, z.0, a.0, b.1)))
+          | inl b ↦ answers t (Gives _) _ (rem_s_value N d h x y _ z.1 (rem_nn N d h x y a.2 p b.2 q))
+              (on_two form.RemS rem_s_begins t m x y 5 (omega arith) (λ program pending unit item below.
+              simp (widths, at_operands program m unit t x y, at_operands program m unit t x (minus N y), z.0, a.0, b.1, minus_not_zero N d h y b.2 q)
+              (given program pending m t _ below)))
+          | inr b ↦ answers t (Gives _) _ (rem_s_value N d h x y _ z.1 (rem_np N d h x y a.2 p b.2 z.1))
+              (on_two form.RemS rem_s_begins t m x y 4 (omega arith) (λ program pending unit item below.
+              simp (widths, at_operands program m unit t x y, z.0, a.0, b.1) (given program pending m t _ below)))
         ]
         | inr a ↦ elim (sides (2 ^ (N - 1)) y) [
-          | inl b ↦ answers t (Gives _) _ (rem_s_value N d h x y _ z.1 (rem_pn N d h x y a.2 b.2 q)) (computed 5 (omega arith) (λ program pending unit item below. simp (widths, at_operands program m unit t x y, at_operands program m unit t x (minus N y), z.0, a.0, b.1, minus_not_zero N d h y b.2 q)))
-          | inr b ↦ answers t (Gives _) _ (rem_s_value N d h x y _ z.1 (rem_pp N d h x y a.2 b.2 z.1)) (computed 4 (omega arith) (λ program pending unit item below. simp (widths, at_operands program m unit t x y, z.0, a.0, b.1)))
+          | inl b ↦ answers t (Gives _) _ (rem_s_value N d h x y _ z.1 (rem_pn N d h x y a.2 b.2 q))
+              (on_two form.RemS rem_s_begins t m x y 5 (omega arith) (λ program pending unit item below.
+              simp (widths, at_operands program m unit t x y, at_operands program m unit t x (minus N y), z.0, a.0, b.1, minus_not_zero N d h y b.2 q)
+              (given program pending m t _ below)))
+          | inr b ↦ answers t (Gives _) _ (rem_s_value N d h x y _ z.1 (rem_pp N d h x y a.2 b.2 z.1))
+              (on_two form.RemS rem_s_begins t m x y 4 (omega arith) (λ program pending unit item below.
+              simp (widths, at_operands program m unit t x y, z.0, a.0, b.1) (given program pending m t _ below)))
         ]
       ]
     ]

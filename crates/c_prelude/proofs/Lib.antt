@@ -2,6 +2,7 @@ pub mod Blocks
 pub mod CallStatements
 pub mod Comparisons
 pub mod Computed
+pub mod Beginnings
 pub mod Division
 pub mod EachHelper
 pub mod Extensions

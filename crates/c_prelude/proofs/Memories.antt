@@ -12,6 +12,8 @@ use Rattle.w2c_base.specs.LittleEndian.{little_endian, low_bytes, bytes_at, with
 use Rattle.wasm_meaning.specs.Operators.{Answer, Gives, Traps}
 use Rattle.wasm_meaning.specs.Memories.{load_access, store_access, extended}
 use Rattle.c_tree.specs.declared.tree.COp.TheVariants as op
+use Rattle.c_tree.specs.declared.tree.CType.{CType}
+use Rattle.c_tree.specs.declared.tree.CType.TheVariants as type_of_c
 use Rattle.c_tree.specs.declared.tree.Num.{Num}
 use Rattle.c_tree.specs.declared.tree.Num.TheVariants.{N32, N64}
 use Rattle.c_tree.specs.Tree as tree
@@ -28,11 +30,12 @@ use Rattle.c_prelude.specs.declared.operation.StoreOp.{StoreOp}
 use Rattle.c_prelude.specs.declared.operation.StoreOp.TheVariants as store
 use Rattle.c_prelude.specs.Pieces.{trap}
 use Rattle.c_prelude.specs.Rows.{load_of, store_of, load_row, store_row}
-use Rattle.c_prelude.specs.Helpers.{load_helper, store_helper, size_helper}
+use Rattle.c_prelude.specs.Helpers.{c_type, load_helper, store_helper, size_helper}
 use Rattle.c_prelude.specs.Calls.{call_begun, CallComesTo}
 use Rattle.c_prelude.specs.Operators.{number, answered, stored, DoesLoad, DoesStore, DoesSize}
 use Rattle.c_prelude.proofs.Computed.{computed}
-use Rattle.c_prelude.proofs.Widths.{number_of-value, sides, seen}
+use Rattle.c_prelude.proofs.Beginnings.{given}
+use Rattle.c_prelude.proofs.Widths.{widths, number_of-value, sides, seen}
 use Rattle.c_prelude.proofs.Extensions.{c_extend8_32, c_extend16_32, c_extend8_64, c_extend16_64, c_extend32_64}
 
 no_wrap : (b o : ℕ) → b < 2 ^ 32 → o < 2 ^ 32 → (b + o) % 18446744073709551616 ≡ b + o
@@ -90,17 +93,17 @@ abbrev Turns : tree.Expr → ValType → ValType → (ℕ → ℕ) → Type 0
 Turns e raw t f = (p : Program) (m : Machine) (unit : ℕ) (at : ObjectAddress) (b o a n v : ℕ)
     → evaluate_arg p m (seen unit (loading at b o a n (value raw v))) (tree.Value e) ≡ Is (number t (f v))
 
-abbrev begun : Pending → Machine → ℕ → ℕ → List Frame → List tree.Stmt → Vars → Progress
-begun pending m unit item below stmts vars = Going pending (record {
+abbrev begun : Pending → Machine → ℕ → ℕ → List Frame → CType → List tree.Stmt → Vars → Progress
+begun pending m unit item below result stmts vars = Going pending (record {
   machine = m;
-  running = record { unit = unit; item = item; stmts = stmts; rest = stmts; vars = vars };
+  running = record { unit = unit; item = item; result = result; stmts = stmts; rest = stmts; vars = vars };
   below = below;
 })
 
--- a call of the function begins with these statements and variables
-abbrev Begins : tree.Func → List CValue → Machine → List tree.Stmt → Vars → Type 0
-Begins func args m stmts vars = (p : Program) (pending : Pending) (unit item : ℕ) (below : List Frame)
-    → call_begun p pending unit item func m args below ≡ begun pending m unit item below stmts vars
+-- a call of the function begins with these statements and variables, and is to give a value of this type
+abbrev Begins : tree.Func → List CValue → Machine → CType → List tree.Stmt → Vars → Type 0
+Begins func args m result stmts vars = (p : Program) (pending : Pending) (unit item : ℕ) (below : List Frame)
+    → call_begun p pending unit item func m args below ≡ begun pending m unit item below result stmts vars
 
 -- how a load reads: k bytes by a primitive, as a u32 or u64 of which an expression makes f of it
 record Reading (k : ℕ) (t : ValType) (f : ℕ → ℕ) : Type 0 where
@@ -117,8 +120,8 @@ load_args a b o = Pointer (Some a) ∷ number type.I32 b ∷ number type.I32 o �
 
 -- a call of the helper begins with the statements of this reading
 abbrev BeginsLoad : {k : ℕ} {t : ValType} {f : ℕ → ℕ} → tree.Func → Reading k t f → Type 0
-BeginsLoad {k} func r = (m : Machine) (a : ObjectAddress) (b o : ℕ)
-    → Begins func (load_args a b o) m (load_stmts k r.name r.e r.zero) (loading a b o 0 0 (value r.raw 0))
+BeginsLoad {k} {t} func r = (m : Machine) (a : ObjectAddress) (b o : ℕ)
+    → Begins func (load_args a b o) m (c_type t) (load_stmts k r.name r.e r.zero) (loading a b o 0 0 (value r.raw 0))
 
 loads : {k : ℕ} {t : ValType} {f : ℕ → ℕ} (func : tree.Func) (r : Reading k t f) → BeginsLoad func r
     → (m : Machine) (a : ObjectAddress) (memory : Memory) (b o : ℕ) → memory_in m a ≡ Some memory → b < 2 ^ 32 → o < 2 ^ 32
@@ -127,7 +130,17 @@ loads {k} {t} {f} func r begins m a memory b o is pb po =
     elim (sides (b + o + k) (length memory.bytes)) [
       | inl h ↦ computed 5 (omega arith) (λ p pending unit item below.
           ap (λ (from : Progress). walk p 5 (Some from)) (begins m a b o p pending unit item below)
-          ∙ simp (no_wrap b o pb po, no_wrap_end b o k pb po r.short, on_memory, is, h.0, h.1, r.is_get, r.turns p m unit a b o (b + o) (length memory.bytes) (little_endian (bytes_at memory.bytes (b + o) k))))
+          ∙ simp (
+            widths,
+            no_wrap b o pb po,
+            no_wrap_end b o k pb po r.short,
+            on_memory,
+            is,
+            h.0,
+            h.1,
+            r.is_get,
+            r.turns p m unit a b o (b + o) (length memory.bytes) (little_endian (bytes_at memory.bytes (b + o) k)),
+          ) (given p pending m t _ below))
       | inr h ↦ computed 4 (omega arith) (λ p pending unit item below.
           ap (λ (from : Progress). walk p 4 (Some from)) (begins m a b o p pending unit item below)
           ∙ simp (no_wrap b o pb po, no_wrap_end b o k pb po r.short, on_memory, is, h.0, h.1))
@@ -235,7 +248,7 @@ store_args t a b o v = Pointer (Some a) ∷ number type.I32 b ∷ number type.I3
 -- a call of the helper begins with the statements of this writing
 abbrev BeginsStore : {k : ℕ} {t : ValType} → tree.Func → Writing k t → Type 0
 BeginsStore {k} {t} func w = (m : Machine) (a : ObjectAddress) (b o v : ℕ)
-    → Begins func (store_args t a b o v) m (store_stmts k w.name w.e) (storing a b o (value t v) 0 0)
+    → Begins func (store_args t a b o v) m type_of_c.Void (store_stmts k w.name w.e) (storing a b o (value t v) 0 0)
 
 stores : {k : ℕ} {t : ValType} (func : tree.Func) (w : Writing k t) → BeginsStore func w
     → (m : Machine) (a : ObjectAddress) (memory : Memory) (b o v : ℕ) → memory_in m a ≡ Some memory → b < 2 ^ 32 → o < 2 ^ 32

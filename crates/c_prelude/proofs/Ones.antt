@@ -17,9 +17,10 @@ use Rattle.c_meaning.proofs.Goes.{step_on, walk}
 use Rattle.c_prelude.specs.declared.rows.Form.TheVariants as form
 use Rattle.c_prelude.specs.Pieces.{num}
 use Rattle.c_prelude.specs.Rows.{Unary}
-use Rattle.c_prelude.specs.Helpers.{number_helper}
+use Rattle.c_prelude.specs.Helpers.{c_type, number_helper}
 use Rattle.c_prelude.specs.Operators.{DoesOperator}
 use Rattle.c_prelude.proofs.Computed.{computed}
+use Rattle.c_prelude.proofs.Beginnings.{given}
 use Rattle.c_prelude.proofs.Widths.{widths, evaluate-num, seen}
 use Rattle.c_prelude.proofs.Halving.{below_test}
 use Rattle.c_prelude.proofs.Zeros.{Call, called, gives, steps_of, whole_width}
@@ -43,7 +44,14 @@ sum_stages t (suc i) rest = sum_stages t i (sum_stage t i ∷ rest)
 abbrev at : ValType → Call → List tree.Stmt → ℕ → Progress
 at t call rest a = Going call.pending (record {
   machine = call.machine;
-  running = record { unit = call.unit; item = call.item; stmts = call.stmts; rest = rest; vars = (codes "x", Number (value t a)) ∷ [] };
+  running = record {
+    unit = call.unit;
+    item = call.item;
+    result = c_type t;
+    stmts = call.stmts;
+    rest = rest;
+    vars = (codes "x", Number (value t a)) ∷ [];
+  };
   below = call.below;
 })
 
@@ -75,7 +83,8 @@ ones_run : (t : ValType) (call : Call) (a : ℕ) → a < 2 ^ bits t
 ones_run t call a h =
     walk-suc call.program (steps_of t) (Some (at t call (sum_stages t (steps_of t) (tree.Return (tree.Value x) ∷ [])) a))
     ∙ (ap (step_on call.program) (stages_run t call (tree.Return (tree.Value x) ∷ []) (steps_of t) a (le_refl (steps_of t)) h)
-    ∙ ap (λ n. Some (gives t call n)) (sums-ones (steps_of t) a (rw whole_width h)))
+    ∙ (given call.program call.pending call.machine t (sums (steps_of t) (steps_of t) a) call.below
+    ∙ ap (λ n. Some (gives t call n)) (sums-ones (steps_of t) a (rw whole_width h))))
 
 pub popcnt_right : (t : ValType) → DoesOperator (number_helper (record { ty = t; form = form.Popcnt })) t (Unary wasm.Popcnt)
 popcnt_right type.I32 m x p = computed 6 (omega arith) (λ program pending unit item below. ones_run type.I32 (called form.Popcnt type.I32 program pending m unit item below) x p)

@@ -1,5 +1,5 @@
 -- The helpers of shifts and rotations.
-use Rattle.std.proofs.Common.{◌≡◌, ℕ, zero, suc, ◌+◌, ◌-◌, ◌*◌, ◌/◌, ◌%◌, ◌^◌, ◌<◌, ◌≤◌, true, false, arith, refl, sym, ap, ◌∙◌, List, [], ◌∷◌, codes, Some}
+use Rattle.std.proofs.Common.{◌≡◌, ℕ, zero, suc, ◌+◌, ◌-◌, ◌*◌, ◌/◌, ◌%◌, ◌^◌, ◌<◌, ◌≤◌, true, false, arith, refl, sym, ap, ◌∙◌, List, [], ◌∷◌, codes, Some, drop}
 use mathlib.Core.Logic.{inl, inr}
 use Rattle.std.specs.Prelude.{nat_lt, nat_eq, bit_or, bit_xor, bit_and}
 use native.Mathlib.Nat.{mod-eq_of_lt, mod_self, add-mod_right, add-div_right, mul-mod_left, add-zero, zero-add, mul-one, div-one, div-eq_of_lt, sub-zero}
@@ -19,9 +19,10 @@ use Rattle.c_prelude.specs.declared.rows.Row.{Row}
 use Rattle.c_prelude.specs.Calls.{call_begun, call_ended}
 use Rattle.c_prelude.specs.declared.rows.Form.TheVariants as form
 use Rattle.c_prelude.specs.Rows.{Binary}
-use Rattle.c_prelude.specs.Helpers.{number_helper, number_stmts}
+use Rattle.c_prelude.specs.Helpers.{c_type, number_helper, number_stmts}
 use Rattle.c_prelude.specs.Operators.{DoesOperator, number, answered}
 use Rattle.c_prelude.proofs.Computed.{computed}
+use Rattle.c_prelude.proofs.Beginnings.{given, on_two, rotl_begins, rotr_begins}
 use Rattle.c_prelude.proofs.Widths.{widths, evaluate-num, seen, at_operands, twice, half_pos, answers, sides, bits-below}
 use Rattle.c_prelude.proofs.Signs.{is_low, is_high, pattern_of-pos}
 
@@ -92,7 +93,14 @@ shift_row t = record { ty = t; form = form.ShrS }
 abbrev shift_begun : ValType → Pending → Machine → ℕ → ℕ → List Frame → ℕ → ℕ → Progress
 shift_begun t pending m unit item below x y = Going pending (record {
   machine = m;
-  running = record { unit = unit; item = item; stmts = number_stmts (shift_row t); rest = number_stmts (shift_row t); vars = shifting t x y 0 };
+  running = record {
+    unit = unit;
+    item = item;
+    result = c_type t;
+    stmts = number_stmts (shift_row t);
+    rest = number_stmts (shift_row t);
+    vars = shifting t x y 0;
+  };
   below = below;
 })
 
@@ -101,11 +109,40 @@ shift_begins : (t : ValType) (p : Program) (pending : Pending) (m : Machine) (un
 shift_begins type.I32 p pending m unit item below x y = refl
 shift_begins type.I64 p pending m unit item below x y = refl
 
+-- behind so many statements
+abbrev shift_at : ValType → Pending → Machine → ℕ → ℕ → List Frame → ℕ → Vars → Progress
+shift_at t pending m unit item below done vars = Going pending (record {
+  machine = m;
+  running = record {
+    unit = unit;
+    item = item;
+    result = c_type t;
+    stmts = number_stmts (shift_row t);
+    rest = drop done (number_stmts (shift_row t));
+    vars = vars;
+  };
+  below = below;
+})
+
+shift_first : (t : ValType) (p : Program) (pending : Pending) (m : Machine) (unit item : ℕ) (below : List Frame) (x y : ℕ)
+    → walk p 1 (Some (shift_begun t pending m unit item below x y))
+    ≡ Some (shift_at t pending m unit item below 1 (shifting t x (y % bits t) 0))
+shift_first t p pending m unit item below x y =
+    simp (widths, evaluate-num p m (seen unit (shifting t x y 0)) t, bits-not_zero t)
+
+shift_second : (t : ValType) (p : Program) (pending : Pending) (m : Machine) (unit item : ℕ) (below : List Frame) (x y : ℕ)
+    → walk p 1 (Some (shift_at t pending m unit item below 1 (shifting t x y 0)))
+    ≡ Some (shift_at t pending m unit item below 2 (shifting t x y (spread (bits t) x)))
+shift_second t p pending m unit item below x y =
+    simp (widths, evaluate-num p m (seen unit (shifting t x y 0)) t, sign_test t)
+
 shift_goes : (t : ValType) (p : Program) (pending : Pending) (m : Machine) (unit item : ℕ) (below : List Frame) (x y : ℕ)
     → walk p 3 (Some (shift_begun t pending m unit item below x y))
     ≡ Some (call_ended p pending (answered m t (Gives (bit_xor (bit_xor x (spread (bits t) x) / 2 ^ (y % bits t)) (spread (bits t) x)))) below)
 shift_goes t p pending m unit item below x y =
-    simp (widths, evaluate-num p m (seen unit (shifting t x y 0)) t, evaluate-num p m (seen unit (shifting t x (y % bits t) 0)) t, bits-not_zero t, count-below t y, sign_test t)
+    ap (walk p 2) (shift_first t p pending m unit item below x y)
+    ∙ ap (walk p 1) (shift_second t p pending m unit item below x (y % bits t))
+    ∙ simp (widths, count-below t y) (given p pending m t _ below)
 
 pub shr_s_right : (t : ValType) → DoesOperator (number_helper (shift_row t)) t (Binary wasm.ShrS)
 shr_s_right t m x y p q =
@@ -156,8 +193,17 @@ pub rotl_right : (t : ValType) → DoesOperator (number_helper (record { ty = t;
 rotl_right t m x y p q =
     let N = bits t in
     let l : y % N < N = count-lt t y in
-    answers t (Gives _) _ (ap Gives (sym (rotated N (y % N) x (bits-below t) p l))) (computed 2 (omega arith) (λ program pending unit item below.
-    simp (widths, at_operands program m unit t x y, at_operands program m unit t x (y % N), bits-not_zero t, count-below t y, count-below t ((N + (2 ^ N - y % N)) % 2 ^ N))))
+    answers t (Gives _) _ (ap Gives (sym (rotated N (y % N) x (bits-below t) p l)))
+    (on_two form.Rotl rotl_begins t m x y 2 (omega arith) (λ program pending unit item below.
+    simp (
+      widths,
+      at_operands program m unit t x y,
+      at_operands program m unit t x (y % N),
+      bits-not_zero t,
+      count-below t y,
+      count-below t ((N + (2 ^ N - y % N)) % 2 ^ N),
+    )
+    (given program pending m t _ below)))
 
 pub rotated_r : (N k x : ℕ) → N < 2 ^ N → x < 2 ^ N → k < N → bit_or (x * 2 ^ other N k % 2 ^ N) (x / 2 ^ k) ≡ x * 2 ^ (N - k) % 2 ^ N + x / 2 ^ k
 rotated_r N zero x b h l =
@@ -171,5 +217,14 @@ pub rotr_right : (t : ValType) → DoesOperator (number_helper (record { ty = t;
 rotr_right t m x y p q =
     let N = bits t in
     let l : y % N < N = count-lt t y in
-    answers t (Gives _) _ (ap Gives (sym (rotated_r N (y % N) x (bits-below t) p l))) (computed 2 (omega arith) (λ program pending unit item below.
-    simp (widths, at_operands program m unit t x y, at_operands program m unit t x (y % N), bits-not_zero t, count-below t y, count-below t ((N + (2 ^ N - y % N)) % 2 ^ N))))
+    answers t (Gives _) _ (ap Gives (sym (rotated_r N (y % N) x (bits-below t) p l)))
+    (on_two form.Rotr rotr_begins t m x y 2 (omega arith) (λ program pending unit item below.
+    simp (
+      widths,
+      at_operands program m unit t x y,
+      at_operands program m unit t x (y % N),
+      bits-not_zero t,
+      count-below t y,
+      count-below t ((N + (2 ^ N - y % N)) % 2 ^ N),
+    )
+    (given program pending m t _ below)))

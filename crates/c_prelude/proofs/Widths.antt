@@ -7,8 +7,9 @@ use Rattle.w2c_base.specs.declared.value.ValType.{ValType}
 use Rattle.w2c_base.specs.declared.value.ValType.TheVariants as type
 use Rattle.w2c_base.specs.declared.value.Value.{Value}
 use Rattle.w2c_base.specs.declared.value.Value.TheVariants.{I32, I64}
-use Rattle.w2c_base.specs.Values.{bits, value, number_of}
+use Rattle.w2c_base.specs.Values.{bits, value, number_of, type_of, equal_type}
 use Rattle.c_tree.specs.declared.tree.COp.{COp}
+use Rattle.c_tree.specs.declared.tree.CType.TheVariants.{Void}
 use Rattle.c_tree.specs.Tree as tree
 use Rattle.wasm_meaning.specs.Operators.{Answer}
 use Rattle.c_meaning.specs.State.{CValue, Number, Vars, Machine, Running, Evaluated, Is, then_evaluate}
@@ -48,11 +49,20 @@ pub flagged-bit : (t : ValType) (b : Bool) → flagged t (Is (I32 (if b then 1 e
 flagged-bit type.I32 b = ap (λ n. Is (I32 n)) (bit_stays b)
 flagged-bit type.I64 b = ap (λ n. Is (I64 n)) (bit_stays b)
 
-pub ruleset widths = (operate-value, number_of-value, flagged-bit)
+-- values of a type go where one of this type is held or wanted
+pub type_of-value : (t : ValType) (n : ℕ) → type_of (value t n) ≡ t
+type_of-value type.I32 n = refl
+type_of-value type.I64 n = refl
+
+pub equal_type-self : (t : ValType) → equal_type t t ≡ true
+equal_type-self type.I32 = refl
+equal_type-self type.I64 = refl
+
+pub ruleset widths = (operate-value, number_of-value, flagged-bit, type_of-value, equal_type-self)
 
 -- a function as expressions see it: its unit and its variables
 abbrev pub seen : ℕ → Vars → Running
-seen unit vars = record { unit = unit; item = 0; stmts = []; rest = []; vars = vars }
+seen unit vars = record { unit = unit; item = 0; result = Void; stmts = []; rest = []; vars = vars }
 
 -- the operands
 abbrev pub operands : ValType → ℕ → ℕ → Vars

@@ -21,10 +21,11 @@ use Rattle.c_prelude.specs.declared.rows.Form.{Form}
 use Rattle.c_prelude.specs.declared.rows.Form.TheVariants as form
 use Rattle.c_prelude.specs.Pieces.{num, flag}
 use Rattle.c_prelude.specs.Rows.{Unary}
-use Rattle.c_prelude.specs.Helpers.{number_helper, number_stmts}
+use Rattle.c_prelude.specs.Helpers.{c_type, number_helper, number_stmts}
 use Rattle.c_prelude.specs.Calls.{call_ended}
 use Rattle.c_prelude.specs.Operators.{DoesOperator, answered}
 use Rattle.c_prelude.proofs.Computed.{computed}
+use Rattle.c_prelude.proofs.Beginnings.{given}
 use Rattle.c_prelude.proofs.Widths.{widths, evaluate-num, evaluate-flag, seen, sides, bits-below}
 use Rattle.c_prelude.proofs.Halving.{below_test, Shifted, shift-some, shift-none, shifted-some, shifted-none, counted, room, more_room, Lowered, drop-some, drop-none, lowered-some, lowered-none, lowest}
 
@@ -88,7 +89,7 @@ pub record Call : Type 0 where
 abbrev at : ValType → Call → List tree.Stmt → ℕ → ℕ → ℕ → Progress
 at t call rest a b c = Going call.pending (record {
   machine = call.machine;
-  running = record { unit = call.unit; item = call.item; stmts = call.stmts; rest = rest; vars = counting t a b c };
+  running = record { unit = call.unit; item = call.item; result = c_type t; stmts = call.stmts; rest = rest; vars = counting t a b c };
   below = call.below;
 })
 
@@ -116,6 +117,7 @@ ctz_step t call rest s a b c u e h =
 -- the last statement
 ends : (t : ValType) (call : Call) (a b c : ℕ) → walk call.program 1 (Some (at t call (count_end t) a b c)) ≡ Some (gives t call ((b + truth (nat_eq a 0)) % 2 ^ bits t))
 ends t call a b c = simp (widths, evaluate-num call.program call.machine (seen call.unit (counting t a b c)) t, evaluate-flag call.program call.machine (seen call.unit (counting t a b c)) t)
+    (given call.program call.pending call.machine t _ call.below)
 
 turns : ℕ → ℕ
 turns zero = 1

@@ -12,7 +12,7 @@ abbrev pub program : Program
 program = record { units = []; hosts = [] }
 
 abbrev pub pending : Pending
-pending = record { phase = Init 0; entries = []; values = [] }
+pending = record { phase = Init 0; entries = [] }
 
 abbrev pub object : List ℕ → ObjectAddress
 object name = record { unit = 0; name = name }
@@ -26,7 +26,7 @@ with_bytes bytes = record {
     memories = (codes "m0", record { is_made = true; bytes = bytes; max = 1 }) ∷ [];
     tables = (codes "t0", record { is_made = true; elements = None ∷ Some (record { func = UnitFunc 0 (codes "f0"); signature = 7 }) ∷ []; max = 2 }) ∷ [];
   } ∷ [];
-  trail = record { replies = []; asks = [] };
+  trail = record { replies = []; events = [] };
 }
 
 abbrev pub machine : Machine

@@ -20,5 +20,5 @@ pub use laws::{
     call_statements_come_to_the_end_of_the_call, every_helper_is_listed, names_of_helpers_differ,
 };
 pub use make::{helper, helper_name};
-pub use parts::trap;
 pub use operation::{HELPERS, Helper, LoadOp, NumOp, StoreOp};
+pub use parts::trap;
