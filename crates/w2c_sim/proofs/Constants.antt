@@ -1,12 +1,13 @@
 -- The value of a constant expression.
-use Rattle.std.proofs.Common.{◌≡◌, ℕ, suc, zero, ◌+◌, ◌*◌, ◌%◌, ◌^◌, ◌<◌, ◌≤◌, ◌⊎◌, ℤ, pos, ◌+ℤ◌, ◌-ℤ◌, Bool, true, false, cond, nat_lt, List, [], ◌∷◌, length, Some, refl, ◌∙◌, ap, arith}
+use Rattle.std.proofs.Common.{◌≡◌, ℕ, suc, zero, ◌+◌, ◌*◌, ◌%◌, ◌^◌, ◌<◌, ◌≤◌, ◌⊎◌, ℤ, pos, ◌+ℤ◌, ◌-ℤ◌, Bool, true, false, cond, nat_lt, List, [], ◌∷◌, length, Option, Some, refl, ◌∙◌, ap, arith}
 use Rattle.std.specs.Prelude.{unsigned_abs}
 use Rattle.std.proofs.lemmas.Int.{int_rem_euclid_is, ints}
 use Rattle.wasm_tree.specs.declared.constant_module.ConstantInstr.{ConstantInstr}
 use Rattle.wasm_tree.specs.declared.constant_module.ConstantInstr.TheVariants.{I32Const, I32Add}
 use Rattle.wasm_tree.specs.ConstantModule.{height_after}
 use Rattle.wasm_tree.specs.ConstantTree.{signed_reading}
-use Rattle.w2c_base.specs.Run.{Phase, Init, Call}
+use Rattle.w2c_base.specs.declared.value.Value.{Value}
+use Rattle.w2c_base.specs.Run.{Phase, Init, Call, Trail, call_ended}
 use Rattle.wasm_meaning.specs.Operators.{pattern_of}
 
 -- the operand stack behind code, its top first
@@ -25,6 +26,11 @@ top_of (x ∷ stack) = x
 -- the value that code leaves
 abbrev pub value_of : List ConstantInstr → ℕ
 value_of code = top_of (stack_after [] code)
+
+-- the trail behind so many calls that end with this value
+abbrev pub told : Option Value → ℕ → Trail → Trail
+told value zero trail = trail
+told value (suc calls) trail = told value calls (call_ended trail value)
 
 -- the phase behind so many calls
 abbrev pub last_phase : ℕ → Phase

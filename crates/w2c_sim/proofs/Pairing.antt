@@ -1,10 +1,9 @@
 -- A module of one constant function and its unit: both runs end alike, or both are out of steps.
-use Rattle.std.proofs.Common.{◌≡◌, ℕ, suc, zero, ◌+◌, ◌*◌, ◌<◌, ◌≤◌, ◌^◌, inl, inr, List, [], ◌∷◌, length, All, Option, Some, replicate, refl, sym, ◌∙◌, ap, subst, arith}
+use Rattle.std.proofs.Common.{◌≡◌, ℕ, suc, zero, ◌+◌, ◌*◌, ◌<◌, ◌≤◌, ◌^◌, inl, inr, List, [], ◌∷◌, length, All, Some, refl, sym, ◌∙◌, ap, subst, arith}
 use Rattle.std.proofs.Math.Nat.{suc-mul}
 use Rattle.std.specs.List.{AllByRecursion}
-use Rattle.w2c_base.specs.declared.value.Value.{Value}
 use Rattle.w2c_base.specs.declared.value.Value.TheVariants.{I32}
-use Rattle.w2c_base.specs.Run.{Reply, Phase}
+use Rattle.w2c_base.specs.Run.{Reply, Phase, Event}
 use Rattle.w2c_mangle.specs.Symbols.{export_symbol_of, init_symbol_of}
 use Rattle.w2c_mangle.specs.declared.symbol.SymbolKind.TheVariants.{Func}
 use Rattle.w2c_mangle.proofs.SymbolNames.{init_symbol_of-not_export}
@@ -22,24 +21,27 @@ use Rattle.alike.specs.Alike.{Alike}
 use Rattle.w2c_sim.specs.Translation.{peak, unit_of_constant}
 use Rattle.w2c_sim.specs.Runs.{set_of, wasm_run_of, c_run_of}
 use Rattle.w2c_sim.specs.Simulation.{NeverStops, DoesTheSame, IsTranslation}
-use Rattle.w2c_sim.proofs.Constants.{value_of, last_phase, less_or_not}
+use Rattle.w2c_sim.proofs.Constants.{value_of, last_phase, less_or_not, told}
 use Rattle.c_meaning.proofs.Lookups.{bytes_differ}
 use Rattle.w2c_sim.proofs.Units.{peak-small, length-code, constant}
-use Rattle.w2c_sim.proofs.WasmRuns.{wasm_run_enough, wasm_run_short}
+use Rattle.w2c_sim.proofs.WasmRuns.{untold, wasm_run_enough, wasm_run_short}
 use Rattle.w2c_sim.proofs.CRuns.{AreSymbols, no_objects, c_run_enough, c_run_short}
 
-are_symbols : (module_name name : List ℕ) → All (λ b. b < 256) module_name → AreSymbols (init_symbol_of module_name) (export_symbol_of module_name Func name)
-are_symbols module_name name small = record {
-  found = init_symbols_found module_name small;
-  apart = bytes_differ (init_symbol_of module_name) (export_symbol_of module_name Func name) (init_symbol_of-not_export module_name module_name Func name small small);
+are_symbols : (module_name name : List ℕ) → 1 ≤ length module_name → length module_name ≤ 1024 → All (λ b. b < 256) module_name
+    → AreSymbols (init_symbol_of module_name) (export_symbol_of module_name Func name)
+are_symbols module_name name some short small = record {
+  found = init_symbols_found module_name some short small;
+  apart =
+      bytes_differ (init_symbol_of module_name) (export_symbol_of module_name Func name) (init_symbol_of-not_export module_name module_name Func name small small);
   init_is_not_body = refl;
   symbol_is_not_body = refl;
 }
 
--- runs that ended with the same values, without objects
-ended_alike : (s : LinkedSet) (phase : Phase) (values : List (Option Value))
-    → Alike s (record { phase = phase; values = values; asks = []; store = store.no_objects ∷ []; outcome = wasm.Ended }) (record { phase = phase; values = values; asks = []; units = no_objects ∷ []; outcome = c.Ended })
-ended_alike s phase values = record {
+-- runs that ended behind the same events, without objects
+ended_alike : (s : LinkedSet) (phase : Phase) (events : List Event) → Alike s
+    (record { phase = phase; events = events; store = store.no_objects ∷ []; outcome = wasm.Ended })
+    (record { phase = phase; events = events; units = no_objects ∷ []; outcome = c.Ended })
+ended_alike s phase events = record {
   phase = refl;
   outcome = tt;
   values = refl;
@@ -56,13 +58,19 @@ sizes (suc count) size =
 
 -- the runs of so many calls
 both_alike : (module_name name : List ℕ) (code : List ConstantInstr) (count n m : ℕ) (replies : List Reply)
-    → AreSymbols (init_symbol_of module_name) (export_symbol_of module_name Func name) → peak 0 code < 2 ^ 64 → height_after 0 code ≡ Some 1 → AllByRecursion HasShortNumber code
+    → AreSymbols (init_symbol_of module_name) (export_symbol_of module_name Func name) → peak 0 code < 2 ^ 64
+    → height_after 0 code ≡ Some 1
+    → AllByRecursion HasShortNumber code
     → 1 + count * (1 + length code) ≤ n → 2 + count * (3 + length code) ≤ m
     → Alike (set_of module_name name code) (wasm_run_of module_name name code count n replies) (c_run_of module_name name (unit_of_constant module_name name code) count m replies)
 both_alike module_name name code count n m replies names small typed short enough_steps enough_statements =
-    subst (λ (w : wasm.WasmRun). Alike (set_of module_name name code) w (c_run_of module_name name (unit_of_constant module_name name code) count m replies)) (sym (wasm_run_enough module_name name code count n replies typed short enough_steps))
-    (subst (Alike (set_of module_name name code) (record { phase = last_phase count; values = replicate count (Some (I32 (value_of code))); asks = []; store = store.no_objects ∷ []; outcome = wasm.Ended })) (sym (c_run_enough module_name name code count m replies names small typed enough_statements))
-    (ended_alike (set_of module_name name code) (last_phase count) (replicate count (Some (I32 (value_of code))))))
+    let s : LinkedSet = set_of module_name name code in
+    let phase : Phase = last_phase count in
+    let events : List Event = (told (Some (I32 (value_of code))) count (untold replies)).events in
+    let run : c.CRun = c_run_of module_name name (unit_of_constant module_name name code) count m replies in
+    subst (λ (w : wasm.WasmRun). Alike s w run) (sym (wasm_run_enough module_name name code count n replies typed short enough_steps))
+    (subst (Alike s (record { phase = phase; events = events; store = store.no_objects ∷ []; outcome = wasm.Ended }))
+    (sym (c_run_enough module_name name code count m replies names small typed enough_statements)) (ended_alike s phase events))
 
 -- no run of the unit stops for another reason than its end
 never_stops : (module_name name : List ℕ) (code : List ConstantInstr)
@@ -73,8 +81,10 @@ never_stops module_name name code names small typed count m replies why stopped 
   | inr enough_statements ↦ let ends = ap (λ (r : c.CRun). r.outcome) (c_run_enough module_name name code count m replies names small typed enough_statements) in cc
 ]
 
-pub pairing : (module_name bytes name : List ℕ) (code : List ConstantInstr) → All (λ b. b < 256) module_name → IsConstantModule bytes name code → DoesTheSame module_name name code (unit_of_constant module_name name code)
-pairing module_name bytes name code small spelled = record {
+pub pairing : (module_name bytes name : List ℕ) (code : List ConstantInstr) → 1 ≤ length module_name → length module_name ≤ 1024
+    → All (λ b. b < 256) module_name → IsConstantModule bytes name code
+    → DoesTheSame module_name name code (unit_of_constant module_name name code)
+pairing module_name bytes name code some short small spelled = record {
   forward = λ count n replies ends. elim (less_or_not n (1 + count * (1 + length code))) [
     | inl fewer ↦ absurd (ends (wasm_run_short module_name name code count n replies spelled.typed spelled.numbers fewer))
     | inr enough ↦
@@ -91,17 +101,20 @@ pairing module_name bytes name code small spelled = record {
 }
   where
     names : AreSymbols (init_symbol_of module_name) (export_symbol_of module_name Func name)
-    names = are_symbols module_name name small
+    names = are_symbols module_name name some short small
 
     most : peak 0 code < 2 ^ 64
     most = omega (arith, peak-small 0 code, length-code code, spelled.code_is_short)
 
 -- a text that spells the module's unit
-pub is_translation : (module_name bytes name text : List ℕ) (code : List ConstantInstr) (u : List tree.Item) → All (λ b. b < 256) module_name → IsConstantModule bytes name code → u ≡ unit_of_constant module_name name code → CSpells u text → IsTranslation module_name name code text
-is_translation module_name bytes name text code u small spelled is spells = record {
+pub is_translation : (module_name bytes name text : List ℕ) (code : List ConstantInstr) (u : List tree.Item) → 1 ≤ length module_name
+    → length module_name ≤ 1024
+    → All (λ b. b < 256) module_name → IsConstantModule bytes name code → u ≡ unit_of_constant module_name name code → CSpells u text
+    → IsTranslation module_name name code text
+is_translation module_name bytes name text code u some short small spelled is spells = record {
   unit = unit_of_constant module_name name code;
   formed = constant module_name bytes name code spelled;
   spells = subst (λ (v : List tree.Item). CSpells v text) is spells;
   only = λ other others. one_unit other u text others spells ∙ is;
-  same = pairing module_name bytes name code small spelled;
+  same = pairing module_name bytes name code some short small spelled;
 }
