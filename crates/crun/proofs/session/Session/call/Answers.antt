@@ -21,9 +21,9 @@ returns g c =
       over = not_over c.args.self.now.standing (λ why is. c.in_default.not-Over why (ap (λ s. s.standing) c.self.view_is ∙ is)) _;
       only_over = tt;
       ran = subst (λ s. (calls : List SymbolCall) → Stands s calls → (replies : List Reply) → IsOutcome o (Call (length calls)) (c_run (alone (unit_of s.unit)) (calls ++ call ∷ []) s.steps replies)) c.self.view_is
-          (λ calls stands replies. call_outcome before after calls call came.item stands came.called came.defined refl refl c.run_symbol.ensures.fewer o came.spent (λ rs pending. came.came (trail_of rs) pending) replies);
+          (λ calls stands replies. call_outcome before after calls call came.item stands came.called came.defined refl refl c.run_symbol.ensures.fewer o came.spent (λ rs events pending. came.came (trail_of rs events) pending) replies);
       stands = subst (λ s. c.standing_behind-self-inside.result ≡ standing.Ready → (calls : List SymbolCall) → Stands s calls → Stands after (calls ++ call ∷ [])) c.self.view_is
-          (λ ready calls stands. ready_stands before after calls call came.item stands came.called came.defined refl refl c.run_symbol.ensures.fewer o (sym c.standing_behind-self-inside.ensures ∙ ready) c.standing_behind-self-inside.ensures (λ rs pending. came.came (trail_of rs) pending));
+          (λ ready calls stands. ready_stands before after calls call came.item stands came.called came.defined refl refl c.run_symbol.ensures.fewer o (sym c.standing_behind-self-inside.ensures ∙ ready) c.standing_behind-self-inside.ensures (λ rs events pending. came.came (trail_of rs events) pending));
       standing = c.standing_behind-self-inside.ensures;
       memory = tt;
       inits = ap (λ s. s.inits_run) c.self.view_is;
