@@ -7,7 +7,7 @@ use Rattle.w2c_base.specs.Lookup.{if_found}
 use Rattle.c_tree.specs.declared.tree.CType.{CType}
 use Rattle.c_tree.specs.declared.tree.CType.TheVariants.{Void}
 use Rattle.c_tree.specs.Tree as tree
-use Rattle.c_meaning.specs.State.{Name, CValue, Number, Vars, Machine, Frame as Waiting, Stuck}
+use Rattle.c_meaning.specs.State.{Name, CValue, Number, Vars, Machine, Running, Frame as Waiting, Stuck}
 use Rattle.c_meaning.specs.Linking.{Definition, definition_of}
 use Rattle.c_meaning.specs.Machine.{of_type}
 use Rattle.c_meaning.specs.Step.{Step, Stops, next, are_of_types, begin, bind, locals_of, param_names, param_types}
@@ -97,7 +97,8 @@ fitting params values fit =
     sym (named_types params) ∙ count_fits (param_types params) (map Number values) fit ∙ length-map values Number
 
 -- what was put behind arguments that fit
-pub behind_params : {V : Type 0} (items_of : V → List Value) (params : List tree.Param) (values : List Value) (locals these : List tree.Local) (result all : Option V)
+pub behind_params : {V : Type 0} (items_of : V → List Value) (params : List tree.Param) (values : List Value)
+    (locals these : List tree.Local) (result all : Option V)
     → locals ≡ these → result ≡ all → are_of_types (param_types params) (map Number values) ≡ true
     → ((names : List Name) → length names ≡ length values → WithLocals names values locals (option_map items_of result))
     → WithLocals (param_names params) values these (option_map items_of all)
@@ -108,7 +109,8 @@ behind_params items_of params values locals these result all are is fits with =
 abbrev guarded : Definition → List Value → Bool → Option Vars
 guarded d values b = if b then with_params d (bind (param_names d.func.params) (map Number values)) else None
 
-module _ (items : List tree.Item) (i : ℕ) (d : Definition) (values : List Value) (m : Machine) (below : List Waiting) (is : definition_in items i ≡ Some d) where
+module _ (items : List tree.Item) (i : ℕ) (d : Definition) (values : List Value) (m : Machine) (below : List Waiting)
+    (is : definition_in items i ≡ Some d) where
   begins_with : (fit : Bool) → are_of_types (param_types d.func.params) (map Number values) ≡ fit
       → begin (definition_in items i) 0 m (map Number values) below ≡ with_vars d m below (guarded d values fit)
   begins_with fit fits = ap (λ o. begin o 0 m (map Number values) below) is ∙ ap (λ b. with_vars d m below (guarded d values b)) fits
@@ -123,7 +125,8 @@ module _ (items : List tree.Item) (i : ℕ) (d : Definition) (values : List Valu
       ∙ ap (with_vars d m below) locals
 
   pub begins_without : are_of_types (param_types d.func.params) (map Number values) ≡ true
-      → WithLocals (param_names d.func.params) values d.body.locals None → begin (definition_in items i) 0 m (map Number values) below ≡ Stops m Stuck
+      → WithLocals (param_names d.func.params) values d.body.locals None
+      → begin (definition_in items i) 0 m (map Number values) below ≡ Stops m Stuck
   begins_without fits locals = bound fits None locals
 
   -- arguments of other types
@@ -138,13 +141,15 @@ pub begins : (items : List tree.Item) (f : Frame) (d : Definition) (values : Lis
     → begin (definition_in items f.item) 0 m (map Number values) below ≡ next m (running_of items f) below
 begins items f d values m below is first fits locals =
     let de = defines items f.item d is in
-    let vars = vars_of (local_names d.func d.body) f.values.items in
     let stmts = stmts_at items f.item in
     let gives = result_at items f.item in
-    let same : record { unit = 0; item = d.item; result = d.func.result; stmts = d.body.stmts; rest = d.body.stmts; vars = vars } ≡ running_of items f =
-    ap (λ i. record { unit = 0; item = i; result = d.func.result; stmts = d.body.stmts; rest = d.body.stmts; vars = vars }) de.item
-    ∙ ap (λ ty. record { unit = 0; item = f.item; result = ty; stmts = d.body.stmts; rest = d.body.stmts; vars = vars }) (sym de.result)
-    ∙ ap (λ ss. record { unit = 0; item = f.item; result = gives; stmts = ss; rest = ss; vars = vars }) (sym de.stmts)
-    ∙ ap (λ n. record { unit = 0; item = f.item; result = gives; stmts = stmts; rest = drop n stmts; vars = vars }) (sym first)
-    ∙ ap (λ ns. record { unit = 0; item = f.item; result = gives; stmts = stmts; rest = drop f.at stmts; vars = vars_of ns f.values.items }) (sym de.names) in
+    let run : ℕ → CType → List tree.Stmt → List tree.Stmt → List Name → Running =
+    λ i ty stmts rest names. record { unit = 0; item = i; result = ty; stmts = stmts; rest = rest; vars = vars_of names f.values.items } in
+    let names = local_names d.func d.body in
+    let same : run d.item d.func.result d.body.stmts d.body.stmts names ≡ running_of items f =
+    ap (λ i. run i d.func.result d.body.stmts d.body.stmts names) de.item
+    ∙ ap (λ ty. run f.item ty d.body.stmts d.body.stmts names) (sym de.result)
+    ∙ ap (λ ss. run f.item gives ss ss names) (sym de.stmts)
+    ∙ ap (λ n. run f.item gives stmts (drop n stmts) names) (sym first)
+    ∙ ap (run f.item gives stmts (drop f.at stmts)) (sym de.names) in
     bound items f.item d values m below is fits (Some f.values.items) locals ∙ ap (λ r. next m r below) same

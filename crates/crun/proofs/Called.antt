@@ -50,12 +50,14 @@ no_args (I64 n ∷ args) b d e = absurd cc
 -- one whose definition for other units is the first of its name
 takes_nothing : (items : List tree.Item) (c : SymbolCall) (i : ℕ) (d : Definition)
     → ((e : Definition) → defined_for_all items c.symbol ≡ Some e → defined items c.symbol ≡ Some e)
-    → fits (alone items) c ≡ true → function_in c.symbol items ≡ Some i → definition_in items i ≡ Some d → d.func.params ≡ no_params → c.args ≡ []
+    → fits (alone items) c ≡ true → function_in c.symbol items ≡ Some i → definition_in items i ≡ Some d → d.func.params ≡ no_params
+    → c.args ≡ []
 takes_nothing items c i d first fit at is params =
     let ty = func_type_of d.func in
     let here : defined items c.symbol ≡ Some d = definition_known c.symbol items i at ∙ is in
     let typed : func_type (alone items) (UnitFunc 0 c.symbol) ≡ Some ty =
-    ap (option_map (λ (d : Definition). func_type_of d.func)) (seen_first (defined_for_all items c.symbol) (defined items c.symbol) first ∙ here) in
+    ap (option_map (λ (d : Definition). func_type_of d.func))
+    (seen_first (defined_for_all items c.symbol) (defined items c.symbol) first ∙ here) in
     let by_type : fits (alone items) c ≡ takes ty c.args = ap (fits_by items c) (fits_called items c fit) ∙ ap (fits_type c) typed in
     let nothing : ty.params ≡ type.Void ∷ [] = ap (map (λ (p : tree.Param). p.0)) params in
     no_args c.args _ _ (ap (λ ps. takes (record { params = ps; result = ty.result }) c.args) (sym nothing) ∙ sym by_type ∙ fit)

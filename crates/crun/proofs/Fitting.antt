@@ -41,7 +41,8 @@ fits_signed items c o is = ap (λ t. takes_if_any t c.args) is ∙ go (defined_f
     here : Option Definition → Bool
     here o = taken (of_definition (option_or o (defined items c.symbol)))
 
-    go : (o : Option Definition) → defined_for_all items c.symbol ≡ o → takes_if_any (of_definition (defined_for_all items c.symbol)) c.args ≡ fits (alone items) c
+    go : (o : Option Definition) → defined_for_all items c.symbol ≡ o
+        → takes_if_any (of_definition (defined_for_all items c.symbol)) c.args ≡ fits (alone items) c
     go None e = ap (λ o. takes_if_any (of_definition o) c.args) e ∙ sym (fits_is ∙ ap seen e)
     go (Some d) e = ap (λ o. takes_if_any (of_definition o) c.args) e ∙ sym (fits_is ∙ ap seen e ∙ ap here e)
 

@@ -79,7 +79,8 @@ no_ask_told events v none = asks_behind events (CallEnded v ∷ []) ∙ ap (λ a
 pub comes_to : (p : Program) (calls : List SymbolCall) (replies : List Reply) (n steps : ℕ) (run : CRun) → n ≤ steps
     → Reaches p n (starts p replies (entries_of p calls ++ [])) (Over run) → c_run p calls steps replies ≡ run
 comes_to p calls replies n steps run within way =
-    enough p calls replies n steps run (subst (λ es. Reaches p n (starts p replies es) (Over run)) (append-nil (entries_of p calls)) way) within
+    enough p calls replies n steps run
+    (subst (λ es. Reaches p n (starts p replies es) (Over run)) (append-nil (entries_of p calls)) way) within
 
 pub stops_at : (p : Program) (calls : List SymbolCall) (replies : List Reply) (steps : ℕ) (to : Progress)
     → Reaches p steps (starts p replies (entries_of p calls ++ [])) to → c_run p calls steps replies ≡ run_of to
@@ -167,12 +168,14 @@ module _ (before after : State) (calls : List SymbolCall) (c : SymbolCall) (item
       rw run (refl, last_told stands.events v, (refl, no_ask_told stands.events v stands.no_asks))
   call_outcome (outcome.Trapped kind) spent came replies =
       let at = came replies stands.events (pending_of []) in
-      let way = subst (Reaches p (before.steps - after.left) (starts p replies (entries_of p (calls ++ c ∷ []) ++ []))) at.2 (whole replies [] at.0 at.1) in
+      let start = starts p replies (entries_of p (calls ++ c ∷ []) ++ []) in
+      let way = subst (Reaches p (before.steps - after.left) start) at.2 (whole replies [] at.0 at.1) in
       let run = comes_to p (calls ++ c ∷ []) replies (before.steps - after.left) before.steps _ (omega arith) way in
       rw run (refl, (refl, stands.no_asks))
   call_outcome (outcome.Undefined u) spent came replies =
       let at = came replies stands.events (pending_of []) in
-      let way = subst (Reaches p (before.steps - after.left) (starts p replies (entries_of p (calls ++ c ∷ []) ++ []))) at.2 (whole replies [] at.0 at.1) in
+      let start = starts p replies (entries_of p (calls ++ c ∷ []) ++ []) in
+      let way = subst (Reaches p (before.steps - after.left) start) at.2 (whole replies [] at.0 at.1) in
       let run = comes_to p (calls ++ c ∷ []) replies (before.steps - after.left) before.steps _ (omega arith) way in
       rw run (refl, (refl, stands.no_asks))
   call_outcome outcome.OutOfSteps spent came replies =

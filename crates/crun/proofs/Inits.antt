@@ -51,7 +51,8 @@ has_init items built =
     let is = built.is in
     subst HasInit (sym is.is) (record {
       name = name;
-      inits = inits_are name symbol is.variables is.sets is.last (init_symbols_found built.init_module built.init_is.named built.init_is.short built.init_is.bytes);
+      inits = inits_are name symbol is.variables is.sets is.last
+          (init_symbols_found built.init_module built.init_is.named built.init_is.short built.init_is.bytes);
       defined = definition_known name (constant_unit name symbol is.variables is.sets is.last) 1 (init_number name symbol is.variables is.sets is.last);
     })
 
@@ -123,7 +124,8 @@ pub init_outcome : (items : List tree.Item) → HasInit items → (before after 
 init_outcome items has before after (outcome.Ended v) at_start came spent replies =
     let run = way items has before after at_start (outcome.Ended v) came replies [] in
     let whole = way_ended items has before after at_start v came replies [] in
-    rw (comes_to (alone items) [] replies (before.left - after.left) before.left _ (omega arith) whole) (refl, sym (run.2.1 refl), (refl, refl))
+    rw (comes_to (alone items) [] replies (before.left - after.left) before.left _ (omega arith) whole)
+    (refl, sym (run.2.1 refl), (refl, refl))
 init_outcome items has before after (outcome.Trapped kind) at_start came spent replies =
     let run = way items has before after at_start (outcome.Trapped kind) came replies [] in
     let whole = subst (Way items (before.left - after.left) replies []) run.2 run.1 in
@@ -139,7 +141,8 @@ init_outcome items has before after outcome.OutOfSteps at_start came spent repli
     rw (stops_at (alone items) [] replies before.left run.0 whole ∙ ap run_of run.2.1, run.2.2) (refl, (refl, refl))
 
 pub init_value : (items : List tree.Item) → HasInit items → (before after : Engine) (o : Outcome) → before.depth ≡ 0 → RunCame items before after 1 [] o → (v : Option Value) → o ≡ outcome.Ended v → v ≡ None
-init_value items has before after (outcome.Ended w) at_start came v e = (let run = came (trail_of [] []) (pending_of []) in let same : w ≡ v = cc in sym same ∙ run.2.1 refl)
+init_value items has before after (outcome.Ended w) at_start came v e =
+    (let run = came (trail_of [] []) (pending_of []) in let same : w ≡ v = cc in sym same ∙ run.2.1 refl)
 init_value items has before after (outcome.Trapped kind) at_start came v e = absurd cc
 init_value items has before after (outcome.Undefined u) at_start came v e = absurd cc
 init_value items has before after outcome.OutOfSteps at_start came v e = absurd cc

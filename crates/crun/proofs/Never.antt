@@ -141,8 +141,11 @@ module _ (p : Program) (names : List Name) (last : Name) (sets : List ConstantSe
   fine gives s (ExportFirst m r unit rest waits) = call_begins m r rest unit waits
   fine gives s (InBody m r waiting runs waits) = in_body runs.sets runs.rest runs.declared
     where
+      below : List Frame
+      below = record { target = Some r_name; running = waiting } ∷ []
+
       in_body : (sets : List ConstantSet) → r.rest ≡ map set_stmt sets ++ last_return last ∷ [] → AllByRecursion (IsDeclared names) sets
-          → Fine names last true (c_step p (record { machine = m; running = r; below = record { target = Some r_name; running = waiting } ∷ [] }))
+          → Fine names last true (c_step p (record { machine = m; running = r; below = below }))
       in_body [] rest all =
           let value = runs.holds last last_is in
           rw (rest, variable_names last last_is, value.1, runs.result, waits.vars)

@@ -43,4 +43,6 @@ first_type symbol (item ∷ items) = option_or (typed_under symbol (external_of 
 
 -- a function of this type may be called with these arguments
 abbrev pub takes : tree.FuncType → List Value → Bool
-takes ty args = same_types ty.params (c_params_of (types_of args)) && list_any (same_type ty.result) (Void ∷ U32 ∷ U64 ∷ []) && list_all is_number args
+takes ty args = same_types ty.params (c_params_of (types_of args))
+    && list_any (same_type ty.result) (Void ∷ U32 ∷ U64 ∷ [])
+    && list_all is_number args

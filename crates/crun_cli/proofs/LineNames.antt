@@ -62,9 +62,12 @@ signature_takes items call ty = takes ty call.args ≡ true
 -- a call that fits has a type, which takes its arguments
 pub fit_has_type : (items : List tree.Item) (call : SymbolCall) → fits (alone items) call ≡ true → signature_in items call.symbol ≡ None → ⊥
 fit_has_type items call fit none =
-    (let other : false ≡ true = ap (λ o. takes_if_any o call.args) (sym none) ∙ fits_signed items call (signature_in items call.symbol) refl ∙ fit in cc)
+    let other : false ≡ true =
+    ap (λ o. takes_if_any o call.args) (sym none) ∙ fits_signed items call (signature_in items call.symbol) refl ∙ fit in
+    cc
 
-pub fit_takes : (items : List tree.Item) (call : SymbolCall) (ty : tree.FuncType) → fits (alone items) call ≡ true → signature_in items call.symbol ≡ Some ty → same_types ty.params (c_params_of (types_of call.args)) ≡ true
+pub fit_takes : (items : List tree.Item) (call : SymbolCall) (ty : tree.FuncType) → fits (alone items) call ≡ true
+    → signature_in items call.symbol ≡ Some ty → same_types ty.params (c_params_of (types_of call.args)) ≡ true
 fit_takes items call ty fit is =
     let taken : takes ty call.args ≡ true = fits_signed items call (Some ty) (sym is) ∙ fit in
     (both_true _ _ (both_true _ _ taken).0).0
@@ -82,7 +85,8 @@ names_words items line m x ws call is names =
       subst (λ l. AreArguments l call.args) (sym second.1) names.args,
     )
 
-module _ (items : List tree.Item) (line m x symbol : List ℕ) (ws : List (List ℕ)) (is : words_in line ≡ m ∷ x ∷ ws) (symbol_is : IsSymbolOf m x symbol) (call : SymbolCall) (names : Names items line call) where
+module _ (items : List tree.Item) (line m x symbol : List ℕ) (ws : List (List ℕ)) (is : words_in line ≡ m ∷ x ∷ ws)
+    (symbol_is : IsSymbolOf m x symbol) (call : SymbolCall) (names : Names items line call) where
   same_symbol : call.symbol ≡ symbol
   same_symbol = one_symbol m x call.symbol symbol (names_words items line m x ws call is names).0 symbol_is
 

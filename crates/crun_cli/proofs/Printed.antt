@@ -59,9 +59,12 @@ line_of_phase phase o = phase_text phase ++ outcome_text o
 -- an outcome that is no end: the last line
 stopped_line : (run : CRun) (o : Outcome) (phase : Phase) → IsOutcome o phase run → (run.outcome ≢ Ended) → last_line run.phase (stop_text run.outcome) ≡ line_of_phase phase o
 stopped_line run (outcome.Ended value) phase is apart = absurd (apart is.0)
-stopped_line run (outcome.Trapped kind) phase is apart = ap (last_line run.phase) (ap stop_text is.0) ∙ ap (λ p. last_line p (stop_text (Stopped (Trapped kind)))) is.1.0
-stopped_line run (outcome.Undefined u) phase is apart = ap (last_line run.phase) (ap stop_text is.0) ∙ ap (λ p. last_line p (stop_text (Stopped (Undefined u.kind (place_of u))))) is.1.0
-stopped_line run outcome.OutOfSteps phase is apart = ap (last_line run.phase) (ap stop_text is.0) ∙ ap (λ p. last_line p (stop_text OutOfSteps)) is.1.0
+stopped_line run (outcome.Trapped kind) phase is apart =
+    ap (last_line run.phase) (ap stop_text is.0) ∙ ap (λ p. last_line p (stop_text (Stopped (Trapped kind)))) is.1.0
+stopped_line run (outcome.Undefined u) phase is apart =
+    ap (last_line run.phase) (ap stop_text is.0) ∙ ap (λ p. last_line p (stop_text (Stopped (Undefined u.kind (place_of u))))) is.1.0
+stopped_line run outcome.OutOfSteps phase is apart =
+    ap (last_line run.phase) (ap stop_text is.0) ∙ ap (λ p. last_line p (stop_text OutOfSteps)) is.1.0
 
 -- no outcome but an end is an end
 abbrev pub IsEnd : Outcome → Type 0
@@ -99,7 +102,8 @@ module _ (items : List tree.Item) (done : List SymbolCall) (steps : ℕ) (ended 
   abbrev front : CRun
   front = run_of items done steps
 
-  module _ (count : length (values_of front) ≡ length done) (c : SymbolCall) (o : Outcome) (is : IsOutcome o (Call (length done)) (run_of items (done ++ c ∷ []) steps)) where
+  module _ (count : length (values_of front) ≡ length done) (c : SymbolCall) (o : Outcome)
+      (is : IsOutcome o (Call (length done)) (run_of items (done ++ c ∷ []) steps)) where
     abbrev next : CRun
     next = run_of items (done ++ c ∷ []) steps
 
@@ -112,13 +116,16 @@ module _ (items : List tree.Item) (done : List SymbolCall) (steps : ℕ) (ended 
         got.1 ∙ ap (λ v. values_of front ++ v ∷ []) same
 
     pub count_more : (value : Option Value) → o ≡ outcome.Ended value → length (values_of next) ≡ length (done ++ c ∷ [])
-    count_more value e = ap length (value_more value e) ∙ length-append (values_of front) (value ∷ []) ∙ ap (λ n. n + 1) count ∙ sym (length-append done (c ∷ []))
+    count_more value e =
+        ap length (value_more value e) ∙ length-append (values_of front) (value ∷ [])
+        ∙ ap (λ n. n + 1) count ∙ sym (length-append done (c ∷ []))
 
     -- its line stands behind those of the calls before it
     pub line_more : lines_of next ≡ lines_of front ++ line_of_phase (Call (length done)) o
     line_more = by_end (ends_or_not o (Call (length done)) next is)
       where
-        one_line : (value : Option Value) → flat_map ended_line (zip (range_with_len (length (values_of front)) 1) (value ∷ [])) ≡ line_of_phase (Call (length done)) (outcome.Ended value)
+        one_line : (value : Option Value)
+            → flat_map ended_line (zip (range_with_len (length (values_of front)) 1) (value ∷ [])) ≡ line_of_phase (Call (length done)) (outcome.Ended value)
         one_line value = append-nil (ended_line (length (values_of front), value)) ∙ ap (λ n. ended_line (n, value)) count
 
         by_value : (value : Option Value) → o ≡ outcome.Ended value → next.outcome ≡ Ended → lines_of next ≡ lines_of front ++ line_of_phase (Call (length done)) o
@@ -174,7 +181,8 @@ init_line items steps o is apart calls =
     let same : run_of items calls steps ≡ none = stops_the_same (alone items) [] calls steps [] apart in (
       same,
       ap lines_of same
-          ∙ lines_are none ∙ ap (λ vs. ended_lines vs ++ last_line none.phase (stop_text none.outcome)) (inits_give_none (alone items) steps [])
+          ∙ lines_are none
+          ∙ ap (λ vs. ended_lines vs ++ last_line none.phase (stop_text none.outcome)) (inits_give_none (alone items) steps [])
           ∙ stopped_line none o (Init 0) is apart,
     )
 

@@ -70,7 +70,8 @@ module _ (words : List Name) (told : Told) (reads reads' : ℕ) (named : Option 
 
   unread_answer : (m : Contents) (file : Name) (status : ℕ)
       → Faulted file reads reads' named ⊎ ((contents : Contents) × (told ≡ Some contents) × IsJob words contents (Stops (Unread file)))
-      → IsStatus status (Unread file) → told ≡ Some m → (Rose reads reads' → ⊥) → (status ≡ 5) ⊎ ((job : Job) × IsJob words m job × Answers job status)
+      → IsStatus status (Unread file) → told ≡ Some m → (Rose reads reads' → ⊥)
+      → (status ≡ 5) ⊎ ((job : Job) × IsJob words m job × Answers job status)
   unread_answer m file status (inl faulted) is tells read = absurd (read faulted.rose)
   unread_answer m file status (inr (contents, is_told, job)) is tells read =
       let same : contents ≡ m = (let both = sym is_told ∙ tells in cc) in
@@ -88,7 +89,8 @@ module _ (words : List Name) (told : Told) (reads reads' : ℕ) (named : Option 
 
   -- a job that is refused is answered so, where no file failed
   pub stop_always : (why : Reason) (status : ℕ) → Stopped why → IsStatus status why
-      → Tells told (λ m. (Rose reads reads' → ⊥) → (first : Reason) → IsJob words m (Stops first) → (status ≡ status_of first) ⊎ (status ≡ 5))
+      → Tells told (λ m. (Rose reads reads' → ⊥)
+      → (first : Reason) → IsJob words m (Stops first) → (status ≡ status_of first) ⊎ (status ≡ 5))
   stop_always why status stop is m tells read first refused = by_write why stop is
     where
       answer : (status ≡ 5) ⊎ ((job : Job) × IsJob words m job × Answers job status) → (status ≡ status_of first) ⊎ (status ≡ 5)
@@ -148,7 +150,8 @@ module _ (words : List Name) (told : Told) (reads reads' : ℕ) (named : Option 
   stop_unwritten WantOfMemory status stop is came = absurd (omega (arith, is, came))
 
   -- and the line says so
-  pub write_fault : (Says : Reason → Type 0) (why : Reason) (status : ℕ) → Stopped why → IsStatus status why → Says why ⊎ (status ≡ 5) → status ≡ 4
+  pub write_fault : (Says : Reason → Type 0) (why : Reason) (status : ℕ) → Stopped why → IsStatus status why
+      → Says why ⊎ (status ≡ 5) → status ≡ 4
       → Rose faults faults' × Tells told (λ m. RunsPart words m old new) × Says Unwritten
   write_fault Says why status stop is says came =
       let found = stop_unwritten why status stop is came in

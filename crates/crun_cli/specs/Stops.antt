@@ -30,7 +30,8 @@ HasReading words = line_of words ≡ None → ⊥
 -- why the words, the unit or the calls file are refused, over what the files tell
 abbrev pub Refuses : List Name → Told → Reason → Type 0
 Refuses words told Usage = line_of words ≡ None
-Refuses words told (Refused file why) = IsUnitFile file (line_of words) × Tells told (λ contents. IsJob words contents (Stops (Refused file why)))
+Refuses words told (Refused file why) =
+    IsUnitFile file (line_of words) × Tells told (λ contents. IsJob words contents (Stops (Refused file why)))
 Refuses words told CallsTooLong = HasReading words × Tells told (λ contents. IsJob words contents (Stops CallsTooLong))
 Refuses words told (CallsLine number) = HasReading words × Tells told (λ contents. IsJob words contents (Stops (CallsLine number)))
 Refuses words told (Unread file) = ⊥
@@ -121,7 +122,8 @@ IsRunStatus status = (status ≡ 0) ⊎ (status ≡ 1) ⊎ (status ≡ 7) ⊎ (s
 
 -- why the program stops: before it has run, with nothing written, or in the middle of a run
 abbrev pub StopsWork : List Name → Told → ℕ → ℕ → Option Name → Option (List ℕ) → Option (List ℕ) → ℕ → ℕ → Reason → Type 0
-StopsWork words told reads reads' named old new faults faults' Unwritten = Rose faults faults' × HasReading words × Tells told (λ contents. RunsPart words contents old new)
+StopsWork words told reads reads' named old new faults faults' Unwritten =
+    Rose faults faults' × HasReading words × Tells told (λ contents. RunsPart words contents old new)
 StopsWork words told reads reads' named old new faults faults' WantOfMemory = Tells told (λ contents. RanPart words contents old new)
 StopsWork words told reads reads' named old new faults faults' Usage = StopsBefore words told reads reads' named Usage × (new ≡ old)
 StopsWork words told reads reads' named old new faults faults' (Unread file) = StopsBefore words told reads reads' named (Unread file) × (new ≡ old)

@@ -21,7 +21,8 @@ returns-in-Err-clause-refused_always g c =
     let files = g.F.Files in
     stop_always (texts c.args.words.now) (files.told c.args.files.now) (files.read_faults c.args.files.now)
     (files.read_faults c.work.new.files) (files.fault_name c.work.new.files) (g.O.Sink.told c.args.out.now) (g.O.Sink.told c.work.new.out)
-    (g.O.Sink.faults c.args.out.now) (g.O.Sink.faults c.work.new.out) (reason_of c.in-Err.stop) c.report.result c.in-Err.ensures.stop c.report.ensures.status
+    (g.O.Sink.faults c.args.out.now) (g.O.Sink.faults c.work.new.out) (reason_of c.in-Err.stop) c.report.result
+    c.in-Err.ensures.stop c.report.ensures.status
 
 pub returns-in-Err-clause-write_fault : goal.returns-in-Err-clause-write_fault
 returns-in-Err-clause-write_fault g c = λ four.
