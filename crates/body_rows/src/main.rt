@@ -33,7 +33,7 @@ fn answer(alloc: Global, line: &str) -> Result<String, AllocError> {
         return format!(in alloc; "{name}: no bytes");
     };
     let text = text_of_bodies(alloc, bytes.as_slice())?;
-    format!(in alloc; "{name}: {text}")
+    format!(in alloc; "{name}:{text}")
 }
 
 // The bytes that are written so, where they are.
