@@ -5,6 +5,7 @@ use wasm_binary::{ReadFault, read_module};
 use wasm_valid::{ValidModule, ValidRefusal};
 use wasm_writing::{Formed, write_module};
 
+/// Accepted, or the line of the first fault without the file's name.
 pub fn verdict(alloc: Global, bytes: &[u8]) -> Result<String, AllocError> {
     if bytes.len() > MODULE_BYTES {
         return format!(in alloc; "limit at {MODULE_BYTES}: module bytes");
