@@ -20,3 +20,4 @@ pub mod Behind
 pub mod WithinCode
 pub mod WithinModule
 pub mod WithinPlaces
+pub mod Bytes

@@ -1,6 +1,11 @@
-use Rattle.std.proofs.Common.{rules}
+use Rattle.std.proofs.Common.{rules, refl}
+use Rattle.wasm_spelling.proofs.Bytes.{fits_are_bytes}
 use Rattle.wasm2c_cli.proofs.ReasonLaws.{check_refuses}
 use Rattle.wasm2c_cli.proofs.reading.module_of.Goals as goal
+
+pub check-requires : goal.check-requires
+check-requires c =
+    (c.args.bytes.now, fits_are_bytes c.args.bytes.now c.type_inv.bytes, (c.in-Ok.tree, refl, c.in-Ok.ensures.found))
 
 pub returns-in-Err-NotBuilt-clause-refused : goal.returns-in-Err-NotBuilt-clause-refused
 returns-in-Err-NotBuilt-clause-refused c =
