@@ -6,3 +6,4 @@ pub mod WasmRuns
 pub mod CCode
 pub mod CRuns
 pub mod Pairing
+pub mod UnitRules

@@ -13,6 +13,7 @@ use Rattle.wasm_meaning.specs.LinkedSet.{LinkedSet}
 use Rattle.wasm_meaning.specs.Store as store
 use Rattle.wasm_meaning.specs.Run as wasm
 use Rattle.c_tree.specs.Tree as tree
+use Rattle.c_tree.specs.FirstBroken.{KeepsRules}
 use Rattle.c_tree.specs.Spelled.{CSpells}
 use Rattle.c_tree.proofs.OneUnit.{one_unit}
 use Rattle.c_meaning.specs.Run as c
@@ -20,10 +21,11 @@ use Rattle.c_meaning.proofs.InitSymbols.{init_symbols_found}
 use Rattle.alike.specs.Alike.{Alike}
 use Rattle.w2c_sim.specs.Translation.{peak, unit_of_constant}
 use Rattle.w2c_sim.specs.Runs.{set_of, wasm_run_of, c_run_of}
-use Rattle.w2c_sim.specs.Simulation.{NeverStops, DoesTheSame, IsTranslation}
+use Rattle.w2c_sim.specs.Simulation.{NeverStops, DoesTheSame, HasShape, IsTranslation}
 use Rattle.w2c_sim.proofs.Constants.{value_of, last_phase, less_or_not, told}
 use Rattle.c_meaning.proofs.Lookups.{bytes_differ}
 use Rattle.w2c_sim.proofs.Units.{peak-small, length-code, constant}
+use Rattle.w2c_sim.proofs.UnitRules.{constant_unit_keeps_rules}
 use Rattle.w2c_sim.proofs.WasmRuns.{untold, wasm_run_enough, wasm_run_short}
 use Rattle.w2c_sim.proofs.CRuns.{AreSymbols, no_objects, c_run_enough, c_run_short}
 
@@ -113,8 +115,15 @@ pub is_translation : (module_name bytes name text : List ℕ) (code : List Const
     → IsTranslation module_name name code text
 is_translation module_name bytes name text code u some short small spelled is spells = record {
   unit = unit_of_constant module_name name code;
-  formed = constant module_name bytes name code spelled;
+  formed = formed;
+  keeps_rules = subst KeepsRules (sym formed.is)
+      (constant_unit_keeps_rules module_name name formed.variables formed.sets formed.last
+      (are_symbols module_name name some short small).apart
+      formed.distinct formed.variable_names formed.sets_are_declared formed.last_is_declared);
   spells = subst (λ (v : List tree.Item). CSpells v text) is spells;
   only = λ other others. one_unit other u text others spells ∙ is;
   same = pairing module_name bytes name code some short small spelled;
 }
+  where
+    formed : HasShape module_name name code (unit_of_constant module_name name code)
+    formed = constant module_name bytes name code spelled

@@ -10,10 +10,15 @@ use Rattle.wasm_meaning.specs.Run as wasm
 use Rattle.c_tree.specs.Tree as tree
 use Rattle.c_tree.specs.Spelled.{CSpells}
 use Rattle.c_tree.specs.ConstantUnit.{IsConstantUnit}
+use Rattle.c_tree.specs.FirstBroken.{KeepsRules}
 use Rattle.c_meaning.specs.State.{Stop}
 use Rattle.c_meaning.specs.Run as c
 use Rattle.alike.specs.Alike.{Alike}
 use Rattle.w2c_sim.specs.Runs.{set_of, wasm_run_of, c_run_of}
+
+-- the unit is one of the form, with the symbols of the module's name and the export's
+abbrev pub HasShape : List ℕ → List ℕ → List ConstantInstr → List tree.Item → Type 0
+HasShape module_name name code unit = IsConstantUnit (init_symbol_of module_name) (export_symbol_of module_name Func name) unit
 
 -- a module's run that ends in n steps has a run of the unit that ends alike within 400n + 400
 -- statements
@@ -40,10 +45,11 @@ pub record DoesTheSame (module_name name : List ℕ) (code : List ConstantInstr)
   pub backward : Backward module_name name code unit
   pub never_stops : NeverStops module_name name unit
 
--- the text spells a unit of the form, and no other, that does what the module does
+-- the text spells a unit of the form, and no other, that keeps the rules of C and does what the module does
 pub record IsTranslation (module_name name : List ℕ) (code : List ConstantInstr) (text : List ℕ) : Type 0 where
   pub unit : List tree.Item
-  pub formed : IsConstantUnit (init_symbol_of module_name) (export_symbol_of module_name Func name) unit
+  pub formed : HasShape module_name name code unit
+  pub keeps_rules : KeepsRules unit
   pub spells : CSpells unit text
   pub only : (other : List tree.Item) → CSpells other text → other ≡ unit
   pub same : DoesTheSame module_name name code unit

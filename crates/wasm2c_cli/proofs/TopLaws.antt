@@ -9,8 +9,9 @@ use Rattle.wasm2c_cli.specs.declared.stop.Stop.TheVariants as stops
 use Rattle.wasm2c_cli.specs.CommandLine.{Line, line_of, runtime_of}
 use Rattle.wasm2c_cli.specs.Job.{Job, Usage, Missing, Refused, IsJobOf, IsJob, IsOtherJob}
 use Rattle.wasm2c_cli.specs.Lines.{line_for, refused_line, status_of}
-use Rattle.wasm2c_cli.specs.Stops.{StandsOfJob, StopsWork, WritesUnit, WritesUnitThat}
-use Rattle.w2c_sim.specs.Simulation.{Backward, Forward, NeverStops}
+use Rattle.wasm2c_cli.specs.Stops.{IsInput, StandsOfJob, StopsWork, WritesUnit, WritesUnitThat}
+use Rattle.c_tree.specs.FirstBroken.{KeepsRules}
+use Rattle.w2c_sim.specs.Simulation.{Backward, Forward, HasShape, NeverStops}
 use Rattle.wasm2c_cli.specs.Top.{Answers}
 
 usage_job : (words : List Name) (contents : Contents) → line_of words ≡ None → runtime_of words ≡ None → IsJob words contents Usage
@@ -21,19 +22,26 @@ same_contents : (m n : Contents) → ◌≡◌ {A = Told} (Some m) (Some n) → 
 same_contents m n e = cc
 
 -- where no count rose, the stop's status is the job's answer, or want of memory
-stop_answers : (words : List Name) (old new : Told) (r r' w w' : ℕ) (named : Option Name) (status : ℕ) (stop : Stop) → StopsWork words old new r r' w w' named stop → status ≡ status_of stop
-    → (contents : Contents) → old ≡ Some contents → (Rose r r' → ⊥) → (Rose w w' → ⊥) → (status ≡ 5) ⊎ ((job : Job) × IsJob words contents job × Answers job status)
-stop_answers words old new r r' w w' named status stops.Usage why is contents told no_reads no_writes = inr (Usage, usage_job words contents why.0 why.1, is)
-stop_answers words old new r r' w w' named status (stops.Refused file cause) why is contents told no_reads no_writes = inr (Refused (string_bytes file) cause, why.0 contents told, is)
+stop_answers : (words : List Name) (old new : Told) (r r' w w' : ℕ) (named : Option Name) (status : ℕ) (stop : Stop)
+    → StopsWork words old new r r' w w' named stop → status ≡ status_of stop
+    → (contents : Contents) → old ≡ Some contents → (Rose r r' → ⊥) → (Rose w w' → ⊥)
+    → (status ≡ 5) ⊎ ((job : Job) × IsJob words contents job × Answers job status)
+stop_answers words old new r r' w w' named status stops.Usage why is contents told no_reads no_writes =
+    inr (Usage, usage_job words contents why.0 why.1, is)
+stop_answers words old new r r' w w' named status (stops.Refused file cause) why is contents told no_reads no_writes =
+    inr (Refused (string_bytes file) cause, why.1 contents told, is)
 stop_answers words old new r r' w w' named status (stops.Unread file) why is contents told no_reads no_writes = elim why.1 [
   | inl faulted ↦ absurd (no_reads faulted.rose)
   | inr missing ↦ inr (Missing (string_bytes file), subst (λ (m : Contents). IsJob words m (Missing (string_bytes file))) (same_contents missing.0 contents (sym missing.1 ∙ told)) missing.2, is)
 ]
-stop_answers words old new r r' w w' named status (stops.Unwritten file) why is contents told no_reads no_writes = absurd (no_writes why.1.rose)
+stop_answers words old new r r' w w' named status (stops.Unwritten file) why is contents told no_reads no_writes =
+    absurd (no_writes why.1.rose)
 stop_answers words old new r r' w w' named status stops.Memory why is contents told no_reads no_writes = inl is
 
-pub stop_complete : (words : List Name) (old new : Told) (r r' w w' : ℕ) (named : Option Name) (status : ℕ) (stop : Stop) → StopsWork words old new r r' w w' named stop → (status ≡ status_of stop) ⊎ (status ≡ 5)
-    → (contents : Contents) → old ≡ Some contents → (Rose r r' → ⊥) → (Rose w w' → ⊥) → (status ≡ 5) ⊎ ((job : Job) × IsJob words contents job × Answers job status)
+pub stop_complete : (words : List Name) (old new : Told) (r r' w w' : ℕ) (named : Option Name) (status : ℕ) (stop : Stop)
+    → StopsWork words old new r r' w w' named stop → (status ≡ status_of stop) ⊎ (status ≡ 5)
+    → (contents : Contents) → old ≡ Some contents → (Rose r r' → ⊥) → (Rose w w' → ⊥)
+    → (status ≡ 5) ⊎ ((job : Job) × IsJob words contents job × Answers job status)
 stop_complete words old new r r' w w' named status stop why (inl is) = stop_answers words old new r r' w w' named status stop why is
 stop_complete words old new r r' w w' named status stop why (inr five) = λ contents told no_reads no_writes. inl five
 
@@ -43,10 +51,13 @@ module _ (said said' : Option (List ℕ)) (faults faults' status : ℕ) (one : s
   line_said line (inl says) = says
   line_said line (inr five) = absurd (omega (arith, five, one))
 
-  pub stop_refused : (words : List Name) (old new : Told) (r r' w w' : ℕ) (named : Option Name) (stop : Stop) → StopsWork words old new r r' w w' named stop → (status ≡ status_of stop) ⊎ (status ≡ 5)
+  pub stop_refused : (words : List Name) (old new : Told) (r r' w w' : ℕ) (named : Option Name) (stop : Stop)
+      → StopsWork words old new r r' w w' named stop → (status ≡ status_of stop) ⊎ (status ≡ 5)
       → (status ≡ status_of stop → Says said said' faults faults' (line_for stop) ⊎ (status ≡ 5))
-      → (file : Name) × (reason : Reason) × Tells old (λ contents. IsJob words contents (Refused file reason)) × Says said said' faults faults' (refused_line file reason)
-  stop_refused words old new r r' w w' named (stops.Refused file reason) why (inl is) says = (string_bytes file, reason, why.0, line_said (refused_line (string_bytes file) reason) (says is))
+      → (file : Name) × (reason : Reason) × IsInput file (line_of words)
+      × Tells old (λ contents. IsJob words contents (Refused file reason)) × Says said said' faults faults' (refused_line file reason)
+  stop_refused words old new r r' w w' named (stops.Refused file reason) why (inl is) says =
+      (string_bytes file, reason, why.0, why.1, line_said (refused_line (string_bytes file) reason) (says is))
   stop_refused words old new r r' w w' named stops.Usage why (inl is) says = absurd (omega (arith, is, one))
   stop_refused words old new r r' w w' named (stops.Unread file) why (inl is) says = absurd (omega (arith, is, one))
   stop_refused words old new r r' w w' named (stops.Unwritten file) why (inl is) says = absurd (omega (arith, is, one))
@@ -54,9 +65,10 @@ module _ (said said' : Option (List ℕ)) (faults faults' status : ℕ) (one : s
   stop_refused words old new r r' w w' named stop why (inr five) says = absurd (omega (arith, five, one))
 
 -- nothing has changed, or some of the job's files stand
-pub stop_stands : (words : List Name) (old new : Told) (r r' w w' : ℕ) (named : Option Name) (stop : Stop) → StopsWork words old new r r' w w' named stop → (contents : Contents) → old ≡ Some contents → StandsOfJob words contents old new
+pub stop_stands : (words : List Name) (old new : Told) (r r' w w' : ℕ) (named : Option Name) (stop : Stop)
+    → StopsWork words old new r r' w w' named stop → (contents : Contents) → old ≡ Some contents → StandsOfJob words contents old new
 stop_stands words old new r r' w w' named stops.Usage why contents told = inl why.2
-stop_stands words old new r r' w w' named (stops.Refused file cause) why contents told = inl why.1
+stop_stands words old new r r' w w' named (stops.Refused file cause) why contents told = inl why.2
 stop_stands words old new r r' w w' named (stops.Unread file) why contents told = inl why.2
 stop_stands words old new r r' w w' named (stops.Unwritten file) why contents told =
     let files = why.2 contents told in
@@ -70,5 +82,13 @@ goes_forward words old new writes = λ contents told. let w = writes contents to
 pub goes_backward : (words : List Name) (old new : Told) → WritesUnit words old new → WritesUnitThat Backward words old new
 goes_backward words old new writes = λ contents told. let w = writes contents told in (w.0, w.1, w.2, w.2.translation.same.backward)
 
-pub stops_never : (words : List Name) (old new : Told) → WritesUnit words old new → WritesUnitThat (λ name export code unit. NeverStops name export unit) words old new
+pub stops_never : (words : List Name) (old new : Told) → WritesUnit words old new
+    → WritesUnitThat (λ name export code unit. NeverStops name export unit) words old new
 stops_never words old new writes = λ contents told. let w = writes contents told in (w.0, w.1, w.2, w.2.translation.same.never_stops)
+
+pub has_shape : (words : List Name) (old new : Told) → WritesUnit words old new → WritesUnitThat HasShape words old new
+has_shape words old new writes = λ contents told. let w = writes contents told in (w.0, w.1, w.2, w.2.translation.formed)
+
+pub keeps_rules : (words : List Name) (old new : Told) → WritesUnit words old new
+    → WritesUnitThat (λ name export code unit. KeepsRules unit) words old new
+keeps_rules words old new writes = λ contents told. let w = writes contents told in (w.0, w.1, w.2, w.2.translation.keeps_rules)

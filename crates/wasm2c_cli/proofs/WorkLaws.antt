@@ -35,6 +35,7 @@ reading_stops_work words line old new r r' w w' named (stops.Unread name) is sam
   same,
 )
 reading_stops_work words line old new r r' w w' named (stops.Refused name reason) is same (of_input, why) = (
+  subst (IsInput (string_bytes name)) (sym is) of_input,
   λ contents told. let held = why contents told in is_job words line contents (Refused (string_bytes name) reason) is (of_input, (held.0, ap (get contents) of_input ∙ held.1, held.2)),
   same,
   no_usage words line is,

@@ -19,15 +19,20 @@ use Rattle.wasm2c_cli.specs.Standing.{IsOneOf, file_names, written, Stands, Stan
 
 -- why no module was read
 abbrev pub StopsReading : Told → Name → ℕ → ℕ → Option Name → Stop → Type 0
-StopsReading told file before after named (stops.Unread name) = (string_bytes name ≡ file) × (Faulted file before after named ⊎ ((contents : Contents) × (told ≡ Some contents) × (get contents file ≡ None)))
-StopsReading told file before after named (stops.Refused name reason) = (string_bytes name ≡ file) × Tells told (λ contents. (bytes : List ℕ) × (get contents file ≡ Some bytes) × IsRefused bytes reason)
+StopsReading told file before after named (stops.Unread name) =
+    (string_bytes name ≡ file)
+    × (Faulted file before after named ⊎ ((contents : Contents) × (told ≡ Some contents) × (get contents file ≡ None)))
+StopsReading told file before after named (stops.Refused name reason) =
+    (string_bytes name ≡ file) × Tells told (λ contents. (bytes : List ℕ) × (get contents file ≡ Some bytes) × IsRefused bytes reason)
 StopsReading told file before after named stops.Memory = Unit {0}
 StopsReading told file before after named stops.Usage = ⊥
 StopsReading told file before after named (stops.Unwritten name) = ⊥
 
 -- why writing stopped
 abbrev pub StopsWriting : Told → Told → List (Name × List ℕ) → ℕ → ℕ → Option Name → Stop → Type 0
-StopsWriting old new files before after named (stops.Unwritten name) = IsOneOf (string_bytes name) (file_names files) × Faulted (string_bytes name) before after named × StandsAt old new files (string_bytes name)
+StopsWriting old new files before after named (stops.Unwritten name) =
+    IsOneOf (string_bytes name) (file_names files)
+    × Faulted (string_bytes name) before after named × StandsAt old new files (string_bytes name)
 StopsWriting old new files before after named stops.Memory = Stands old new files
 StopsWriting old new files before after named (stops.Unread name) = ⊥
 StopsWriting old new files before after named (stops.Refused name reason) = ⊥
@@ -83,12 +88,15 @@ WritesUnitThat P words old new = Tells old (λ contents. (line : Line) × (line_
 
 -- nothing has changed, or some of the job's files stand
 abbrev pub StandsOfJob : List Name → Contents → Told → Told → Type 0
-StandsOfJob words contents old new = (new ≡ old) ⊎ ((files : List (Name × List ℕ)) × IsJob words contents (Write files) × Stands old new files)
+StandsOfJob words contents old new =
+    (new ≡ old) ⊎ ((files : List (Name × List ℕ)) × IsJob words contents (Write files) × Stands old new files)
 
 -- why the work stopped
 abbrev pub StopsWork : List Name → Told → Told → ℕ → ℕ → ℕ → ℕ → Option Name → Stop → Type 0
 StopsWork words old new reads reads' writes writes' named stops.Usage = (line_of words ≡ None) × (runtime_of words ≡ None) × (new ≡ old)
-StopsWork words old new reads reads' writes writes' named (stops.Refused name reason) = Tells old (λ contents. IsJob words contents (Refused (string_bytes name) reason)) × (new ≡ old) × HasReading words
+StopsWork words old new reads reads' writes writes' named (stops.Refused name reason) =
+    IsInput (string_bytes name) (line_of words)
+    × Tells old (λ contents. IsJob words contents (Refused (string_bytes name) reason)) × (new ≡ old) × HasReading words
 StopsWork words old new reads reads' writes writes' named (stops.Unread name) =
     IsInput (string_bytes name) (line_of words) × (Faulted (string_bytes name) reads reads' named ⊎ ((contents : Contents) × (old ≡ Some contents) × IsJob words contents (Missing (string_bytes name)))) × (new ≡ old)
 StopsWork words old new reads reads' writes writes' named (stops.Unwritten name) =

@@ -3,7 +3,8 @@ ghost use Rattle.std.specs.Prelude.{◌≡◌, ◌⊎◌, ◌≤◌, List, ℕ, 
 ghost use Rattle.w2c_io.specs.Contents.{Name, Contents};
 ghost use Rattle.w2c_io.specs.Causes.{Rose, Faulted};
 ghost use Rattle.w2c_io.specs.Telling.{Tells, Says, SaysPart};
-ghost use Rattle.w2c_sim.specs.Simulation.{Backward, Forward, NeverStops};
+ghost use Rattle.c_tree.specs.FirstBroken.{KeepsRules};
+ghost use Rattle.w2c_sim.specs.Simulation.{Backward, Forward, HasShape, NeverStops};
 ghost use Rattle.wasm2c_cli.specs.declared.stop.Reason.{Reason};
 ghost use Rattle.wasm2c_cli.specs.declared.stop.Stop.{Stop as AnyStop};
 ghost use Rattle.wasm2c_cli.specs.CommandLine.{line_of, runtime_of, texts};
@@ -37,7 +38,13 @@ pub fn wasm2c_top<F: Files, E: Sink>(
     // for, the output holds such a unit, and the header stands beside it.
     ensures done { result ≡ 0 → Done (texts words.now) (F.told files.old) (F.told files.new) }
     ensures unit { result ≡ 0 → runtime_of (texts words.now) ≡ None → WritesUnit (texts words.now) (F.told files.old) (F.told files.new) }
-    // The unit does what the module does, both ways, and nothing that is undefined.
+    // The unit has the shape of the module's,
+    ensures shape { result ≡ 0 → runtime_of (texts words.now) ≡ None → WritesUnitThat HasShape
+        (texts words.now) (F.told files.old) (F.told files.new) }
+    // keeps the rules of the subset of C,
+    ensures rules { result ≡ 0 → runtime_of (texts words.now) ≡ None → WritesUnitThat (λ name export code unit. KeepsRules unit)
+        (texts words.now) (F.told files.old) (F.told files.new) }
+    // and does what the module does, both ways, and nothing that is undefined.
     ensures forward { result ≡ 0 → runtime_of (texts words.now) ≡ None → WritesUnitThat Forward (texts words.now) (F.told files.old) (F.told files.new) }
     ensures backward { result ≡ 0 → runtime_of (texts words.now) ≡ None → WritesUnitThat Backward (texts words.now) (F.told files.old) (F.told files.new) }
     ensures never_stops { result ≡ 0 → runtime_of (texts words.now) ≡ None → WritesUnitThat (λ name export code unit. NeverStops name export unit)
@@ -45,7 +52,7 @@ pub fn wasm2c_top<F: Files, E: Sink>(
     ensures silent { result ≡ 0 → E.told err.new ≡ E.told err.old }
 
     // Status 1 to 4: when each comes, and the line on the error stream.
-    ensures refused { result ≡ 1 → (file : Name) × (reason : Reason)
+    ensures refused { result ≡ 1 → (file : Name) × (reason : Reason) × IsInput file (line_of (texts words.now))
         × Tells (F.told files.old) (λ m. IsJob (texts words.now) m (Refused file reason))
         × Says (E.told err.old) (E.told err.new) (E.faults err.old) (E.faults err.new) (refused_line file reason) }
     ensures usage { result ≡ 2 → (line_of (texts words.now) ≡ None) × (runtime_of (texts words.now) ≡ None)

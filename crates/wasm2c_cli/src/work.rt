@@ -1,6 +1,6 @@
 // The work that a command line asks for.
 ghost use Rattle.std.specs.Prelude.{◌≡◌, ◌≤◌, OnOk, IfOk, IfErr, IsTrue, None, string_bytes};
-ghost use Rattle.wasm2c_cli.specs.CommandLine.{is_c_file, runtime_of, texts};
+ghost use Rattle.wasm2c_cli.specs.CommandLine.{is_c_file, is_module_name, runtime_of, texts};
 ghost use Rattle.wasm2c_cli.specs.Job.{Makes};
 ghost use Rattle.wasm2c_cli.specs.Seen.{names_of_line};
 ghost use Rattle.wasm2c_cli.specs.SeenOutputs.{seen_outputs};
@@ -57,6 +57,7 @@ fn make_outputs(
 ) -> Result<[Output; 2], Memory>
     requires spelled { IsSpelledModule «module».now.name «module».now.code }
     requires c_file { IsTrue (is_c_file (string_bytes line.now.output.now)) }
+    requires named { IsTrue (is_module_name line.now.module_name.now) }
     ensures made { IfOk result (λ outputs. Makes (names_of_line line.now) «module».now.name «module».now.code (seen_outputs outputs)) }
     ensures translated { OnOk result (IsTranslation line.now.module_name.now «module».now.name «module».now.code
         (text_of line.now.module_name.now «module».now.name «module».now.code)) }

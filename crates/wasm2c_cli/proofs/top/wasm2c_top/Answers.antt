@@ -1,5 +1,5 @@
 use Rattle.wasm2c_cli.specs.CommandLine.{texts}
-use Rattle.wasm2c_cli.proofs.TopLaws.{goes_backward, goes_forward, stop_complete, stop_refused, stop_stands, stops_never}
+use Rattle.wasm2c_cli.proofs.TopLaws.{goes_backward, goes_forward, has_shape, keeps_rules, stop_complete, stop_refused, stop_stands, stops_never}
 use Rattle.wasm2c_cli.proofs.top.wasm2c_top.Goals as goal
 
 pub returns-in-Err-clause-complete : goal.returns-in-Err-clause-complete
@@ -26,3 +26,12 @@ returns-in-Ok-clause-backward g c = λ zero no_runtime. goes_backward (texts c.a
 
 pub returns-in-Ok-clause-never_stops : goal.returns-in-Ok-clause-never_stops
 returns-in-Ok-clause-never_stops g c = λ zero no_runtime. stops_never (texts c.args.words.now) (g.F.Files.told c.args.files.now) (g.F.Files.told c.work.new.files) (c.in-Ok.ensures.unit no_runtime)
+
+pub returns-in-Ok-clause-shape : goal.returns-in-Ok-clause-shape
+returns-in-Ok-clause-shape g c = λ zero no_runtime.
+    has_shape (texts c.args.words.now) (g.F.Files.told c.args.files.now) (g.F.Files.told c.work.new.files) (c.in-Ok.ensures.unit no_runtime)
+
+pub returns-in-Ok-clause-rules : goal.returns-in-Ok-clause-rules
+returns-in-Ok-clause-rules g c = λ zero no_runtime.
+    keeps_rules (texts c.args.words.now) (g.F.Files.told c.args.files.now) (g.F.Files.told c.work.new.files)
+    (c.in-Ok.ensures.unit no_runtime)

@@ -1,7 +1,14 @@
 use Rattle.std.proofs.Common.{rules, ◌≡◌, string_bytes}
 use Rattle.wasm2c_cli.specs.Seen.{names_of_line}
+use Rattle.wasm2c_cli.proofs.HeaderName.{some_bytes, few_bytes}
 use Rattle.wasm2c_cli.proofs.WorkLaws.{makes, translated}
 use Rattle.wasm2c_cli.proofs.work.make_outputs.Goals as goal
+
+pub unit_text-requires-clause-named : goal.unit_text-requires-clause-named
+unit_text-requires-clause-named c = some_bytes c.args.line.now.module_name.now c.requires.named
+
+pub unit_text-requires-clause-short : goal.unit_text-requires-clause-short
+unit_text-requires-clause-short c = few_bytes c.args.line.now.module_name.now c.requires.named
 
 pub returns-clause-made : goal.returns-clause-made
 returns-clause-made c =
