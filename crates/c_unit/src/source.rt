@@ -60,7 +60,7 @@ impl<'a> Source<'a> {
             ..
         } = Reached::new(alloc, &symbols)?;
         let func_symbols = func_symbols(alloc, &symbols.indexes)?;
-        let spaces = IndexSpaces::new(alloc, tree, name)?;
+        let spaces = IndexSpaces::new(alloc, m, name)?;
         Ok(Source {
             alloc,
             tree,
