@@ -8,7 +8,8 @@ use Rattle.c_tree.specs.View.{item_of, unit_of}
 use Rattle.c_unit.specs.Tails.{Given}
 
 pub put_next : (unit grown : List Item) (item : Item) (found : Option Item) (before after all : List tree.Item) → found ≡ Some item
-    → Given (option_map item_of found) before after → grown ≡ unit ++ item ∷ [] → unit_of unit ++ before ≡ all → unit_of grown ++ after ≡ all
+    → Given (option_map item_of found) before after → grown ≡ unit ++ item ∷ [] → unit_of unit ++ before ≡ all
+    → unit_of grown ++ after ≡ all
 put_next unit grown item None before after all is given put so_far = absurd cc
 put_next unit grown item (Some i) before after all is given put so_far =
     let same : i ≡ item = cc in

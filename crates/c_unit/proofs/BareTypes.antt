@@ -28,8 +28,8 @@ pub prototype_is : (m : NamedModule) (index : ℕ) (ty : FuncType) (body : BodyE
     → prototype (func_of m index ty body) ≡ prototype_of index ty
 prototype_is m index ty body =
     ap (λ (params : List tree.Param). tree.Function
-        (record { is_static = true; result = c_result_of ty.result; name = func_name index; params = params; body = None }))
-        (bare ty.params)
+    (record { is_static = true; result = c_result_of ty.result; name = func_name index; params = params; body = None }))
+    (bare ty.params)
 
 pub of_its_type : (m : Module) (name : List ℕ) (index : ℕ) (ty : FuncType)
     → Some ty ≡ if_found (defined_at m index) (λ d. type_in m d.0.type_index)
@@ -44,7 +44,7 @@ of_its_type m name index ty = at (defined_at m index)
 
     at : (d : Option (FuncEntry × BodyEntry)) → Some ty ≡ if_found d (λ e. type_in m e.0.type_index)
         → prototype_of index ty ≡ prototype (unwrap_or
-            (if_found d (λ e. option_map (λ t. func_of named index t e.1) (type_in m e.0.type_index))) no_func)
+        (if_found d (λ e. option_map (λ t. func_of named index t e.1) (type_in m e.0.type_index))) no_func)
     at None h = absurd cc
     at (Some e) h = sym (prototype_is named index ty e.1) ∙ ap (of_type e.1) h
 
@@ -60,6 +60,6 @@ of_no_type m name index = at (defined_at m index)
 
     at : (d : Option (FuncEntry × BodyEntry)) → None ≡ if_found d (λ e. type_in m e.0.type_index)
         → prototype no_func ≡ prototype (unwrap_or
-            (if_found d (λ e. option_map (λ t. func_of named index t e.1) (type_in m e.0.type_index))) no_func)
+        (if_found d (λ e. option_map (λ t. func_of named index t e.1) (type_in m e.0.type_index))) no_func)
     at None h = refl
     at (Some e) h = ap (of_type e.1) h

@@ -38,10 +38,10 @@ enters_next f after before first whole xs items i x p same less read is grown so
     let item : x ≡ get_or xs i x = read ∙ ap (λ ys. get_or ys i x) same in
     let rest = map f (drop (i + 1) xs) in
     ap (λ o. option_or o (named q rest)) (grown q
-        ∙ ap (λ (r : Typed). option_or (option_map type_of (named q before)) (named q (r ∷ []))) is)
+    ∙ ap (λ (r : Typed). option_or (option_map type_of (named q before)) (named q (r ∷ []))) is)
     ∙ or_assoc (option_map type_of (named q before)) (named q (f x ∷ [])) (named q rest)
     ∙ ap (option_or (option_map type_of (named q before)))
-        (sym (named-append q (f x ∷ []) rest) ∙ ap (λ ys. named q (map f ys)) (sym (at_front xs i x within item)))
+    (sym (named-append q (f x ∷ []) rest) ∙ ap (λ ys. named q (map f ys)) (sym (at_front xs i x within item)))
     ∙ so_far q
 
 pub enters_end : {A : Type 0} (f : A → Typed) (after first : List (Name × SymbolType)) (whole : List Typed) (xs items : List A)
@@ -58,5 +58,5 @@ pub both : (empty one two : List (Name × SymbolType)) (first second : List Type
     → FindsMore two one second → FindsTypes two (first ++ second)
 both empty one two first second none a b q =
     b q ∙ ap (λ o. option_or o (named q second))
-        (a q ∙ ap (λ (t : List (Name × SymbolType)). option_or (option_map type_of (named q t)) (named q first)) none)
-        ∙ sym (named-append q first second)
+    (a q ∙ ap (λ (t : List (Name × SymbolType)). option_or (option_map type_of (named q t)) (named q first)) none)
+    ∙ sym (named-append q first second)

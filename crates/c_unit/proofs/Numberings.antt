@@ -13,7 +13,7 @@ numbered_from k [] i x lt is = absurd (omega arith)
 numbered_from k (y ∷ xs) zero x lt is =
     let e : k ≡ k + 0 = omega arith in
     ap (λ z. (k, z) ∷ zip (range_with_len (k + 1) (length xs)) xs) (sym is)
-        ∙ ap (λ n. (n, x) ∷ zip (range_with_len (k + 1) (length xs)) xs) e
+    ∙ ap (λ n. (n, x) ∷ zip (range_with_len (k + 1) (length xs)) xs) e
 numbered_from k (y ∷ xs) (suc i) x lt is =
     let e : (k + 1) + i ≡ k + suc i = omega arith in
     let next : suc (i + 1) ≡ suc i + 1 = omega arith in
@@ -43,7 +43,7 @@ read_again (y ∷ xs) (suc i) d = read_again xs i d
 pub push_at : {A B V : Type 0} (xs items : List A) → items ≡ xs → (i : ℕ) (d : A) → i < length items
     → (g : V → B) (f : A → B) (made after : List V) (v : V) (whole : List B)
     → after ≡ made ++ v ∷ [] → g v ≡ f (get_or items i d) → map g made ++ map f (drop i xs) ≡ whole
-        → map g after ++ map f (drop (i + 1) xs) ≡ whole
+    → map g after ++ map f (drop (i + 1) xs) ≡ whole
 push_at xs items same i d less g f made after v whole grown is so_far =
     let within : i < length xs = omega (arith, less, ap length same) in
     let x = get_or items i d in
@@ -58,7 +58,7 @@ module _ {A B : Type 0} (xs items : List A) (same : items ≡ xs) (i : ℕ) wher
   pub push_numbered : {V : Type 0} (g : V → B) (f : ℕ × A → B) (made after : List V) (v : V) (whole : List B) (number : ℕ) (x : A)
       → i < length items → x ≡ get_or items i x
       → number ≡ i → after ≡ made ++ v ∷ [] → g v ≡ f (number, x) → map g made ++ map f (drop i (numbered xs)) ≡ whole
-          → map g after ++ map f (drop (i + 1) (numbered xs)) ≡ whole
+      → map g after ++ map f (drop (i + 1) (numbered xs)) ≡ whole
   push_numbered g f made after v whole number x less read at grown is so_far =
       let rest = map f (drop (i + 1) (numbered xs)) in
       ap (λ ys. map g ys ++ rest) grown ∙ ap (λ ys. ys ++ rest) (map_push g made v) ∙ append_assoc (map g made) (g v ∷ []) rest
@@ -73,7 +73,7 @@ module _ {A B : Type 0} (xs items : List A) (same : items ≡ xs) (i : ℕ) wher
   -- several more are made
   pub put_numbered : (f : ℕ × A → List B) (before after whole : List B) (number : ℕ) (x : A) → i < length items → x ≡ get_or items i x
       → number ≡ i → after ≡ before ++ f (number, x) → before ++ flat_map f (drop i (numbered xs)) ≡ whole
-          → after ++ flat_map f (drop (i + 1) (numbered xs)) ≡ whole
+      → after ++ flat_map f (drop (i + 1) (numbered xs)) ≡ whole
   put_numbered f before after whole number x less read at grown so_far =
       let rest = flat_map f (drop (i + 1) (numbered xs)) in
       ap (λ ys. ys ++ rest) grown ∙ append_assoc before (f (number, x)) rest

@@ -47,13 +47,13 @@ pub found_numbered : {A B : Type 0} (f : ℕ × A → B) (xs : List A) (rest : L
 found_numbered f xs rest n x e =
     let start : 0 + n ≡ n = omega arith in
     found f (numbered xs) rest n (n, x) (numbered_at 0 xs n ∙ ap (λ m. option_map (λ y. (m, y)) (slice_get xs n)) start
-        ∙ ap (option_map (λ y. (n, y))) e)
+    ∙ ap (option_map (λ y. (n, y))) e)
 
 pub passed_numbered : {A B : Type 0} (f : ℕ × A → B) (xs : List A) (rest : List B) (n : ℕ) → slice_get xs n ≡ None
     → slice_get rest (n - length xs) ≡ slice_get (map f (numbered xs) ++ rest) n
 passed_numbered f xs rest n e =
     ap (λ k. slice_get rest (n - k)) (sym (zip_length 0 xs))
-        ∙ passed f (numbered xs) rest n (numbered_at 0 xs n ∙ ap (option_map (λ y. (0 + n, y))) e)
+    ∙ passed f (numbered xs) rest n (numbered_at 0 xs n ∙ ap (option_map (λ y. (0 + n, y))) e)
 
 -- what is left from a place on
 pub at_place : {B : Type 0} (xs : List B) (n : ℕ) (y : B) → slice_get xs n ≡ Some y → drop n xs ≡ y ∷ drop (n + 1) xs

@@ -8,7 +8,7 @@ use Rattle.c_unit.specs.Exports.{args_from, param_name}
 
 pub args_next : (types : List ValType) (k : ℕ) → k < length types
     → args_from k (map c_type_of (drop k types)) ≡ tree.Value (tree.Name (param_name k)) ∷ args_from (k + 1)
-        (map c_type_of (drop (k + 1) types))
+    (map c_type_of (drop (k + 1) types))
 args_next [] k lt = absurd (omega (arith, lt))
 args_next (t ∷ types) k lt = at (drop k (t ∷ types)) (drop (k + 1) (t ∷ types)) _
     (at_front (t ∷ types) k (get_or (t ∷ types) k t) lt (again (t ∷ types) k t))

@@ -17,7 +17,7 @@ other_lengths [] (y ∷ ys) other = refl
 other_lengths (x ∷ xs) [] other = refl
 other_lengths (x ∷ xs) (y ∷ ys) other =
     and_false (same_type (c_type_of x) (c_type_of y))
-        ∙ ap (λ b. same_type (c_type_of x) (c_type_of y) && b) (other_lengths xs ys (λ e. other (omega (arith, e))))
+    ∙ ap (λ b. same_type (c_type_of x) (c_type_of y) && b) (other_lengths xs ys (λ e. other (omega (arith, e))))
 
 -- `void` is no parameter's type
 pub params_of_other_lengths : (xs ys : List ValType) → (length xs ≡ length ys → ⊥) → false ≡ same_types (c_params_of xs) (c_params_of ys)

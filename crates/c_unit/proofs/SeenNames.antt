@@ -28,12 +28,12 @@ declares_none m table none = ([], (λ q. ap (λ t. is_some (named q t)) none, re
 
 pub entered : {A : Type 0} (after before : List (Name × A)) (name : Name) (of : A) (seen : Bool) → seen ≡ false
     → ((q : Name) → named q after ≡ option_or (named q before) (if bytes_eq name q then Some of else None))
-        → SeesMore after before seen name
+    → SeesMore after before seen name
 entered {A} after before name of seen new grown q =
     ap is_some (grown q)
     ∙ (at (named q before) (bytes_eq name q)
     ∙ (ap (λ b. is_some (named q before) || b) (either_way name q)
-        ∙ ap (λ b. is_some (named q before) || (not b && bytes_eq q name)) (sym new)))
+    ∙ ap (λ b. is_some (named q before) || (not b && bytes_eq q name)) (sym new)))
   where
     at : (o : Option A) (b : Bool) → is_some (option_or o (if b then Some of else None)) ≡ (is_some o || b)
     at None true = refl
@@ -75,23 +75,29 @@ module _ {A : Type 0} (m : NamedModule) (table after : List (Name × A)) (made g
       → made ++ map (typed m) (firsts before (map import_symbol (drop i imports))) ≡ declared_symbols m
       → (b : Bool) → seen ≡ b → DeclaresSoFar m after grown (drop (i + 1) imports)
   by_seen before knows e true was =
-      let among : is_among name before ≡ true = sym (knows name) ∙ was in
-      (before,
-        (λ q. sees q ∙ (ap (λ b. is_some (named q table) || (not b && bytes_eq q name)) was
-            ∙ (or-false (is_some (named q table)) ∙ knows q)),
-        ap (λ ys. ys ++ map (typed m) (firsts before rest))
-            (put ∙ (ap (λ b. made ++ (if b then [] else typed m name ∷ [])) was ∙ append-nil made))
-        ∙ (ap (λ b. made ++ map (typed m) (if b then firsts before rest else name ∷ firsts (name ∷ before) rest)) (sym among)
-        ∙ now before e)))
+      let among : is_among name before ≡ true = sym (knows name) ∙ was in (
+        before,
+        (
+          λ q. sees q ∙ (ap (λ b. is_some (named q table) || (not b && bytes_eq q name)) was
+              ∙ (or-false (is_some (named q table)) ∙ knows q)),
+          ap (λ ys. ys ++ map (typed m) (firsts before rest))
+              (put ∙ (ap (λ b. made ++ (if b then [] else typed m name ∷ [])) was ∙ append-nil made))
+              ∙ (ap (λ b. made ++ map (typed m) (if b then firsts before rest else name ∷ firsts (name ∷ before) rest)) (sym among)
+              ∙ now before e),
+        ),
+      )
   by_seen before knows e false was =
-      let among : is_among name before ≡ false = sym (knows name) ∙ was in
-      (name ∷ before,
-        (λ q. sees q ∙ (ap (λ b. is_some (named q table) || (not b && bytes_eq q name)) was
-            ∙ (or_swapped (is_some (named q table)) (bytes_eq q name) ∙ ap (λ b. bytes_eq q name || b) (knows q))),
-        ap (λ ys. ys ++ map (typed m) (firsts (name ∷ before) rest)) (put ∙ ap (λ b. made ++ (if b then [] else typed m name ∷ [])) was)
-        ∙ (append_assoc made (typed m name ∷ []) (map (typed m) (firsts (name ∷ before) rest))
-        ∙ (ap (λ b. made ++ map (typed m) (if b then firsts before rest else name ∷ firsts (name ∷ before) rest)) (sym among)
-        ∙ now before e))))
+      let among : is_among name before ≡ false = sym (knows name) ∙ was in (
+        name ∷ before,
+        (
+          λ q. sees q ∙ (ap (λ b. is_some (named q table) || (not b && bytes_eq q name)) was
+              ∙ (or_swapped (is_some (named q table)) (bytes_eq q name) ∙ ap (λ b. bytes_eq q name || b) (knows q))),
+          ap (λ ys. ys ++ map (typed m) (firsts (name ∷ before) rest)) (put ∙ ap (λ b. made ++ (if b then [] else typed m name ∷ [])) was)
+              ∙ (append_assoc made (typed m name ∷ []) (map (typed m) (firsts (name ∷ before) rest))
+              ∙ (ap (λ b. made ++ map (typed m) (if b then firsts before rest else name ∷ firsts (name ∷ before) rest)) (sym among)
+              ∙ now before e)),
+        ),
+      )
 
   pub declares_next : DeclaresSoFar m table made (drop i imports) → DeclaresSoFar m after grown (drop (i + 1) imports)
   declares_next d = by_seen d.0 d.1.0 d.1.1 seen refl

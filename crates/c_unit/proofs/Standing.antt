@@ -74,7 +74,7 @@ pub global_pointer_there : (m : NamedModule) (made : List CType) (n : ℕ) (ty :
     → Some item ≡ slice_get (from_global_pointers m) n
 global_pointer_there m made n ty item made_is e is =
     at (slice_get (global_imports m.tree) n) refl
-        (sym (slice_get-map (pointed m.tree) (global_imports m.tree) n) ∙ ap (λ ys. slice_get ys n) (sym made_is) ∙ e)
+    (sym (slice_get-map (pointed m.tree) (global_imports m.tree) n) ∙ ap (λ ys. slice_get ys n) (sym made_is) ∙ e)
   where
     at : (o : Option Import) → slice_get (global_imports m.tree) n ≡ o → option_map (pointed m.tree) o ≡ Some ty
         → Some item ≡ slice_get (from_global_pointers m) n
@@ -90,7 +90,7 @@ global_pointer_past m made n made_is e =
     ap (λ k. slice_get (from_data m) (n - k)) (ap length made_is ∙ map_length (pointed m.tree) (global_imports m.tree))
     ∙ passed_numbered (global_pointer m) (global_imports m.tree) (from_data m) n
     (at (slice_get (global_imports m.tree) n)
-        (sym (slice_get-map (pointed m.tree) (global_imports m.tree) n) ∙ ap (λ ys. slice_get ys n) (sym made_is) ∙ e))
+    (sym (slice_get-map (pointed m.tree) (global_imports m.tree) n) ∙ ap (λ ys. slice_get ys n) (sym made_is) ∙ e))
   where
     at : (o : Option Import) → option_map (pointed m.tree) o ≡ None → o ≡ None
     at None h = refl
@@ -153,10 +153,10 @@ func_past : (m : NamedModule) (f : tree.Func → tree.Item) (rest : List tree.It
     → slice_get rest (n - length m.tree.funcs) ≡ slice_get (map f (bodies m) ++ rest) n
 func_past m f rest n le =
     let count : length (range_with_len (imported_funcs m.tree) (length m.tree.funcs)) ≡ length m.tree.funcs = range_length
-        (imported_funcs m.tree) (length m.tree.funcs) in
+    (imported_funcs m.tree) (length m.tree.funcs) in
     ap (λ k. slice_get rest (n - k)) (sym count)
     ∙ seen_passed (own m) f (range_with_len (imported_funcs m.tree) (length m.tree.funcs)) (bodies m) rest n refl
-        (slice_get_past (range_with_len (imported_funcs m.tree) (length m.tree.funcs)) n (omega (arith, le, count)))
+    (slice_get_past (range_with_len (imported_funcs m.tree) (length m.tree.funcs)) n (omega (arith, le, count)))
 
 pub prototype_there : (m : NamedModule) (n : ℕ) (item : tree.Item) → n < length m.tree.funcs
     → item ≡ prototype (body_of m.tree m.name (imported_funcs m.tree + n)) → Some item ≡ slice_get (from_prototypes m) n

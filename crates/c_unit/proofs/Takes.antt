@@ -18,7 +18,7 @@ use Rattle.c_unit.specs.Pointers.{pointer_set}
 
 pub least_there : (object len_of : Name) (unit min : ℕ) → 0 < min
     → primitive (Some size_name) len_of (tree.Value (tree.Name (pointer_name object)) ∷ []) ∷ tree.If op.Lt
-        (tree.Op op.Div (tree.Name size_name) (n64 unit)) (n64 min) (label_name limits_label) ∷ []
+    (tree.Op op.Div (tree.Name size_name) (n64 unit)) (n64 min) (label_name limits_label) ∷ []
     ≡ test_min object len_of unit min
 least_there object len_of unit zero h = absurd (omega (arith, h))
 least_there object len_of unit (suc min) h = refl
@@ -62,7 +62,7 @@ takes_all m number (i ∷ imports) = at (is_func_import i) refl (λ n. takes_all
     at : (b : Bool) → is_func_import i ≡ b → ((n : ℕ)
         → takes_from m n (filter (λ j. not (is_func_import j)) imports) ≡ takes_from m n imports)
         → takes_from m number (if not b then i ∷ filter (λ j. not (is_func_import j)) imports else filter
-            (λ j. not (is_func_import j)) imports) ≡ takes_from m number (i ∷ imports)
+        (λ j. not (is_func_import j)) imports) ≡ takes_from m number (i ∷ imports)
     at true e rest =
         rest number
         ∙ ap (λ g. takes_from m (if g then suc number else number) imports) (sym (func_is_no_global i e))
@@ -72,7 +72,7 @@ takes_all m number (i ∷ imports) = at (is_func_import i) refl (λ n. takes_all
 pub takes_next : (m : NamedModule) (before after whole : List tree.Stmt) (number : ℕ) (xs items : List Import) (i : ℕ) (x : Import)
     → items ≡ xs → i < length items → x ≡ get_or items i x → after ≡ before ++ take_stmts m number x
     → before ++ takes_from m number (drop i xs) ≡ whole
-        → after ++ takes_from m (if is_global_import x then suc number else number) (drop (i + 1) xs) ≡ whole
+    → after ++ takes_from m (if is_global_import x then suc number else number) (drop (i + 1) xs) ≡ whole
 takes_next m before after whole number xs items i x same less read grown so_far =
     let within : i < length xs = omega (arith, less, ap length same) in
     let item : x ≡ get_or xs i x = read ∙ ap (λ ys. get_or ys i x) same in
@@ -83,8 +83,8 @@ takes_next m before after whole number xs items i x same less read grown so_far 
 pub takes_end : (m : NamedModule) (before after : List tree.Stmt) (number : ℕ) (xs items : List Import) (i : ℕ) → items ≡ xs
     → length items ≤ i
     → after ++ takes_from m number (drop i xs) ≡ before ++ takes_from m 0 xs
-        → after ≡ before ++ takes_from m 0 (filter (λ j. not (is_func_import j)) xs)
+    → after ≡ before ++ takes_from m 0 (filter (λ j. not (is_func_import j)) xs)
 takes_end m before after number xs items i same past so_far =
     let end : length xs ≤ i = omega (arith, past, ap length same) in
     sym (append-nil after) ∙ ap (λ ys. after ++ takes_from m number ys) (sym (drop_all i xs end)) ∙ so_far
-        ∙ ap (λ ys. before ++ ys) (sym (takes_all m 0 xs))
+    ∙ ap (λ ys. before ++ ys) (sym (takes_all m 0 xs))

@@ -48,14 +48,14 @@ pointers m rest =
     let memories : List (CType × Name) = map (λ (i : Import). (c_type.PtrMem, pointer_name memory_name)) (memory_imports m.tree) in
     let tables : List (CType × Name) = map (λ (i : Import). (c_type.PtrTab, pointer_name table_name)) (table_imports m.tree) in
     let globals : List (CType × Name) = map (λ (i : ℕ × Import). ((import_type m.tree i.1).result, pointer_name (global_name i.0)))
-        (numbered (global_imports m.tree)) in
+    (numbered (global_imports m.tree)) in
     three memories tables globals
     ∙ ap (λ xs. xs ++ (map as_variable tables ++ (map as_variable globals ++ rest))) (map_twice as_variable _ (memory_imports m.tree))
     ∙ ap (λ xs. map (λ (i : Import). variable c_type.PtrMem (pointer_name memory_name)) (memory_imports m.tree) ++
-        (xs ++ (map as_variable globals ++ rest))) (map_twice as_variable _ (table_imports m.tree))
+    (xs ++ (map as_variable globals ++ rest))) (map_twice as_variable _ (table_imports m.tree))
     ∙ ap (λ xs. map (λ (i : Import). variable c_type.PtrMem (pointer_name memory_name)) (memory_imports m.tree) ++
-        (map (λ (i : Import). variable c_type.PtrTab (pointer_name table_name)) (table_imports m.tree) ++ (xs ++ rest)))
-        (map_twice as_variable _ (numbered (global_imports m.tree)))
+    (map (λ (i : Import). variable c_type.PtrTab (pointer_name table_name)) (table_imports m.tree) ++ (xs ++ rest)))
+    (map_twice as_variable _ (numbered (global_imports m.tree)))
   where
     three : (a b c : List (CType × Name)) → map as_variable (a ++ (b ++ c)) ++ rest ≡ map as_variable a ++
         (map as_variable b ++ (map as_variable c ++ rest))
@@ -72,8 +72,8 @@ all_tails m =
     let globals : List tree.Item = map (global_item m.tree) (numbered m.tree.globals) in
     sym (four tables memories globals (map as_variable (pointers_of m.tree)) (data_of m.tree ++ from_declared m)
     ∙ ap (λ xs. tables ++ (memories ++ (globals ++ xs)))
-      (ap (λ xs. map as_variable (pointers_of m.tree) ++ (xs ++ from_declared m)) (sym (arrays (numbered m.tree.segments)))
-          ∙ pointers m (from_data m)))
+    (ap (λ xs. map as_variable (pointers_of m.tree) ++ (xs ++ from_declared m)) (sym (arrays (numbered m.tree.segments)))
+    ∙ pointers m (from_data m)))
   where
     four : (a b c d e : List tree.Item) → (a ++ (b ++ (c ++ d))) ++ e ≡ a ++ (b ++ (c ++ (d ++ e)))
     four a b c d e =

@@ -36,4 +36,4 @@ ending m before =
 abbrev pub init_locals : NamedModule → List tree.Local
 init_locals m =
     of.local_if (of.tests_limits m.tree || of.tests_bounds m.tree) of.size_name ++ of.local_if
-        (list_any of.has_bytes m.tree.segments) of.byte_name
+    (list_any of.has_bytes m.tree.segments) of.byte_name

@@ -44,10 +44,7 @@ fn put_if<'a>(
 }
 
 /// The symbols that the unit declares, each once, with their types there.
-pub(crate) fn declared<'a>(
-    alloc: Global,
-    symbols: &Symbols<'a>,
-) -> Result<Vec<Symbol<'a>>, Memory>
+pub(crate) fn declared<'a>(alloc: Global, symbols: &Symbols<'a>) -> Result<Vec<Symbol<'a>>, Memory>
     ensures { IfOk result (λ list. map pair_of list.items ≡ declared_symbols (named_of symbols.now.indexes)) }
 {
     let mut seen: NameTable<()> = NameTable::new(alloc);

@@ -90,7 +90,13 @@ pub(crate) fn declaration(alloc: Global, symbol: Symbol) -> Result<Item, Memory>
 
 /// The declaration of the function with an index, which is defined further on: by its type, where it has one.
 #[tactic(auto, using(crate::proofs::BareTypes::of_its_type, crate::proofs::BareTypes::of_no_type))]
-pub(crate) fn prototype_if(alloc: Global, m: &Module, name: &[u8], index: u32, ty: Option<&FuncType>) -> Result<Item, Memory>
+pub(crate) fn prototype_if(
+    alloc: Global,
+    m: &Module,
+    name: &[u8],
+    index: u32,
+    ty: Option<&FuncType>,
+) -> Result<Item, Memory>
     requires { option_copied ty ≡ if_found (defined_at m.now index) (λ d. type_in m.now d.0.type_index) }
     ensures { IfOk result (λ item. item_of item ≡ of.prototype (body_of m.now name.now index)) }
 {

@@ -5,8 +5,8 @@ ghost use Rattle.c_body.specs.Reached.{usable_symbol};
 ghost use Rattle.c_body.specs.Symbols.{import_symbol, func_imports, table_imports, memory_imports, global_imports};
 ghost use Rattle.c_unit.specs.Named.{named_of};
 
-use crate::items::prototype_if;
 use crate::import_symbols::{Reached, func_symbols};
+use crate::items::prototype_if;
 use crate::symbols::Symbols;
 use crate::values::sum;
 use c_body::IndexSpaces;

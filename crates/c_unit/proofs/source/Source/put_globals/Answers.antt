@@ -23,5 +23,5 @@ loop-global-preserved c =
 pub returns : goal.returns
 returns c =
     pushed_all c.args.self.now.tree.now.globals c.as_slice-global-items.result.now c.as_slice-global-items.ensures
-        c.loop-global.global-index (make_global c.args.self.now.tree.now) (map stmt_of c.loop-global.stmts) _ c.loop-global-test.false
-        c.loop-global.invariant.so_far
+    c.loop-global.global-index (make_global c.args.self.now.tree.now) (map stmt_of c.loop-global.stmts) _ c.loop-global-test.false
+    c.loop-global.invariant.so_far

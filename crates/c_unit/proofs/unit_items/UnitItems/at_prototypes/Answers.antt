@@ -15,6 +15,6 @@ returns-else-n-count c =
     let past : length c.args.self.now.source.tree.now.funcs ≤ c.args.n = omega (arith, c.len-count.ensures, c.if-n-count.false) in
     subst (λ there. IfOk c.at_helpers.result (λ item. option_map item_of item ≡ there))
     (ap (λ k. slice_get (from_helpers (module_of c.args.self.now.source)) k)
-        (c.saturating_sub.ensures ∙ ap (λ k. c.args.n - k) c.len-count.ensures)
-      ∙ prototype_past (module_of c.args.self.now.source) c.args.n past)
+    (c.saturating_sub.ensures ∙ ap (λ k. c.args.n - k) c.len-count.ensures)
+    ∙ prototype_past (module_of c.args.self.now.source) c.args.n past)
     c.at_helpers.ensures
