@@ -80,13 +80,16 @@ module _ {A : Type 0} (now helped inside before : List (Name × A)) (items : Lis
     (which : Option Helper) (which_is : which ≡ helper_for (kind_tree x.kind)) (one : HasMore helped now (λ name. named_by name which))
     (more : HasMore inside helped (λ name. any_inside (calls name) (kind_tree x.kind)))
     (so_far : EntersCode now before (code_tree (drop i items)) whole) where
-  both : (name : Name) → (is_some (named name inside) || (not (ends (kind_tree x.kind)) && any_in (calls name) (code_tree (drop (i + 1) items))))
+  both : (name : Name) → (is_some (named name inside) ||
+      (not (ends (kind_tree x.kind)) && any_in (calls name) (code_tree (drop (i + 1) items))))
       ≡ (is_some (named name before) || any_in (calls name) whole)
   both name =
       ap (λ b. b || (not (ends (kind_tree x.kind)) && any_in (calls name) (code_tree (drop (i + 1) items))))
-      (more name ∙ ap (λ b. b || any_inside (calls name) (kind_tree x.kind)) (one name ∙ ap (λ w. is_some (named name now) || named_by name w) which_is))
-      ∙ (sym (spread (is_some (named name now)) (calls name (kind_tree x.kind)) (any_inside (calls name) (kind_tree x.kind)) (ends (kind_tree x.kind))
-          (any_in (calls name) (code_tree (drop (i + 1) items))))
+      (more name ∙ ap (λ b. b || any_inside (calls name) (kind_tree x.kind))
+      (one name ∙ ap (λ w. is_some (named name now) || named_by name w) which_is))
+      ∙ (sym (spread (is_some (named name now)) (calls name (kind_tree x.kind)) (any_inside (calls name) (kind_tree x.kind))
+      (ends (kind_tree x.kind))
+      (any_in (calls name) (code_tree (drop (i + 1) items))))
       ∙ (ap (λ code. is_some (named name now) || any_in (calls name) code) (sym (code_more items i x less is))
       ∙ so_far name))
 
@@ -102,7 +105,8 @@ module _ {A : Type 0} (now helped inside before : List (Name × A)) (items : Lis
 pub code_through : {A : Type 0} (now before : List (Name × A)) (items : List Instr) (i : ℕ) (whole : Code) → length items ≤ i
     → EntersCode now before (code_tree (drop i items)) whole → HasMore now before (λ name. any_in (calls name) whole)
 code_through now before items i whole past so_far name =
-    sym (or-false (is_some (named name now))) ∙ (ap (λ code. is_some (named name now) || any_in (calls name) code) (sym (code_done items i past)) ∙ so_far name)
+    sym (or-false (is_some (named name now)))
+    ∙ (ap (λ code. is_some (named name now) || any_in (calls name) code) (sym (code_done items i past)) ∙ so_far name)
 
 -- two parts, one behind the other
 pub more_behind : {A : Type 0} (after between before : List (Name × A)) (first second : Name → Bool)
@@ -116,7 +120,8 @@ abbrev pub body_calls : Name → BodyEntry → Bool
 body_calls name b = any_in (calls name) b.code
 
 abbrev pub EntersBodies : {A : Type 0} → List (Name × A) → List BodyEntry → List BodyEntry → Type 0
-EntersBodies now left whole = (name : Name) → (is_some (named name now) || list_any (body_calls name) left) ≡ list_any (body_calls name) whole
+EntersBodies now left whole = (name : Name)
+    → (is_some (named name now) || list_any (body_calls name) left) ≡ list_any (body_calls name) whole
 
 pub bodies_next : {A : Type 0} (after now : List (Name × A)) (items bodies whole : List BodyEntry) (i : ℕ) (x : BodyEntry)
     → items ≡ bodies → i < length items → x ≡ get_or items i x → HasMore after now (λ name. any_in (calls name) x.code)
@@ -137,8 +142,10 @@ bodies_through now items bodies whole i same past so_far name =
 
 -- ---- a list of those that pass a test
 
-pub filter_next : {A : Type 0} (p : A → Bool) (list after : List A) (items whole : List A) (i : ℕ) (x : A) (b : Bool) → i < length items → x ≡ get_or items i x
-    → b ≡ p x → after ≡ list ++ filter (λ (w : A). b) (x ∷ []) → list ++ filter p (drop i items) ≡ whole → after ++ filter p (drop (i + 1) items) ≡ whole
+pub filter_next : {A : Type 0} (p : A → Bool) (list after : List A) (items whole : List A) (i : ℕ) (x : A) (b : Bool)
+    → i < length items → x ≡ get_or items i x
+    → b ≡ p x → after ≡ list ++ filter (λ (w : A). b) (x ∷ []) → list ++ filter p (drop i items) ≡ whole
+    → after ++ filter p (drop (i + 1) items) ≡ whole
 filter_next {A} p list after items whole i x b less is test grown so_far =
     ap (λ ys. ys ++ filter p (drop (i + 1) items)) grown
     ∙ (append_assoc list (filter (λ (w : A). b) (x ∷ [])) (filter p (drop (i + 1) items))
@@ -159,7 +166,8 @@ same_filter p q (x ∷ xs) same =
 pub known_helpers : {A : Type 0} (table : List (Name × A)) (m : Module) (list : List Helper) → KnowsCalls table m
     → list ≡ filter (is_known table) HELPERS → list ≡ helpers_of m
 known_helpers table m list knows is =
-    is ∙ same_filter (is_known table) (λ which. list_any (λ b. any_in (calls_helper which) b.code) m.bodies) HELPERS (λ which. knows (helper_of which).name)
+    is ∙ same_filter (is_known table) (λ which. list_any (λ b. any_in (calls_helper which) b.code) m.bodies) HELPERS
+    (λ which. knows (helper_of which).name)
 
 read_again : {A : Type 0} (xs : List A) (i : ℕ) (d : A) → get_or xs i d ≡ get_or xs i (get_or xs i d)
 read_again [] i d = refl

@@ -108,7 +108,9 @@ fn enter_inside(alloc: Global, table: &mut NameTable<()>, kind: &Kind) -> Result
         Kind::Block { code, .. } => enter_code(alloc, table, code),
         Kind::Loop { code, .. } => enter_code(alloc, table, code),
         Kind::If {
-            code, otherwise, ..
+            code,
+            otherwise,
+            ..
         } => {
             enter_code(alloc, table, code)?;
             enter_else(alloc, table, otherwise)
