@@ -1,0 +1,25 @@
+use Rattle.w2c_sim.proofs.Accepting.{module_is_accepted}
+use Rattle.w2c_sim.specs.Translation.{IsModuleOf}
+use Rattle.w2c_sim.proofs.translation.translation.Goals as goal
+
+pub print_texts-requires : goal.print_texts-requires
+print_texts-requires c = module_is_accepted c.args.bytes.now c.args.name.now c.in_ok-module.module (record {
+  accepted = c.in_ok-module.ensures.found;
+  are_bytes = c.know_bytes.ensures;
+  named = c.requires.named;
+  short = c.requires.short;
+  name_bytes = c.know_bytes-2.ensures;
+})
+
+pub returns-clause-texts : goal.returns-clause-texts
+returns-clause-texts c = (
+  c.in_ok-module.module,
+  record {
+    accepted = c.in_ok-module.ensures.found;
+    are_bytes = c.know_bytes.ensures;
+    named = c.requires.named;
+    short = c.requires.short;
+    name_bytes = c.know_bytes-2.ensures;
+  },
+  c.in_ok-texts.ensures,
+)
