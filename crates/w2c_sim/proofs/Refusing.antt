@@ -1,10 +1,8 @@
 -- Refusals are verdicts: each comes where its verdict does, and there is one at most.
 use Rattle.std.proofs.Common.{◌≡◌, ◌≢◌, ℕ, List, Result, Ok, Err, IfOk, IfErr, IsOk, refl, sym, ◌∙◌, ap, subst}
 use Rattle.wasm_tree.specs.declared.tree.Module.{Module}
-use Rattle.wasm_spelling.specs.declared.fault.ReadFault.{ReadFault}
 use Rattle.wasm_spelling.specs.declared.fault.ReadFault.TheVariants as fault
 use Rattle.wasm_spelling.specs.ModuleFields.{Spells}
-use Rattle.wasm_spelling.specs.Table.{Upto}
 use Rattle.wasm_valid.specs.declared.fault.Fault.{Fault}
 use Rattle.wasm_valid.specs.declared.fault.ValidRefusal.{ValidRefusal}
 use Rattle.wasm_valid.specs.declared.fault.ValidRefusal.TheVariants as rule
@@ -17,16 +15,10 @@ use Rattle.w2c_sim.specs.declared.translation.Texts.{Texts}
 use Rattle.w2c_sim.specs.Translation.{IsTranslation}
 use Rattle.w2c_sim.specs.Refusals.{IsRefused, IsRefusal, refusal_of, invalid_of}
 
--- ---- what the reader and the checker say
-
-pub read_refusal : (bytes : List ℕ) (f : ReadFault) → ((g : ReadFault) → g ≢ fault.Memory → f ≡ g → Upto bytes g) → IsRefusal bytes (refusal_of f)
-read_refusal bytes (fault.Malformed place cause) first = first (fault.Malformed place cause) (λ e. cc) refl
-read_refusal bytes (fault.Float place) first = first (fault.Float place) (λ e. cc) refl
-read_refusal bytes (fault.Limit place which) first = first (fault.Limit place which) (λ e. cc) refl
-read_refusal bytes fault.Memory first = tt
+-- ---- what the checker says
 
 pub rule_refusal : (bytes : List ℕ) (tree : Module) (r : ValidRefusal) → Spells tree bytes
-    → ((f : Fault) → r ≡ rule.Invalid f.place f.cause → Verdict tree (is_invalid f)) → IsRefusal bytes (invalid_of r)
+    → ((f : Fault) → ◌≡◌ {A = Result Module ValidRefusal} (Err r) (Err (rule.Invalid f.place f.cause)) → Verdict tree (is_invalid f)) → IsRefusal bytes (invalid_of r)
 rule_refusal bytes tree (rule.Invalid place cause) spelled first = (tree, (spelled, first (record { place = place; cause = cause }) refl))
 rule_refusal bytes tree rule.Memory spelled first = tt
 
