@@ -1,3 +1,8 @@
+pub mod Behind
+pub mod WithinCode
+pub mod WithinModule
+pub mod WithinPlaces
+pub mod Bounds
 pub mod Within
 pub mod Accepting
 pub mod Spelling

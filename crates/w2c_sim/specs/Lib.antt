@@ -2,3 +2,5 @@
 pub mod Translation
 pub mod Refusals
 pub mod Selections
+pub mod Bytes
+pub mod Within

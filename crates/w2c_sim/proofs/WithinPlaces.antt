@@ -1,0 +1,274 @@
+-- The limits say nothing of places, so a module keeps within them wherever a module that differs in places alone does.
+use Rattle.std.proofs.Common.{◌≡◌, ℕ, suc, ◌+◌, ◌≤◌, max, false, ◌||◌, List, [], ◌∷◌, length, map, flat_map, refl, sym, ap, subst, ◌∙◌, arith}
+use Rattle.std.specs.List.{AllByRecursion}
+use Rattle.std.proofs.lemmas.List.{length-map}
+use Rattle.wasm_tree.specs.declared.entries.TypeEntry.{TypeEntry}
+use Rattle.wasm_tree.specs.declared.entries.Limits.{Limits}
+use Rattle.wasm_tree.specs.declared.entries.ImportKind.{ImportKind}
+use Rattle.wasm_tree.specs.declared.entries.ImportKind.TheVariants as imported
+use Rattle.wasm_tree.specs.declared.entries.Import.{Import}
+use Rattle.wasm_tree.specs.declared.entries.LimitsEntry.{LimitsEntry}
+use Rattle.wasm_tree.specs.declared.entries.Export.{Export}
+use Rattle.wasm_tree.specs.declared.entries.ElementEntry.{ElementEntry}
+use Rattle.wasm_tree.specs.declared.tree.Module.{Module}
+use Rattle.wasm_tree.specs.Instructions.{Code, end_code, then_code, Kind, no_else, else_code, Block, Loop, If}
+use Rattle.wasm_tree.specs.IndexSpaces.{table_of_import, memory_of_import, table_space, memory_space}
+use Rattle.wasm_spelling.specs.Limits.{most_parameters, most_functions, most_memory_pages, most_table_elements, most_module_bytes}
+use Rattle.w2c_sim.specs.Bytes.{IsFormed}
+use Rattle.wasm_spelling.specs.Places.{bare_code, bare_kind, bare_type, bare_import_kind, bare_import, bare_func, bare_limits_entry, bare_global, bare_export, bare_func_ref, bare_element, bare_segment, bare_body, bare_module}
+use Rattle.w2c_sim.specs.Within.{has_wide, some_in, some_inside, least_bytes, least_bytes_of, block_depth, block_depth_of, BodyIsWithin, IsMaximum, IsName, IsWithin}
+use Rattle.w2c_sim.proofs.Behind.{all_append, all_more}
+use Rattle.w2c_sim.proofs.WithinModule.{KindIsWithin, ImportIsWithin, SegmentIsWithin, LimitsAreWithin, PartsAreWithin, spelled_within}
+
+-- ---- code
+
+mutual
+  bytes_bare : (code : Code) → least_bytes (bare_code code) ≡ least_bytes code
+  bytes_bare end_code = refl
+  bytes_bare (then_code place kind code) = λ i. kind_bytes_bare kind i + bytes_bare code i
+
+  kind_bytes_bare : (kind : Kind) → least_bytes_of (bare_kind kind) ≡ least_bytes_of kind
+  kind_bytes_bare (Block t code end_place) = ap (λ n. 3 + n) (bytes_bare code)
+  kind_bytes_bare (Loop t code end_place) = ap (λ n. 3 + n) (bytes_bare code)
+  kind_bytes_bare (If t code no_else end_place) = ap (λ n. 3 + n + 0) (bytes_bare code)
+  kind_bytes_bare (If t code (else_code place other) end_place) = λ i. 3 + bytes_bare code i + (1 + bytes_bare other i)
+  kind_bytes_bare kind = refl
+
+mutual
+  depth_bare : (code : Code) → block_depth (bare_code code) ≡ block_depth code
+  depth_bare end_code = refl
+  depth_bare (then_code place kind code) = λ i. max (kind_depth_bare kind i) (depth_bare code i)
+
+  kind_depth_bare : (kind : Kind) → block_depth_of (bare_kind kind) ≡ block_depth_of kind
+  kind_depth_bare (Block t code end_place) = ap suc (depth_bare code)
+  kind_depth_bare (Loop t code end_place) = ap suc (depth_bare code)
+  kind_depth_bare (If t code no_else end_place) = ap (λ n. suc (max n 0)) (depth_bare code)
+  kind_depth_bare (If t code (else_code place other) end_place) = λ i. suc (max (depth_bare code i) (depth_bare other i))
+  kind_depth_bare kind = refl
+
+wide_bare : (kind : Kind) → has_wide (bare_kind kind) ≡ has_wide kind
+wide_bare (Block t code end_place) = refl
+wide_bare (Loop t code end_place) = refl
+wide_bare (If t code otherwise end_place) = refl
+wide_bare kind = refl
+
+mutual
+  some_bare : (code : Code) → some_in has_wide (bare_code code) ≡ some_in has_wide code
+  some_bare end_code = refl
+  some_bare (then_code place kind code) = λ i. (wide_bare kind i || kind_some_bare kind i) || some_bare code i
+
+  kind_some_bare : (kind : Kind) → some_inside has_wide (bare_kind kind) ≡ some_inside has_wide kind
+  kind_some_bare (Block t code end_place) = some_bare code
+  kind_some_bare (Loop t code end_place) = some_bare code
+  kind_some_bare (If t code no_else end_place) = ap (λ b. b || false) (some_bare code)
+  kind_some_bare (If t code (else_code place other) end_place) = λ i. some_bare code i || some_bare other i
+  kind_some_bare kind = refl
+
+-- ---- entries with places and without
+
+-- what P says of entries, and the same of the entries without their places
+record Aside {A : Type 0} (bare : A → A) (P : A → Type 0) : Type 0 where
+  off : (x : A) → P x → P (bare x)
+  on : (x : A) → P (bare x) → P x
+
+types_aside : Aside bare_type (λ (e : TypeEntry). length e.ty.params ≤ most_parameters)
+types_aside = record { off = λ x h. h; on = λ x h. h }
+
+exports_aside : Aside bare_export (λ (e : Export). IsName e.name)
+exports_aside = record { off = λ x h. h; on = λ x h. h }
+
+tables_aside : Aside bare_limits_entry (λ (e : LimitsEntry). LimitsAreWithin most_table_elements e.limits)
+tables_aside = record { off = λ x h. h; on = λ x h. h }
+
+memories_aside : Aside bare_limits_entry (λ (e : LimitsEntry). LimitsAreWithin most_memory_pages e.limits)
+memories_aside = record { off = λ x h. h; on = λ x h. h }
+
+elements_aside : Aside bare_element (λ (e : ElementEntry). length e.funcs ≤ most_module_bytes)
+elements_aside = record {
+  off = λ x h. subst (λ n. n ≤ most_module_bytes) (sym (length-map x.funcs bare_func_ref)) h;
+  on = λ x h. subst (λ n. n ≤ most_module_bytes) (length-map x.funcs bare_func_ref) h;
+}
+
+segments_aside : Aside bare_segment SegmentIsWithin
+segments_aside = record {
+  off = λ x h. record { are_bytes = h.are_bytes; long = h.long };
+  on = λ x h. record { are_bytes = h.are_bytes; long = h.long };
+}
+
+kind_off : (k : ImportKind) → KindIsWithin k → KindIsWithin (bare_import_kind k)
+kind_off (imported.Func type_index) h = tt
+kind_off (imported.Table l) h = h
+kind_off (imported.Memory l) h = h
+kind_off (imported.Global ty mutable) h = tt
+
+kind_on : (k : ImportKind) → KindIsWithin (bare_import_kind k) → KindIsWithin k
+kind_on (imported.Func type_index) h = tt
+kind_on (imported.Table l) h = h
+kind_on (imported.Memory l) h = h
+kind_on (imported.Global ty mutable) h = tt
+
+imports_aside : Aside bare_import ImportIsWithin
+imports_aside = record {
+  off = λ x h. record { names = h.names; kind = kind_off x.kind h.kind };
+  on = λ x h. record { names = h.names; kind = kind_on x.kind h.kind };
+}
+
+bodies_aside : Aside bare_body BodyIsWithin
+bodies_aside = record {
+  off = λ x h. record {
+    locals = h.locals;
+    bytes = subst (λ n. n ≤ most_module_bytes) (sym (bytes_bare x.code)) h.bytes;
+    depth = subst (λ n. n ≤ 500) (sym (depth_bare x.code)) h.depth;
+    numbers = some_bare x.code ∙ h.numbers;
+  };
+  on = λ x h. record {
+    locals = h.locals;
+    bytes = subst (λ n. n ≤ most_module_bytes) (bytes_bare x.code) h.bytes;
+    depth = subst (λ n. n ≤ 500) (depth_bare x.code) h.depth;
+    numbers = sym (some_bare x.code) ∙ h.numbers;
+  };
+}
+
+all_off : {A : Type 0} (bare : A → A) (P : A → Type 0) → Aside bare P → (xs : List A) → AllByRecursion P xs → AllByRecursion P (map bare xs)
+all_off bare P aside [] h = tt
+all_off bare P aside (x ∷ xs) h = (aside.off x h.0, all_off bare P aside xs h.1)
+
+all_on : {A : Type 0} (bare : A → A) (P : A → Type 0) → Aside bare P → (xs : List A) → AllByRecursion P (map bare xs) → AllByRecursion P xs
+all_on bare P aside [] h = tt
+all_on bare P aside (x ∷ xs) h = (aside.on x h.0, all_on bare P aside xs h.1)
+
+-- from entries to those that differ in places alone
+same_all : {A : Type 0} (bare : A → A) (P : A → Type 0) → Aside bare P → (xs ys : List A) → map bare xs ≡ map bare ys
+    → AllByRecursion P ys → AllByRecursion P xs
+same_all bare P aside xs ys e h = all_on bare P aside xs (subst (AllByRecursion P) (sym e) (all_off bare P aside ys h))
+
+same_length : {A : Type 0} (bare : A → A) (xs ys : List A) → map bare xs ≡ map bare ys → length xs ≡ length ys
+same_length bare xs ys e = sym (length-map xs bare) ∙ ap length e ∙ length-map ys bare
+
+same_count : {A : Type 0} (bare : A → A) (most : ℕ) (xs ys : List A) → map bare xs ≡ map bare ys → length ys ≤ most → length xs ≤ most
+same_count bare most xs ys e le = omega (arith, same_length bare xs ys e, le)
+
+-- ---- index spaces
+
+all_images : {A B : Type 0} (P : B → Type 0) (f : A → B) (xs : List A) → AllByRecursion (λ x. P (f x)) xs → AllByRecursion P (map f xs)
+all_images P f [] h = tt
+all_images P f (x ∷ xs) h = (h.0, all_images P f xs h.1)
+
+all_flat : {A B : Type 0} (P : B → Type 0) (f : A → List B) (xs : List A) → AllByRecursion (λ x. AllByRecursion P (f x)) xs
+    → AllByRecursion P (flat_map f xs)
+all_flat P f [] h = tt
+all_flat P f (x ∷ xs) h = all_append P (f x) (flat_map f xs) h.0 (all_flat P f xs h.1)
+
+-- the import with this kind
+abbrev of_kind : Import → ImportKind → Import
+of_kind i k = record i { kind = k }
+
+table_imported : (i : Import) (k : ImportKind) → KindIsWithin k
+    → AllByRecursion (LimitsAreWithin most_table_elements) (table_of_import (of_kind i k))
+table_imported i (imported.Func type_index) h = tt
+table_imported i (imported.Table l) h = (h, tt)
+table_imported i (imported.Memory l) h = tt
+table_imported i (imported.Global ty mutable) h = tt
+
+memory_imported : (i : Import) (k : ImportKind) → KindIsWithin k
+    → AllByRecursion (LimitsAreWithin most_memory_pages) (memory_of_import (of_kind i k))
+memory_imported i (imported.Func type_index) h = tt
+memory_imported i (imported.Table l) h = tt
+memory_imported i (imported.Memory l) h = (h, tt)
+memory_imported i (imported.Global ty mutable) h = tt
+
+tables_within : (m : Module) → AllByRecursion ImportIsWithin m.imports
+    → AllByRecursion (λ (e : LimitsEntry). LimitsAreWithin most_table_elements e.limits) m.tables
+    → AllByRecursion (LimitsAreWithin most_table_elements) (table_space m)
+tables_within m imports tables =
+    all_append (LimitsAreWithin most_table_elements) (flat_map table_of_import m.imports) (map (λ t. t.limits) m.tables)
+    (all_flat (LimitsAreWithin most_table_elements) table_of_import m.imports
+    (all_more ImportIsWithin (λ i. AllByRecursion (LimitsAreWithin most_table_elements) (table_of_import i))
+    (λ i h. table_imported i i.kind h.kind) m.imports imports))
+    (all_images (LimitsAreWithin most_table_elements) (λ (t : LimitsEntry). t.limits) m.tables tables)
+
+memories_within : (m : Module) → AllByRecursion ImportIsWithin m.imports
+    → AllByRecursion (λ (e : LimitsEntry). LimitsAreWithin most_memory_pages e.limits) m.memories
+    → AllByRecursion (LimitsAreWithin most_memory_pages) (memory_space m)
+memories_within m imports memories =
+    all_append (LimitsAreWithin most_memory_pages) (flat_map memory_of_import m.imports) (map (λ t. t.limits) m.memories)
+    (all_flat (LimitsAreWithin most_memory_pages) memory_of_import m.imports
+    (all_more ImportIsWithin (λ i. AllByRecursion (LimitsAreWithin most_memory_pages) (memory_of_import i))
+    (λ i h. memory_imported i i.kind h.kind) m.imports imports))
+    (all_images (LimitsAreWithin most_memory_pages) (λ (t : LimitsEntry). t.limits) m.memories memories)
+
+-- ---- modules
+
+differ_in_places : (t u : Module) → bare_module t ≡ bare_module u → PartsAreWithin u → PartsAreWithin t
+differ_in_places t u e h = record {
+  types = (
+    same_count bare_type most_module_bytes t.types u.types types h.types.0,
+    same_all bare_type _ types_aside t.types u.types types h.types.1,
+  );
+  imports = (
+    same_count bare_import most_module_bytes t.imports u.imports imports h.imports.0,
+    same_all bare_import ImportIsWithin imports_aside t.imports u.imports imports h.imports.1,
+  );
+  functions = same_count bare_func most_functions t.funcs u.funcs funcs h.functions;
+  tables = same_all bare_limits_entry _ tables_aside t.tables u.tables (ap (λ (m : Module). m.tables) e) h.tables;
+  memories = same_all bare_limits_entry _ memories_aside t.memories u.memories (ap (λ (m : Module). m.memories) e) h.memories;
+  globals = same_count bare_global most_module_bytes t.globals u.globals (ap (λ (m : Module). m.globals) e) h.globals;
+  exports = (
+    same_count bare_export most_module_bytes t.exports u.exports exports h.exports.0,
+    same_all bare_export _ exports_aside t.exports u.exports exports h.exports.1,
+  );
+  elements = same_all bare_element _ elements_aside t.elements u.elements (ap (λ (m : Module). m.elements) e) h.elements;
+  code = same_all bare_body BodyIsWithin bodies_aside t.bodies u.bodies bodies h.code;
+  segments = (
+    same_count bare_segment most_module_bytes t.segments u.segments segments h.segments.0,
+    same_all bare_segment SegmentIsWithin segments_aside t.segments u.segments segments h.segments.1,
+  );
+  as_many = same_length bare_body t.bodies u.bodies bodies ∙ h.as_many ∙ sym (same_length bare_func t.funcs u.funcs funcs);
+}
+  where
+    types : map bare_type t.types ≡ map bare_type u.types
+    types = ap (λ (m : Module). m.types) e
+
+    imports : map bare_import t.imports ≡ map bare_import u.imports
+    imports = ap (λ (m : Module). m.imports) e
+
+    funcs : map bare_func t.funcs ≡ map bare_func u.funcs
+    funcs = ap (λ (m : Module). m.funcs) e
+
+    exports : map bare_export t.exports ≡ map bare_export u.exports
+    exports = ap (λ (m : Module). m.exports) e
+
+    segments : map bare_segment t.segments ≡ map bare_segment u.segments
+    segments = ap (λ (m : Module). m.segments) e
+
+    bodies : map bare_body t.bodies ≡ map bare_body u.bodies
+    bodies = ap (λ (m : Module). m.bodies) e
+
+parts_within : (m : Module) → PartsAreWithin m → IsWithin m
+parts_within m h =
+    let tables = tables_within m h.imports.1 h.tables in
+    let memories = memories_within m h.imports.1 h.memories in
+    record {
+      types = h.types.0;
+      imports = h.imports.0;
+      funcs = h.functions;
+      globals = h.globals;
+      exports = h.exports.0;
+      segments = h.segments.0;
+      bodies_are_there = h.as_many;
+      params = h.types.1;
+      tables = all_more (LimitsAreWithin most_table_elements) (λ l. l.min ≤ most_table_elements) (λ l k. k.0) (table_space m) tables;
+      memories = all_more (LimitsAreWithin most_memory_pages) (λ l. l.min ≤ most_memory_pages) (λ l k. k.0) (memory_space m) memories;
+      maxima = all_append (λ (l : Limits). IsMaximum l.max) (table_space m) (memory_space m)
+          (all_more (LimitsAreWithin most_table_elements) (λ l. IsMaximum l.max) (λ l k. k.1) (table_space m) tables)
+          (all_more (LimitsAreWithin most_memory_pages) (λ l. IsMaximum l.max) (λ l k. k.1) (memory_space m) memories);
+      import_names = all_more ImportIsWithin (λ i. IsName i.«module» × IsName i.field) (λ i k. k.names) m.imports h.imports.1;
+      export_names = h.exports.1;
+      elements = h.elements;
+      are_bytes = all_more SegmentIsWithin _ (λ s k. k.are_bytes) m.segments h.segments.1;
+      bytes = all_more SegmentIsWithin _ (λ s k. k.long) m.segments h.segments.1;
+      bodies = h.code;
+    }
+
+pub formed_is_within : (m : Module) → IsFormed m → IsWithin m
+formed_is_within m (bytes, are, (u, same, spelled)) = parts_within m (differ_in_places m u same (spelled_within u bytes are spelled))
