@@ -7,7 +7,7 @@ set -e
 here=$(cd "$(dirname "$0")" && pwd)
 work=$(mktemp -d)
 trap 'rm -rf "$work"' EXIT
-sh "$here/../copy_crates.sh" "$work" w2c_base w2c_mangle c_tree c_print c_lex c_read
+sh "$here/../copy_crates.sh" "$work" w2c_base c_tree c_lex c_read
 mkdir -p "$work/crates/c_read_bench/src"
 cp "$here/main.rt.txt" "$work/crates/c_read_bench/src/main.rt"
 echo 'c_read_bench: w2c_base c_tree c_read' >>"$work/crates.txt"

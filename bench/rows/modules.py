@@ -1,7 +1,7 @@
 #!/usr/bin/env python3
 """modules.py [FILE]: says of each row of modules what the tables of the binary format and of the typing rules say, without
-the product. It prints what crates/module_rows/stdout should hold. Written from WebAssembly Core 1.0, chapters 3 and 5, and
-from the limits and causes of this project."""
+the product, and of an accepted one its shortest file where the row is not that. It prints what crates/module_rows/stdout
+should hold. Written from WebAssembly Core 1.0, chapters 3 and 5, and from the limits and causes of this project."""
 import sys
 
 MODULE_BYTES, PARAMETERS, RESULTS, NAME_LENGTH, FUNCTIONS = 8388608, 60, 1, 1024, 100000
@@ -33,17 +33,28 @@ def limit(place, which):
     return Stop(f'limit at {place}: {which}')
 
 
+def shortest(value, signed):
+    """The shortest LEB128 number."""
+    spelled = bytearray()
+    while True:
+        low, value = value & 0x7f, value >> 7
+        if value == 0 and not (signed and low & 0x40) or value == -1 and low & 0x40:
+            return spelled + bytes([low])
+        spelled.append(low | 0x80)
+
+
 class Reader:
-    """Fields in order; `end` is the end of the innermost window."""
+    """Fields in order; `end` is the end of the innermost window, `file` its content in the shortest spelling so far."""
 
     def __init__(self, data):
-        self.data, self.at, self.end = data, 0, len(data)
+        self.data, self.at, self.end, self.file = data, 0, len(data), bytearray()
         self.functions, self.locals = 0, 0
 
     def byte(self):
         if self.at >= self.end:
             raise malformed(self.at, 'unexpected end')
         self.at += 1
+        self.file.append(self.data[self.at - 1])
         return self.data[self.at - 1]
 
     def number(self, width, signed):
@@ -66,6 +77,7 @@ class Reader:
                 raise malformed(start, 'unused bits')
         elif value >= 1 << width:
             raise malformed(start, 'unused bits')
+        self.file += shortest(value, signed)
         return value
 
     def u32(self):
@@ -75,30 +87,37 @@ class Reader:
         return [entry() for _ in range(self.u32())]
 
     def window(self, read, cause):
-        start = self.at
+        start, outside = self.at, bytes(self.file)
         size = self.u32()
         if size > self.end - self.at:
             raise malformed(start, 'size past end')
-        outer, self.end = self.end, self.at + size
+        outer, self.end, self.file = self.end, self.at + size, bytearray()
         result = read()
         if self.at != self.end:
             raise malformed(self.at, cause)
-        self.end = outer
+        self.end, self.file = outer, bytearray(outside + shortest(len(self.file), False) + self.file)
         return result
+
+    def raw(self, count):
+        """So many bytes that any bytes spell."""
+        if count > self.end - self.at:
+            raise malformed(self.at, 'unexpected end')
+        text = self.data[self.at:self.at + count]
+        self.at += count
+        self.file += text
+        return text
 
     def name(self, most=None):
         start = self.at
         length = self.u32()
         if most is not None and length > most:
             raise limit(start, 'name length')
-        if length > self.end - self.at:
-            raise malformed(self.at, 'unexpected end')
-        text = self.data[self.at:self.at + length]
+        text_at = self.at
+        text = self.raw(length)
         try:
             text.decode('utf-8')
         except UnicodeDecodeError:
-            raise malformed(self.at, 'bad UTF-8')
-        self.at += length
+            raise malformed(text_at, 'bad UTF-8')
         return start, text
 
     def value_type(self):
@@ -192,7 +211,7 @@ class Reader:
 
     def block_type(self):
         if self.at < self.end and self.data[self.at] == 0x40:
-            self.at += 1
+            self.byte()
             return []
         return [self.value_type()]
 
@@ -254,10 +273,7 @@ class Reader:
 
     def data_segment(self):
         index, offset = self.placed(), self.expression()
-        count = self.u32()
-        if count > self.end - self.at:
-            raise malformed(self.at, 'unexpected end')
-        self.at += count
+        self.raw(self.u32())
         return index, offset
 
     def custom(self):
@@ -278,6 +294,7 @@ class Reader:
                    10: self.code_section, 11: lambda: self.many(self.data_segment)}
         last = 0
         while self.at < self.end:
+            outside = bytes(self.file)
             start, number = self.at, self.byte()
             if number > 11:
                 raise malformed(start, 'bad section id')
@@ -290,6 +307,9 @@ class Reader:
             else:
                 last = number
                 module[number] = self.window(readers[number], 'section not used up')
+            # the shortest file has no custom section, and none without entries
+            if number == 0 or module[number] == []:
+                self.file = bytearray(outside)
         if last < 10 and self.functions:
             raise malformed(self.at, 'count differs')
         return module
@@ -554,10 +574,14 @@ class Body:
 def verdict(data):
     if len(data) > MODULE_BYTES:
         return f'limit at {MODULE_BYTES}: module bytes'
+    reader = Reader(data)
     try:
-        return Validator(Reader(data).module()).verdict()
+        said = Validator(reader.module()).verdict()
     except Stop as stop:
         return str(stop)
+    if said != 'accepted' or reader.file == data:
+        return said
+    return f'accepted, written as {reader.file.hex(" ")}'
 
 
 def main():

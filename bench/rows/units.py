@@ -304,6 +304,10 @@ NUMBERS = ('u32', 'u64')
 BARE = ('w2c_mem', 'w2c_tab')
 
 
+def written_types(listed):
+    return [ty for ty, _ in listed]
+
+
 def parameter_types(listed):
     return [] if listed == [('void', None)] else [ty for ty, _ in listed]
 
@@ -343,7 +347,7 @@ class Unit:
         for other in self.items[:self.number]:
             if other[1] == name:
                 self.breaks(1, 'function' != kind or 'function' != other[0] or
-                            (item[2], item[3], parameter_types(item[4])) != (other[2], other[3], parameter_types(other[4]))
+                            (item[2], item[3], written_types(item[4])) != (other[2], other[3], written_types(other[4]))
                             or (item[5] and other[5]) is not None)
         self.breaks(2, name.startswith('w2c_') or name.startswith('w2cZ_') == static)
         if kind == 'array':

@@ -32,7 +32,7 @@ with tempfile.TemporaryDirectory() as folder:
         path.write_bytes(bytes.fromhex(digits))
         ran = subprocess.run(["wasm-validate", *OPTIONS, str(path)], capture_output=True, text=True)
         count += 1
-        if (ran.returncode == 0) != (verdict == "accepted"):
+        if (ran.returncode == 0) != verdict.startswith("accepted"):
             if any(text in ran.stderr for text in KNOWN) or name in ACCEPTED:
                 known += 1
             else:

@@ -79,9 +79,3 @@ bind_all [] [] e = refl
 bind_all [] (v ∷ values) e = absurd (omega (arith, e))
 bind_all (n ∷ names) [] e = absurd (omega (arith, e))
 bind_all (n ∷ names) (v ∷ values) e = ap (λ (o : Option Vars). option_map (λ vars. (n, Number v) ∷ vars) o) (bind_all names values (omega (arith, e)))
-
-pub bind_none : (names : List Name) (values : List Value) → (length names ≡ length values → ⊥) → bind names (map Number values) ≡ None
-bind_none [] [] differ = absurd (differ refl)
-bind_none [] (v ∷ values) differ = refl
-bind_none (n ∷ names) [] differ = refl
-bind_none (n ∷ names) (v ∷ values) differ = ap (λ (o : Option Vars). option_map (λ vars. (n, Number v) ∷ vars) o) (bind_none names values (λ e. differ (ap suc e)))

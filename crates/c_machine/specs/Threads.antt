@@ -4,6 +4,8 @@ use Rattle.std.specs.Prelude.{◌≡◌, ℕ, ◌-◌, List, [], ◌∷◌, ◌+
 use Rattle.w2c_base.specs.declared.value.Value.{Value}
 use Rattle.w2c_base.specs.Lookup.{if_found}
 use Rattle.w2c_base.specs.Run.{Trail}
+use Rattle.c_tree.specs.declared.tree.CType.{CType}
+use Rattle.c_tree.specs.declared.tree.CType.TheVariants.{Void}
 use Rattle.c_tree.specs.Tree as tree
 use Rattle.c_meaning.specs.State.{Name, Number, Vars, Machine, Running, Frame as Waiting, State, Place, Trapped, Undefined, Stuck}
 use Rattle.c_meaning.specs.Linking.{Program, Definition, definition_of}
@@ -32,11 +34,20 @@ names_of (tree.Array name count bytes) = []
 names_of (tree.Var ty name number) = []
 names_of (tree.Function f) = elim f.body [ None ↦ [] | Some body ↦ local_names f body ]
 
+-- the type of the result of an item's function, void where it is none
+abbrev pub result_of : tree.Item → CType
+result_of (tree.Array name count bytes) = Void
+result_of (tree.Var ty name number) = Void
+result_of (tree.Function f) = f.result
+
 abbrev pub stmts_at : List tree.Item → ℕ → List tree.Stmt
 stmts_at items i = elim (slice_get items i) [ None ↦ [] | Some item ↦ stmts_of item ]
 
 abbrev pub names_at : List tree.Item → ℕ → List Name
 names_at items i = elim (slice_get items i) [ None ↦ [] | Some item ↦ names_of item ]
+
+abbrev pub result_at : List tree.Item → ℕ → CType
+result_at items i = elim (slice_get items i) [ None ↦ Void | Some item ↦ result_of item ]
 
 abbrev pub vars_of : List Name → List Value → Vars
 vars_of names values = zip names (map Number values)
@@ -46,6 +57,7 @@ abbrev pub running_of : List tree.Item → Frame → Running
 running_of items f = record {
   unit = 0;
   item = f.item;
+  result = result_at items f.item;
   stmts = stmts_at items f.item;
   rest = drop f.at (stmts_at items f.item);
   vars = vars_of (names_at items f.item) f.values.items;

@@ -9,6 +9,7 @@ ghost use Rattle.c_machine.specs.Numbers.{IsNumberLocal, IsNumberType, IsNumberU
 ghost use Rattle.c_machine.specs.Threads.{begun_of, definition_in, stmts_at, target_of, WithLocals};
 
 use crate::tables::statements;
+use crate::types::fit_params;
 use c_tree::{Body, CType, Func, Item, Name, Num, Stmt, Unit};
 use w2c_base::{Memory, Value};
 
@@ -32,7 +33,7 @@ pub struct Thread {
 impl Frame {
     /// The function that an item defines, as it begins: its parameters have the values that are
     /// given (C11, 6.5.2.2), its locals their first values. None where the item defines none, or
-    /// one of another number of parameters.
+    /// one whose parameters have other types or are more or fewer.
     pub fn begin(unit: &Unit, item: usize, values: Vec<Value>) -> Result<Option<Frame>, Memory>
         requires { IsNumberUnit (unit_of unit.now) }
         ensures { IfOk result (λ f. (m : Machine) (below : List Waiting)
@@ -41,7 +42,7 @@ impl Frame {
         let Some((f, body)) = definition(unit, item) else {
             return Ok(None);
         };
-        if values.len() != count_names(f.params.as_slice()) {
+        if !fit_params(f.params.as_slice(), values.as_slice()) {
             return Ok(None);
         }
         match with_locals(body.locals.as_slice(), values)? {
@@ -77,18 +78,6 @@ fn definition(unit: &Unit, item: usize) -> Option<(&Func, &Body)>
         },
         _ => None,
     }
-}
-
-fn count_names(params: &[(CType, Option<Name>)]) -> usize
-    ensures { result ≡ length (param_names params.now) }
-{
-    let mut count = 0;
-    for param in params {
-        if param.1.is_some() {
-            count += 1;
-        }
-    }
-    count
 }
 
 // The values with the first values of locals behind them.

@@ -11,6 +11,7 @@ mod step;
 mod tables;
 #[cfg(test)]
 mod tests;
+mod types;
 
 pub use frame::{Frame, Thread};
 pub use names::NameTable;

@@ -7,7 +7,7 @@ ghost use Rattle.w2c_base.specs.Values.{number_of};
 ghost use Rattle.c_meaning.specs.State.{Is, Machine, Number, Running, then_evaluate};
 ghost use Rattle.c_meaning.specs.Linking.{Program};
 ghost use Rattle.c_meaning.specs.Primitives.{trap as trap_of};
-ghost use Rattle.c_meaning.specs.Step.{act, at_rest, assign as assign_of, c_step, call_callee, call_named as call_named_of, equal_number, evaluate as evaluate_of, give as give_of, jump as jump_of, label_of, take_effect};
+ghost use Rattle.c_meaning.specs.Step.{act, at_rest, assign as assign_of, c_step, call_callee, call_named as call_named_of, equal_number, evaluate as evaluate_of, give as give_of, jump as jump_of, label_of, returned, take_effect};
 ghost use Rattle.c_machine.specs.Scope.{evaluated, Shows};
 ghost use Rattle.c_machine.specs.declared.frame.Thread.{Thread as AnyThread};
 ghost use Rattle.c_machine.specs.Names.{Finds, is_label, label_in, number_in};
@@ -21,7 +21,8 @@ use crate::names::NameTable;
 use crate::operators::operate;
 use crate::primitives::{is_object_primitive, is_trap};
 use crate::tables::{Function, Tables};
-use c_tree::{COp, Callee, Expr, Name, Num, Stmt, Unit};
+use crate::types::{are_of_one_type, is_returned};
+use c_tree::{COp, CType, Callee, Expr, Name, Num, Stmt, Unit};
 use std::alloc::Global;
 use std::mem::replace;
 use w2c_base::{Memory, TrapKind, Value};
@@ -72,7 +73,7 @@ impl Thread {
     ) -> Result<Stepped, Memory>
         requires numbers { IsNumberUnit (unit_of unit.now) }
         requires tables { IsTables tables.now (unit_of unit.now) }
-        requires function { IsFunctionOf (unit_of unit.now) self.old.top.item (map stmt_of function.stmts.now) function.table.now }
+        requires function { IsFunctionOf (unit_of unit.now) self.old.top.item function.result (map stmt_of function.stmts.now) function.table.now }
         requires count { length function.stmts.now < 2 ^ 64 }
         requires stmt { IsNumberStmt (stmt_of stmt.now) }
         requires at { 0 < self.old.top.at }
@@ -115,15 +116,15 @@ impl Thread {
                 }
                 Err(fault) => Ok(faulted(fault)),
             },
-            Stmt::ReturnNone => Ok(self.give(unit, tables, None)),
+            Stmt::ReturnNone => Ok(self.give_back(unit, tables, function.result, None)),
             Stmt::Return(arg) => match argument(scope, arg) {
-                Ok(value) => Ok(self.give(unit, tables, Some(value))),
+                Ok(value) => Ok(self.give_back(unit, tables, function.result, Some(value))),
                 Err(fault) => Ok(faulted(fault)),
             },
         }
     }
 
-    // Assignment (6.5.16) to w2c_depth, a parameter or a local.
+    // Assignment (6.5.16) to w2c_depth, a parameter or a local of the value's type.
     fn assign(&mut self, names: &NameTable, name: &[u8], value: Value) -> Stepped
         ensures { (items : List tree.Item) (trail : Trail) → Finds names.now (λ q. number_in q (names_at items self.old.top.item)) → IsNumberUnit items
             → assign_of (machine_of items trail self.old.depth) (running_of items self.old.top) name.now (Number value) (below_of items self.old.below.items) ≡ step_of items trail result self.new }
@@ -141,6 +142,9 @@ impl Thread {
             return Stepped::Stuck;
         };
         if place >= self.top.values.len() {
+            return Stepped::Stuck;
+        }
+        if !are_of_one_type(self.top.values[place], value) {
             return Stepped::Stuck;
         }
         self.top.values[place] = value;
@@ -222,7 +226,26 @@ impl Thread {
         }
     }
 
-    // Return (6.8.6.4) to the function below, or from the one that was begun.
+    // Return (6.8.6.4) from a function with a result of this type.
+    fn give_back(
+        &mut self,
+        unit: &Unit,
+        tables: &Tables,
+        ty: CType,
+        value: Option<Value>,
+    ) -> Stepped
+        requires numbers { IsNumberUnit (unit_of unit.now) }
+        requires tables { IsTables tables.now (unit_of unit.now) }
+        ensures { (trail : Trail) (r : Running) → r.result ≡ ty
+            → returned (machine_of (unit_of unit.now) trail self.old.depth) r (option_map Number value) (below_of (unit_of unit.now) self.old.below.items) ≡ step_of (unit_of unit.now) trail result self.new }
+    {
+        if !is_returned(ty, value) {
+            return Stepped::Stuck;
+        }
+        self.give(unit, tables, value)
+    }
+
+    // The value goes to the function below, or from the one that was begun.
     fn give(&mut self, unit: &Unit, tables: &Tables, value: Option<Value>) -> Stepped
         requires numbers { IsNumberUnit (unit_of unit.now) }
         requires tables { IsTables tables.now (unit_of unit.now) }

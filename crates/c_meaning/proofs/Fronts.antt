@@ -45,7 +45,8 @@ module _ (p : Program) (more : List Entry) where
   follows_begun pending (Back m value) = inl (stopped_apart Stuck, refl)
   follows_begun pending (Stops m why) = inl (stopped_apart why, refl)
 
-  pub follows_entry : (m : Machine) (last : Phase) (es : List Entry) → Follows p more (begin_entry p m last es) (begin_entry p m last (es ++ more))
+  pub follows_entry : (m : Machine) (last : Phase) (es : List Entry)
+      → Follows p more (begin_entry p m last es) (begin_entry p m last (es ++ more))
   follows_entry m last [] = inr (record { machine = m; last = last; left = 0; run_is = refl; goes_on = refl })
   follows_entry m last (e ∷ es) = go e.func
     where
@@ -53,12 +54,21 @@ module _ (p : Program) (more : List Entry) where
       pending = record { phase = e.phase; entries = es }
 
       go : (f : Option FuncAddress)
-          → Follows p more (elim f [ None ↦ Over (over pending m (Stopped Stuck)) | Some f ↦ begun pending (call p f m (map Number e.args) []) ])
-          (elim f [ None ↦ Over (over (longer more pending) m (Stopped Stuck)) | Some f ↦ begun (longer more pending) (call p f m (map Number e.args) []) ])
+          → Follows p more (elim f [
+            | None ↦ Over (over pending m (Stopped Stuck))
+            | Some f ↦ begun pending
+                (call p f m (map Number e.args) [])
+          ])
+          (elim f [
+            | None ↦ Over (over (longer more pending) m (Stopped Stuck))
+            | Some f ↦ begun (longer more pending)
+                (call p f m (map Number e.args) [])
+          ])
       go None = inl (stopped_apart Stuck, refl)
       go (Some f) = follows_begun pending (call p f m (map Number e.args) [])
 
-  follows_back : (pending : Pending) (m : Machine) (phase : Phase) (value : Option CValue) → Follows p more (came_back p pending m phase value) (came_back p (longer more pending) m phase value)
+  follows_back : (pending : Pending) (m : Machine) (phase : Phase) (value : Option CValue)
+      → Follows p more (came_back p pending m phase value) (came_back p (longer more pending) m phase value)
   follows_back pending m (Init k) None = follows_entry m (Init k) pending.entries
   follows_back pending m (Call k) None = follows_entry (told_end m None) (Call k) pending.entries
   follows_back pending m (Call k) (Some (Number v)) = follows_entry (told_end m (Some v)) (Call k) pending.entries
@@ -97,11 +107,13 @@ module _ (p : Program) (more : List Entry) where
 
 -- entries of a longer list of calls
 
-pub zip_from : {A : Type 0} (k : ℕ) (xs ys : List A) → zip (range_with_len k (length (xs ++ ys))) (xs ++ ys) ≡ zip (range_with_len k (length xs)) xs ++ zip (range_with_len (k + length xs) (length ys)) ys
+pub zip_from : {A : Type 0} (k : ℕ) (xs ys : List A) → zip (range_with_len k (length (xs ++ ys))) (xs ++ ys) ≡ zip
+    (range_with_len k (length xs)) xs ++ zip (range_with_len (k + length xs) (length ys)) ys
 zip_from k [] ys = let e : k ≡ k + 0 = omega arith in ap (λ n. zip (range_with_len n (length ys)) ys) e
 zip_from k (x ∷ xs) ys =
     let e : k + 1 + length xs ≡ k + suc (length xs) = omega arith in
-    ap (λ l. (k, x) ∷ l) (zip_from (k + 1) xs ys ∙ ap (λ n. zip (range_with_len (k + 1) (length xs)) xs ++ zip (range_with_len n (length ys)) ys) e)
+    ap (λ l. (k, x) ∷ l) (zip_from (k + 1) xs ys ∙ ap (λ n. zip (range_with_len (k + 1) (length xs)) xs ++ zip
+    (range_with_len n (length ys)) ys) e)
 
 abbrev entry_of : Program → ℕ × SymbolCall → Entry
 entry_of p c = record { phase = Call c.0; func = called_func p c.1; args = c.1.args }
@@ -110,11 +122,14 @@ entry_of p c = record { phase = Call c.0; func = called_func p c.1; args = c.1.a
 abbrev pub entries_behind : Program → ℕ → List SymbolCall → List Entry
 entries_behind p k more = map (entry_of p) (zip (range_with_len k (length more)) more)
 
-pub entries_longer : (p : Program) (calls more : List SymbolCall) → entries_of p (calls ++ more) ≡ entries_of p calls ++ entries_behind p (length calls) more
+pub entries_longer : (p : Program) (calls more : List SymbolCall)
+    → entries_of p (calls ++ more) ≡ entries_of p calls ++ entries_behind p (length calls) more
 entries_longer p calls more =
-    let inits : List Entry = map (λ (f : ℕ × FuncAddress). record { phase = Init f.0; func = Some f.1; args = [] }) (numbered (init_functions p)) in
+    let inits : List Entry = map (λ (f : ℕ × FuncAddress). record { phase = Init f.0; func = Some f.1; args = [] })
+    (numbered (init_functions p)) in
     let e : 0 + length calls ≡ length calls = omega arith in
-    let both : numbered (calls ++ more) ≡ numbered calls ++ zip (range_with_len (length calls) (length more)) more = zip_from 0 calls more ∙ ap (λ n. numbered calls ++ zip (range_with_len n (length more)) more) e in
+    let both : numbered (calls ++ more) ≡ numbered calls ++ zip (range_with_len (length calls) (length more)) more = zip_from 0 calls
+    more ∙ ap (λ n. numbered calls ++ zip (range_with_len n (length more)) more) e in
     ap (λ l. inits ++ map (entry_of p) l) both
     ∙ ap (λ l. inits ++ l) (map-append (entry_of p) (numbered calls) (zip (range_with_len (length calls) (length more)) more))
     ∙ sym (append_assoc inits (map (entry_of p) (numbered calls)) (entries_behind p (length calls) more))
@@ -124,7 +139,8 @@ pub start_follows : (p : Program) (calls more : List SymbolCall) (n : ℕ) (repl
 start_follows p calls more n replies =
     let rest = entries_behind p (length calls) more in
     follows_after p rest n (c_start p calls replies) (c_start p (calls ++ more) replies)
-    (subst (λ es. Follows p rest (c_start p calls replies) (begin_entry p (fresh p replies) (Init 0) es)) (sym (entries_longer p calls more))
+    (subst (λ es. Follows p rest (c_start p calls replies) (begin_entry p (fresh p replies) (Init 0) es))
+    (sym (entries_longer p calls more))
     (follows_entry p rest (fresh p replies) (Init 0) (entries_of p calls)))
 
 -- values
@@ -150,7 +166,11 @@ entry_values p m last (e ∷ es) = go e.func
     pending : Pending
     pending = record { phase = e.phase; entries = es }
 
-    go : (f : Option FuncAddress) → values_of (elim f [ None ↦ Over (over pending m (Stopped Stuck)) | Some f ↦ begun pending (call p f m (map Number e.args) []) ]) ≡ values_in m.trail.events
+    go : (f : Option FuncAddress) → values_of (elim f [
+      | None ↦ Over (over pending m (Stopped Stuck))
+      | Some f ↦ begun pending
+          (call p f m (map Number e.args) [])
+    ]) ≡ values_in m.trail.events
     go None = refl
     go (Some f) = begun_values pending (call p f m (map Number e.args) []) ∙ call_same p f m (map Number e.args) []
 
@@ -165,13 +185,17 @@ BeginsWith front values = (rest : List (Option Value)) × (values ≡ front ++ r
 one_behind : (front values : List (Option Value)) (v : Option Value) → BeginsWith front values → BeginsWith front (values ++ v ∷ [])
 one_behind front values v (rest, is) = (rest ++ v ∷ [], ap (λ l. l ++ v ∷ []) is ∙ append_assoc front rest (v ∷ []))
 
-begins_as : (p : Program) (front : List (Option Value)) (m : Machine) (last : Phase) (es : List Entry) → BeginsWith front (values_in m.trail.events) → BeginsWith front (values_of (begin_entry p m last es))
+begins_as : (p : Program) (front : List (Option Value)) (m : Machine) (last : Phase) (es : List Entry)
+    → BeginsWith front (values_in m.trail.events) → BeginsWith front (values_of (begin_entry p m last es))
 begins_as p front m last es begins = subst (BeginsWith front) (sym (entry_values p m last es)) begins
 
-begins_behind : (p : Program) (front : List (Option Value)) (m : Machine) (v : Option Value) (last : Phase) (es : List Entry) → BeginsWith front (values_in m.trail.events) → BeginsWith front (values_of (begin_entry p (told_end m v) last es))
-begins_behind p front m v last es begins = begins_as p front (told_end m v) last es (subst (BeginsWith front) (sym (one_told m v)) (one_behind front (values_in m.trail.events) v begins))
+begins_behind : (p : Program) (front : List (Option Value)) (m : Machine) (v : Option Value) (last : Phase) (es : List Entry)
+    → BeginsWith front (values_in m.trail.events) → BeginsWith front (values_of (begin_entry p (told_end m v) last es))
+begins_behind p front m v last es begins = begins_as p front (told_end m v) last es
+    (subst (BeginsWith front) (sym (one_told m v)) (one_behind front (values_in m.trail.events) v begins))
 
-grows_back : (p : Program) (front : List (Option Value)) (pending : Pending) (m : Machine) (phase : Phase) (value : Option CValue) → BeginsWith front (values_in m.trail.events) → BeginsWith front (values_of (came_back p pending m phase value))
+grows_back : (p : Program) (front : List (Option Value)) (pending : Pending) (m : Machine) (phase : Phase) (value : Option CValue)
+    → BeginsWith front (values_in m.trail.events) → BeginsWith front (values_of (came_back p pending m phase value))
 grows_back p front pending m (Init k) None begins = begins_as p front m (Init k) pending.entries begins
 grows_back p front pending m (Call k) None begins = begins_behind p front m None (Call k) pending.entries begins
 grows_back p front pending m (Call k) (Some (Number v)) begins = begins_behind p front m (Some v) (Call k) pending.entries begins
@@ -179,12 +203,14 @@ grows_back p front pending m (Call k) (Some (Pointer to)) begins = begins
 grows_back p front pending m (Call k) (Some (FuncPointer to)) begins = begins
 grows_back p front pending m (Init k) (Some v) begins = begins
 
-grows_on : (p : Program) (front : List (Option Value)) (pending : Pending) (st : Step) → BeginsWith front (values_in (machine_of st).trail.events) → BeginsWith front (values_of (go_on p pending st))
+grows_on : (p : Program) (front : List (Option Value)) (pending : Pending) (st : Step)
+    → BeginsWith front (values_in (machine_of st).trail.events) → BeginsWith front (values_of (go_on p pending st))
 grows_on p front pending (Next s) begins = begins
 grows_on p front pending (Back m value) begins = grows_back p front pending m pending.phase value begins
 grows_on p front pending (Stops m why) begins = begins
 
-grows_after : (p : Program) (front : List (Option Value)) (n : ℕ) (x : Progress) → BeginsWith front (values_of x) → BeginsWith front (values_of (after p n x))
+grows_after : (p : Program) (front : List (Option Value)) (n : ℕ) (x : Progress) → BeginsWith front (values_of x)
+    → BeginsWith front (values_of (after p n x))
 grows_after p front zero x begins = begins
 grows_after p front (suc n) (Going pending s) begins = grows_after p front n (go_on p pending (c_step p s))
     (grows_on p front pending (c_step p s) (subst (BeginsWith front) (sym (step_same p s)) begins))
@@ -193,23 +219,27 @@ grows_after p front (suc n) (Over run) begins = begins
 -- one entry of a call alone: where the run ends it has one value more, and else none
 abbrev IsOne : List (Option Value) → Progress → Type 0
 IsOne front (Going pending s) = (pending.entries ≡ []) × (values_in s.machine.trail.events ≡ front) × ((k : ℕ) × (pending.phase ≡ Call k))
-IsOne front (Over run) = ((run.outcome ≡ Ended) × ((v : Option Value) × (values_in run.events ≡ front ++ v ∷ []))) ⊎ ((run.outcome ≢ Ended) × (values_in run.events ≡ front))
+IsOne front (Over run) = ((run.outcome ≡ Ended) × ((v : Option Value) × (values_in run.events ≡ front ++ v ∷ [])))
+    ⊎ ((run.outcome ≢ Ended) × (values_in run.events ≡ front))
 
 abbrev one_pending : ℕ → Pending
 one_pending k = record { phase = Call k; entries = [] }
 
-one_begun : (k : ℕ) (front : List (Option Value)) (st : Step) → values_in (machine_of st).trail.events ≡ front → IsOne front (begun (one_pending k) st)
+one_begun : (k : ℕ) (front : List (Option Value)) (st : Step) → values_in (machine_of st).trail.events ≡ front
+    → IsOne front (begun (one_pending k) st)
 one_begun k front (Next s) same = (refl, same, (k, refl))
 one_begun k front (Back m value) same = inr (stopped_apart Stuck, same)
 one_begun k front (Stops m why) same = inr (stopped_apart why, same)
 
-one_back : (p : Program) (k : ℕ) (front : List (Option Value)) (m : Machine) (value : Option CValue) → values_in m.trail.events ≡ front → IsOne front (came_back p (one_pending k) m (Call k) value)
+one_back : (p : Program) (k : ℕ) (front : List (Option Value)) (m : Machine) (value : Option CValue) → values_in m.trail.events ≡ front
+    → IsOne front (came_back p (one_pending k) m (Call k) value)
 one_back p k front m None same = inl (refl, (None, one_told m None ∙ ap (λ l. l ++ None ∷ []) same))
 one_back p k front m (Some (Number v)) same = inl (refl, (Some v, one_told m (Some v) ∙ ap (λ l. l ++ Some v ∷ []) same))
 one_back p k front m (Some (Pointer to)) same = inr (stopped_apart Stuck, same)
 one_back p k front m (Some (FuncPointer to)) same = inr (stopped_apart Stuck, same)
 
-one_on : (p : Program) (k : ℕ) (front : List (Option Value)) (st : Step) → values_in (machine_of st).trail.events ≡ front → IsOne front (go_on p (one_pending k) st)
+one_on : (p : Program) (k : ℕ) (front : List (Option Value)) (st : Step) → values_in (machine_of st).trail.events ≡ front
+    → IsOne front (go_on p (one_pending k) st)
 one_on p k front (Next s) same = (refl, same, (k, refl))
 one_on p k front (Back m value) same = one_back p k front m value same
 one_on p k front (Stops m why) same = inr (stopped_apart why, same)
@@ -222,16 +252,23 @@ one_after p front (suc n) (Going pending s) (none, is, (k, calls)) =
     one_after p front n (go_on p pending (c_step p s))
     (subst (λ q. IsOne front (go_on p q (c_step p s))) same (one_on p k front (c_step p s) (step_same p s ∙ is)))
 
-one_entry : (p : Program) (m : Machine) (last : Phase) (k : ℕ) (c : SymbolCall) → IsOne (values_in m.trail.events) (begin_entry p m last (entry_of p (k, c) ∷ []))
+one_entry : (p : Program) (m : Machine) (last : Phase) (k : ℕ) (c : SymbolCall)
+    → IsOne (values_in m.trail.events) (begin_entry p m last (entry_of p (k, c) ∷ []))
 one_entry p m last k c = go (called_func p c)
   where
-    go : (f : Option FuncAddress) → IsOne (values_in m.trail.events) (elim f [ None ↦ Over (over (one_pending k) m (Stopped Stuck)) | Some f ↦ begun (one_pending k) (call p f m (map Number c.args) []) ])
+    go : (f : Option FuncAddress) → IsOne (values_in m.trail.events)
+        (elim f [
+          | None ↦ Over (over (one_pending k) m (Stopped Stuck))
+          | Some f ↦ begun (one_pending k)
+              (call p f m (map Number c.args) [])
+        ])
     go None = inr (stopped_apart Stuck, refl)
     go (Some f) = one_begun k (values_in m.trail.events) (call p f m (map Number c.args) []) (call_same p f m (map Number c.args) [])
 
 -- one value behind these where the run ends, and else these alone
 abbrev GivesOne : List (Option Value) → CRun → Type 0
-GivesOne front run = (run.outcome ≡ Ended → (v : Option Value) × (values_in run.events ≡ front ++ v ∷ [])) × (run.outcome ≢ Ended → values_in run.events ≡ front)
+GivesOne front run = (run.outcome ≡ Ended → (v : Option Value) × (values_in run.events ≡ front ++ v ∷ [])) × (run.outcome ≢ Ended
+    → values_in run.events ≡ front)
 
 one_run : (front : List (Option Value)) (x : Progress) → IsOne front x → GivesOne front (run_of x)
 one_run front (Going pending s) one = (λ ended. absurd (out_apart ended), λ apart. one.1)
@@ -250,24 +287,31 @@ HasNoValues (Over run) = values_in run.events ≡ []
 abbrev init_pending : ℕ → List Entry → Pending
 init_pending k es = record { phase = Init k; entries = es }
 
-none_begun : (k : ℕ) (es : List Entry) (st : Step) → AreInits es → values_in (machine_of st).trail.events ≡ [] → HasNoValues (begun (init_pending k es) st)
+none_begun : (k : ℕ) (es : List Entry) (st : Step) → AreInits es → values_in (machine_of st).trail.events ≡ []
+    → HasNoValues (begun (init_pending k es) st)
 none_begun k es (Next s) inits none = (none, inits, (k, refl))
 none_begun k es (Back m value) inits none = none
 none_begun k es (Stops m why) inits none = none
 
-none_entry : (p : Program) (m : Machine) (last : Phase) (es : List Entry) → AreInits es → values_in m.trail.events ≡ [] → HasNoValues (begin_entry p m last es)
+none_entry : (p : Program) (m : Machine) (last : Phase) (es : List Entry) → AreInits es → values_in m.trail.events ≡ []
+    → HasNoValues (begin_entry p m last es)
 none_entry p m last [] inits none = none
 none_entry p m last (e ∷ es) ((k, is), inits) none = go e.func
   where
     pending : Phase → Pending
     pending phase = record { phase = phase; entries = es }
 
-    go : (f : Option FuncAddress) → HasNoValues (elim f [ None ↦ Over (over (pending e.phase) m (Stopped Stuck)) | Some f ↦ begun (pending e.phase) (call p f m (map Number e.args) []) ])
+    go : (f : Option FuncAddress) → HasNoValues (elim f [
+      | None ↦ Over (over (pending e.phase) m (Stopped Stuck))
+      | Some f ↦ begun
+          (pending e.phase) (call p f m (map Number e.args) [])
+    ])
     go None = none
     go (Some f) = subst (λ phase. HasNoValues (begun (pending phase) (call p f m (map Number e.args) []))) (sym is)
         (none_begun k es (call p f m (map Number e.args) []) inits (call_same p f m (map Number e.args) [] ∙ none))
 
-none_on : (p : Program) (k : ℕ) (es : List Entry) (st : Step) → AreInits es → values_in (machine_of st).trail.events ≡ [] → HasNoValues (go_on p (init_pending k es) st)
+none_on : (p : Program) (k : ℕ) (es : List Entry) (st : Step) → AreInits es → values_in (machine_of st).trail.events ≡ []
+    → HasNoValues (go_on p (init_pending k es) st)
 none_on p k es (Next s) inits none = (none, inits, (k, refl))
 none_on p k es (Back m None) inits none = none_entry p m (Init k) es inits none
 none_on p k es (Back m (Some v)) inits none = none
@@ -281,7 +325,8 @@ none_after p (suc n) (Going pending s) (is, inits, (k, phase)) =
     none_after p n (go_on p pending (c_step p s))
     (subst (λ q. HasNoValues (go_on p q (c_step p s))) same (none_on p k pending.entries (c_step p s) inits (step_same p s ∙ is)))
 
-inits_of : (fs : List (ℕ × FuncAddress)) → AreInits (map (λ (f : ℕ × FuncAddress). record { phase = Init f.0; func = Some f.1; args = [] }) fs ++ [])
+inits_of : (fs : List (ℕ × FuncAddress)) → AreInits (map (λ (f : ℕ × FuncAddress). record
+    { phase = Init f.0; func = Some f.1; args = [] }) fs ++ [])
 inits_of [] = tt
 inits_of (f ∷ fs) = ((f.0, refl), inits_of fs)
 
@@ -293,46 +338,57 @@ none_run (Over run) none = none
 
 -- the init functions alone give no values
 pub inits_give_none : (p : Program) (n : ℕ) (replies : List Reply) → values_in (c_run p [] n replies).events ≡ []
-inits_give_none p n replies = none_run _ (none_after p n (c_start p [] replies) (none_entry p (fresh p replies) (Init 0) (entries_of p []) (inits_of (numbered (init_functions p))) refl))
+inits_give_none p n replies = none_run _ (none_after p n (c_start p [] replies)
+    (none_entry p (fresh p replies) (Init 0) (entries_of p []) (inits_of (numbered (init_functions p))) refl))
 
 -- a run that does not end is the run of any longer list
-pub stops_the_same : (p : Program) (calls more : List SymbolCall) (n : ℕ) (replies : List Reply) → (c_run p calls n replies).outcome ≢ Ended → c_run p (calls ++ more) n replies ≡ c_run p calls n replies
-stops_the_same p calls more n replies apart = stopped_same p (entries_behind p (length calls) more) _ _ (start_follows p calls more n replies) apart
+pub stops_the_same : (p : Program) (calls more : List SymbolCall) (n : ℕ) (replies : List Reply)
+    → (c_run p calls n replies).outcome ≢ Ended → c_run p (calls ++ more) n replies ≡ c_run p calls n replies
+stops_the_same p calls more n replies apart = stopped_same p (entries_behind p (length calls) more) _ _
+    (start_follows p calls more n replies) apart
 
 -- what goes on behind values keeps them in front
-goes_on_with : (p : Program) (m : Machine) (last : Phase) (left : ℕ) (more : List Entry) → BeginsWith (values_in m.trail.events) (values_in (run_of (after p left (begin_entry p m last more))).events)
+goes_on_with : (p : Program) (m : Machine) (last : Phase) (left : ℕ) (more : List Entry)
+    → BeginsWith (values_in m.trail.events) (values_in (run_of (after p left (begin_entry p m last more))).events)
 goes_on_with p m last left more =
     let x = begin_entry p m last more in
     let values : List (Option Value) = values_in m.trail.events in
     let grows = grows_after p values left x (begins_as p values m last more ([], sym (append-nil values))) in
     (grows.0, run_values (after p left x) ∙ grows.1)
 
-stay_by : (p : Program) (more : List Entry) (run : CRun) (y : Progress) → EndedAt p more run y → BeginsWith (values_in run.events) (values_in (run_of y).events)
+stay_by : (p : Program) (more : List Entry) (run : CRun) (y : Progress) → EndedAt p more run y
+    → BeginsWith (values_in run.events) (values_in (run_of y).events)
 stay_by p more run y at =
     let goes = goes_on_with p at.machine at.last at.left more in
     (goes.0, ap (λ x. values_in (run_of x).events) at.goes_on ∙ goes.1 ∙ ap (λ (r : CRun). values_in r.events ++ goes.0) (sym at.run_is))
 
 -- the values of a run that ends stand in front of those of any longer list
 pub values_stay : (p : Program) (calls more : List SymbolCall) (n : ℕ) (replies : List Reply) → (c_run p calls n replies).outcome ≡ Ended
-    → (rest : List (Option Value)) × (values_in (c_run p (calls ++ more) n replies).events ≡ values_in (c_run p calls n replies).events ++ rest)
+    → (rest : List (Option Value)) × (values_in (c_run p (calls ++ more) n replies).events ≡ values_in
+    (c_run p calls n replies).events ++ rest)
 values_stay p calls more n replies ended =
     let rest = entries_behind p (length calls) more in
     let x = after p n (c_start p calls replies) in
     let y = after p n (c_start p (calls ++ more) replies) in
     stay_by p rest (run_of x) y (ended_goes_on p rest x y (start_follows p calls more n replies) ended)
 
-one_by : (p : Program) (k : ℕ) (c : SymbolCall) (run : CRun) (y : Progress) → EndedAt p (entry_of p (k, c) ∷ []) run y → GivesOne (values_in run.events) (run_of y)
+one_by : (p : Program) (k : ℕ) (c : SymbolCall) (run : CRun) (y : Progress) → EndedAt p (entry_of p (k, c) ∷ []) run y
+    → GivesOne (values_in run.events) (run_of y)
 one_by p k c run y at =
     let x = begin_entry p at.machine at.last (entry_of p (k, c) ∷ []) in
     let values : List (Option Value) = values_in at.machine.trail.events in
-    let one : GivesOne values (run_of (after p at.left x)) = one_run values (after p at.left x) (one_after p values at.left x (one_entry p at.machine at.last k c)) in
+    let one : GivesOne values (run_of (after p at.left x)) = one_run values (after p at.left x)
+    (one_after p values at.left x (one_entry p at.machine at.last k c)) in
     let there : GivesOne values (run_of y) = subst (λ z. GivesOne values (run_of z)) (sym at.goes_on) one in
     subst (λ front. GivesOne front (run_of y)) (ap (λ (r : CRun). values_in r.events) (sym at.run_is)) there
 
 -- behind a run that ends, a call more gives one value where it ends, and else none
-pub one_value : (p : Program) (calls : List SymbolCall) (c : SymbolCall) (n : ℕ) (replies : List Reply) → (c_run p calls n replies).outcome ≡ Ended
-    → ((c_run p (calls ++ c ∷ []) n replies).outcome ≡ Ended → (v : Option Value) × (values_in (c_run p (calls ++ c ∷ []) n replies).events ≡ values_in (c_run p calls n replies).events ++ v ∷ []))
-    × ((c_run p (calls ++ c ∷ []) n replies).outcome ≢ Ended → values_in (c_run p (calls ++ c ∷ []) n replies).events ≡ values_in (c_run p calls n replies).events)
+pub one_value : (p : Program) (calls : List SymbolCall) (c : SymbolCall) (n : ℕ) (replies : List Reply)
+    → (c_run p calls n replies).outcome ≡ Ended
+    → ((c_run p (calls ++ c ∷ []) n replies).outcome ≡ Ended → (v : Option Value)
+    × (values_in (c_run p (calls ++ c ∷ []) n replies).events ≡ values_in (c_run p calls n replies).events ++ v ∷ []))
+    × ((c_run p (calls ++ c ∷ []) n replies).outcome ≢ Ended → values_in (c_run p (calls ++ c ∷ []) n replies).events ≡ values_in
+    (c_run p calls n replies).events)
 one_value p calls c n replies ended =
     let rest = entries_behind p (length calls) (c ∷ []) in
     let x = after p n (c_start p calls replies) in

@@ -27,4 +27,5 @@ nowhere p (suc n) to e = nowhere p n to e
 pub walk_reaches : (p : Program) (n : ℕ) (from to : Progress) → walk p n (Some from) ≡ Some to → Reaches p n from to
 walk_reaches p zero from to e = subst (Reaches p 0 from) (here e) (stays p from)
 walk_reaches p (suc n) (Over run) to e = absurd (nowhere p n to e)
-walk_reaches p (suc n) (Going pending s) to e = join_one p n (Going pending s) (go_on p pending (c_step p s)) to (step p pending s) (walk_reaches p n (go_on p pending (c_step p s)) to e)
+walk_reaches p (suc n) (Going pending s) to e = join_one p n (Going pending s) (go_on p pending (c_step p s)) to (step p pending s)
+    (walk_reaches p n (go_on p pending (c_step p s)) to e)

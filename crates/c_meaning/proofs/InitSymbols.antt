@@ -23,13 +23,15 @@ not_z : (b : ℕ) → stays b ≡ true → (b == 90) ≡ false
 not_z b h = go (b == 90) refl
   where
     go : (v : _) → (b == 90) ≡ v → (b == 90) ≡ false
-    go true e = let is : b ≡ 90 = grind (arith, nat_tests) in let P : ℕ → Type 0 = λ n. stays n ≡ true in let none : false ≡ true = subst P is h in absurd (cc)
+    go true e = let is : b ≡ 90 = grind (arith, nat_tests) in let P : ℕ
+        → Type 0 = λ n. stays n ≡ true in let none : false ≡ true = subst P is h in absurd (cc)
     go false e = e
 
 byte_back : (b : ℕ) (text : List ℕ) → b < 256 → unescaped (escaped_byte b ++ text) ≡ b ∷ unescaped text
 byte_back b text small = go (stays b) refl
   where
-    go : (v : _) → stays b ≡ v → unescaped (cond v (b ∷ []) (90 ∷ hexadecimal_digit (b / 16) ∷ hexadecimal_digit (b % 16) ∷ []) ++ text) ≡ b ∷ unescaped text
+    go : (v : _) → stays b ≡ v → unescaped (cond v (b ∷ []) (90 ∷ hexadecimal_digit (b / 16) ∷ hexadecimal_digit (b % 16) ∷ []) ++ text)
+        ≡ b ∷ unescaped text
     go true e = kept b text (not_z b e)
     go false e =
         let high = value_of_digit (b / 16) (omega arith) in

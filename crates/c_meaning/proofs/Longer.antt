@@ -17,11 +17,13 @@ after_sum p (suc m) k (Going pending s) =
     ap (λ i. after p i (Going pending s)) e ∙ after_sum p m k (go_on p pending (c_step p s))
 
 -- after k more statements
-over_stays : (p : Program) (k : ℕ) (progress : Progress) → (run_of progress).outcome ≢ OutOfSteps → run_of (after p k progress) ≡ run_of progress
+over_stays : (p : Program) (k : ℕ) (progress : Progress) → (run_of progress).outcome ≢ OutOfSteps
+    → run_of (after p k progress) ≡ run_of progress
 over_stays p k (Over run) over = ap run_of (after_over p k run)
 over_stays p k (Going pending s) over = absurd (over refl)
 
-out_before : (p : Program) (k : ℕ) (progress : Progress) → (run_of (after p k progress)).outcome ≡ OutOfSteps → (run_of progress).outcome ≡ OutOfSteps
+out_before : (p : Program) (k : ℕ) (progress : Progress) → (run_of (after p k progress)).outcome ≡ OutOfSteps
+    → (run_of progress).outcome ≡ OutOfSteps
 out_before p k (Over run) out = sym (ap (λ x. (run_of x).outcome) (after_over p k run)) ∙ out
 out_before p k (Going pending s) out = refl
 
@@ -31,12 +33,14 @@ split p n m progress le =
     let e : m ≡ n + (m - n) = omega arith in
     ap (λ i. after p i progress) e ∙ after_sum p n (m - n) progress
 
-pub run_longer : (p : Program) (calls : List SymbolCall) (replies : List Reply) (n m : ℕ) → n ≤ m → (c_run p calls n replies).outcome ≢ OutOfSteps → c_run p calls m replies ≡ c_run p calls n replies
+pub run_longer : (p : Program) (calls : List SymbolCall) (replies : List Reply) (n m : ℕ) → n ≤ m
+    → (c_run p calls n replies).outcome ≢ OutOfSteps → c_run p calls m replies ≡ c_run p calls n replies
 run_longer p calls replies n m le over =
     ap run_of (split p n m (c_start p calls replies) le)
     ∙ over_stays p (m - n) (after p n (c_start p calls replies)) over
 
-pub run_shorter : (p : Program) (calls : List SymbolCall) (replies : List Reply) (n m : ℕ) → n ≤ m → (c_run p calls m replies).outcome ≡ OutOfSteps → (c_run p calls n replies).outcome ≡ OutOfSteps
+pub run_shorter : (p : Program) (calls : List SymbolCall) (replies : List Reply) (n m : ℕ) → n ≤ m
+    → (c_run p calls m replies).outcome ≡ OutOfSteps → (c_run p calls n replies).outcome ≡ OutOfSteps
 run_shorter p calls replies n m le out =
     out_before p (m - n) (after p n (c_start p calls replies))
     (sym (ap (λ x. (run_of x).outcome) (split p n m (c_start p calls replies) le)) ∙ out)

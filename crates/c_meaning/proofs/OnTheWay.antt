@@ -32,7 +32,8 @@ entry_proper p m last (e ∷ entries) = go e.func
     go None = stopped _
     go (Some f) = begun_proper _ _
 
-back_proper : (p : Program) (pending : Pending) (m : Machine) (phase : Phase) (value : Option CValue) → Proper (came_back p pending m phase value)
+back_proper : (p : Program) (pending : Pending) (m : Machine) (phase : Phase) (value : Option CValue)
+    → Proper (came_back p pending m phase value)
 back_proper p pending m (Init k) None = entry_proper p m (Init k) pending.entries
 back_proper p pending m (Call k) None = entry_proper p (told_end m None) (Call k) pending.entries
 back_proper p pending m (Call k) (Some (Number v)) = entry_proper p (told_end m (Some v)) (Call k) pending.entries
@@ -58,11 +59,13 @@ going_out : (progress : Progress) → IsGoing progress → (run_of progress).out
 going_out (Going pending s) h = refl
 going_out (Over run) h = absurd h
 
-pub out_is_going : (p : Program) (calls : List SymbolCall) (replies : List Reply) (m : ℕ) → (c_run p calls m replies).outcome ≡ OutOfSteps → IsGoing (after p m (c_start p calls replies))
+pub out_is_going : (p : Program) (calls : List SymbolCall) (replies : List Reply) (m : ℕ)
+    → (c_run p calls m replies).outcome ≡ OutOfSteps → IsGoing (after p m (c_start p calls replies))
 out_is_going p calls replies m out =
     proper_going (after p m (c_start p calls replies))
     (after_proper p m (c_start p calls replies) (entry_proper p (fresh p replies) (Init 0) (entries_of p calls)))
     out
 
-pub going_is_out : (p : Program) (calls : List SymbolCall) (replies : List Reply) (m : ℕ) → IsGoing (after p m (c_start p calls replies)) → (c_run p calls m replies).outcome ≡ OutOfSteps
+pub going_is_out : (p : Program) (calls : List SymbolCall) (replies : List Reply) (m : ℕ)
+    → IsGoing (after p m (c_start p calls replies)) → (c_run p calls m replies).outcome ≡ OutOfSteps
 going_is_out p calls replies m going = going_out (after p m (c_start p calls replies)) going

@@ -29,7 +29,8 @@ abbrev pub Same : Machine → Machine → Type 0
 Same m after = values_in after.trail.events ≡ values_in m.trail.events
 
 -- an ask is none of them
-asked_same : (before : List Event) (a : Ask) (reply : Option Reply) (replies : List Reply) → values_in (asked before a reply replies).events ≡ values_in before
+asked_same : (before : List Event) (a : Ask) (reply : Option Reply) (replies : List Reply)
+    → values_in (asked before a reply replies).events ≡ values_in before
 asked_same before a reply replies = values_behind before (Asked a reply ∷ []) ∙ append-nil (values_in before)
 
 -- ---- changes of objects
@@ -225,7 +226,16 @@ primitives_same = (
                       put_same 2 type.I32,
                       (
                         put_same 4 type.I32,
-                        (put_same 8 type.I64, (tab_new_same, (tab_len_same, (tab_max_same, (tab_sig_same, (tab_fn_same, (tab_set_same, tt))))))),
+                        (
+                          put_same 8 type.I64,
+                          (
+                            tab_new_same,
+                            (
+                              tab_len_same,
+                              (tab_max_same, (tab_sig_same, (tab_fn_same, (tab_set_same, tt)))),
+                            ),
+                          ),
+                        ),
                       ),
                     ),
                   ),
@@ -270,7 +280,8 @@ assign_depth_same m r (Number (I64 n)) below = refl
 assign_depth_same m r (Pointer to) below = refl
 assign_depth_same m r (FuncPointer to) below = refl
 
-put_same_in : (m : Machine) (held : Option CValue) (v : CValue) (does : step.Step) → StepSame m does → StepSame m (step.put_in m held v does)
+put_same_in : (m : Machine) (held : Option CValue) (v : CValue) (does : step.Step) → StepSame m does
+    → StepSame m (step.put_in m held v does)
 put_same_in m None v does h = refl
 put_same_in m (Some held) v does h = test_same m (of_one_type held v) does (step.Stops m Stuck) h refl
 
@@ -322,17 +333,26 @@ begin_same (Some d) u m args below = go (step.first_vars d args)
   where
     go : (o : Option Vars) → StepSame m (elim o [
       | None ↦ step.Stops m Stuck
-      | Some vars ↦ step.next m (record { unit = u; item = d.item; result = d.func.result; stmts = d.body.stmts; rest = d.body.stmts; vars = vars }) below
+      | Some vars ↦ step.next m (record {
+        unit = u;
+        item = d.item;
+        result = d.func.result;
+        stmts = d.body.stmts;
+        rest = d.body.stmts;
+        vars = vars;
+      }) below
     ])
     go None = refl
     go (Some vars) = refl
 
-replied_same : (ty : FuncType) (replies : List Reply) (before : List Event) (a : Ask) (m : Machine) (below : List Frame) → before ≡ m.trail.events → StepSame m (step.replied ty replies before a m below)
+replied_same : (ty : FuncType) (replies : List Reply) (before : List Event) (a : Ask) (m : Machine) (below : List Frame)
+    → before ≡ m.trail.events → StepSame m (step.replied ty replies before a m below)
 replied_same ty [] before a m below is = asked_same before a None [] ∙ ap values_in is
 replied_same ty (HostTrapped ∷ replies) before a m below is = asked_same before a (Some HostTrapped) replies ∙ ap values_in is
 replied_same ty (Gave result ∷ replies) before a m below is =
     let taken : Machine = with_trail m (asked before a (Some (Gave result)) replies) in
-    test_same m (is_result ty.result result) (step.give taken (option_map Number result) below) (step.Stops (with_trail m (asked before a None replies)) Asks)
+    test_same m (is_result ty.result result) (step.give taken (option_map Number result) below)
+    (step.Stops (with_trail m (asked before a None replies)) Asks)
     (give_same taken (option_map Number result) below ∙ asked_same before a (Some (Gave result)) replies ∙ ap values_in is)
     (asked_same before a None replies ∙ ap values_in is)
 
@@ -412,7 +432,8 @@ act_same p m r (tree.SetStar name e ∷ rest) below =
     step.put_in m (var_in m a) (Number v) (step.next (with_var m a (Number v)) (step.at_rest r rest) below)))
     (λ v. with_same m (step.place_of r rest) (then_evaluate (found (step.value_of m r name)) step.as_object) (λ a.
     step.put_in m (var_in m a) (Number v) (step.next (with_var m a (Number v)) (step.at_rest r rest) below))
-    (λ a. put_same_in m (var_in m a) (Number v) (step.next (with_var m a (Number v)) (step.at_rest r rest) below) (var_same m a (Number v))))
+    (λ a. put_same_in m (var_in m a) (Number v) (step.next (with_var m a (Number v)) (step.at_rest r rest) below)
+    (var_same m a (Number v))))
 act_same p m r (tree.Call target callee args ∷ rest) below =
     with_same m (step.place_of r rest) (step.evaluate_args p m r args)
     (λ values. step.call_callee p callee (step.place_of r rest) m r values
@@ -428,7 +449,8 @@ act_same p m r (tree.Switch e cases default ∷ rest) below =
     with_same m (step.place_of r rest) (step.evaluate p m r e) (λ v. step.jump m r (step.label_of v cases default) below)
     (λ v. jump_same m r (step.label_of v cases default) below)
 act_same p m r (tree.ReturnNone ∷ rest) below = returned_same m r None below
-act_same p m r (tree.Return a ∷ rest) below = with_same m (step.place_of r rest) (step.evaluate_arg p m r a) (λ v. step.returned m r (Some v) below) (λ v. returned_same m r (Some v) below)
+act_same p m r (tree.Return a ∷ rest) below = with_same m (step.place_of r rest) (step.evaluate_arg p m r a)
+    (λ v. step.returned m r (Some v) below) (λ v. returned_same m r (Some v) below)
 
 -- one statement
 pub step_same : (p : Program) (s : State) → Same s.machine (machine_of (step.c_step p s))

@@ -43,10 +43,13 @@ join_one p k x y z first second =
     subst (λ (n : ℕ). Reaches p n x z) e (join p 1 k x y z first second)
 
 -- a way that ends: with so many statements and more the run is this one, with fewer it is out of steps
-pub enough : (p : Program) (calls : List SymbolCall) (replies : List Reply) (n m : ℕ) (run : CRun) → Reaches p n (c_start p calls replies) (Over run) → n ≤ m → c_run p calls m replies ≡ run
+pub enough : (p : Program) (calls : List SymbolCall) (replies : List Reply) (n m : ℕ) (run : CRun)
+    → Reaches p n (c_start p calls replies) (Over run) → n ≤ m → c_run p calls m replies ≡ run
 enough p calls replies n m run way le =
     let e : m ≡ n + (m - n) = omega arith in
-    ap run_of (ap (λ i. after p i (c_start p calls replies)) e ∙ after_sum p n (m - n) (c_start p calls replies) ∙ ap (after p (m - n)) way.there ∙ after_over p (m - n) run)
+    ap run_of (ap (λ i. after p i (c_start p calls replies)) e ∙ after_sum p n (m - n) (c_start p calls replies)
+    ∙ ap (after p (m - n)) way.there ∙ after_over p (m - n) run)
 
-pub short : (p : Program) (calls : List SymbolCall) (replies : List Reply) (n m : ℕ) (run : CRun) → Reaches p n (c_start p calls replies) (Over run) → m < n → (c_run p calls m replies).outcome ≡ OutOfSteps
+pub short : (p : Program) (calls : List SymbolCall) (replies : List Reply) (n m : ℕ) (run : CRun)
+    → Reaches p n (c_start p calls replies) (Over run) → m < n → (c_run p calls m replies).outcome ≡ OutOfSteps
 short p calls replies n m run way less = going_is_out p calls replies m (way.on_the_way m less)

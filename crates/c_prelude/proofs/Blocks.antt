@@ -58,13 +58,18 @@ module _ (d b m x y : ℕ) (q : m < 2 ^ d) (r : y < 2 ^ (d + b)) where
   low-and =
       let l : y / 2 ^ b < 2 ^ d = shr_below y d b r in
       let e : m ≡ 0 * 2 ^ d + m = omega arith in
-      ap (bit_and (x % 2 ^ b * 2 ^ d + y / 2 ^ b)) e ∙ (and_block d (x % 2 ^ b) 0 (y / 2 ^ b) m l q ∙ rw (and_zero_r (x % 2 ^ b)) (omega arith))
+      ap (bit_and (x % 2 ^ b * 2 ^ d + y / 2 ^ b)) e ∙ (and_block d (x % 2 ^ b) 0 (y / 2 ^ b) m l q
+      ∙ rw (and_zero_r (x % 2 ^ b)) (omega arith))
 
   pub halves : summed b (m * 2 ^ (d + b) + m) (x * 2 ^ (d + b) + y) ≡ summed b m x * 2 ^ (d + b) + summed b m y
   halves =
-      let f : bit_and (x * 2 ^ (d + b) + y) (m * 2 ^ (d + b) + m) ≡ bit_and x m * 2 ^ (d + b) + bit_and y m = and_block (d + b) x m y m r m-below in
-      let e : (x * 2 ^ (d + b) + y) / 2 ^ b ≡ x / 2 ^ b * 2 ^ (d + b) + (x % 2 ^ b * 2 ^ d + y / 2 ^ b) = shifted ∙ (ap (λ v. v + y / 2 ^ b) split-up ∙ add_assoc (x / 2 ^ b * 2 ^ (d + b)) (x % 2 ^ b * 2 ^ d) (y / 2 ^ b)) in
-      let g : bit_and (x / 2 ^ b * 2 ^ (d + b) + (x % 2 ^ b * 2 ^ d + y / 2 ^ b)) (m * 2 ^ (d + b) + m) ≡ bit_and (x / 2 ^ b) m * 2 ^ (d + b) + bit_and (y / 2 ^ b) m = and_block (d + b) (x / 2 ^ b) m (x % 2 ^ b * 2 ^ d + y / 2 ^ b) m low-part m-below ∙ ap (λ v. bit_and (x / 2 ^ b) m * 2 ^ (d + b) + v) low-and in
+      let f : bit_and (x * 2 ^ (d + b) + y) (m * 2 ^ (d + b) + m) ≡ bit_and x m * 2 ^ (d + b) + bit_and y m = and_block
+      (d + b) x m y m r m-below in
+      let e : (x * 2 ^ (d + b) + y) / 2 ^ b ≡ x / 2 ^ b * 2 ^ (d + b) + (x % 2 ^ b * 2 ^ d + y / 2 ^ b) = shifted
+      ∙ (ap (λ v. v + y / 2 ^ b) split-up ∙ add_assoc (x / 2 ^ b * 2 ^ (d + b)) (x % 2 ^ b * 2 ^ d) (y / 2 ^ b)) in
+      let g : bit_and (x / 2 ^ b * 2 ^ (d + b) + (x % 2 ^ b * 2 ^ d + y / 2 ^ b)) (m * 2 ^ (d + b) + m) ≡ bit_and (x / 2 ^ b) m * 2 ^
+      (d + b) + bit_and (y / 2 ^ b) m = and_block (d + b) (x / 2 ^ b) m (x % 2 ^ b * 2 ^ d + y / 2 ^ b) m low-part m-below
+      ∙ ap (λ v. bit_and (x / 2 ^ b) m * 2 ^ (d + b) + v) low-and in
       rw (f, e, g) (joins (bit_and x m) (bit_and y m) (bit_and (x / 2 ^ b) m) (bit_and (y / 2 ^ b) m) (2 ^ (d + b)))
     where
       joins : (p q r s h : ℕ) → p * h + q + (r * h + s) ≡ (p + r) * h + (q + s)
@@ -103,7 +108,8 @@ below_more i k h before =
     let less : 2 ^ i < 2 ^ k = pow_below i k h in
     let f : 2 ^ suc k - 2 ^ i ≡ (2 ^ k - 2 ^ i) + 2 ^ k = omega arith in
     let mono : 2 ^ (2 ^ k - 2 ^ i) ≤ 2 ^ 2 ^ k = pow_mono (omega arith) in
-    rw (low_halves-more i k h, f, pow-add 2 (2 ^ k - 2 ^ i) (2 ^ k)) (both_below (low_halves i k) (2 ^ (2 ^ k - 2 ^ i)) (2 ^ 2 ^ k) before (omega arith))
+    rw (low_halves-more i k h, f, pow-add 2 (2 ^ k - 2 ^ i) (2 ^ k))
+    (both_below (low_halves i k) (2 ^ (2 ^ k - 2 ^ i)) (2 ^ 2 ^ k) before (omega arith))
 
 low_halves-below : (i k : ℕ) → i < k → low_halves i k < 2 ^ (2 ^ k - 2 ^ i)
 low_halves-below i zero l = absurd (omega arith)
@@ -113,7 +119,8 @@ low_halves-below i (suc k) l =
       | inr e ↦ let h : i < k = omega arith in below_more i k h (low_halves-below i k h)
     ]
 
-halves_at : (h d b m x y : ℕ) → d + b ≡ h → m < 2 ^ d → y < 2 ^ h → summed b (m * 2 ^ h + m) (x * 2 ^ h + y) ≡ summed b m x * 2 ^ h + summed b m y
+halves_at : (h d b m x y : ℕ) → d + b ≡ h → m < 2 ^ d → y < 2 ^ h
+    → summed b (m * 2 ^ h + m) (x * 2 ^ h + y) ≡ summed b m x * 2 ^ h + summed b m y
 halves_at h d b m x y e q r = rw (← e) (halves d b m x y q (rw e r))
 
 pub sums-below : (i k x : ℕ) → i ≤ k → x < 2 ^ 2 ^ k → sums i k x < 2 ^ 2 ^ k
@@ -123,7 +130,8 @@ sums-below (suc i) k x l h =
     let e : 2 ^ k - 2 ^ i + 2 ^ i ≡ 2 ^ k = omega arith in
     rw e at (summed-below (2 ^ k - 2 ^ i) (2 ^ i) (low_halves i k) (sums i k x) (low_halves-below i k l) (pow_pos i))
 
-sums-halves : (i k x y : ℕ) → i ≤ k → x < 2 ^ 2 ^ k → y < 2 ^ 2 ^ k → sums i (suc k) (x * 2 ^ 2 ^ k + y) ≡ sums i k x * 2 ^ 2 ^ k + sums i k y
+sums-halves : (i k x y : ℕ) → i ≤ k → x < 2 ^ 2 ^ k → y < 2 ^ 2 ^ k
+    → sums i (suc k) (x * 2 ^ 2 ^ k + y) ≡ sums i k x * 2 ^ 2 ^ k + sums i k y
 sums-halves zero k x y l p q = refl
 sums-halves (suc i) k x y l p q =
     let less : 2 ^ i < 2 ^ k = pow_below i k l in
@@ -145,5 +153,13 @@ sums-ones (suc k) x h =
     let p : u < 2 ^ 2 ^ k = shr_below x (2 ^ k) (2 ^ k) (rw e at h) in
     let q : v < 2 ^ 2 ^ k = mod-lt x (pow_pos (2 ^ k)) in
     let f : sums k (suc k) (u * 2 ^ 2 ^ k + v) ≡ sums k k u * 2 ^ 2 ^ k + sums k k v = sums-halves k k u v (le_refl k) p q in
-    rw (← d, f, low_halves-top k, last (2 ^ k) (sums k k u) (sums k k v) (sums-below k k u (le_refl k) p) (sums-below k k v (le_refl k) q), sums-ones k u p, sums-ones k v q)
+    rw (
+      ← d,
+      f,
+      low_halves-top k,
+      last (2 ^ k) (sums k k u) (sums k k v) (sums-below k k u (le_refl k) p)
+          (sums-below k k v (le_refl k) q),
+      sums-ones k u p,
+      sums-ones k v q,
+    )
     (sym (ones_cat (2 ^ k) u v q))

@@ -29,17 +29,25 @@ bit b c e = narrow b ∙ ap truth e
     narrow false = refl
 
 pub lt_s_right : (t : ValType) → DoesOperator (number_helper (record { ty = t; form = form.LtS })) t (Compare wasm.LtS)
-lt_s_right type.I32 m x y p q = computed 1 (omega arith) (λ program pending unit item below. ap (given program pending m below) (bit _ _ (lt_s_32 x y p q)))
-lt_s_right type.I64 m x y p q = computed 1 (omega arith) (λ program pending unit item below. ap (given program pending m below) (bit _ _ (lt_s_64 x y p q)))
+lt_s_right type.I32 m x y p q = computed 1 (omega arith) (λ program pending unit item below. ap (given program pending m below)
+    (bit _ _ (lt_s_32 x y p q)))
+lt_s_right type.I64 m x y p q = computed 1 (omega arith) (λ program pending unit item below. ap (given program pending m below)
+    (bit _ _ (lt_s_64 x y p q)))
 
 pub gt_s_right : (t : ValType) → DoesOperator (number_helper (record { ty = t; form = form.GtS })) t (Compare wasm.GtS)
-gt_s_right type.I32 m x y p q = computed 1 (omega arith) (λ program pending unit item below. ap (given program pending m below) (bit _ _ (lt_s_32 y x q p)))
-gt_s_right type.I64 m x y p q = computed 1 (omega arith) (λ program pending unit item below. ap (given program pending m below) (bit _ _ (lt_s_64 y x q p)))
+gt_s_right type.I32 m x y p q = computed 1 (omega arith) (λ program pending unit item below. ap (given program pending m below)
+    (bit _ _ (lt_s_32 y x q p)))
+gt_s_right type.I64 m x y p q = computed 1 (omega arith) (λ program pending unit item below. ap (given program pending m below)
+    (bit _ _ (lt_s_64 y x q p)))
 
 pub le_s_right : (t : ValType) → DoesOperator (number_helper (record { ty = t; form = form.LeS })) t (Compare wasm.LeS)
-le_s_right type.I32 m x y p q = computed 1 (omega arith) (λ program pending unit item below. ap (given program pending m below) (bit _ _ (le_s_32 x y p q)))
-le_s_right type.I64 m x y p q = computed 1 (omega arith) (λ program pending unit item below. ap (given program pending m below) (bit _ _ (le_s_64 x y p q)))
+le_s_right type.I32 m x y p q = computed 1 (omega arith) (λ program pending unit item below. ap (given program pending m below)
+    (bit _ _ (le_s_32 x y p q)))
+le_s_right type.I64 m x y p q = computed 1 (omega arith) (λ program pending unit item below. ap (given program pending m below)
+    (bit _ _ (le_s_64 x y p q)))
 
 pub ge_s_right : (t : ValType) → DoesOperator (number_helper (record { ty = t; form = form.GeS })) t (Compare wasm.GeS)
-ge_s_right type.I32 m x y p q = computed 1 (omega arith) (λ program pending unit item below. ap (given program pending m below) (bit _ _ (le_s_32 y x q p)))
-ge_s_right type.I64 m x y p q = computed 1 (omega arith) (λ program pending unit item below. ap (given program pending m below) (bit _ _ (le_s_64 y x q p)))
+ge_s_right type.I32 m x y p q = computed 1 (omega arith) (λ program pending unit item below. ap (given program pending m below)
+    (bit _ _ (le_s_32 y x q p)))
+ge_s_right type.I64 m x y p q = computed 1 (omega arith) (λ program pending unit item below. ap (given program pending m below)
+    (bit _ _ (le_s_64 y x q p)))

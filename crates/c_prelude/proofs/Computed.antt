@@ -38,7 +38,8 @@ BeginsWith f t m x y = (p : Program) (pending : Pending) (unit item : ℕ) (belo
     → call_begun p pending unit item (number_helper (record { ty = t; form = f })) m (number t x ∷ number t y ∷ []) below
     ≡ begun_with f t pending m unit item below x y
 
-pub computed : {most : ℕ} {f : tree.Func} {args : List CValue} {m : Machine} {end : CallEnd} (n : ℕ) → n ≤ most → Walks n f args m end → CallComesTo most f args m end
+pub computed : {most : ℕ} {f : tree.Func} {args : List CValue} {m : Machine} {end : CallEnd} (n : ℕ) → n ≤ most → Walks n f args m end
+    → CallComesTo most f args m end
 computed n few walks = record {
   statements = n;
   few = few;

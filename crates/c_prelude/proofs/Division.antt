@@ -24,8 +24,10 @@ div_u_begins type.I64 m x y p pending unit item below = refl
 pub div_u_right : (t : ValType) → DoesOperator (number_helper (record { ty = t; form = form.DivU })) t (Binary wasm.DivU)
 div_u_right t m x y p q =
     elim (eqb_tells y 0) [
-      | inl z ↦ computed_from form.DivU t m x y 2 (omega arith) (div_u_begins t m x y) (λ program pending unit item below. simp (widths, at_operands program m unit t x y, z.0))
-      | inr z ↦ computed_from form.DivU t m x y 2 (omega arith) (div_u_begins t m x y) (λ program pending unit item below. simp (widths, at_operands program m unit t x y, z.0))
+      | inl z ↦ computed_from form.DivU t m x y 2 (omega arith) (div_u_begins t m x y)
+          (λ program pending unit item below. simp (widths, at_operands program m unit t x y, z.0))
+      | inr z ↦ computed_from form.DivU t m x y 2 (omega arith) (div_u_begins t m x y)
+          (λ program pending unit item below. simp (widths, at_operands program m unit t x y, z.0))
     ]
 
 rem_u_begins : (t : ValType) (m : Machine) (x y : ℕ) → BeginsWith form.RemU t m x y
@@ -35,8 +37,10 @@ rem_u_begins type.I64 m x y p pending unit item below = refl
 pub rem_u_right : (t : ValType) → DoesOperator (number_helper (record { ty = t; form = form.RemU })) t (Binary wasm.RemU)
 rem_u_right t m x y p q =
     elim (eqb_tells y 0) [
-      | inl z ↦ computed_from form.RemU t m x y 2 (omega arith) (rem_u_begins t m x y) (λ program pending unit item below. simp (widths, at_operands program m unit t x y, z.0))
-      | inr z ↦ computed_from form.RemU t m x y 2 (omega arith) (rem_u_begins t m x y) (λ program pending unit item below. simp (widths, at_operands program m unit t x y, z.0))
+      | inl z ↦ computed_from form.RemU t m x y 2 (omega arith) (rem_u_begins t m x y)
+          (λ program pending unit item below. simp (widths, at_operands program m unit t x y, z.0))
+      | inr z ↦ computed_from form.RemU t m x y 2 (omega arith) (rem_u_begins t m x y)
+          (λ program pending unit item below. simp (widths, at_operands program m unit t x y, z.0))
     ]
 
 div_s_begins : (t : ValType) (m : Machine) (x y : ℕ) → BeginsWith form.DivS t m x y
@@ -49,21 +53,61 @@ div_s_right t m x y p q =
     let d = twice t in
     let h = half_pos t in
     elim (eqb_tells y 0) [
-      | inl z ↦ answers t (Traps DivByZero) _ (div_s_zero N d h x y z.1) (computed_from form.DivS t m x y 2 (omega arith) (div_s_begins t m x y) (λ program pending unit item below. simp (widths, at_operands program m unit t x y, z.0)))
+      | inl z ↦ answers t (Traps DivByZero) _ (div_s_zero N d h x y z.1)
+          (computed_from form.DivS t m x y 2 (omega arith) (div_s_begins t m x y)
+          (λ program pending unit item below. simp (widths, at_operands program m unit t x y, z.0)))
       | inr z ↦ elim (sides (2 ^ (N - 1)) x) [
         | inl a ↦ elim (sides (2 ^ (N - 1)) y) [
           | inl b ↦ elim (eqb_tells y (2 ^ N - 1)) [
             | inl c ↦ elim (eqb_tells x (2 ^ (N - 1))) [
-              | inl e ↦ answers t (Traps IntOverflow) _ (div_s_overflow N d h x y e.1 (omega arith)) (computed_from form.DivS t m x y 6 (omega arith) (div_s_begins t m x y) (λ program pending unit item below. simp (widths, at_operands program m unit t x y, z.0, a.0, b.0, c.0, e.0)))
-              | inr e ↦ answers t (Gives _) _ (div_s_value N d h x y _ z.1 (inl e.1) (quot_nn N d h x y a.2 p b.2 q)) (computed_from form.DivS t m x y 6 (omega arith) (div_s_begins t m x y) (λ program pending unit item below. simp (widths, at_operands program m unit t x y, z.0, a.0, b.0, c.0, e.0, minus_not_zero N d h y b.2 q)))
+              | inl e ↦ answers t (Traps IntOverflow) _ (div_s_overflow N d h x y e.1 (omega arith))
+                  (computed_from form.DivS t m x y 6 (omega arith) (div_s_begins t m x y)
+                  (λ program pending unit item below. simp (widths, at_operands program m unit t x y, z.0, a.0, b.0, c.0, e.0)))
+              | inr e ↦ answers t (Gives _) _ (div_s_value N d h x y _ z.1 (inl e.1) (quot_nn N d h x y a.2 p b.2 q))
+                  (computed_from form.DivS t m x y 6 (omega arith) (div_s_begins t m x y)
+                  (λ program pending unit item below. simp (
+                    widths,
+                    at_operands program m unit t x y,
+                    z.0,
+                    a.0,
+                    b.0,
+                    c.0,
+                    e.0,
+                    minus_not_zero N d h y b.2 q,
+                  )))
             ]
-            | inr c ↦ answers t (Gives _) _ (div_s_value N d h x y _ z.1 (inr (omega arith)) (quot_nn N d h x y a.2 p b.2 q)) (computed_from form.DivS t m x y 5 (omega arith) (div_s_begins t m x y) (λ program pending unit item below. simp (widths, at_operands program m unit t x y, z.0, a.0, b.0, c.0, minus_not_zero N d h y b.2 q)))
+            | inr c ↦ answers t (Gives _) _ (div_s_value N d h x y _ z.1 (inr (omega arith)) (quot_nn N d h x y a.2 p b.2 q))
+                (computed_from form.DivS t m x y 5 (omega arith) (div_s_begins t m x y)
+                (λ program pending unit item below. simp (
+                  widths,
+                  at_operands program m unit t x y,
+                  z.0,
+                  a.0,
+                  b.0,
+                  c.0,
+                  minus_not_zero N
+                      d h y b.2 q,
+                )))
           ]
-          | inr b ↦ answers t (Gives _) _ (div_s_value N d h x y _ z.1 (inr (omega arith)) (quot_np N d h x y a.2 p b.2 z.1)) (computed_from form.DivS t m x y 4 (omega arith) (div_s_begins t m x y) (λ program pending unit item below. simp (widths, at_operands program m unit t x y, z.0, a.0, b.0)))
+          | inr b ↦ answers t (Gives _) _ (div_s_value N d h x y _ z.1 (inr (omega arith)) (quot_np N d h x y a.2 p b.2 z.1))
+              (computed_from form.DivS t m x y 4 (omega arith) (div_s_begins t m x y)
+              (λ program pending unit item below. simp (widths, at_operands program m unit t x y, z.0, a.0, b.0)))
         ]
         | inr a ↦ elim (sides (2 ^ (N - 1)) y) [
-          | inl b ↦ answers t (Gives _) _ (div_s_value N d h x y _ z.1 (inl (omega arith)) (quot_pn N d h x y a.2 b.2 q)) (computed_from form.DivS t m x y 4 (omega arith) (div_s_begins t m x y) (λ program pending unit item below. simp (widths, at_operands program m unit t x y, z.0, a.0, b.0, minus_not_zero N d h y b.2 q)))
-          | inr b ↦ answers t (Gives _) _ (div_s_value N d h x y _ z.1 (inl (omega arith)) (quot_pp N d h x y a.2 b.2 z.1)) (computed_from form.DivS t m x y 4 (omega arith) (div_s_begins t m x y) (λ program pending unit item below. simp (widths, at_operands program m unit t x y, z.0, a.0, b.0)))
+          | inl b ↦ answers t (Gives _) _ (div_s_value N d h x y _ z.1 (inl (omega arith)) (quot_pn N d h x y a.2 b.2 q))
+              (computed_from form.DivS t m x y 4 (omega arith) (div_s_begins t m x y)
+              (λ program pending unit item below. simp (
+                widths,
+                at_operands program m unit t x y,
+                z.0,
+                a.0,
+                b.0,
+                minus_not_zero N d h y
+                    b.2 q,
+              )))
+          | inr b ↦ answers t (Gives _) _ (div_s_value N d h x y _ z.1 (inl (omega arith)) (quot_pp N d h x y a.2 b.2 z.1))
+              (computed_from form.DivS t m x y 4 (omega arith) (div_s_begins t m x y)
+              (λ program pending unit item below. simp (widths, at_operands program m unit t x y, z.0, a.0, b.0)))
         ]
       ]
     ]
@@ -78,15 +122,43 @@ rem_s_right t m x y p q =
     let d = twice t in
     let h = half_pos t in
     elim (eqb_tells y 0) [
-      | inl z ↦ answers t (Traps DivByZero) _ (rem_s_zero N d h x y z.1) (computed_from form.RemS t m x y 2 (omega arith) (rem_s_begins t m x y) (λ program pending unit item below. simp (widths, at_operands program m unit t x y, z.0)))
+      | inl z ↦ answers t (Traps DivByZero) _ (rem_s_zero N d h x y z.1)
+          (computed_from form.RemS t m x y 2 (omega arith) (rem_s_begins t m x y)
+          (λ program pending unit item below. simp (widths, at_operands program m unit t x y, z.0)))
       | inr z ↦ elim (sides (2 ^ (N - 1)) x) [
         | inl a ↦ elim (sides (2 ^ (N - 1)) y) [
-          | inl b ↦ answers t (Gives _) _ (rem_s_value N d h x y _ z.1 (rem_nn N d h x y a.2 p b.2 q)) (computed_from form.RemS t m x y 5 (omega arith) (rem_s_begins t m x y) (λ program pending unit item below. simp (widths, at_operands program m unit t x y, at_operands program m unit t x (minus N y), z.0, a.0, b.1, minus_not_zero N d h y b.2 q)))
-          | inr b ↦ answers t (Gives _) _ (rem_s_value N d h x y _ z.1 (rem_np N d h x y a.2 p b.2 z.1)) (computed_from form.RemS t m x y 4 (omega arith) (rem_s_begins t m x y) (λ program pending unit item below. simp (widths, at_operands program m unit t x y, z.0, a.0, b.1)))
+          | inl b ↦ answers t (Gives _) _ (rem_s_value N d h x y _ z.1 (rem_nn N d h x y a.2 p b.2 q))
+              (computed_from form.RemS t m x y 5 (omega arith) (rem_s_begins t m x y)
+              (λ program pending unit item below. simp (
+                widths,
+                at_operands program m unit t x y,
+                at_operands program m unit t x
+                    (minus N y),
+                z.0,
+                a.0,
+                b.1,
+                minus_not_zero N d h y b.2 q,
+              )))
+          | inr b ↦ answers t (Gives _) _ (rem_s_value N d h x y _ z.1 (rem_np N d h x y a.2 p b.2 z.1))
+              (computed_from form.RemS t m x y 4 (omega arith) (rem_s_begins t m x y)
+              (λ program pending unit item below. simp (widths, at_operands program m unit t x y, z.0, a.0, b.1)))
         ]
         | inr a ↦ elim (sides (2 ^ (N - 1)) y) [
-          | inl b ↦ answers t (Gives _) _ (rem_s_value N d h x y _ z.1 (rem_pn N d h x y a.2 b.2 q)) (computed_from form.RemS t m x y 5 (omega arith) (rem_s_begins t m x y) (λ program pending unit item below. simp (widths, at_operands program m unit t x y, at_operands program m unit t x (minus N y), z.0, a.0, b.1, minus_not_zero N d h y b.2 q)))
-          | inr b ↦ answers t (Gives _) _ (rem_s_value N d h x y _ z.1 (rem_pp N d h x y a.2 b.2 z.1)) (computed_from form.RemS t m x y 4 (omega arith) (rem_s_begins t m x y) (λ program pending unit item below. simp (widths, at_operands program m unit t x y, z.0, a.0, b.1)))
+          | inl b ↦ answers t (Gives _) _ (rem_s_value N d h x y _ z.1 (rem_pn N d h x y a.2 b.2 q))
+              (computed_from form.RemS t m x y 5 (omega arith) (rem_s_begins t m x y)
+              (λ program pending unit item below. simp (
+                widths,
+                at_operands program m unit t x y,
+                at_operands program m unit t x
+                    (minus N y),
+                z.0,
+                a.0,
+                b.1,
+                minus_not_zero N d h y b.2 q,
+              )))
+          | inr b ↦ answers t (Gives _) _ (rem_s_value N d h x y _ z.1 (rem_pp N d h x y a.2 b.2 z.1))
+              (computed_from form.RemS t m x y 4 (omega arith) (rem_s_begins t m x y)
+              (λ program pending unit item below. simp (widths, at_operands program m unit t x y, z.0, a.0, b.1)))
         ]
       ]
     ]

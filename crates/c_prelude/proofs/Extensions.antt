@@ -35,7 +35,8 @@ turned_top k x =
     let b : (x + 2 ^ k) % 2 ^ (1 + k) ≡ (x + 2 ^ k) / 2 ^ k % 2 * 2 ^ k + (x + 2 ^ k) % 2 ^ k = mod-pow-add (x + 2 ^ k) 1 k in
     let c : (x + 2 ^ k) / 2 ^ k ≡ h + 1 = add-div_right x p in
     let d : (x + 2 ^ k) % 2 ^ k ≡ l = add-mod_right x (2 ^ k) in
-    let f : bit_xor (h % 2 * 2 ^ k + l) (1 * 2 ^ k + 0) ≡ bit_xor (h % 2) 1 * 2 ^ k + bit_xor l 0 = xor_block k (h % 2) 1 l 0 (mod-lt x p) p in
+    let f : bit_xor (h % 2 * 2 ^ k + l) (1 * 2 ^ k + 0) ≡ bit_xor (h % 2) 1 * 2 ^ k + bit_xor l 0 = xor_block k (h % 2) 1 l 0
+    (mod-lt x p) p in
     let g : 1 * 2 ^ k + 0 ≡ 2 ^ k = omega arith in
     let i : bit_xor (h % 2) 1 ≡ (h + 1) % 2 = flip_last (h % 2) (omega arith) ∙ omega arith in
     rw (e, a, b, c, d) (ap (bit_xor (h % 2 * 2 ^ k + l)) (sym g) ∙ (f ∙ rw (i, xor_zero_r l)))

@@ -163,7 +163,8 @@ found_at : {A : Type 0} (p : A → Bool) (xs : List A) (x : A) → find p xs ≡
 found_at p [] x e = absurd cc
 found_at p (y ∷ ys) x e = go (p y) (found_at p ys x) e
   where
-    go : (b : Bool) → (find p ys ≡ Some x → (i : ℕ) × (slice_get ys i ≡ Some x)) → (if b then Some y else find p ys) ≡ Some x → (i : ℕ) × (slice_get (y ∷ ys) i ≡ Some x)
+    go : (b : Bool) → (find p ys ≡ Some x → (i : ℕ) × (slice_get ys i ≡ Some x)) → (if b then Some y else find p ys) ≡ Some x
+        → (i : ℕ) × (slice_get (y ∷ ys) i ≡ Some x)
     go true behind e = (0, e)
     go false behind e = let r = behind e in (suc r.0, r.1)
 

@@ -148,7 +148,8 @@ module _ (N c a x n : ℕ) (wide : N < 2 ^ N) (h : Lowered N (suc c) a x n) wher
       let g : (n + 2 ^ c) % 2 ^ N ≡ n + 2 ^ c = mod-eq_of_lt i in
       let le : x / 2 ^ 2 ^ c ≤ x = shr_le x (2 ^ c) in
       rw g (record {
-        value = h.value ∙ (ap (λ v. v * 2 ^ n) (whole l) ∙ (mul_assoc (x / 2 ^ 2 ^ c) (2 ^ 2 ^ c) (2 ^ n) ∙ ap (λ v. x / 2 ^ 2 ^ c * v) (sym (pow-add 2 (2 ^ c) n) ∙ ap (λ v. 2 ^ v) (add_comm (2 ^ c) n))));
+        value = h.value ∙ (ap (λ v. v * 2 ^ n) (whole l) ∙ (mul_assoc (x / 2 ^ 2 ^ c) (2 ^ 2 ^ c) (2 ^ n)
+            ∙ ap (λ v. x / 2 ^ 2 ^ c * v) (sym (pow-add 2 (2 ^ c) n) ∙ ap (λ v. 2 ^ v) (add_comm (2 ^ c) n))));
         below = omega (arith, le, h.below);
         reach = omega (arith, twofold, h.reach);
         odd = λ q z. h.odd (λ e. q (rw e (zero-div (2 ^ 2 ^ c)))) (part ∙ rw (z, l) (omega arith));

@@ -85,7 +85,8 @@ loading at b o a n v =
 
 -- what is read at an address and turned by f, or a trap
 abbrev turned : ℕ → (ℕ → ℕ) → List ℕ → ℕ → Answer
-turned k f bytes address = if nat_le (address + k) (length bytes) then Gives (f (little_endian (bytes_at bytes address k))) else Traps MemoryOut
+turned k f bytes address = if nat_le (address + k) (length bytes) then Gives (f (little_endian (bytes_at bytes address k))) else Traps
+    MemoryOut
 
 -- the expression gives f of what was read as a u32 or u64, whatever the other variables hold
 abbrev Turns : tree.Expr → ValType → ValType → (ℕ → ℕ) → Type 0
@@ -129,7 +130,18 @@ loads {k} {t} {f} func r begins m a memory b o is pb po =
     elim (sides (b + o + k) (length memory.bytes)) [
       | inl h ↦ computed 5 (omega arith) (λ p pending unit item below.
           ap (λ (from : Progress). walk p 5 (Some from)) (begins m a b o p pending unit item below)
-          ∙ simp (widths, no_wrap b o pb po, no_wrap_end b o k pb po r.short, on_memory, is, h.0, h.1, r.is_get, r.turns p m unit a b o (b + o) (length memory.bytes) (little_endian (bytes_at memory.bytes (b + o) k))))
+          ∙ simp (
+            widths,
+            no_wrap b o pb po,
+            no_wrap_end b o k pb po r.short,
+            on_memory,
+            is,
+            h.0,
+            h.1,
+            r.is_get,
+            r.turns p m unit a b o
+                (b + o) (length memory.bytes) (little_endian (bytes_at memory.bytes (b + o) k)),
+          ))
       | inr h ↦ computed 4 (omega arith) (λ p pending unit item below.
           ap (λ (from : Progress). walk p 4 (Some from)) (begins m a b o p pending unit item below)
           ∙ simp (widths, no_wrap b o pb po, no_wrap_end b o k pb po r.short, on_memory, is, h.0, h.1))
@@ -144,10 +156,12 @@ widened = tree.To64 read
 
 -- the low bits of a number extended by their sign
 abbrev sign_32 : ℕ → ℕ → tree.Expr
-sign_32 block half = tree.Op op.Sub (tree.Op op.Xor (tree.Op op.Rem read (tree.Number (N32 block))) (tree.Number (N32 half))) (tree.Number (N32 half))
+sign_32 block half = tree.Op op.Sub (tree.Op op.Xor (tree.Op op.Rem read (tree.Number (N32 block))) (tree.Number (N32 half)))
+    (tree.Number (N32 half))
 
 abbrev sign_64 : ℕ → ℕ → tree.Expr
-sign_64 block half = tree.Op op.Sub (tree.Op op.Xor (tree.Op op.Rem widened (tree.Number (N64 block))) (tree.Number (N64 half))) (tree.Number (N64 half))
+sign_64 block half = tree.Op op.Sub (tree.Op op.Xor (tree.Op op.Rem widened (tree.Number (N64 block))) (tree.Number (N64 half)))
+    (tree.Number (N64 half))
 
 abbrev is_u32 : ℕ → Evaluated CValue
 is_u32 n = Is (Number (I32 n))
@@ -156,16 +170,52 @@ abbrev is_u64 : ℕ → Evaluated CValue
 is_u64 n = Is (Number (I64 n))
 
 abbrev by_get1 : {t : ValType} {f : ℕ → ℕ} (e : tree.Expr) (zero : Num) → Turns e type.I32 t f → Reading 1 t f
-by_get1 e zero turns = record { name = codes "w2c_get1"; raw = type.I32; e = e; zero = zero; short = omega arith; is_get = refl; turns = turns }
+by_get1 e zero turns = record {
+  name = codes "w2c_get1";
+  raw = type.I32;
+  e = e;
+  zero = zero;
+  short = omega arith;
+  is_get = refl;
+  turns =
+      turns;
+}
 
 abbrev by_get2 : {t : ValType} {f : ℕ → ℕ} (e : tree.Expr) (zero : Num) → Turns e type.I32 t f → Reading 2 t f
-by_get2 e zero turns = record { name = codes "w2c_get2"; raw = type.I32; e = e; zero = zero; short = omega arith; is_get = refl; turns = turns }
+by_get2 e zero turns = record {
+  name = codes "w2c_get2";
+  raw = type.I32;
+  e = e;
+  zero = zero;
+  short = omega arith;
+  is_get = refl;
+  turns =
+      turns;
+}
 
 abbrev by_get4 : {t : ValType} {f : ℕ → ℕ} (e : tree.Expr) (zero : Num) → Turns e type.I32 t f → Reading 4 t f
-by_get4 e zero turns = record { name = codes "w2c_get4"; raw = type.I32; e = e; zero = zero; short = omega arith; is_get = refl; turns = turns }
+by_get4 e zero turns = record {
+  name = codes "w2c_get4";
+  raw = type.I32;
+  e = e;
+  zero = zero;
+  short = omega arith;
+  is_get = refl;
+  turns =
+      turns;
+}
 
 abbrev by_get8 : {t : ValType} {f : ℕ → ℕ} (e : tree.Expr) (zero : Num) → Turns e type.I64 t f → Reading 8 t f
-by_get8 e zero turns = record { name = codes "w2c_get8"; raw = type.I64; e = e; zero = zero; short = omega arith; is_get = refl; turns = turns }
+by_get8 e zero turns = record {
+  name = codes "w2c_get8";
+  raw = type.I64;
+  e = e;
+  zero = zero;
+  short = omega arith;
+  is_get = refl;
+  turns =
+      turns;
+}
 
 abbrev reading_of : (op : LoadOp) → Reading (load_access (load_of op)).width (load_row op).ty (extended (load_of op))
 reading_of load.I32Load = by_get4 read (N32 0) (λ p m unit at b o a n v. refl)
@@ -246,7 +296,21 @@ stores {k} {t} func w begins m a memory b o v is pb po =
     elim (sides (b + o + k) (length memory.bytes)) [
       | inl h ↦ computed 5 (omega arith) (λ p pending unit item below.
           ap (λ (from : Progress). walk p 5 (Some from)) (begins m a b o v p pending unit item below)
-          ∙ simp (widths, no_wrap b o pb po, no_wrap_end b o k pb po w.short, on_memory, is, h.0, h.1, w.is_put, w.passes p m unit a b o v (b + o) (length memory.bytes), same_type w.raw (w.g v), number_of-value w.raw (w.g v), w.low v))
+          ∙ simp (
+            widths,
+            no_wrap b o pb po,
+            no_wrap_end b o k pb po w.short,
+            on_memory,
+            is,
+            h.0,
+            h.1,
+            w.is_put,
+            w.passes p m unit a b o
+                v (b + o) (length memory.bytes),
+            same_type w.raw (w.g v),
+            number_of-value w.raw (w.g v),
+            w.low v,
+          ))
       | inr h ↦ computed 4 (omega arith) (λ p pending unit item below.
           ap (λ (from : Progress). walk p 4 (Some from)) (begins m a b o v p pending unit item below)
           ∙ simp (widths, no_wrap b o pb po, no_wrap_end b o k pb po w.short, on_memory, is, h.0, h.1))
@@ -284,7 +348,8 @@ whole k name t short is_put = record {
 }
 
 -- the low 32 bits of a u64
-abbrev cut : (k : ℕ) (name : Name) → k ≤ 8 → primitive name ≡ Some (put k type.I32) → ((v : ℕ) → low_bytes k (v % 4294967296) ≡ low_bytes k v) → Writing k type.I64
+abbrev cut : (k : ℕ) (name : Name) → k ≤ 8 → primitive name ≡ Some (put k type.I32)
+    → ((v : ℕ) → low_bytes k (v % 4294967296) ≡ low_bytes k v) → Writing k type.I64
 cut k name short is_put low = record {
   name = name;
   raw = type.I32;

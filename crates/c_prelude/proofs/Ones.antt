@@ -59,13 +59,20 @@ walk-suc p zero from = refl
 walk-suc p (suc n) from = walk-suc p n (step_on p from)
 
 shift_test : (t : ValType) (i : ℕ) → i < steps_of t → nat_lt (2 ^ i) (bits t) ≡ true
-shift_test t i l = let p : 2 ^ i < 2 ^ steps_of t = pow_below i (steps_of t) l in rw (whole_width t) at (below_test (2 ^ i) (2 ^ steps_of t) p)
+shift_test t i l = let p : 2 ^ i < 2 ^ steps_of t = pow_below i (steps_of t) l in rw (whole_width t) at
+    (below_test (2 ^ i) (2 ^ steps_of t) p)
 
 stage_step : (t : ValType) (call : Call) (rest : List tree.Stmt) (i a : ℕ) → i < steps_of t
     → summed (2 ^ i) (low_halves i (steps_of t)) a < 2 ^ bits t
-    → step_on call.program (Some (at t call (sum_stage t i ∷ rest) a)) ≡ Some (at t call rest (summed (2 ^ i) (low_halves i (steps_of t)) a))
+    → step_on call.program (Some (at t call (sum_stage t i ∷ rest) a)) ≡ Some
+    (at t call rest (summed (2 ^ i) (low_halves i (steps_of t)) a))
 stage_step t call rest i a l h =
-    simp (widths, evaluate-num call.program call.machine (seen call.unit ((codes "x", Number (value t a)) ∷ [])) t, shift_test t i l, mod-eq_of_lt h)
+    simp (
+      widths,
+      evaluate-num call.program call.machine (seen call.unit ((codes "x", Number (value t a)) ∷ [])) t,
+      shift_test t i l,
+      mod-eq_of_lt h,
+    )
 
 stages_run : (t : ValType) (call : Call) (rest : List tree.Stmt) (i a : ℕ) → i ≤ steps_of t → a < 2 ^ bits t
     → walk call.program i (Some (at t call (sum_stages t i rest) a)) ≡ Some (at t call rest (sums i (steps_of t) a))
@@ -84,7 +91,8 @@ returns type.I64 call a = refl
 
 -- all stages and the last statement
 ones_run : (t : ValType) (call : Call) (a : ℕ) → a < 2 ^ bits t
-    → walk call.program (suc (steps_of t)) (Some (at t call (sum_stages t (steps_of t) (tree.Return (tree.Value x) ∷ [])) a)) ≡ Some (gives t call (ones a))
+    → walk call.program (suc (steps_of t)) (Some (at t call (sum_stages t (steps_of t) (tree.Return (tree.Value x) ∷ [])) a)) ≡ Some
+    (gives t call (ones a))
 ones_run t call a h =
     walk-suc call.program (steps_of t) (Some (at t call (sum_stages t (steps_of t) (tree.Return (tree.Value x) ∷ [])) a))
     ∙ (ap (step_on call.program) (stages_run t call (tree.Return (tree.Value x) ∷ []) (steps_of t) a (le_refl (steps_of t)) h)
@@ -92,5 +100,7 @@ ones_run t call a h =
     ∙ ap (λ n. Some (gives t call n)) (sums-ones (steps_of t) a (rw whole_width h))))
 
 pub popcnt_right : (t : ValType) → DoesOperator (number_helper (record { ty = t; form = form.Popcnt })) t (Unary wasm.Popcnt)
-popcnt_right type.I32 m x p = computed 6 (omega arith) (λ program pending unit item below. ones_run type.I32 (called form.Popcnt type.I32 program pending m unit item below) x p)
-popcnt_right type.I64 m x p = computed 7 (omega arith) (λ program pending unit item below. ones_run type.I64 (called form.Popcnt type.I64 program pending m unit item below) x p)
+popcnt_right type.I32 m x p = computed 6 (omega arith) (λ program pending unit item below. ones_run type.I32
+    (called form.Popcnt type.I32 program pending m unit item below) x p)
+popcnt_right type.I64 m x p = computed 7 (omega arith) (λ program pending unit item below. ones_run type.I64
+    (called form.Popcnt type.I64 program pending m unit item below) x p)

@@ -72,7 +72,8 @@ module _ (N : ℕ) (d : 2 ^ N ≡ 2 * 2 ^ (N - 1)) (s : 0 < 2 ^ (N - 1)) where
   shr_s_low : (x y : ℕ) → x < 2 ^ (N - 1) → shr_s N x y ≡ bit_xor (bit_xor x (spread N x) / 2 ^ (y % N)) (spread N x)
   shr_s_low x y h =
       let l : x / 2 ^ (y % N) ≤ x = shr_le x (y % N) in
-      rw (is_low N d s x h, spread-low x h, xor_zero_r x, xor_zero_r (x / 2 ^ (y % N))) (pattern_of-pos N d s (x / 2 ^ (y % N)) (omega arith))
+      rw (is_low N d s x h, spread-low x h, xor_zero_r x, xor_zero_r (x / 2 ^ (y % N)))
+      (pattern_of-pos N d s (x / 2 ^ (y % N)) (omega arith))
 
   shr_s_high : (x y : ℕ) → 2 ^ (N - 1) ≤ x → x < 2 ^ N → shr_s N x y ≡ bit_xor (bit_xor x (spread N x) / 2 ^ (y % N)) (spread N x)
   shr_s_high x y h l =
@@ -118,15 +119,25 @@ shift_begun t pending m unit item below x y = Going pending (record {
 })
 
 shift_begins : (t : ValType) (p : Program) (pending : Pending) (m : Machine) (unit item : ℕ) (below : List Frame) (x y : ℕ)
-    → call_begun p pending unit item (number_helper (shift_row t)) m (number t x ∷ number t y ∷ []) below ≡ shift_begun t pending m unit item below x y
+    → call_begun p pending unit item (number_helper (shift_row t)) m (number t x ∷ number t y ∷ []) below ≡ shift_begun t pending m unit
+    item below x y
 shift_begins type.I32 p pending m unit item below x y = refl
 shift_begins type.I64 p pending m unit item below x y = refl
 
 shift_goes : (t : ValType) (p : Program) (pending : Pending) (m : Machine) (unit item : ℕ) (below : List Frame) (x y : ℕ)
     → walk p 3 (Some (shift_begun t pending m unit item below x y))
-    ≡ Some (call_ended p pending (answered m t (Gives (bit_xor (bit_xor x (spread (bits t) x) / 2 ^ (y % bits t)) (spread (bits t) x)))) below)
+    ≡ Some (call_ended p pending (answered m t (Gives (bit_xor (bit_xor x (spread (bits t) x) / 2 ^ (y % bits t)) (spread (bits t) x))))
+    below)
 shift_goes t p pending m unit item below x y =
-    simp (widths, evaluate-num p m (seen unit (shifting t x y 0)) t, evaluate-num p m (seen unit (shifting t x (y % bits t) 0)) t, bits-not_zero t, count-below t y, sign_test t)
+    simp (
+      widths,
+      evaluate-num p m (seen unit (shifting t x y 0)) t,
+      evaluate-num p m
+          (seen unit (shifting t x (y % bits t) 0)) t,
+      bits-not_zero t,
+      count-below t y,
+      sign_test t,
+    )
 
 pub shr_s_right : (t : ValType) → DoesOperator (number_helper (shift_row t)) t (Binary wasm.ShrS)
 shr_s_right t m x y p q =
@@ -165,7 +176,8 @@ parts N k j x e h =
     let l : x / 2 ^ j < 2 ^ k = shr_below x k j (rw f h) in
     rw (← e, shl-mod x k j) (or_shifted (x % 2 ^ j) k (x / 2 ^ j) l)
 
-pub rotated : (N k x : ℕ) → N < 2 ^ N → x < 2 ^ N → k < N → bit_or (x * 2 ^ k % 2 ^ N) (x / 2 ^ other N k) ≡ x * 2 ^ k % 2 ^ N + x / 2 ^ (N - k)
+pub rotated : (N k x : ℕ) → N < 2 ^ N → x < 2 ^ N → k < N → bit_or (x * 2 ^ k % 2 ^ N) (x / 2 ^ other N k) ≡ x * 2 ^ k % 2 ^ N + x / 2 ^
+    (N - k)
 rotated N zero x b h l =
     let e : x * 2 ^ 0 % 2 ^ N ≡ x = rw (mul-one x) (mod-eq_of_lt h) in
     let f : x / 2 ^ other N 0 ≡ x = rw (other-none N b) (div-one x) in
@@ -181,10 +193,20 @@ pub rotl_right : (t : ValType) → DoesOperator (number_helper (record { ty = t;
 rotl_right t m x y p q =
     let N = bits t in
     let l : y % N < N = count-lt t y in
-    answers t (Gives _) _ (ap Gives (sym (rotated N (y % N) x (bits-below t) p l))) (computed_from form.Rotl t m x y 2 (omega arith) (rotl_begins t m x y) (λ program pending unit item below.
-    simp (widths, at_operands program m unit t x y, at_operands program m unit t x (y % N), bits-not_zero t, count-below t y, count-below t ((N + (2 ^ N - y % N)) % 2 ^ N))))
+    answers t (Gives _) _ (ap Gives (sym (rotated N (y % N) x (bits-below t) p l)))
+    (computed_from form.Rotl t m x y 2 (omega arith) (rotl_begins t m x y) (λ program pending unit item below.
+    simp (
+      widths,
+      at_operands program m unit t x y,
+      at_operands program m unit t x
+          (y % N),
+      bits-not_zero t,
+      count-below t y,
+      count-below t ((N + (2 ^ N - y % N)) % 2 ^ N),
+    )))
 
-pub rotated_r : (N k x : ℕ) → N < 2 ^ N → x < 2 ^ N → k < N → bit_or (x * 2 ^ other N k % 2 ^ N) (x / 2 ^ k) ≡ x * 2 ^ (N - k) % 2 ^ N + x / 2 ^ k
+pub rotated_r : (N k x : ℕ) → N < 2 ^ N → x < 2 ^ N → k < N → bit_or (x * 2 ^ other N k % 2 ^ N) (x / 2 ^ k) ≡ x * 2 ^
+    (N - k) % 2 ^ N + x / 2 ^ k
 rotated_r N zero x b h l =
     let e : x * 2 ^ other N 0 % 2 ^ N ≡ x = rw (other-none N b, mul-one x) (mod-eq_of_lt h) in
     let f : x / 2 ^ 0 ≡ x = div-one x in
@@ -200,5 +222,14 @@ pub rotr_right : (t : ValType) → DoesOperator (number_helper (record { ty = t;
 rotr_right t m x y p q =
     let N = bits t in
     let l : y % N < N = count-lt t y in
-    answers t (Gives _) _ (ap Gives (sym (rotated_r N (y % N) x (bits-below t) p l))) (computed_from form.Rotr t m x y 2 (omega arith) (rotr_begins t m x y) (λ program pending unit item below.
-    simp (widths, at_operands program m unit t x y, at_operands program m unit t x (y % N), bits-not_zero t, count-below t y, count-below t ((N + (2 ^ N - y % N)) % 2 ^ N))))
+    answers t (Gives _) _ (ap Gives (sym (rotated_r N (y % N) x (bits-below t) p l)))
+    (computed_from form.Rotr t m x y 2 (omega arith) (rotr_begins t m x y) (λ program pending unit item below.
+    simp (
+      widths,
+      at_operands program m unit t x y,
+      at_operands program m unit t x
+          (y % N),
+      bits-not_zero t,
+      count-below t y,
+      count-below t ((N + (2 ^ N - y % N)) % 2 ^ N),
+    )))

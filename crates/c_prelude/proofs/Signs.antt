@@ -44,15 +44,18 @@ module _ (N : ℕ) (twice : 2 ^ N ≡ 2 * 2 ^ (N - 1)) (some : 0 < 2 ^ (N - 1)) 
   pub quot_pp : (x y : ℕ) → x < 2 ^ (N - 1) → y < 2 ^ (N - 1) → y ≢ 0 → pattern_of N (int_div (signed N x) (signed N y)) ≡ x / y
   quot_pp x y p q n = rw (is_low x p, is_low y q) (pattern_of-pos (x / y) (omega arith))
 
-  pub quot_pn : (x y : ℕ) → x < 2 ^ (N - 1) → 2 ^ (N - 1) ≤ y → y < 2 ^ N → pattern_of N (int_div (signed N x) (signed N y)) ≡ minus N (x / minus N y)
+  pub quot_pn : (x y : ℕ) → x < 2 ^ (N - 1) → 2 ^ (N - 1) ≤ y → y < 2 ^ N
+      → pattern_of N (int_div (signed N x) (signed N y)) ≡ minus N (x / minus N y)
   quot_pn x y p q l = rw (is_low x p, is_high y q l, suc-is y q l) (pattern_of-neg (x / minus N y) (omega arith))
 
-  pub quot_np : (x y : ℕ) → 2 ^ (N - 1) ≤ x → x < 2 ^ N → y < 2 ^ (N - 1) → y ≢ 0 → pattern_of N (int_div (signed N x) (signed N y)) ≡ minus N (minus N x / y)
+  pub quot_np : (x y : ℕ) → 2 ^ (N - 1) ≤ x → x < 2 ^ N → y < 2 ^ (N - 1) → y ≢ 0
+      → pattern_of N (int_div (signed N x) (signed N y)) ≡ minus N (minus N x / y)
   quot_np x y p l q n =
       let e : minus N x ≡ 2 ^ N - x = minus-is x (omega arith) (omega arith) in
       rw (is_high x p l, is_low y q, suc-is x p l) (pattern_of-neg (minus N x / y) (omega arith))
 
-  pub quot_nn : (x y : ℕ) → 2 ^ (N - 1) ≤ x → x < 2 ^ N → 2 ^ (N - 1) ≤ y → y < 2 ^ N → pattern_of N (int_div (signed N x) (signed N y)) ≡ minus N x / minus N y
+  pub quot_nn : (x y : ℕ) → 2 ^ (N - 1) ≤ x → x < 2 ^ N → 2 ^ (N - 1) ≤ y → y < 2 ^ N
+      → pattern_of N (int_div (signed N x) (signed N y)) ≡ minus N x / minus N y
   quot_nn x y p l q k =
       let e : minus N x ≡ 2 ^ N - x = minus-is x (omega arith) (omega arith) in
       rw (is_high x p l, is_high y q k, suc-is x p l, suc-is y q k) (pattern_of-pos (minus N x / minus N y) (omega arith))
@@ -63,12 +66,14 @@ module _ (N : ℕ) (twice : 2 ^ N ≡ 2 * 2 ^ (N - 1)) (some : 0 < 2 ^ (N - 1)) 
   pub rem_pn : (x y : ℕ) → x < 2 ^ (N - 1) → 2 ^ (N - 1) ≤ y → y < 2 ^ N → pattern_of N (int_rem (signed N x) (signed N y)) ≡ x % minus N y
   rem_pn x y p q l = rw (is_low x p, is_high y q l, suc-is y q l) (pattern_of-pos (x % minus N y) (omega arith))
 
-  pub rem_np : (x y : ℕ) → 2 ^ (N - 1) ≤ x → x < 2 ^ N → y < 2 ^ (N - 1) → y ≢ 0 → pattern_of N (int_rem (signed N x) (signed N y)) ≡ minus N (minus N x % y)
+  pub rem_np : (x y : ℕ) → 2 ^ (N - 1) ≤ x → x < 2 ^ N → y < 2 ^ (N - 1) → y ≢ 0
+      → pattern_of N (int_rem (signed N x) (signed N y)) ≡ minus N (minus N x % y)
   rem_np x y p l q n =
       let e : minus N x ≡ 2 ^ N - x = minus-is x (omega arith) (omega arith) in
       rw (is_high x p l, is_low y q, suc-is x p l) (pattern_of-neg (minus N x % y) (omega arith))
 
-  pub rem_nn : (x y : ℕ) → 2 ^ (N - 1) ≤ x → x < 2 ^ N → 2 ^ (N - 1) ≤ y → y < 2 ^ N → pattern_of N (int_rem (signed N x) (signed N y)) ≡ minus N (minus N x % minus N y)
+  pub rem_nn : (x y : ℕ) → 2 ^ (N - 1) ≤ x → x < 2 ^ N → 2 ^ (N - 1) ≤ y → y < 2 ^ N
+      → pattern_of N (int_rem (signed N x) (signed N y)) ≡ minus N (minus N x % minus N y)
   rem_nn x y p l q k =
       let e : minus N x ≡ 2 ^ N - x = minus-is x (omega arith) (omega arith) in
       rw (is_high x p l, is_high y q k, suc-is x p l, suc-is y q k) (pattern_of-neg (minus N x % minus N y) (omega arith))
@@ -77,7 +82,8 @@ module _ (N : ℕ) (twice : 2 ^ N ≡ 2 * 2 ^ (N - 1)) (some : 0 < 2 ^ (N - 1)) 
   pub div_s_zero : (x y : ℕ) → y ≡ 0 → div_s N x y ≡ Traps DivByZero
   div_s_zero x y e = rw e
 
-  pub div_s_value : (x y v : ℕ) → y ≢ 0 → (x ≢ 2 ^ (N - 1)) ⊎ (suc y ≢ 2 ^ N) → pattern_of N (int_div (signed N x) (signed N y)) ≡ v → div_s N x y ≡ Gives v
+  pub div_s_value : (x y v : ℕ) → y ≢ 0 → (x ≢ 2 ^ (N - 1)) ⊎ (suc y ≢ 2 ^ N) → pattern_of N (int_div (signed N x) (signed N y)) ≡ v
+      → div_s N x y ≡ Gives v
   div_s_value x y v n o e =
       let z : nat_eq y 0 ≡ false = grind (arith, nat_tests) in
       let f : overflows N x y ≡ false = grind (arith, nat_tests) in

@@ -12,7 +12,8 @@ use Rattle.c_prelude.specs.Operators.{number, element_found, DoesElement}
 use Rattle.c_prelude.proofs.Computed.{computed}
 
 -- the place i of a list
-place : {A : Type 0} (xs : List A) (i : ℕ) → ((slice_get xs i ≡ None) × (length xs ≤ i)) ⊎ ((x : A) × (slice_get xs i ≡ Some x) × (i < length xs))
+place : {A : Type 0} (xs : List A) (i : ℕ) → ((slice_get xs i ≡ None) × (length xs ≤ i))
+    ⊎ ((x : A) × (slice_get xs i ≡ Some x) × (i < length xs))
 place [] i = inl (refl, omega arith)
 place (x ∷ xs) zero = inr (x, refl, omega arith)
 place (x ∷ xs) (suc i) = elim (place xs i) [ inl h ↦ inl (h.0, omega arith) | inr h ↦ inr (h.0, h.1, omega arith) ]
@@ -34,11 +35,14 @@ element_right m a table is signed i s =
     ]
   where
     at_element : (e : Option Element) → slice_get table.elements i ≡ Some e → i < length table.elements
-        → CallComesTo 100 element_helper (Pointer (Some a) ∷ number type.I32 i ∷ number type.I64 s ∷ []) m (element_found m (slice_get table.elements i) s)
+        → CallComesTo 100 element_helper (Pointer (Some a) ∷ number type.I32 i ∷ number type.I64 s ∷ []) m
+        (element_found m (slice_get table.elements i) s)
     at_element None e b = computed 6 (omega arith) (λ p pending unit item below. simp (on_table, is, e, inside (length table.elements) i b))
     at_element (Some f) e b =
         let n : nat_eq f.signature 0 ≡ false = some_signature f.signature (signed i f e) in
         elim (eqb_tells f.signature s) [
-          | inl g ↦ computed 8 (omega arith) (λ p pending unit item below. simp (on_table, is, e, inside (length table.elements) i b, n, g.0))
-          | inr g ↦ computed 7 (omega arith) (λ p pending unit item below. simp (on_table, is, e, inside (length table.elements) i b, n, g.0))
+          | inl g ↦ computed 8 (omega arith) (λ p pending unit item below. simp
+              (on_table, is, e, inside (length table.elements) i b, n, g.0))
+          | inr g ↦ computed 7 (omega arith) (λ p pending unit item below. simp
+              (on_table, is, e, inside (length table.elements) i b, n, g.0))
         ]

@@ -40,7 +40,8 @@ abbrev pub flagged : ValType → Evaluated Value → Evaluated Value
 flagged type.I32 e = then_evaluate e (λ v. Is (I32 (number_of v % 2 ^ 32)))
 flagged type.I64 e = then_evaluate (then_evaluate e (λ v. Is (I32 (number_of v % 2 ^ 32)))) (λ v. Is (I64 (number_of v)))
 
-pub evaluate-flag : (p : Program) (m : Machine) (r : Running) (t : ValType) (e : tree.Expr) → evaluate p m r (flag t e) ≡ flagged t (evaluate p m r e)
+pub evaluate-flag : (p : Program) (m : Machine) (r : Running) (t : ValType) (e : tree.Expr)
+    → evaluate p m r (flag t e) ≡ flagged t (evaluate p m r e)
 evaluate-flag p m r type.I32 e = refl
 evaluate-flag p m r type.I64 e = refl
 
@@ -83,11 +84,13 @@ pub bits-below : (t : ValType) → bits t < 2 ^ bits t
 bits-below type.I32 = omega arith
 bits-below type.I64 = omega arith
 
-pub at_operands : (p : Program) (m : Machine) (unit : ℕ) (t : ValType) (x y n : ℕ) → evaluate p m (seen unit (operands t x y)) (num t n) ≡ Is (value t n)
+pub at_operands : (p : Program) (m : Machine) (unit : ℕ) (t : ValType) (x y n : ℕ)
+    → evaluate p m (seen unit (operands t x y)) (num t n) ≡ Is (value t n)
 at_operands p m unit t x y n = evaluate-num p m (seen unit (operands t x y)) t n
 
 -- another answer that is equal
-pub answers : {most : ℕ} {f : tree.Func} {args : List CValue} {m : Machine} (t : ValType) (a b : Answer) → b ≡ a → CallComesTo most f args m (answered m t a) → CallComesTo most f args m (answered m t b)
+pub answers : {most : ℕ} {f : tree.Func} {args : List CValue} {m : Machine} (t : ValType) (a b : Answer) → b ≡ a
+    → CallComesTo most f args m (answered m t a) → CallComesTo most f args m (answered m t b)
 answers {most} {f} {args} {m} t a b e h = subst (λ (x : Answer). CallComesTo most f args m (answered m t x)) (sym e) h
 
 -- the two sides of H, by both tests of C

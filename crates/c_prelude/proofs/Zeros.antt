@@ -108,7 +108,14 @@ clz_step : (t : ValType) (call : Call) (rest : List tree.Stmt) (s a b c u : ℕ)
     → walk call.program 3 (Some (at t call (clz_stage t s rest) a b c))
     ≡ Some (at t call rest (a * 2 ^ u % 2 ^ bits t) ((b + u) % 2 ^ bits t) u)
 clz_step t call rest s a b c u e h =
-    simp (widths, evaluate-num call.program call.machine (seen call.unit (counting t a b c)) t, evaluate-flag call.program call.machine (seen call.unit (counting t a b c)) t, e, h)
+    simp (
+      widths,
+      evaluate-num call.program call.machine (seen call.unit (counting t a b c)) t,
+      evaluate-flag call.program call.machine
+          (seen call.unit (counting t a b c)) t,
+      e,
+      h,
+    )
 
 not_zero : (c : ℕ) → nat_eq (2 ^ c) 0 ≡ false
 not_zero c = let p : 0 < 2 ^ c = pow_pos c in grind (arith, nat_tests)
@@ -118,18 +125,33 @@ ctz_step : (t : ValType) (call : Call) (rest : List tree.Stmt) (s a b c u : ℕ)
     → walk call.program 3 (Some (at t call (ctz_stage t s rest) a b c))
     ≡ Some (at t call rest (a / 2 ^ u) ((b + u) % 2 ^ bits t) u)
 ctz_step t call rest s a b c u e h =
-    simp (widths, evaluate-num call.program call.machine (seen call.unit (counting t a b c)) t, evaluate-flag call.program call.machine (seen call.unit (counting t a b c)) t, not_zero s, e, h)
+    simp (
+      widths,
+      evaluate-num call.program call.machine (seen call.unit (counting t a b c)) t,
+      evaluate-flag call.program call.machine
+          (seen call.unit (counting t a b c)) t,
+      not_zero s,
+      e,
+      h,
+    )
 
 -- the last statement
-ends : (t : ValType) (call : Call) (a b c : ℕ) → walk call.program 1 (Some (at t call (count_end t) a b c)) ≡ Some (gives t call ((b + truth (nat_eq a 0)) % 2 ^ bits t))
-ends t call a b c = simp (widths, evaluate-num call.program call.machine (seen call.unit (counting t a b c)) t, evaluate-flag call.program call.machine (seen call.unit (counting t a b c)) t)
+ends : (t : ValType) (call : Call) (a b c : ℕ) → walk call.program 1 (Some (at t call (count_end t) a b c)) ≡ Some
+    (gives t call ((b + truth (nat_eq a 0)) % 2 ^ bits t))
+ends t call a b c = simp (
+  widths,
+  evaluate-num call.program call.machine
+      (seen call.unit (counting t a b c)) t,
+  evaluate-flag call.program call.machine (seen call.unit (counting t a b c)) t,
+)
 
 turns : ℕ → ℕ
 turns zero = 1
 turns (suc c) = suc (suc (suc (turns c)))
 
 clz_run : (t : ValType) (call : Call) (c y a b v : ℕ) → Shifted (bits t) c y a b
-    → walk call.program (turns c) (Some (at t call (stages clz_stage t c (count_end t)) a b v)) ≡ Some (gives t call (count_leading_zeros (bits t) y))
+    → walk call.program (turns c) (Some (at t call (stages clz_stage t c (count_end t)) a b v)) ≡ Some
+    (gives t call (count_leading_zeros (bits t) y))
 unfolding turns
 clz_run t call zero y a b v h = ends t call a b v ∙ ap (λ n. Some (gives t call n)) (counted (bits t) y a b (bits-below t) h)
 clz_run t call (suc c) y a b v h =
@@ -137,15 +159,18 @@ clz_run t call (suc c) y a b v h =
     let rest = stages clz_stage t c (count_end t) in
     elim (sides (2 ^ (N - 2 ^ c)) a) [
       | inl l ↦
-          ap (walk call.program (turns c)) (clz_step t call rest (2 ^ c) a b v 0 (shift-none N c y a b (bits-below t) h l.2) (below_test 0 N (room N c b h.reach)))
+          ap (walk call.program (turns c)) (clz_step t call rest (2 ^ c) a b v 0 (shift-none N c y a b (bits-below t) h l.2)
+          (below_test 0 N (room N c b h.reach)))
           ∙ clz_run t call c y _ _ 0 (shifted-none N c y a b (bits-below t) h l.2)
       | inr l ↦
-          ap (walk call.program (turns c)) (clz_step t call rest (2 ^ c) a b v (2 ^ c) (shift-some N c y a b (bits-below t) h l.2) (below_test (2 ^ c) N (more_room N c b h.reach)))
+          ap (walk call.program (turns c)) (clz_step t call rest (2 ^ c) a b v (2 ^ c) (shift-some N c y a b (bits-below t) h l.2)
+          (below_test (2 ^ c) N (more_room N c b h.reach)))
           ∙ clz_run t call c y _ _ (2 ^ c) (shifted-some N c y a b (bits-below t) h l.2)
     ]
 
 ctz_run : (t : ValType) (call : Call) (c y a b v : ℕ) → Lowered (bits t) c y a b
-    → walk call.program (turns c) (Some (at t call (stages ctz_stage t c (count_end t)) a b v)) ≡ Some (gives t call (count_trailing_zeros (bits t) y))
+    → walk call.program (turns c) (Some (at t call (stages ctz_stage t c (count_end t)) a b v)) ≡ Some
+    (gives t call (count_trailing_zeros (bits t) y))
 unfolding turns
 ctz_run t call zero y a b v h = ends t call a b v ∙ ap (λ n. Some (gives t call n)) (lowest (bits t) y a b (bits-below t) h)
 ctz_run t call (suc c) y a b v h =
@@ -153,10 +178,12 @@ ctz_run t call (suc c) y a b v h =
     let rest = stages ctz_stage t c (count_end t) in
     elim (eqb_tells (a % 2 ^ 2 ^ c) 0) [
       | inl l ↦
-          ap (walk call.program (turns c)) (ctz_step t call rest (2 ^ c) a b v (2 ^ c) (drop-some N c y a b (bits-below t) h l.1) (below_test (2 ^ c) N (more_room N c b h.reach)))
+          ap (walk call.program (turns c)) (ctz_step t call rest (2 ^ c) a b v (2 ^ c) (drop-some N c y a b (bits-below t) h l.1)
+          (below_test (2 ^ c) N (more_room N c b h.reach)))
           ∙ ctz_run t call c y _ _ (2 ^ c) (lowered-some N c y a b (bits-below t) h l.1)
       | inr l ↦
-          ap (walk call.program (turns c)) (ctz_step t call rest (2 ^ c) a b v 0 (drop-none N c y a b (bits-below t) h l.1) (below_test 0 N (room N c b h.reach)))
+          ap (walk call.program (turns c)) (ctz_step t call rest (2 ^ c) a b v 0 (drop-none N c y a b (bits-below t) h l.1)
+          (below_test 0 N (room N c b h.reach)))
           ∙ ctz_run t call c y _ _ 0 (lowered-none N c y a b (bits-below t) h l.1)
     ]
 
@@ -196,9 +223,17 @@ called form t program pending m unit item below = record {
 }
 
 pub clz_right : (t : ValType) → DoesOperator (number_helper (record { ty = t; form = form.Clz })) t (Unary wasm.Clz)
-clz_right type.I32 m x p = computed (turns 5) (few_turns type.I32) (λ program pending unit item below. clz_run type.I32 (called form.Clz type.I32 program pending m unit item below) 5 x x 0 0 (clz_begin type.I32 x p))
-clz_right type.I64 m x p = computed (turns 6) (few_turns type.I64) (λ program pending unit item below. clz_run type.I64 (called form.Clz type.I64 program pending m unit item below) 6 x x 0 0 (clz_begin type.I64 x p))
+clz_right type.I32 m x p = computed (turns 5) (few_turns type.I32)
+    (λ program pending unit item below. clz_run type.I32 (called form.Clz type.I32 program pending m unit item below) 5 x x 0 0
+    (clz_begin type.I32 x p))
+clz_right type.I64 m x p = computed (turns 6) (few_turns type.I64)
+    (λ program pending unit item below. clz_run type.I64 (called form.Clz type.I64 program pending m unit item below) 6 x x 0 0
+    (clz_begin type.I64 x p))
 
 pub ctz_right : (t : ValType) → DoesOperator (number_helper (record { ty = t; form = form.Ctz })) t (Unary wasm.Ctz)
-ctz_right type.I32 m x p = computed (turns 5) (few_turns type.I32) (λ program pending unit item below. ctz_run type.I32 (called form.Ctz type.I32 program pending m unit item below) 5 x x 0 0 (ctz_begin type.I32 x p))
-ctz_right type.I64 m x p = computed (turns 6) (few_turns type.I64) (λ program pending unit item below. ctz_run type.I64 (called form.Ctz type.I64 program pending m unit item below) 6 x x 0 0 (ctz_begin type.I64 x p))
+ctz_right type.I32 m x p = computed (turns 5) (few_turns type.I32)
+    (λ program pending unit item below. ctz_run type.I32 (called form.Ctz type.I32 program pending m unit item below) 5 x x 0 0
+    (ctz_begin type.I32 x p))
+ctz_right type.I64 m x p = computed (turns 6) (few_turns type.I64)
+    (λ program pending unit item below. ctz_run type.I64 (called form.Ctz type.I64 program pending m unit item below) 6 x x 0 0
+    (ctz_begin type.I64 x p))

@@ -66,11 +66,13 @@ cast_to t size cast.Narrow e = narrowed t size e
 
 abbrev pub get_name : ℕ → List ℕ
 get_name size =
-    if size == 8 then codes "w2c_get1" else (if size == 16 then codes "w2c_get2" else (if size == 32 then codes "w2c_get4" else codes "w2c_get8"))
+    if size == 8 then codes "w2c_get1" else (if size == 16 then codes "w2c_get2" else
+    (if size == 32 then codes "w2c_get4" else codes "w2c_get8"))
 
 abbrev pub put_name : ℕ → List ℕ
 put_name size =
-    if size == 8 then codes "w2c_put1" else (if size == 16 then codes "w2c_put2" else (if size == 32 then codes "w2c_put4" else codes "w2c_put8"))
+    if size == 8 then codes "w2c_put1" else (if size == 16 then codes "w2c_put2" else
+    (if size == 32 then codes "w2c_put4" else codes "w2c_put8"))
 
 abbrev pub primitive_name : ℕ → Primitive → List ℕ
 primitive_name size primitive.MemLen = codes "w2c_mem_len"
@@ -124,7 +126,8 @@ placed t size m piece.Arg = record { stack = below_top m.stack; args = m.args ++
 placed t size m (piece.Get c does) = with_call m (Some (letter c)) (primitive_name size does)
 placed t size m (piece.Do does) = with_call m None (primitive_name size does)
 placed t size m (piece.Set c) = with_stmt m (below_top m.stack) (tree.Set (letter c) (tree.Value (top t m.stack)))
-placed t size m (piece.If o c) = with_stmt m (below_top (below_top m.stack)) (tree.If o (top t (below_top m.stack)) (top t m.stack) (letter c))
+placed t size m (piece.If o c) = with_stmt m (below_top (below_top m.stack))
+    (tree.If o (top t (below_top m.stack)) (top t m.stack) (letter c))
 placed t size m (piece.Label c) = with_stmt m m.stack (tree.Label (letter c))
 placed t size m piece.Return = with_stmt m (below_top m.stack) (tree.Return (tree.Value (top t m.stack)))
 placed t size m piece.ReturnNone = with_stmt m m.stack tree.ReturnNone

@@ -24,7 +24,15 @@ with_bytes bytes = record {
   units = record {
     vars = [];
     memories = (codes "m0", record { is_made = true; bytes = bytes; max = 1 }) ∷ [];
-    tables = (codes "t0", record { is_made = true; elements = None ∷ Some (record { func = UnitFunc 0 (codes "f0"); signature = 7 }) ∷ []; max = 2 }) ∷ [];
+    tables = (
+      codes "t0",
+      record {
+        is_made = true;
+        elements = None ∷ Some (record { func = UnitFunc 0 (codes "f0"); signature = 7 }) ∷
+            [];
+        max = 2;
+      },
+    ) ∷ [];
   } ∷ [];
   trail = record { replies = []; events = [] };
 }

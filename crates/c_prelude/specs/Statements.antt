@@ -11,7 +11,8 @@ use Rattle.c_meaning.specs.Reaches.{Reaches}
 use Rattle.c_prelude.specs.Calls.{CallEnd, call_ended}
 
 -- the next statement of the function that runs calls f of its unit with these values
-pub record Calls (p : Program) (m : Machine) (r : Running) (target : Option Name) (f : tree.Func) (values : List CValue) (rest : List tree.Stmt) : Type 0 where
+pub record Calls (p : Program) (m : Machine) (r : Running) (target : Option Name) (f : tree.Func) (values : List CValue)
+    (rest : List tree.Stmt) : Type 0 where
   pub args : List tree.Arg
   pub next : r.rest ≡ tree.Call target (tree.Called f.name) args ∷ rest
   pub evaluated : evaluate_args p m r args ≡ Is values

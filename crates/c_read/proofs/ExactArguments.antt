@@ -34,7 +34,8 @@ agroup_exact p d ls has proper = by (kind_of (first ls).token) refl
     at k e = has ∙ ap (λ j. becoming p (first ls).place (as_agroup d j)) e
 
     by : (k : Kind) → kind_of (first ls).token ≡ k → Exact (Fixed tok.LeftParen ∷ []) arg_tokens (Of p d ∷ []) ls (agroup_by p d k ls)
-    by (kind.Fixed tok.WordW2cFn) e = open_part (at _ e) (text refl proper (λ l1 p1. text refl p1 (λ l2 p2. named p2 (λ n l3 p3. done refl))))
+    by (kind.Fixed tok.WordW2cFn) e = open_part (at _ e)
+        (text refl proper (λ l1 p1. text refl p1 (λ l2 p2. named p2 (λ n l3 p3. done refl))))
     by _ e = mapped tree.Value (λ x. refl) (group_exact p d (expr d) ls (at _ e ∙ rw e refl) (expr_exact d) proper)
 
 argument_level : (d : ℕ) (ls : List Lexeme) → Proper ls → Exact [] arg_tokens (Of part.InArgument (suc d) ∷ []) ls (argument_in d ls)

@@ -135,9 +135,11 @@ index_fit d inside n ls within = by (kind_of (first ls).token)
 operation_fit : (d : ℕ) (inside : Parser tree.Expr) (ls : List Lexeme) → ExprFit d inside → Fit (FitsExpr (suc d)) (operation inside ls)
 unfolding operation
 operation_fit d inside ls within =
-    next (within ls) (λ a m ha. next (free (operator m)) (λ o r hf. next (within r) (λ b q hb. text tok.RightParen q (λ z. gives (ha, hb)))))
+    next (within ls) (λ a m ha. next (free (operator m)) (λ o r hf.
+    next (within r) (λ b q hb. text tok.RightParen q (λ z. gives (ha, hb)))))
 
-group_fit : (p : Part) (d : ℕ) (inside : Parser tree.Expr) (ls : List Lexeme) → ExprFit d inside → Fit (FitsExpr (suc d)) (group p inside ls)
+group_fit : (p : Part) (d : ℕ) (inside : Parser tree.Expr) (ls : List Lexeme) → ExprFit d inside
+    → Fit (FitsExpr (suc d)) (group p inside ls)
 unfolding group next_kind
 group_fit p d inside ls within = by (kind_of (first ls).token)
   where

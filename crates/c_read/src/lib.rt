@@ -15,6 +15,4 @@ pub use laws::{faults_are_of_tokens, one_fault, unit_or_fault};
 pub use unit::read_unit;
 
 #[cfg(test)]
-mod fault_tests;
-#[cfg(test)]
-mod unit_tests;
+mod tests;

@@ -162,9 +162,12 @@ arg_passes d (tree.Value (tree.At n i)) ss t ts fits is next = become (λ p. ref
 arg_passes d (tree.Value (tree.Number (N32 n))) ss t ts fits is next = become (λ p. refl) (number_passes d (N32 n) ss (t ∷ ts) fits next)
 arg_passes d (tree.Value (tree.Number (N64 n))) ss t ts fits is next = become (λ p. refl) (number_passes d (N64 n) ss (t ∷ ts) fits next)
 arg_passes d (tree.Value (tree.Number (Plain n))) ss t ts fits is next = become (λ p. refl) (number_passes d (Plain n) ss (t ∷ ts) fits next)
-arg_passes d (tree.Value (tree.To32 e)) ss t ts fits is next = become (λ p. refl) (take (λ p. refl) (become (λ p. refl) (take (λ p. refl) (take (λ p. refl) (expr_passes d e ss t ts fits is next)))))
-arg_passes d (tree.Value (tree.To64 e)) ss t ts fits is next = become (λ p. refl) (take (λ p. refl) (become (λ p. refl) (take (λ p. refl) (take (λ p. refl) (expr_passes d e ss t ts fits is next)))))
-arg_passes d (tree.Value (tree.Star n)) ss t ts fits is next = become (λ p. refl) (take (λ p. refl) (become (λ p. refl) (take (λ p. refl) (take (λ p. refl) (take (λ p. refl) next)))))
+arg_passes d (tree.Value (tree.To32 e)) ss t ts fits is next =
+    become (λ p. refl) (take (λ p. refl) (become (λ p. refl) (take (λ p. refl) (take (λ p. refl) (expr_passes d e ss t ts fits is next)))))
+arg_passes d (tree.Value (tree.To64 e)) ss t ts fits is next =
+    become (λ p. refl) (take (λ p. refl) (become (λ p. refl) (take (λ p. refl) (take (λ p. refl) (expr_passes d e ss t ts fits is next)))))
+arg_passes d (tree.Value (tree.Star n)) ss t ts fits is next =
+    become (λ p. refl) (take (λ p. refl) (become (λ p. refl) (take (λ p. refl) (take (λ p. refl) (take (λ p. refl) next)))))
 arg_passes d (tree.Value (tree.Op o a b)) ss t ts fits is next =
     become (λ p. refl) (take (λ p. refl) (rw (op_within o a b (t ∷ ts))
     (in_agroup d a ss _ (operation_passes d o a b ss (t ∷ ts) fits.0 fits.1 next))))
@@ -176,14 +179,19 @@ semicolon = record { no_index = λ d p. refl }
 
 pub right_passes : (d : ℕ) (a : tree.Arg) (ss : List Symbol) (ts : List Token) → FitsArg (suc d) a → Passes ss (Fixed tok.Semicolon ∷ ts) → Passes (Of part.InRight (suc d) ∷ ss) (arg_tokens a ++ (Fixed tok.Semicolon ∷ ts))
 right_passes d (tree.Address n) ss ts fits next = become (λ p. refl) (take (λ p. refl) (take (λ p. refl) next))
-right_passes d (tree.OfFunction n) ss ts fits next = become (λ p. refl) (take (λ p. refl) (become (λ p. refl) (take (λ p. refl) (take (λ p. refl) (take (λ p. refl) next)))))
+right_passes d (tree.OfFunction n) ss ts fits next =
+    become (λ p. refl) (take (λ p. refl) (become (λ p. refl) (take (λ p. refl) (take (λ p. refl) (take (λ p. refl) next)))))
 right_passes d (tree.Value (tree.Name n)) ss ts fits next = become (λ p. refl) (take (λ p. refl) (become (λ p. refl) next))
 right_passes d (tree.Value (tree.At n i)) ss ts fits next = become (λ p. refl) (take (λ p. refl) (become (λ p. refl) (take (λ p. refl) (rw append_assoc (expr_passes d i (One tok.RightBracket ∷ ss) (Fixed tok.RightBracket) (Fixed tok.Semicolon ∷ ts) fits bracket (take (λ p. refl) next))))))
 right_passes d (tree.Value (tree.Number (N32 n))) ss ts fits next = become (λ p. refl) (number_passes d (N32 n) ss (Fixed tok.Semicolon ∷ ts) fits next)
 right_passes d (tree.Value (tree.Number (N64 n))) ss ts fits next = become (λ p. refl) (number_passes d (N64 n) ss (Fixed tok.Semicolon ∷ ts) fits next)
 right_passes d (tree.Value (tree.Number (Plain n))) ss ts fits next = become (λ p. refl) (number_passes d (Plain n) ss (Fixed tok.Semicolon ∷ ts) fits next)
-right_passes d (tree.Value (tree.To32 e)) ss ts fits next = become (λ p. refl) (take (λ p. refl) (become (λ p. refl) (take (λ p. refl) (take (λ p. refl) (expr_passes d e ss (Fixed tok.Semicolon) ts fits semicolon next)))))
-right_passes d (tree.Value (tree.To64 e)) ss ts fits next = become (λ p. refl) (take (λ p. refl) (become (λ p. refl) (take (λ p. refl) (take (λ p. refl) (expr_passes d e ss (Fixed tok.Semicolon) ts fits semicolon next)))))
+right_passes d (tree.Value (tree.To32 e)) ss ts fits next =
+    become (λ p. refl) (take (λ p. refl) (become (λ p. refl) (take (λ p. refl) (take (λ p. refl)
+    (expr_passes d e ss (Fixed tok.Semicolon) ts fits semicolon next)))))
+right_passes d (tree.Value (tree.To64 e)) ss ts fits next =
+    become (λ p. refl) (take (λ p. refl) (become (λ p. refl) (take (λ p. refl) (take (λ p. refl)
+    (expr_passes d e ss (Fixed tok.Semicolon) ts fits semicolon next)))))
 right_passes d (tree.Value (tree.Star n)) ss ts fits next = become (λ p. refl) (take (λ p. refl) (become (λ p. refl) (take (λ p. refl) (become (λ p. refl) (take (λ p. refl) (take (λ p. refl) next))))))
 right_passes d (tree.Value (tree.Op o a b)) ss ts fits next =
     become (λ p. refl) (take (λ p. refl) (rw (op_within o a b (Fixed tok.Semicolon ∷ ts))

@@ -46,7 +46,7 @@ built_made items init symbol b e formed is_init is_export is_body = record {
   init_module = is_init.0;
   export_module = is_export.0;
   export_name = is_export.1;
-  init_bytes = is_init.1;
+  init_is = is_init.1;
   module_bytes = is_export.2;
   name_bytes = is_export.3;
   is = constant_made items (init_symbol_of is_init.0) (export_symbol_of is_export.0 Func is_export.1) b
@@ -78,7 +78,7 @@ parts_same m n s t b d e =
 pub built_init : (items : List tree.Item) (init symbol : List ℕ) (b : tree.Body) → items ≡ items_of init symbol b → IsBuilt items → IsInitSymbol init
 built_init items init symbol b e built = (
   built.init_module,
-  built.init_bytes,
+  built.init_is,
   (parts_same init (init_symbol_of built.init_module) symbol (export_symbol_of built.export_module Func built.export_name) b (built_body items built) (sym e ∙ built_items items built)).0,
 )
 

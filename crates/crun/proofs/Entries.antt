@@ -4,7 +4,7 @@ use Rattle.std.specs.Prelude.{option_map}
 use Rattle.std.specs.List.{AllByRecursion, starts_with}
 use Rattle.std.proofs.lemmas.Slice.Eq.{bytes_eq-Decides}
 use Rattle.w2c_base.specs.declared.value.Value.{Value}
-use Rattle.w2c_base.specs.Run.{Trail, Call}
+use Rattle.w2c_base.specs.Run.{Trail, Call, values_in}
 use Rattle.w2c_mangle.specs.declared.symbol.SymbolKind.TheVariants.{Func}
 use Rattle.w2c_mangle.specs.Symbols.{export_symbol_of, init_symbol_of}
 use Rattle.c_tree.specs.declared.tree.CType.TheVariants as type
@@ -25,7 +25,8 @@ use Rattle.c_machine.specs.Names.{function_in}
 use Rattle.c_machine.proofs.Functions.{func_known, definition_known}
 use Rattle.crun.specs.declared.outcome.Outcome.{Outcome as AnOutcome}
 use Rattle.crun.specs.Built.{IsBuilt}
-use Rattle.crun.specs.Sessions.{Came, IsEntry, outcome_of as outcome_of_step}
+use Rattle.crun.specs.Sessions.{Came, IsEntry, last_value, outcome_of as outcome_of_step, trail_of}
+use Rattle.crun.proofs.History.{last_told}
 use Rattle.crun.proofs.Never.{Good, InitFirst, ExportFirst, Fine, Goes, EndsInit, EndsExport, fine}
 
 -- ---- the unit works on numbers
@@ -49,7 +50,7 @@ some_is : {A : Type 0} (x y : A) → Some x ≡ Some y → x ≡ y
 some_is x y e = cc
 
 abbrev pub alone_pending : Pending
-alone_pending = record { phase = Call 0; entries = []; values = [] }
+alone_pending = record { phase = Call 0; entries = [] }
 
 abbrev is_going : Progress → Bool
 is_going (Going pending s) = true
@@ -58,8 +59,8 @@ is_going (Over run) = false
 abbrev outcome_of : Progress → Outcome
 outcome_of progress = (run_of progress).outcome
 
-abbrev values_of : Progress → List (Option Value)
-values_of progress = (run_of progress).values
+abbrev value_of : Progress → Option Value
+value_of progress = last_value (values_in (run_of progress).events)
 
 -- what was begun has a step behind it that is fine
 abbrev pub Ends : Program → List Name → Name → Bool → Progress → Type 0
@@ -95,7 +96,7 @@ module _ (p : Program) (names : List Name) (last : Name) (steady : (gives : Bool
     where
       go : (gives : Bool) → gives ≡ false → (x : Step) → Fine names last gives x → go_on p alone_pending (step_of items trail (stepped.Back (Some v)) t) ≡ go_on p alone_pending x → Some v ≡ None
       go _ same_gives x (Goes gives s good) e = (let same = ap is_going e in absurd cc)
-      go gives same_gives x (EndsInit m) e = (let same = ap values_of e in cc)
+      go gives same_gives x (EndsInit m) e = sym (last_told trail.events (Some v)) ∙ ap value_of e ∙ last_told m.trail.events None
       go gives same_gives x (EndsExport m w) e = absurd cc
 
 -- ---- the functions of the unit
@@ -132,10 +133,10 @@ steady items built = subst Steady (sym built.is.is) (record {
   names = names;
   last = last;
   fine = fine p names last sets variables d
-      (func_known body_name unit 3 number) (definition_known body_name unit 3 number) refl refl refl refl
+      (func_known body_name unit 3 number) (definition_known body_name unit 3 number) refl refl refl refl refl
       (λ name among. not_depth name (among_all IsVariableName names name built.is.variable_names among)) built.is.last_is_declared built.is.sets_are_declared;
-  init_begins = λ m. (_, refl, InitFirst m _ refl);
-  export_begins = λ m. (_, refl, ExportFirst m _ 0 refl refl refl);
+  init_begins = λ m. (_, refl, InitFirst m _ refl refl);
+  export_begins = λ m. (_, refl, ExportFirst m _ refl refl (record { result = refl; rest = refl; value = 0; vars = refl }));
 })
   where
     variables : List (Name × ℕ)
@@ -180,7 +181,7 @@ pub record Started (items : List tree.Item) (steady : Steady items) (item : ℕ)
   pub good : (trail : Trail) (depth : ℕ) → Good steady.names steady.last gives (first_state items trail depth top)
 
 abbrev pub no_trail : Trail
-no_trail = record { replies = []; asks = [] }
+no_trail = trail_of [] []
 
 started_by : (items : List tree.Item) (steady : Steady items) (item : ℕ) (gives : Bool) (f : Option Frame) → (item ≡ 1 → gives ≡ false)
     → ((m : Machine) (below : List Waiting) → begin (definition_in items item) 0 m [] below ≡ begun_of items m f below)

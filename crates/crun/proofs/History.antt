@@ -5,14 +5,15 @@ use Rattle.std.specs.List.{range_with_len}
 use Rattle.std.proofs.lemmas.List.{append-nil, map_push}
 use Rattle.w2c_base.specs.declared.value.Value.{Value}
 use Rattle.w2c_base.specs.Lookup.{numbered}
-use Rattle.w2c_base.specs.Run.{Phase, Init, Call, Reply}
+use Rattle.w2c_base.specs.Run.{CallEnded, Event, Phase, Init, Call, Reply, asks_in, values_in}
+use Rattle.w2c_base.proofs.Events.{asks_behind, values_behind}
+use Rattle.c_tree.specs.declared.tree.Item.{Item}
 use Rattle.c_tree.specs.Tree as tree
 use Rattle.c_tree.specs.View.{unit_of}
 use Rattle.c_meaning.specs.State.{FuncAddress, UnitFunc, Number, Machine}
 use Rattle.c_meaning.specs.Linking.{Program, SymbolCall, called_func, definition_at, init_functions}
-use Rattle.c_meaning.specs.Machine.{fresh}
 use Rattle.c_meaning.specs.Step.{begin}
-use Rattle.c_meaning.specs.Run.{CRun, Entry, Pending, Progress, Over, begun, begin_entry, came_back, after, c_run, entries_of, run_of}
+use Rattle.c_meaning.specs.Run.{CRun, Entry, Pending, Progress, Over, begun, begin_entry, came_back, told_end, after, c_run, entries_of, run_of}
 use Rattle.c_meaning.specs.Reaches.{Reaches}
 use Rattle.c_meaning.proofs.Ways.{enough, join}
 use Rattle.c_machine.specs.Threads.{alone, definition_in, machine_of}
@@ -21,7 +22,7 @@ use Rattle.crun.specs.declared.outcome.Outcome.TheVariants as outcome
 use Rattle.crun.specs.declared.outcome.Kept.{Kept}
 use Rattle.crun.specs.declared.outcome.Standing.{Standing}
 use Rattle.crun.specs.declared.outcome.Standing.TheVariants as standing
-use Rattle.crun.specs.Sessions.{Came, IfOver, IsOutcome, Stands, State, last_value, standing_of, trail_of}
+use Rattle.crun.specs.Sessions.{Came, IfOver, IsOutcome, Stands, State, last_value, standing_of, stands_at, starts, trail_of}
 
 -- one item more, with its number
 numbered_from : {A : Type 0} (k : ℕ) (xs : List A) (x : A) → zip (range_with_len k (length (xs ++ x ∷ []))) (xs ++ x ∷ []) ≡ zip (range_with_len k (length xs)) xs ++ (k + length xs, x) ∷ []
@@ -48,64 +49,102 @@ entries_push p calls c more =
     ∙ sym (append_assoc inits listed (entry_of p (length calls, c) ∷ more))
 
 -- an entry of a function of the unit begins it
-pub entry_begins : (items : List tree.Item) (c : SymbolCall) (item : ℕ) (m : Machine) (last phase : Phase) (values : List (Option Value)) (more : List Entry)
+pub entry_begins : (items : List tree.Item) (c : SymbolCall) (item : ℕ) (m : Machine) (last phase : Phase) (more : List Entry)
     → called_func (alone items) c ≡ Some (UnitFunc 0 c.symbol) → definition_at (alone items) 0 c.symbol ≡ definition_in items item
-    → begin_entry (alone items) m last values (record { phase = phase; func = called_func (alone items) c; args = c.args } ∷ more)
-    ≡ begun (record { phase = phase; entries = more; values = values }) (begin (definition_in items item) 0 m (map Number c.args) [])
-entry_begins items c item m last phase values more called defined =
-    ap (λ f. begin_entry (alone items) m last values (record { phase = phase; func = f; args = c.args } ∷ more)) called
-    ∙ ap (λ d. begun (record { phase = phase; entries = more; values = values }) (begin d 0 m (map Number c.args) [])) defined
+    → begin_entry (alone items) m last (record { phase = phase; func = called_func (alone items) c; args = c.args } ∷ more)
+    ≡ begun (record { phase = phase; entries = more }) (begin (definition_in items item) 0 m (map Number c.args) [])
+entry_begins items c item m last phase more called defined =
+    ap (λ f. begin_entry (alone items) m last (record { phase = phase; func = f; args = c.args } ∷ more)) called
+    ∙ ap (λ d. begun (record { phase = phase; entries = more }) (begin d 0 m (map Number c.args) [])) defined
 
 -- a call that has come back
-pub back_to : (p : Program) (k : ℕ) (more : List Entry) (values : List (Option Value)) (m : Machine) (v : Option Value)
-    → came_back p (record { phase = Call k; entries = more; values = values }) m (Call k) (option_map Number v) ≡ begin_entry p m (Call k) (values ++ v ∷ []) more
-back_to p k more values m None = refl
-back_to p k more values m (Some v) = refl
+pub back_to : (p : Program) (k : ℕ) (more : List Entry) (m : Machine) (v : Option Value)
+    → came_back p (record { phase = Call k; entries = more }) m (Call k) (option_map Number v) ≡ begin_entry p (told_end m v) (Call k) more
+back_to p k more m None = refl
+back_to p k more m (Some v) = refl
 
 pub last_is : (values : List (Option Value)) (v : Option Value) → last_value (values ++ v ∷ []) ≡ v
 last_is [] v = refl
 last_is (w ∷ []) v = refl
 last_is (w ∷ x ∷ values) v = last_is (x ∷ values) v
 
--- a way to the end of a run, or of as many statements as there are
-pub comes_to : (p : Program) (calls : List SymbolCall) (replies : List Reply) (n steps : ℕ) (run : CRun) → n ≤ steps → Reaches p n (begin_entry p (fresh p replies) (Init 0) [] (entries_of p calls ++ [])) (Over run) → c_run p calls steps replies ≡ run
-comes_to p calls replies n steps run within way =
-    enough p calls replies n steps run (subst (λ es. Reaches p n (begin_entry p (fresh p replies) (Init 0) [] es) (Over run)) (append-nil (entries_of p calls)) way) within
+-- the call that ended last
+pub last_told : (events : List Event) (v : Option Value) → last_value (values_in (events ++ CallEnded v ∷ [])) ≡ v
+last_told events v = ap last_value (values_behind events (CallEnded v ∷ [])) ∙ last_is (values_in events) v
 
-pub stops_at : (p : Program) (calls : List SymbolCall) (replies : List Reply) (steps : ℕ) (to : Progress) → Reaches p steps (begin_entry p (fresh p replies) (Init 0) [] (entries_of p calls ++ [])) to → c_run p calls steps replies ≡ run_of to
+no_ask_told : (events : List Event) (v : Option Value) → asks_in events ≡ [] → asks_in (events ++ CallEnded v ∷ []) ≡ []
+no_ask_told events v none = asks_behind events (CallEnded v ∷ []) ∙ ap (λ asks. asks ++ []) none
+
+-- a way to the end of a run, or of as many statements as there are
+pub comes_to : (p : Program) (calls : List SymbolCall) (replies : List Reply) (n steps : ℕ) (run : CRun) → n ≤ steps
+    → Reaches p n (starts p replies (entries_of p calls ++ [])) (Over run) → c_run p calls steps replies ≡ run
+comes_to p calls replies n steps run within way =
+    enough p calls replies n steps run
+    (subst (λ es. Reaches p n (starts p replies es) (Over run)) (append-nil (entries_of p calls)) way) within
+
+pub stops_at : (p : Program) (calls : List SymbolCall) (replies : List Reply) (steps : ℕ) (to : Progress)
+    → Reaches p steps (starts p replies (entries_of p calls ++ [])) to → c_run p calls steps replies ≡ run_of to
 stops_at p calls replies steps to way =
-    ap (λ es. run_of (after p steps (begin_entry p (fresh p replies) (Init 0) [] es))) (sym (append-nil (entries_of p calls))) ∙ ap run_of way.there
+    ap (λ es. run_of (after p steps (starts p replies es))) (sym (append-nil (entries_of p calls))) ∙ ap run_of way.there
 
 -- ---- a call more
 
+-- how a call's function begins
+abbrev call_begins : State → ℕ → SymbolCall → List Reply → List Event → Pending → Progress
+call_begins before item c replies events pending =
+    let m = machine_of (unit_of before.unit) (trail_of replies events) before.depth in
+    begun pending (begin (definition_in (unit_of before.unit) item) 0 m (map Number c.args) [])
+
 -- what the run of a call's function came to, for all replies and whatever is called next
 abbrev pub CallCame : State → State → ℕ → SymbolCall → Outcome → Type 0
-CallCame before after item c o = (replies : List Reply) (pending : Pending) → (to : Progress)
-    × Reaches (alone (unit_of before.unit)) (before.left - after.left) (begun pending (begin (definition_in (unit_of before.unit) item) 0 (machine_of (unit_of before.unit) (trail_of replies) before.depth) (map Number c.args) [])) to
-    × Came (unit_of before.unit) item (trail_of replies) pending after.depth o to
+CallCame before after item c o = (replies : List Reply) (events : List Event) (pending : Pending) → (to : Progress)
+    × Reaches (alone (unit_of before.unit)) (before.left - after.left) (call_begins before item c replies events pending) to
+    × Came (unit_of before.unit) item (trail_of replies events) pending after.depth o to
 
 module _ (before after : State) (calls : List SymbolCall) (c : SymbolCall) (item : ℕ) (stands : Stands before calls)
-    (called : called_func (alone (unit_of before.unit)) c ≡ Some (UnitFunc 0 c.symbol)) (defined : definition_at (alone (unit_of before.unit)) 0 c.symbol ≡ definition_in (unit_of before.unit) item)
+    (called : called_func (alone (unit_of before.unit)) c ≡ Some (UnitFunc 0 c.symbol))
+    (defined : definition_at (alone (unit_of before.unit)) 0 c.symbol ≡ definition_in (unit_of before.unit) item)
     (unit_same : after.unit ≡ before.unit) (steps_same : after.steps ≡ before.steps) (fewer : after.left ≤ before.left) where
   abbrev p : Program
   p = alone (unit_of before.unit)
 
   abbrev pending_of : List Entry → Pending
-  pending_of more = record { phase = Call (length calls); entries = more; values = stands.values }
+  pending_of more = record { phase = Call (length calls); entries = more }
 
   -- the whole way, from the start
   whole : (replies : List Reply) (more : List Entry) (to : Progress)
-      → Reaches p (before.left - after.left) (begun (pending_of more) (begin (definition_in (unit_of before.unit) item) 0 (machine_of (unit_of before.unit) (trail_of replies) before.depth) (map Number c.args) [])) to
-      → Reaches p (before.steps - after.left) (begin_entry p (fresh p replies) (Init 0) [] (entries_of p (calls ++ c ∷ []) ++ more)) to
+      → Reaches p (before.left - after.left) (call_begins before item c replies stands.events (pending_of more)) to
+      → Reaches p (before.steps - after.left) (starts p replies (entries_of p (calls ++ c ∷ []) ++ more)) to
   whole replies more to way =
-      let m = machine_of (unit_of before.unit) (trail_of replies) before.depth in
-      let here = entry_begins (unit_of before.unit) c item m stands.last (Call (length calls)) stands.values more called defined in
+      let m = machine_of (unit_of before.unit) (trail_of replies stands.events) before.depth in
+      let here = entry_begins (unit_of before.unit) c item m stands.last (Call (length calls)) more called defined in
       let first = stands.reaches replies (entry_of p (length calls, c) ∷ more) in
       let second = subst (λ x. Reaches p (before.left - after.left) x to) (sym here) way in
       let both = join p (before.steps - before.left) (before.left - after.left) _ _ to first second in
       let count : (before.steps - before.left) + (before.left - after.left) ≡ before.steps - after.left = omega (arith, stands.fewer, fewer) in
-      subst (λ n. Reaches p n (begin_entry p (fresh p replies) (Init 0) [] (entries_of p (calls ++ c ∷ []) ++ more)) to) count
-      (subst (λ es. Reaches p ((before.steps - before.left) + (before.left - after.left)) (begin_entry p (fresh p replies) (Init 0) [] es) to) (sym (entries_push p calls c more)) both)
+      subst (λ n. Reaches p n (starts p replies (entries_of p (calls ++ c ∷ []) ++ more)) to) count
+      (subst (λ es. Reaches p ((before.steps - before.left) + (before.left - after.left)) (starts p replies es) to)
+      (sym (entries_push p calls c more)) both)
+
+  -- the call that ended is told
+  abbrev told : Option Value → List Event
+  told v = stands.events ++ CallEnded v ∷ []
+
+  whole_ended : (v : Option Value) → CallCame before after item c (outcome.Ended v) → (replies : List Reply) (more : List Entry)
+      → Reaches p (before.steps - after.left) (starts p replies (entries_of p (calls ++ c ∷ []) ++ more))
+      (stands_at (unit_of before.unit) after.depth replies (told v) (Call (length calls)) more)
+  whole_ended v came replies more =
+      let at = came replies stands.events (pending_of more) in
+      let m = machine_of (unit_of before.unit) (trail_of replies stands.events) after.depth in
+      subst (Reaches p (before.steps - after.left) (starts p replies (entries_of p (calls ++ c ∷ []) ++ more)))
+      (at.2.0 ∙ back_to p (length calls) more m v) (whole replies more at.0 at.1)
+
+  -- the way of a session with this unit and these steps
+  abbrev Way : List Event → List Item → ℕ → List Reply → List Entry → Type 0
+  Way events unit steps replies more =
+      Reaches (alone (unit_of unit)) (steps - after.left)
+      (starts (alone (unit_of unit)) replies (entries_of (alone (unit_of unit)) (calls ++ c ∷ []) ++ more))
+      (stands_at (unit_of unit) after.depth replies events (Call (length calls)) more)
 
   -- a call that ended: the session stands behind it
   pub ended_stands : (v : Option Value) → after.standing ≡ standing.Ready → CallCame before after item c (outcome.Ended v) → Stands after (calls ++ c ∷ [])
@@ -113,41 +152,38 @@ module _ (before after : State) (calls : List SymbolCall) (c : SymbolCall) (item
     ready = ready;
     fewer = omega (arith, stands.fewer, fewer, steps_same);
     last = Call (length calls);
-    values = stands.values ++ v ∷ [];
+    events = told v;
+    no_asks = no_ask_told stands.events v stands.no_asks;
     reaches = λ replies more.
-        let at = came replies (pending_of more) in
-        let m = machine_of (unit_of before.unit) (trail_of replies) after.depth in
-        let to : at.0 ≡ begin_entry p m (Call (length calls)) (stands.values ++ v ∷ []) more = at.2.0 ∙ back_to p (length calls) more stands.values m v in
-        let way = subst (Reaches p (before.steps - after.left) (begin_entry p (fresh p replies) (Init 0) [] (entries_of p (calls ++ c ∷ []) ++ more))) to (whole replies more at.0 at.1) in
-        subst (λ n. Reaches (alone (unit_of after.unit)) (n - after.left) (begin_entry (alone (unit_of after.unit)) (fresh (alone (unit_of after.unit)) replies) (Init 0) [] (entries_of (alone (unit_of after.unit)) (calls ++ c ∷ []) ++ more)) (begin_entry (alone (unit_of after.unit)) (machine_of (unit_of after.unit) (trail_of replies) after.depth) (Call (length calls)) (stands.values ++ v ∷ []) more)) (sym steps_same)
-        (subst (λ us. Reaches (alone (unit_of us)) (before.steps - after.left) (begin_entry (alone (unit_of us)) (fresh (alone (unit_of us)) replies) (Init 0) [] (entries_of (alone (unit_of us)) (calls ++ c ∷ []) ++ more)) (begin_entry (alone (unit_of us)) (machine_of (unit_of us) (trail_of replies) after.depth) (Call (length calls)) (stands.values ++ v ∷ []) more)) (sym unit_same) way);
+        subst (λ n. Way (told v) after.unit n replies more) (sym steps_same)
+        (subst (λ unit. Way (told v) unit before.steps replies more) (sym unit_same) (whole_ended v came replies more));
   }
 
   -- its outcome is that of the run
-  pub call_outcome : (o : Outcome) → (o ≡ outcome.OutOfSteps → after.left ≡ 0) → CallCame before after item c o → (replies : List Reply) → IsOutcome o (Call (length calls)) (c_run p (calls ++ c ∷ []) before.steps replies)
+  pub call_outcome : (o : Outcome) → (o ≡ outcome.OutOfSteps → after.left ≡ 0) → CallCame before after item c o → (replies : List Reply)
+      → IsOutcome o (Call (length calls)) (c_run p (calls ++ c ∷ []) before.steps replies)
   call_outcome (outcome.Ended v) spent came replies =
-      let at = came replies (pending_of []) in
-      let m = machine_of (unit_of before.unit) (trail_of replies) after.depth in
-      let to : at.0 ≡ begin_entry p m (Call (length calls)) (stands.values ++ v ∷ []) [] = at.2.0 ∙ back_to p (length calls) [] stands.values m v in
-      let way = subst (Reaches p (before.steps - after.left) (begin_entry p (fresh p replies) (Init 0) [] (entries_of p (calls ++ c ∷ []) ++ []))) to (whole replies [] at.0 at.1) in
+      let way = whole_ended v came replies [] in
       let run = comes_to p (calls ++ c ∷ []) replies (before.steps - after.left) before.steps _ (omega arith) way in
-      rw run (refl, refl, last_is stands.values v, refl)
+      rw run (refl, last_told stands.events v, (refl, no_ask_told stands.events v stands.no_asks))
   call_outcome (outcome.Trapped kind) spent came replies =
-      let at = came replies (pending_of []) in
-      let way = subst (Reaches p (before.steps - after.left) (begin_entry p (fresh p replies) (Init 0) [] (entries_of p (calls ++ c ∷ []) ++ []))) at.2 (whole replies [] at.0 at.1) in
+      let at = came replies stands.events (pending_of []) in
+      let start = starts p replies (entries_of p (calls ++ c ∷ []) ++ []) in
+      let way = subst (Reaches p (before.steps - after.left) start) at.2 (whole replies [] at.0 at.1) in
       let run = comes_to p (calls ++ c ∷ []) replies (before.steps - after.left) before.steps _ (omega arith) way in
-      rw run (refl, refl, refl)
+      rw run (refl, (refl, stands.no_asks))
   call_outcome (outcome.Undefined u) spent came replies =
-      let at = came replies (pending_of []) in
-      let way = subst (Reaches p (before.steps - after.left) (begin_entry p (fresh p replies) (Init 0) [] (entries_of p (calls ++ c ∷ []) ++ []))) at.2 (whole replies [] at.0 at.1) in
+      let at = came replies stands.events (pending_of []) in
+      let start = starts p replies (entries_of p (calls ++ c ∷ []) ++ []) in
+      let way = subst (Reaches p (before.steps - after.left) start) at.2 (whole replies [] at.0 at.1) in
       let run = comes_to p (calls ++ c ∷ []) replies (before.steps - after.left) before.steps _ (omega arith) way in
-      rw run (refl, refl, refl)
+      rw run (refl, (refl, stands.no_asks))
   call_outcome outcome.OutOfSteps spent came replies =
-      let at = came replies (pending_of []) in
+      let at = came replies stands.events (pending_of []) in
       let none : before.steps - after.left ≡ before.steps = (let zero_left = spent refl in omega (arith, zero_left)) in
-      let way = subst (λ n. Reaches p n (begin_entry p (fresh p replies) (Init 0) [] (entries_of p (calls ++ c ∷ []) ++ [])) at.0) none (whole replies [] at.0 at.1) in
+      let way = subst (λ n. Reaches p n (starts p replies (entries_of p (calls ++ c ∷ []) ++ [])) at.0) none (whole replies [] at.0 at.1) in
       let run = stops_at p (calls ++ c ∷ []) replies before.steps at.0 way ∙ ap run_of at.2.1 in
-      rw (run, at.2.2) (refl, refl, refl)
+      rw (run, at.2.2) (refl, (refl, stands.no_asks))
 
   -- a session that is ready behind a call stands behind it
   pub ready_stands : (o : Outcome) → standing_of o ≡ standing.Ready → after.standing ≡ standing_of o → CallCame before after item c o → Stands after (calls ++ c ∷ [])

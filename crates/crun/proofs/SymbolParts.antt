@@ -1,10 +1,11 @@
 -- A name that begins with w2cZ_ is a symbol exactly where its parts are those of one.
-use Rattle.std.proofs.Common.{◌≡◌, ℕ, List, [], ◌∷◌, ◌++◌, codes, refl, sym, ◌∙◌, ap}
+use Rattle.std.proofs.Common.{◌≡◌, ◌↔◌, ◌≤◌, ℕ, Bool, IsTrue, List, [], ◌∷◌, ◌++◌, length, codes, refl, sym, ◌∙◌, ap, subst}
 use Rattle.w2c_mangle.specs.declared.symbol.SymbolKind.TheVariants.{Func}
 use Rattle.w2c_mangle.specs.Escaping.{escaped}
 use Rattle.w2c_mangle.proofs.SymbolNames.{export_part, export_symbol_of-parts, init_symbol_of-parts}
+use Rattle.w2c_mangle.proofs.EscapedNames.{escaped-injective}
 use Rattle.crun.specs.Built.{IsBytes}
-use Rattle.crun.specs.Symbols.{HasNoEnd, IsEscape, IsExportSymbol, IsInitSymbol, SplitsAtEnd, ended}
+use Rattle.crun.specs.Symbols.{HasNoEnd, IsEscape, IsExportSymbol, IsInitSymbol, IsModuleEscape, SplitsAtEnd, ended}
 
 abbrev pub HasNoParts : List ℕ → Type 0
 HasNoParts name = (t : List ℕ) → name ≡ codes "w2cZ_" ++ t → HasNoEnd t
@@ -25,16 +26,27 @@ parts_make name m rest n behind parts e f =
 -- ---- init functions
 
 pub init_no_parts : (name : List ℕ) → HasNoParts name → IsInitSymbol name → ⊥
-init_no_parts name none is = none (ended (escaped is.0) (105 ∷ [])) (is.2 ∙ init_symbol_of-parts is.0) is.0 (105 ∷ []) is.1 refl
+init_no_parts name none is = none (ended (escaped is.0) (105 ∷ [])) (is.2 ∙ init_symbol_of-parts is.0) is.0 (105 ∷ []) is.1.bytes refl
+
+init_parts : (name m rest : List ℕ) → HasParts name m rest → (is : IsInitSymbol name) → (m ≡ escaped is.0) × (rest ≡ codes "i")
+init_parts name m rest parts is = parts_only name m rest is.0 (105 ∷ []) parts is.1.bytes (is.2 ∙ init_symbol_of-parts is.0)
 
 pub init_ends : (name m rest : List ℕ) → HasParts name m rest → IsInitSymbol name → rest ≡ codes "i"
-init_ends name m rest parts is = (parts_only name m rest is.0 (105 ∷ []) parts is.1 (is.2 ∙ init_symbol_of-parts is.0)).1
+init_ends name m rest parts is = (init_parts name m rest parts is).1
 
-pub init_module : (name m rest : List ℕ) → HasParts name m rest → IsInitSymbol name → IsEscape m
-init_module name m rest parts is = (is.0, is.1, sym (parts_only name m rest is.0 (105 ∷ []) parts is.1 (is.2 ∙ init_symbol_of-parts is.0)).0)
+pub init_module : (name m rest : List ℕ) → HasParts name m rest → IsInitSymbol name → IsModuleEscape m
+init_module name m rest parts is = (is.0, is.1, sym (init_parts name m rest parts is).0)
 
-pub init_made : (name m rest : List ℕ) → HasParts name m rest → rest ≡ codes "i" → IsEscape m → IsInitSymbol name
+pub init_made : (name m rest : List ℕ) → HasParts name m rest → rest ≡ codes "i" → IsModuleEscape m → IsInitSymbol name
 init_made name m rest parts e is = (is.0, is.1, parts_make name m rest is.0 (105 ∷ []) parts is.2 (sym e) ∙ sym (init_symbol_of-parts is.0))
+
+-- a name's escape is that of no other name
+pub module_escape : (name text : List ℕ) (b : Bool) → escaped name ≡ text → IsBytes name
+    → IsTrue b ↔ (1 ≤ length name) × (length name ≤ 1024) → IsTrue b ↔ IsModuleEscape text
+module_escape name text b is bytes told = (
+  λ h. (name, record { named = (told.0 h).0; short = (told.0 h).1; bytes = bytes }, is),
+  λ e. told.1 (subst (λ n. (1 ≤ length n) × (length n ≤ 1024)) (sym (escaped-injective name e.0 (is ∙ sym e.2))) (e.1.named, e.1.short)),
+)
 
 -- ---- exported functions
 

@@ -1,11 +1,11 @@
 -- What a session is: a C run of its unit, over the calls that were made so far.
 use Rattle.std.specs.Prelude.{◌≡◌, ◌⊎◌, ℕ, ◌-◌, ◌≤◌, List, [], ◌∷◌, ◌++◌, map, Option, Some, None, option_map, ⊤}
 use Rattle.w2c_base.specs.declared.value.Value.{Value}
-use Rattle.w2c_base.specs.Run.{Trail, Phase, Init, Reply}
+use Rattle.w2c_base.specs.Run.{Trail, Event, Phase, Init, Reply, asks_in, values_in}
 use Rattle.c_tree.specs.Tree as tree
 use Rattle.c_meaning.specs.State.{Number, UnitFunc, State as CState, Trapped, Undefined, Place}
 use Rattle.c_meaning.specs.Run.{CRun, Ended, OutOfSteps, Stopped, Entry, Pending, Progress, Going, Over, over, begin_entry, begun, came_back, entries_of}
-use Rattle.c_meaning.specs.Linking.{SymbolCall, called_func, definition_at}
+use Rattle.c_meaning.specs.Linking.{Program, SymbolCall, called_func, definition_at}
 use Rattle.c_meaning.specs.Step.{begin}
 use Rattle.c_meaning.specs.Machine.{fresh}
 use Rattle.c_meaning.specs.Reaches.{Reaches}
@@ -54,12 +54,16 @@ last_value [] = None
 last_value (v ∷ []) = v
 last_value (v ∷ w ∷ values) = last_value (w ∷ values)
 
+-- the run came to this phase, and no host was asked
+abbrev pub IsIn : Phase → CRun → Type 0
+IsIn phase run = (run.phase ≡ phase) × (asks_in run.events ≡ [])
+
 -- an outcome is that of a run, in this phase; no host was asked
 abbrev pub IsOutcome : Outcome → Phase → CRun → Type 0
-IsOutcome (outcome.Ended value) phase run = (run.outcome ≡ Ended) × (run.phase ≡ phase) × (last_value run.values ≡ value) × (run.asks ≡ [])
-IsOutcome (outcome.Trapped kind) phase run = (run.outcome ≡ Stopped (Trapped kind)) × (run.phase ≡ phase) × (run.asks ≡ [])
-IsOutcome (outcome.Undefined u) phase run = (run.outcome ≡ Stopped (Undefined u.kind (place_of u))) × (run.phase ≡ phase) × (run.asks ≡ [])
-IsOutcome outcome.OutOfSteps phase run = (run.outcome ≡ OutOfSteps) × (run.phase ≡ phase) × (run.asks ≡ [])
+IsOutcome (outcome.Ended value) phase run = (run.outcome ≡ Ended) × (last_value (values_in run.events) ≡ value) × IsIn phase run
+IsOutcome (outcome.Trapped kind) phase run = (run.outcome ≡ Stopped (Trapped kind)) × IsIn phase run
+IsOutcome (outcome.Undefined u) phase run = (run.outcome ≡ Stopped (Undefined u.kind (place_of u))) × IsIn phase run
+IsOutcome outcome.OutOfSteps phase run = (run.outcome ≡ OutOfSteps) × IsIn phase run
 
 -- what an outcome leaves of a session
 abbrev pub standing_of : Outcome → Standing
@@ -83,21 +87,30 @@ phase_of standing.Fresh = phase.Fresh
 phase_of standing.Ready = phase.Ready
 phase_of (standing.Over why) = phase.Over
 
--- the replies of hosts still to come, and no asks
-abbrev pub trail_of : List Reply → Trail
-trail_of replies = record { replies = replies; asks = [] }
+-- the replies of hosts still to come, and what happened so far
+abbrev pub trail_of : List Reply → List Event → Trail
+trail_of replies events = record { replies = replies; events = events }
+
+-- a run of these entries, from its start
+abbrev pub starts : Program → List Reply → List Entry → Progress
+starts p replies entries = begin_entry p (fresh p replies) (Init 0) entries
+
+-- a run that is about to begin these entries
+abbrev pub stands_at : List tree.Item → ℕ → List Reply → List Event → Phase → List Entry → Progress
+stands_at items depth replies events last more = begin_entry (alone items) (machine_of items (trail_of replies events) depth) last more
 
 -- The session stands where the C run of its unit stands behind these calls, whatever is called
--- next, and whatever hosts reply.
+-- next, and whatever hosts reply; none was asked.
 pub record Stands (s : State) (calls : List SymbolCall) : Type 0 where
   pub ready : s.standing ≡ standing.Ready
   pub fewer : s.left ≤ s.steps
   pub last : Phase
-  pub values : List (Option Value)
+  pub events : List Event
+  pub no_asks : asks_in events ≡ []
   pub reaches : (replies : List Reply) (more : List Entry)
       → Reaches (alone (unit_of s.unit)) (s.steps - s.left)
-      (begin_entry (alone (unit_of s.unit)) (fresh (alone (unit_of s.unit)) replies) (Init 0) [] (entries_of (alone (unit_of s.unit)) calls ++ more))
-      (begin_entry (alone (unit_of s.unit)) (machine_of (unit_of s.unit) (trail_of replies) s.depth) last values more)
+      (starts (alone (unit_of s.unit)) replies (entries_of (alone (unit_of s.unit)) calls ++ more))
+      (stands_at (unit_of s.unit) s.depth replies events last more)
 
 -- before the init functions nothing was run
 abbrev pub IsAtStart : State → Type 0

@@ -1,9 +1,9 @@
 -- The types of the functions that other units see (C11, 6.2.2 linkages of identifiers).
 use Rattle.std.specs.Prelude.{◌≡◌, ◌&&◌, if◌then◌else◌, List, [], ◌∷◌, ℕ, bytes_eq, Option, Some, None, option_map, Bool}
-use Rattle.std.specs.List.{list_any}
+use Rattle.std.specs.List.{list_all, list_any}
 use Rattle.std.specs.Option.{option_or}
 use Rattle.w2c_base.specs.declared.value.Value.{Value}
-use Rattle.w2c_base.specs.Values.{types_of}
+use Rattle.w2c_base.specs.Values.{is_number, types_of}
 use Rattle.w2c_base.specs.Lookup.{named}
 use Rattle.c_tree.specs.declared.tree.CFuncType.{CFuncType}
 use Rattle.c_tree.specs.declared.tree.CType.TheVariants.{Void, U32, U64}
@@ -43,4 +43,6 @@ first_type symbol (item ∷ items) = option_or (typed_under symbol (external_of 
 
 -- a function of this type may be called with these arguments
 abbrev pub takes : tree.FuncType → List Value → Bool
-takes ty args = same_types ty.params (c_params_of (types_of args)) && list_any (same_type ty.result) (Void ∷ U32 ∷ U64 ∷ [])
+takes ty args = same_types ty.params (c_params_of (types_of args))
+    && list_any (same_type ty.result) (Void ∷ U32 ∷ U64 ∷ [])
+    && list_all is_number args

@@ -3,11 +3,11 @@ use Rattle.std.specs.Prelude.{◌≡◌, ℕ, List, ◌∷◌, ◌++◌}
 use Rattle.w2c_mangle.specs.declared.symbol.SymbolKind.TheVariants.{Func}
 use Rattle.w2c_mangle.specs.Escaping.{escaped}
 use Rattle.w2c_mangle.specs.Symbols.{export_symbol_of, init_symbol_of}
-use Rattle.crun.specs.Built.{IsBytes}
+use Rattle.crun.specs.Built.{IsBytes, IsModuleName}
 
 -- the symbol of some module's init function
 abbrev pub IsInitSymbol : List ℕ → Type 0
-IsInitSymbol symbol = (m : List ℕ) × IsBytes m × (symbol ≡ init_symbol_of m)
+IsInitSymbol symbol = (m : List ℕ) × IsModuleName m × (symbol ≡ init_symbol_of m)
 
 -- the symbol of some module's exported function
 abbrev pub IsExportSymbol : List ℕ → Type 0
@@ -16,6 +16,10 @@ IsExportSymbol symbol = (m : List ℕ) × (x : List ℕ) × IsBytes m × IsBytes
 -- the escape of some name
 abbrev pub IsEscape : List ℕ → Type 0
 IsEscape text = (name : List ℕ) × IsBytes name × (escaped name ≡ text)
+
+-- the escape of some module's name
+abbrev pub IsModuleEscape : List ℕ → Type 0
+IsModuleEscape text = (name : List ℕ) × IsModuleName name × (escaped name ≡ text)
 
 -- two parts with Z_ between them
 abbrev pub ended : List ℕ → List ℕ → List ℕ

@@ -1,8 +1,9 @@
 // The types of the functions that other units see, found by their symbols.
-ghost use Rattle.std.specs.Prelude.{◌≡◌, ◌∷◌, [], ℕ, List, map, Option, IfOk, OnOk, option_copied, option_map};
+ghost use Rattle.std.specs.Prelude.{◌≡◌, ◌∷◌, [], ℕ, List, map, true, Option, IfOk, OnOk, option_copied, option_map};
+ghost use Rattle.std.specs.List.{list_all};
 ghost use Rattle.std.specs.Option.{option_or};
 ghost use Rattle.w2c_base.specs.Lookup.{named};
-ghost use Rattle.w2c_base.specs.Values.{type_of, types_of};
+ghost use Rattle.w2c_base.specs.Values.{is_number, type_of, types_of};
 ghost use Rattle.c_tree.specs.View.{func_of, func_type_of, item_of};
 ghost use Rattle.c_tree.specs.Runtime.{same_type, same_types};
 ghost use Rattle.c_tree.specs.Scope.{func_type_of as type_of_func};
@@ -114,7 +115,8 @@ pub fn takes(ty: &CFuncType, args: &[Value]) -> bool
 }
 
 fn are_params(params: &[CType], args: &[Value]) -> bool
-    ensures { result ≡ same_types params.now (c_params_of (types_of args.now)) }
+    ensures types { result ≡ same_types params.now (c_params_of (types_of args.now)) }
+    ensures numbers { result ≡ true → list_all is_number args.now ≡ true }
 {
     if args.is_empty() {
         are_void(params)
@@ -134,7 +136,8 @@ fn are_void(params: &[CType]) -> bool
 }
 
 fn are_types(params: &[CType], args: &[Value]) -> bool
-    ensures { result ≡ same_types params.now (map c_type_of (types_of args.now)) }
+    ensures types { result ≡ same_types params.now (map c_type_of (types_of args.now)) }
+    ensures numbers { result ≡ true → list_all is_number args.now ≡ true }
 {
     if params.len() != args.len() {
         return false;
@@ -147,8 +150,10 @@ fn are_types(params: &[CType], args: &[Value]) -> bool
     true
 }
 
+// Whether a value, which is a number of its type, is of this type.
 fn has_type(ty: CType, value: Value) -> bool
-    ensures { result ≡ same_type ty (c_type_of (type_of value)) }
+    ensures types { result ≡ same_type ty (c_type_of (type_of value)) }
+    ensures number { is_number value ≡ true }
 {
     match value {
         Value::I32(_) => matches!(ty, CType::U32),

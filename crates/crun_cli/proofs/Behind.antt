@@ -21,7 +21,7 @@ use Rattle.crun_cli.specs.Lines.{Reason, Unwritten, WantOfMemory, Usage, Unread,
 use Rattle.crun_cli.specs.RunLines.{lines_of, HasStatus}
 use Rattle.crun_cli.specs.Running.{status_of_outcome, Behind}
 use Rattle.crun_cli.specs.Stops.{HasRun, StopsPutting, StopsRunning}
-use Rattle.crun_cli.proofs.Printed.{all_the_same, count_more, ends_or_not, extended_by_none, extended_twice, init_line, line_more, line_of_phase, lines_stay, no_count, no_lines, part_of_all, status_is, IsEnd}
+use Rattle.crun_cli.proofs.Printed.{all_the_same, count_more, ends_or_not, extended_by_none, extended_twice, init_line, line_more, line_of_phase, lines_stay, no_count, no_lines, part_of_all, status_is, values_of, IsEnd}
 
 -- a status that is none is that of an end
 pub end_of_none : (o : Outcome) → status_of_outcome o ≡ None → IsEnd o
@@ -67,12 +67,12 @@ module _ (before after : State) (done : List SymbolCall) (c : SymbolCall) (old n
   behind_more then_now text unit steps none stands is_line written =
       let put = written ∙ ap (extended now) is_line in
       let end = end_of_none o none in
-      let Q : State → Type 0 = λ s. ((run_of (unit_of s.unit) (done ++ c ∷ []) s.steps).outcome ≡ Ended) × (length (run_of (unit_of s.unit) (done ++ c ∷ []) s.steps).values ≡ length (done ++ c ∷ []))
+      let Q : State → Type 0 = λ s. ((run_of (unit_of s.unit) (done ++ c ∷ []) s.steps).outcome ≡ Ended) × (length (values_of (run_of (unit_of s.unit) (done ++ c ∷ []) s.steps)) ≡ length (done ++ c ∷ []))
       × (then_now ≡ extended old (lines_of (run_of (unit_of s.unit) (done ++ c ∷ []) s.steps))) in
       let here : Q before = (outcome_of_end o (Call (length done)) _ is end, count_more (unit_of before.unit) done before.steps behind.ended behind.count c o is end.0 end.1, put ∙ printed) in
-      let there = (subst (λ u. ((run_of (unit_of u) (done ++ c ∷ []) after.steps).outcome ≡ Ended) × (length (run_of (unit_of u) (done ++ c ∷ []) after.steps).values ≡ length (done ++ c ∷ []))
+      let there = (subst (λ u. ((run_of (unit_of u) (done ++ c ∷ []) after.steps).outcome ≡ Ended) × (length (values_of (run_of (unit_of u) (done ++ c ∷ []) after.steps)) ≡ length (done ++ c ∷ []))
       × (then_now ≡ extended old (lines_of (run_of (unit_of u) (done ++ c ∷ []) after.steps)))) (sym unit)
-      (subst (λ n. ((run_of (unit_of before.unit) (done ++ c ∷ []) n).outcome ≡ Ended) × (length (run_of (unit_of before.unit) (done ++ c ∷ []) n).values ≡ length (done ++ c ∷ []))
+      (subst (λ n. ((run_of (unit_of before.unit) (done ++ c ∷ []) n).outcome ≡ Ended) × (length (values_of (run_of (unit_of before.unit) (done ++ c ∷ []) n)) ≡ length (done ++ c ∷ []))
       × (then_now ≡ extended old (lines_of (run_of (unit_of before.unit) (done ++ c ∷ []) n)))) (sym steps) here)) in
       record { stands = stands; ended = there.0; count = there.1; printed = there.2 }
 

@@ -12,7 +12,7 @@ use Rattle.crun_cli.specs.CallsFile.{lines_in, AreCalls}
 use Rattle.crun_cli.specs.Job.{most_calls_bytes, most_unit_bytes, Holds, IsJob, IsJobOf, IsRefusedText, IsRefusedUnit, IsStopOf, IsUnitText, Job, Run, Stops}
 use Rattle.crun_cli.specs.Lines.{Reason, Usage, CallsTooLong, CallsLine, Refused, Unread, Unwritten, WantOfMemory}
 use Rattle.w2c_io.specs.Causes.{Faulted}
-use Rattle.crun_cli.specs.Stops.{HasReading, IsInput, StopsBefore, StopsCalls, StopsLinking, StopsReading}
+use Rattle.crun_cli.specs.Stops.{HasReading, IsInput, IsUnitFile, StopsBefore, StopsCalls, StopsLinking, StopsReading}
 
 module _ (words : List Name) (line : Line) (is : line_of words ≡ Some line) where
   pub job_of_line : (m : Contents) (job : Job) → IsJobOf line m job → IsJob words m job
@@ -23,6 +23,9 @@ module _ (words : List Name) (line : Line) (is : line_of words ≡ Some line) wh
 
   input : (name : Name) → (name ≡ line.unit) ⊎ (name ≡ line.calls) → IsInput name (line_of words)
   input name of_line = subst (IsInput name) (sym is) of_line
+
+  unit_file : (name : Name) → name ≡ line.unit → IsUnitFile name (line_of words)
+  unit_file name of_line = subst (IsUnitFile name) (sym is) of_line
 
   module _ (told : Told) where
     stop_told : (why : Reason) → ((m : Contents) → told ≡ Some m → IsStopOf line m why) → Tells told (λ m. IsJob words m (Stops why))
@@ -43,7 +46,7 @@ module _ (words : List Name) (line : Line) (is : line_of words ≡ Some line) wh
     unit_unread before after named (Refused file why) (long, longer) =
         let same : Refused line.unit cause.TooLong ≡ Refused file why = long in
         subst (StopsBefore words told before after named) same
-        (input line.unit (inl refl), stop_told (Refused line.unit cause.TooLong) (λ m tells. (refl, longer m tells)))
+        (unit_file line.unit refl, stop_told (Refused line.unit cause.TooLong) (λ m tells. (refl, longer m tells)))
     unit_unread before after named CallsTooLong (long, longer) = (let apart : Refused line.unit cause.TooLong ≡ CallsTooLong = long in absurd cc)
     unit_unread before after named WantOfMemory stop = tt
     unit_unread before after named Usage stop = absurd stop
@@ -84,7 +87,7 @@ module _ (words : List Name) (line : Line) (is : line_of words ≡ Some line) wh
         -- the unit's text is refused
         pub text_refused : (before after : ℕ) (named : Option Name) (why : Reason) → StopsLinking line.unit unit why → StopsBefore words told before after named why
         text_refused before after named (Refused file why) (name, refused) =
-            (input file (inl name), stop_told (Refused file why) (λ m tells. (name, refuses m tells why refused)))
+            (unit_file file name, stop_told (Refused file why) (λ m tells. (name, refuses m tells why refused)))
         text_refused before after named WantOfMemory stop = tt
         text_refused before after named CallsTooLong stop = absurd stop
         text_refused before after named (Unread file) stop = absurd stop

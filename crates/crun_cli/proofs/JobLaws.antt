@@ -24,7 +24,7 @@ use Rattle.crun_cli.proofs.SameLists.{same_parts}
 
 -- ---- a line names one call, and lines one list of them
 
-module _ (items : List tree.Item) (built : IsBuilt items) where
+module _ (items : List tree.Item) where
   one_call : (line : List ℕ) (a b : SymbolCall) → Names items line a → Names items line b → a ≡ b
   one_call line a b first second = by_type (signature_in items a.symbol) refl
     where
@@ -32,10 +32,11 @@ module _ (items : List tree.Item) (built : IsBuilt items) where
       words_of_b = names_words items line first.module_word first.export_word first.words b first.text second
 
       by_type : (o : Option tree.FuncType) → signature_in items a.symbol ≡ o → a ≡ b
-      by_type None none = absurd (fit_has_type items a built first.fits none)
+      by_type None none = absurd (fit_has_type items a first.fits none)
       by_type (Some ty) found =
-          let of_a = has_arguments items built line first.module_word first.export_word a.symbol first.words first.text first.symbol a first ty found in
-          let of_b = has_arguments items built line first.module_word first.export_word a.symbol first.words first.text first.symbol b second ty found in
+          let arguments = has_arguments items line first.module_word first.export_word a.symbol first.words first.text first.symbol in
+          let of_a = arguments a first ty found in
+          let of_b = arguments b second ty found in
           let args : a.args ≡ b.args = (let both = sym of_a ∙ of_b in cc) in
           let symbols : a.symbol ≡ b.symbol = one_symbol first.module_word first.export_word a.symbol b.symbol first.symbol words_of_b.0 in
           (λ i. record { symbol = symbols i; args = args i })
@@ -155,10 +156,12 @@ one_of_text line unit calls a b (inr (items, unit_is, one)) (inr (items', unit_i
     other' = subst (λ us. IsOne us b) same other
 
     by_both : IsOne items a → IsOne items b → a ≡ b
-    by_both (inl (k, is, first)) (inl (n, is', first')) = is ∙ ap (λ i. Stops (CallsLine i)) (one_number items unit_is.2 (lines_in calls) k n first first') ∙ sym is'
-    by_both (inl (k, is, first)) (inr (cs, is', are)) = absurd (refused_apart items unit_is.2 (lines_in calls) k cs first are)
-    by_both (inr (cs, is, are)) (inl (k, is', first)) = absurd (refused_apart items unit_is.2 (lines_in calls) k cs first are)
-    by_both (inr (cs, is, are)) (inr (ds, is', are')) = is ∙ ap (λ l. Run items l line.steps) (one_calls items unit_is.2 (lines_in calls) cs ds are are') ∙ sym is'
+    by_both (inl (k, is, first)) (inl (n, is', first')) =
+        is ∙ ap (λ i. Stops (CallsLine i)) (one_number items (lines_in calls) k n first first') ∙ sym is'
+    by_both (inl (k, is, first)) (inr (cs, is', are)) = absurd (refused_apart items (lines_in calls) k cs first are)
+    by_both (inr (cs, is, are)) (inl (k, is', first)) = absurd (refused_apart items (lines_in calls) k cs first are)
+    by_both (inr (cs, is, are)) (inr (ds, is', are')) =
+        is ∙ ap (λ l. Run items l line.steps) (one_calls items (lines_in calls) cs ds are are') ∙ sym is'
 
 none_apart : (o : Option (List ℕ)) (text : List ℕ) → o ≡ None → o ≡ Some text → ⊥
 none_apart o text none some = (let both : None ≡ Some text = sym none ∙ some in cc)

@@ -11,9 +11,9 @@ use Rattle.c_tree.specs.Tree as tree
 use Rattle.c_tree.specs.Runtime.{same_types}
 use Rattle.c_meaning.specs.Linking.{c_params_of, fits, SymbolCall}
 use Rattle.c_machine.specs.Threads.{alone}
-use Rattle.crun.specs.Built.{IsBuilt, IsBytes}
+use Rattle.crun.specs.Built.{IsBytes}
 use Rattle.crun.specs.Signatures.{signature_in, takes}
-use Rattle.crun.proofs.Fitting.{built_fits, takes_if_any}
+use Rattle.crun.proofs.Fitting.{fits_signed, takes_if_any}
 use Rattle.crun_cli.specs.CallsFile.{word_of_name, words_in, AreArguments, IsSymbolOf, Names}
 use Rattle.crun_cli.specs.Parts.{arguments_of}
 use Rattle.crun_cli.proofs.Arguments.{arguments_only, both_true}
@@ -60,13 +60,17 @@ abbrev signature_takes : List tree.Item → SymbolCall → tree.FuncType → Typ
 signature_takes items call ty = takes ty call.args ≡ true
 
 -- a call that fits has a type, which takes its arguments
-pub fit_has_type : (items : List tree.Item) (call : SymbolCall) → IsBuilt items → fits (alone items) call ≡ true → signature_in items call.symbol ≡ None → ⊥
-fit_has_type items call built fit none = (let other : false ≡ true = ap (λ o. takes_if_any o call.args) (sym none) ∙ built_fits items call (signature_in items call.symbol) built refl ∙ fit in cc)
+pub fit_has_type : (items : List tree.Item) (call : SymbolCall) → fits (alone items) call ≡ true → signature_in items call.symbol ≡ None → ⊥
+fit_has_type items call fit none =
+    let other : false ≡ true =
+    ap (λ o. takes_if_any o call.args) (sym none) ∙ fits_signed items call (signature_in items call.symbol) refl ∙ fit in
+    cc
 
-pub fit_takes : (items : List tree.Item) (call : SymbolCall) (ty : tree.FuncType) → IsBuilt items → fits (alone items) call ≡ true → signature_in items call.symbol ≡ Some ty → same_types ty.params (c_params_of (types_of call.args)) ≡ true
-fit_takes items call ty built fit is =
-    let taken : takes ty call.args ≡ true = built_fits items call (Some ty) built (sym is) ∙ fit in
-    (both_true _ _ taken).0
+pub fit_takes : (items : List tree.Item) (call : SymbolCall) (ty : tree.FuncType) → fits (alone items) call ≡ true
+    → signature_in items call.symbol ≡ Some ty → same_types ty.params (c_params_of (types_of call.args)) ≡ true
+fit_takes items call ty fit is =
+    let taken : takes ty call.args ≡ true = fits_signed items call (Some ty) (sym is) ∙ fit in
+    (both_true _ _ (both_true _ _ taken).0).0
 
 -- a line of one word names no call
 pub one_word : (items : List tree.Item) (line word : List ℕ) (call : SymbolCall) → words_in line ≡ word ∷ [] → Names items line call → ⊥
@@ -81,19 +85,20 @@ names_words items line m x ws call is names =
       subst (λ l. AreArguments l call.args) (sym second.1) names.args,
     )
 
-module _ (items : List tree.Item) (built : IsBuilt items) (line m x symbol : List ℕ) (ws : List (List ℕ)) (is : words_in line ≡ m ∷ x ∷ ws) (symbol_is : IsSymbolOf m x symbol) (call : SymbolCall) (names : Names items line call) where
+module _ (items : List tree.Item) (line m x symbol : List ℕ) (ws : List (List ℕ)) (is : words_in line ≡ m ∷ x ∷ ws)
+    (symbol_is : IsSymbolOf m x symbol) (call : SymbolCall) (names : Names items line call) where
   same_symbol : call.symbol ≡ symbol
   same_symbol = one_symbol m x call.symbol symbol (names_words items line m x ws call is names).0 symbol_is
 
   -- its symbol has a type
   pub has_type : signature_in items symbol ≡ None → ⊥
-  has_type none = fit_has_type items call built names.fits (ap (signature_in items) same_symbol ∙ none)
+  has_type none = fit_has_type items call names.fits (ap (signature_in items) same_symbol ∙ none)
 
   -- its arguments are those that are found
   pub has_arguments : (ty : tree.FuncType) → signature_in items symbol ≡ Some ty → arguments_of ty.params ws ≡ Some call.args
   has_arguments ty found =
       arguments_only ty.params ws call.args (names_words items line m x ws call is names).1
-      (fit_takes items call ty built names.fits (ap (signature_in items) same_symbol ∙ found))
+      (fit_takes items call ty names.fits (ap (signature_in items) same_symbol ∙ found))
 
   -- and these fit
   pub has_fit : (ty : tree.FuncType) (args : List Value) → signature_in items symbol ≡ Some ty → arguments_of ty.params ws ≡ Some args → fits (alone items) (record { symbol = symbol; args = args }) ≡ true

@@ -6,7 +6,7 @@ use Rattle.std.proofs.lemmas.List.{append-nil}
 use Rattle.std.proofs.lemmas.Grind.{flat_map-append}
 use Rattle.w2c_base.specs.declared.value.Value.{Value}
 use Rattle.w2c_base.specs.Lookup.{numbered}
-use Rattle.w2c_base.specs.Run.{Phase, Init, Call}
+use Rattle.w2c_base.specs.Run.{Event, Asked, CallEnded, Phase, Init, Call, values_in}
 use Rattle.w2c_io.specs.Contents.{extended, IsPrefix}
 use Rattle.w2c_io.specs.Telling.{SaysPart}
 use Rattle.c_tree.specs.Tree as tree
@@ -19,7 +19,7 @@ use Rattle.crun.specs.declared.outcome.Outcome.TheVariants as outcome
 use Rattle.crun.specs.Sessions.{IsOutcome, last_value, place_of}
 use Rattle.crun.proofs.History.{last_is}
 use Rattle.crun_cli.specs.Job.{run_of}
-use Rattle.crun_cli.specs.RunLines.{ended_line, last_line, lines_of, phase_text, stop_text, HasStatus}
+use Rattle.crun_cli.specs.RunLines.{ended_line, event_lines, last_line, lines_of, phase_text, stop_text, HasStatus}
 use Rattle.crun_cli.specs.Running.{outcome_text, status_of_outcome}
 use Rattle.c_meaning.proofs.Fronts.{inits_give_none, one_value, stops_the_same, values_stay, zip_from}
 
@@ -32,9 +32,25 @@ lines_more values more =
     ap (flat_map ended_line) (zip_from 0 values more ∙ ap (λ n. numbered values ++ zip (range_with_len n (length more)) more) e)
     ∙ flat_map-append ended_line (numbered values) (zip (range_with_len (length values) (length more)) more)
 
+-- the values of the calls that ended
+abbrev pub values_of : CRun → List (Option Value)
+values_of run = values_in run.events
+
+-- the lines of what happened are those of these values
+told_lines : (k : ℕ) (events : List Event)
+    → event_lines k events ≡ flat_map ended_line (zip (range_with_len k (length (values_in events))) (values_in events))
+told_lines k [] = refl
+told_lines k (Asked a reply ∷ events) = told_lines k events
+told_lines k (CallEnded v ∷ events) = ap (λ l. ended_line (k, v) ++ l) (told_lines (k + 1) events)
+
+lines_are : (run : CRun) → lines_of run ≡ ended_lines (values_of run) ++ last_line run.phase (stop_text run.outcome)
+lines_are run = ap (λ l. l ++ last_line run.phase (stop_text run.outcome)) (told_lines 0 run.events)
+
 -- the lines of a run that ended are those of its calls
-ended_is : (run : CRun) → run.outcome ≡ Ended → lines_of run ≡ ended_lines run.values
-ended_is run ended = ap (λ o. ended_lines run.values ++ last_line run.phase (stop_text o)) ended ∙ append-nil (ended_lines run.values)
+ended_is : (run : CRun) → run.outcome ≡ Ended → lines_of run ≡ ended_lines (values_of run)
+ended_is run ended =
+    lines_are run
+    ∙ ap (λ o. ended_lines (values_of run) ++ last_line run.phase (stop_text o)) ended ∙ append-nil (ended_lines (values_of run))
 
 -- a line of an init function or a call
 abbrev pub line_of_phase : Phase → Outcome → List ℕ
@@ -43,9 +59,12 @@ line_of_phase phase o = phase_text phase ++ outcome_text o
 -- an outcome that is no end: the last line
 stopped_line : (run : CRun) (o : Outcome) (phase : Phase) → IsOutcome o phase run → (run.outcome ≢ Ended) → last_line run.phase (stop_text run.outcome) ≡ line_of_phase phase o
 stopped_line run (outcome.Ended value) phase is apart = absurd (apart is.0)
-stopped_line run (outcome.Trapped kind) phase is apart = ap (last_line run.phase) (ap stop_text is.0) ∙ ap (λ p. last_line p (stop_text (Stopped (Trapped kind)))) is.1
-stopped_line run (outcome.Undefined u) phase is apart = ap (last_line run.phase) (ap stop_text is.0) ∙ ap (λ p. last_line p (stop_text (Stopped (Undefined u.kind (place_of u))))) is.1
-stopped_line run outcome.OutOfSteps phase is apart = ap (last_line run.phase) (ap stop_text is.0) ∙ ap (λ p. last_line p (stop_text OutOfSteps)) is.1
+stopped_line run (outcome.Trapped kind) phase is apart =
+    ap (last_line run.phase) (ap stop_text is.0) ∙ ap (λ p. last_line p (stop_text (Stopped (Trapped kind)))) is.1.0
+stopped_line run (outcome.Undefined u) phase is apart =
+    ap (last_line run.phase) (ap stop_text is.0) ∙ ap (λ p. last_line p (stop_text (Stopped (Undefined u.kind (place_of u))))) is.1.0
+stopped_line run outcome.OutOfSteps phase is apart =
+    ap (last_line run.phase) (ap stop_text is.0) ∙ ap (λ p. last_line p (stop_text OutOfSteps)) is.1.0
 
 -- no outcome but an end is an end
 abbrev pub IsEnd : Outcome → Type 0
@@ -71,11 +90,11 @@ lines_stay items done more steps ended =
     let long = run_of items (done ++ more) steps in
     let stay = values_stay (alone items) done more steps [] ended in
     let last = last_line long.phase (stop_text long.outcome) in
-    let others = flat_map ended_line (zip (range_with_len (length front.values) (length stay.0)) stay.0) in (
+    let others = flat_map ended_line (zip (range_with_len (length (values_of front)) (length stay.0)) stay.0) in (
       others ++ last,
-      ap (λ vs. ended_lines vs ++ last) stay.1
-          ∙ ap (λ l. l ++ last) (lines_more front.values stay.0)
-          ∙ append_assoc (ended_lines front.values) others last
+      lines_are long ∙ ap (λ vs. ended_lines vs ++ last) stay.1
+          ∙ ap (λ l. l ++ last) (lines_more (values_of front) stay.0)
+          ∙ append_assoc (ended_lines (values_of front)) others last
           ∙ ap (λ l. l ++ (others ++ last)) (sym (ended_is front ended)),
     )
 
@@ -83,32 +102,36 @@ module _ (items : List tree.Item) (done : List SymbolCall) (steps : ℕ) (ended 
   abbrev front : CRun
   front = run_of items done steps
 
-  module _ (count : length front.values ≡ length done) (c : SymbolCall) (o : Outcome) (is : IsOutcome o (Call (length done)) (run_of items (done ++ c ∷ []) steps)) where
+  module _ (count : length (values_of front) ≡ length done) (c : SymbolCall) (o : Outcome)
+      (is : IsOutcome o (Call (length done)) (run_of items (done ++ c ∷ []) steps)) where
     abbrev next : CRun
     next = run_of items (done ++ c ∷ []) steps
 
     -- a call that ended gives its value
-    value_more : (value : Option Value) → o ≡ outcome.Ended value → next.values ≡ front.values ++ value ∷ []
+    value_more : (value : Option Value) → o ≡ outcome.Ended value → values_of next ≡ values_of front ++ value ∷ []
     value_more value e =
         let end : IsOutcome (outcome.Ended value) (Call (length done)) next = subst (λ x. IsOutcome x (Call (length done)) next) e is in
         let got = (one_value (alone items) done c steps [] ended).0 end.0 in
-        let same : got.0 ≡ value = sym (last_is front.values got.0) ∙ sym (ap last_value got.1) ∙ end.2 in
-        got.1 ∙ ap (λ v. front.values ++ v ∷ []) same
+        let same : got.0 ≡ value = sym (last_is (values_of front) got.0) ∙ sym (ap last_value got.1) ∙ end.1 in
+        got.1 ∙ ap (λ v. values_of front ++ v ∷ []) same
 
-    pub count_more : (value : Option Value) → o ≡ outcome.Ended value → length next.values ≡ length (done ++ c ∷ [])
-    count_more value e = ap length (value_more value e) ∙ length-append front.values (value ∷ []) ∙ ap (λ n. n + 1) count ∙ sym (length-append done (c ∷ []))
+    pub count_more : (value : Option Value) → o ≡ outcome.Ended value → length (values_of next) ≡ length (done ++ c ∷ [])
+    count_more value e =
+        ap length (value_more value e) ∙ length-append (values_of front) (value ∷ [])
+        ∙ ap (λ n. n + 1) count ∙ sym (length-append done (c ∷ []))
 
     -- its line stands behind those of the calls before it
     pub line_more : lines_of next ≡ lines_of front ++ line_of_phase (Call (length done)) o
     line_more = by_end (ends_or_not o (Call (length done)) next is)
       where
-        one_line : (value : Option Value) → flat_map ended_line (zip (range_with_len (length front.values) 1) (value ∷ [])) ≡ line_of_phase (Call (length done)) (outcome.Ended value)
-        one_line value = append-nil (ended_line (length front.values, value)) ∙ ap (λ n. ended_line (n, value)) count
+        one_line : (value : Option Value)
+            → flat_map ended_line (zip (range_with_len (length (values_of front)) 1) (value ∷ [])) ≡ line_of_phase (Call (length done)) (outcome.Ended value)
+        one_line value = append-nil (ended_line (length (values_of front), value)) ∙ ap (λ n. ended_line (n, value)) count
 
         by_value : (value : Option Value) → o ≡ outcome.Ended value → next.outcome ≡ Ended → lines_of next ≡ lines_of front ++ line_of_phase (Call (length done)) o
         by_value value e end =
-            ended_is next end ∙ ap ended_lines (value_more value e) ∙ lines_more front.values (value ∷ [])
-            ∙ ap (λ l. ended_lines front.values ++ l) (one_line value)
+            ended_is next end ∙ ap ended_lines (value_more value e) ∙ lines_more (values_of front) (value ∷ [])
+            ∙ ap (λ l. ended_lines (values_of front) ++ l) (one_line value)
             ∙ ap (λ l. l ++ line_of_phase (Call (length done)) (outcome.Ended value)) (sym (ended_is front ended))
             ∙ ap (λ x. lines_of front ++ line_of_phase (Call (length done)) x) (sym e)
 
@@ -116,8 +139,8 @@ module _ (items : List tree.Item) (done : List SymbolCall) (steps : ℕ) (ended 
         by_end (inl ((value, e), end)) = by_value value e end
         by_end (inr (some, apart)) =
             let same = (one_value (alone items) done c steps [] ended).1 apart in
-            ap (λ vs. ended_lines vs ++ last_line next.phase (stop_text next.outcome)) same
-            ∙ ap (λ l. ended_lines front.values ++ l) (stopped_line next o (Call (length done)) is apart)
+            lines_are next ∙ ap (λ vs. ended_lines vs ++ last_line next.phase (stop_text next.outcome)) same
+            ∙ ap (λ l. ended_lines (values_of front) ++ l) (stopped_line next o (Call (length done)) is apart)
             ∙ ap (λ l. l ++ line_of_phase (Call (length done)) o) (sym (ended_is front ended))
 
     -- where it is no end, the run of any longer list is this one
@@ -147,7 +170,7 @@ module _ (items : List tree.Item) (done : List SymbolCall) (steps : ℕ) (ended 
 pub no_lines : (items : List tree.Item) (steps : ℕ) → (run_of items [] steps).outcome ≡ Ended → lines_of (run_of items [] steps) ≡ []
 no_lines items steps ended = ended_is (run_of items [] steps) ended ∙ ap ended_lines (inits_give_none (alone items) steps [])
 
-pub no_count : (items : List tree.Item) (steps : ℕ) → length (run_of items [] steps).values ≡ 0
+pub no_count : (items : List tree.Item) (steps : ℕ) → length (values_of (run_of items [] steps)) ≡ 0
 no_count items steps = ap length (inits_give_none (alone items) steps [])
 
 -- an init function that did not end: its line is all
@@ -158,6 +181,7 @@ init_line items steps o is apart calls =
     let same : run_of items calls steps ≡ none = stops_the_same (alone items) [] calls steps [] apart in (
       same,
       ap lines_of same
+          ∙ lines_are none
           ∙ ap (λ vs. ended_lines vs ++ last_line none.phase (stop_text none.outcome)) (inits_give_none (alone items) steps [])
           ∙ stopped_line none o (Init 0) is apart,
     )

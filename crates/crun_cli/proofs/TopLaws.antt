@@ -3,10 +3,13 @@ use Rattle.std.proofs.Common.{◌≡◌, ◌⊎◌, inl, inr, ℕ, ◌≤◌, Li
 use Rattle.w2c_io.specs.Contents.{Name, Contents, Told}
 use Rattle.w2c_io.specs.Causes.{Rose, Faulted}
 use Rattle.w2c_io.specs.Telling.{Tells}
+use Rattle.c_tree.specs.Tree as tree
+use Rattle.c_meaning.specs.Linking.{SymbolCall}
 use Rattle.crun_cli.specs.CommandLine.{line_of}
 use Rattle.crun_cli.specs.Job.{Answers, IsJob, IsJobOf, Job, Run, Stops}
 use Rattle.crun_cli.specs.Lines.{status_of, Reason, Usage, CallsTooLong, CallsLine, Refused, Unread, Unwritten, WantOfMemory}
-use Rattle.crun_cli.specs.Stops.{IsInput, IsRunStatus, Ran, RanPart, Refuses, StopsWork}
+use Rattle.crun_cli.specs.Stops.{IsInput, IsRunStatus, IsUnitFile, Ran, RanPart, Refuses, RunsPart, StopsWork}
+use Rattle.crun_cli.proofs.JobLaws.{one_job}
 
 -- a status of a run is none of those by which the program stops
 pub run_apart : (status n : ℕ) → IsRunStatus status → status ≡ n → (n ≡ 2) ⊎ (n ≡ 3) ⊎ (n ≡ 4) ⊎ (n ≡ 5) ⊎ (n ≡ 6) → ⊥
@@ -17,6 +20,20 @@ run_small status run = omega (arith, run)
 
 pub run_complete : (words : List Name) (m : Contents) (old new : Option (List ℕ)) (status : ℕ) → Ran words m old new status → (status ≡ 5) ⊎ ((job : Job) × IsJob words m job × Answers job status)
 run_complete words m old new status (items, calls, steps, job, ran) = inr (Run items calls steps, job, ran.0)
+
+-- a job that is refused decides, whatever stops a run
+decided : (words : List Name) (m : Contents) (status : ℕ) (job : Job) (why : Reason) → IsJob words m job → Answers job status
+    → IsJob words m (Stops why) → status ≡ status_of why
+decided words m status job why is answers refused = subst (λ j. Answers j status) (one_job words m job (Stops why) is refused) answers
+
+no_run : (words : List Name) (m : Contents) (items : List tree.Item) (calls : List SymbolCall) (steps : ℕ) (why : Reason)
+    → IsJob words m (Run items calls steps) → IsJob words m (Stops why) → ⊥
+no_run words m items calls steps why job refused =
+    (let apart : Run items calls steps ≡ Stops why = one_job words m (Run items calls steps) (Stops why) job refused in cc)
+
+pub run_refused : (words : List Name) (m : Contents) (old new : Option (List ℕ)) (status : ℕ) (why : Reason) → Ran words m old new status
+    → IsJob words m (Stops why) → (status ≡ status_of why) ⊎ (status ≡ 5)
+run_refused words m old new status why (items, calls, steps, job, ran) refused = absurd (no_run words m items calls steps why job refused)
 
 abbrev IsStatus : ℕ → Reason → Type 0
 IsStatus status why = (status ≡ status_of why) ⊎ (status ≡ 5)
@@ -51,21 +68,44 @@ module _ (words : List Name) (told : Told) (reads reads' : ℕ) (named : Option 
   answered m why status (inl is) job = inr (Stops why, job, is)
   answered m why status (inr five) job = inl five
 
+  unread_answer : (m : Contents) (file : Name) (status : ℕ)
+      → Faulted file reads reads' named ⊎ ((contents : Contents) × (told ≡ Some contents) × IsJob words contents (Stops (Unread file)))
+      → IsStatus status (Unread file) → told ≡ Some m → (Rose reads reads' → ⊥)
+      → (status ≡ 5) ⊎ ((job : Job) × IsJob words m job × Answers job status)
+  unread_answer m file status (inl faulted) is tells read = absurd (read faulted.rose)
+  unread_answer m file status (inr (contents, is_told, job)) is tells read =
+      let same : contents ≡ m = (let both = sym is_told ∙ tells in cc) in
+      answered m (Unread file) status is (subst (λ c. IsJob words c (Stops (Unread file))) same job)
+
   pub stop_complete : (why : Reason) (status : ℕ) → Stopped why → IsStatus status why
       → Tells told (λ m. (Rose reads reads' → ⊥) → (Rose faults faults' → ⊥) → (status ≡ 5) ⊎ ((job : Job) × IsJob words m job × Answers job status))
   stop_complete Usage status stop is m tells read write = answered m Usage status is (usage_job m stop.0)
   stop_complete CallsTooLong status stop is m tells read write = answered m CallsTooLong status is (stop.0.1 m tells)
   stop_complete (CallsLine number) status stop is m tells read write = answered m (CallsLine number) status is (stop.0.1 m tells)
   stop_complete (Refused file cause) status stop is m tells read write = answered m (Refused file cause) status is (stop.0.1 m tells)
-  stop_complete (Unread file) status stop is m tells read write = by_cause stop.0.1
-    where
-      by_cause : Faulted file reads reads' named ⊎ ((contents : Contents) × (told ≡ Some contents) × IsJob words contents (Stops (Unread file))) → (status ≡ 5) ⊎ ((job : Job) × IsJob words m job × Answers job status)
-      by_cause (inl faulted) = absurd (read faulted.rose)
-      by_cause (inr (contents, is_told, job)) =
-          let same : contents ≡ m = (let both = sym is_told ∙ tells in cc) in
-          answered m (Unread file) status is (subst (λ c. IsJob words c (Stops (Unread file))) same job)
+  stop_complete (Unread file) status stop is m tells read write = unread_answer m file status stop.0.1 is tells read
   stop_complete Unwritten status stop is m tells read write = absurd (write stop.0)
   stop_complete WantOfMemory status stop is m tells read write = inl (omega (arith, is))
+
+  -- a job that is refused is answered so, where no file failed
+  pub stop_always : (why : Reason) (status : ℕ) → Stopped why → IsStatus status why
+      → Tells told (λ m. (Rose reads reads' → ⊥)
+      → (first : Reason) → IsJob words m (Stops first) → (status ≡ status_of first) ⊎ (status ≡ 5))
+  stop_always why status stop is m tells read first refused = by_write why stop is
+    where
+      answer : (status ≡ 5) ⊎ ((job : Job) × IsJob words m job × Answers job status) → (status ≡ status_of first) ⊎ (status ≡ 5)
+      answer (inl five) = inr five
+      answer (inr (job, is_job, answers)) = inl (decided words m status job first is_job answers refused)
+
+      by_write : (why : Reason) → Stopped why → IsStatus status why → (status ≡ status_of first) ⊎ (status ≡ 5)
+      by_write Unwritten stop is =
+          (let run = stop.2 m tells in absurd (no_run words m run.0 run.1 run.2 first run.3 refused))
+      by_write WantOfMemory stop is = inr (omega (arith, is))
+      by_write Usage stop is = answer (answered m Usage status is (usage_job m stop.0))
+      by_write CallsTooLong stop is = answer (answered m CallsTooLong status is (stop.0.1 m tells))
+      by_write (CallsLine number) stop is = answer (answered m (CallsLine number) status is (stop.0.1 m tells))
+      by_write (Refused file cause) stop is = answer (answered m (Refused file cause) status is (stop.0.1 m tells))
+      by_write (Unread file) stop is = answer (unread_answer m file status stop.0.1 is tells read)
 
   pub stop_refused : (why : Reason) (status : ℕ) → Stopped why → IsStatus status why → (status ≡ 2) ⊎ (status ≡ 6) → (status_of why ≡ status) × Refuses words told why
   stop_refused Usage status stop is came = (omega (arith, is, came), stop.0)
@@ -80,7 +120,7 @@ module _ (words : List Name) (told : Told) (reads reads' : ℕ) (named : Option 
   stop_usage Usage status stop is none = is
   stop_usage CallsTooLong status stop is none = absurd (stop.0.0 none)
   stop_usage (CallsLine number) status stop is none = absurd (stop.0.0 none)
-  stop_usage (Refused file cause) status stop is none = absurd (subst (IsInput file) none stop.0.0)
+  stop_usage (Refused file cause) status stop is none = absurd (subst (IsUnitFile file) none stop.0.0)
   stop_usage (Unread file) status stop is none = absurd (subst (IsInput file) none stop.0.0)
   stop_usage Unwritten status stop is none = absurd (stop.1 none)
   stop_usage WantOfMemory status stop is none = inr (omega (arith, is))
@@ -99,20 +139,23 @@ module _ (words : List Name) (told : Told) (reads reads' : ℕ) (named : Option 
   stop_unread Unwritten status stop is came = absurd (omega (arith, is, came))
   stop_unread WantOfMemory status stop is came = absurd (omega (arith, is, came))
 
-  pub stop_unwritten : (why : Reason) (status : ℕ) → Stopped why → IsStatus status why → status ≡ 4 → (why ≡ Unwritten) × Rose faults faults'
+  pub stop_unwritten : (why : Reason) (status : ℕ) → Stopped why → IsStatus status why → status ≡ 4
+      → (why ≡ Unwritten) × Rose faults faults' × Tells told (λ m. RunsPart words m old new)
   stop_unwritten Usage status stop is came = absurd (omega (arith, is, came))
   stop_unwritten CallsTooLong status stop is came = absurd (omega (arith, is, came))
   stop_unwritten (CallsLine number) status stop is came = absurd (omega (arith, is, came))
   stop_unwritten (Refused file cause) status stop is came = absurd (omega (arith, is, came))
   stop_unwritten (Unread file) status stop is came = absurd (omega (arith, is, came))
-  stop_unwritten Unwritten status stop is came = (refl, stop.0)
+  stop_unwritten Unwritten status stop is came = (refl, stop.0, stop.2)
   stop_unwritten WantOfMemory status stop is came = absurd (omega (arith, is, came))
 
   -- and the line says so
-  pub write_fault : (Says : Reason → Type 0) (why : Reason) (status : ℕ) → Stopped why → IsStatus status why → Says why ⊎ (status ≡ 5) → status ≡ 4 → Rose faults faults' × Says Unwritten
+  pub write_fault : (Says : Reason → Type 0) (why : Reason) (status : ℕ) → Stopped why → IsStatus status why
+      → Says why ⊎ (status ≡ 5) → status ≡ 4
+      → Rose faults faults' × Tells told (λ m. RunsPart words m old new) × Says Unwritten
   write_fault Says why status stop is says came =
       let found = stop_unwritten why status stop is came in
-      (found.1, subst Says found.0 (said says))
+      (found.1, found.2, subst Says found.0 (said says))
     where
       said : Says why ⊎ (status ≡ 5) → Says why
       said (inl line) = line
@@ -133,5 +176,5 @@ module _ (words : List Name) (told : Told) (reads reads' : ℕ) (named : Option 
   stop_part (CallsLine number) stop m tells = inl stop.1
   stop_part (Refused file cause) stop m tells = inl stop.1
   stop_part (Unread file) stop m tells = inl stop.1
-  stop_part Unwritten stop m tells = stop.2 m tells
+  stop_part Unwritten stop m tells = inr (stop.2 m tells)
   stop_part WantOfMemory stop m tells = stop m tells

@@ -24,7 +24,8 @@ before_work words told reads reads' named old faults WantOfMemory stop = λ m te
 module _ (words : List Name) (told : Told) (items : List tree.Item) (calls : List SymbolCall) (steps : ℕ) (reading : HasReading words) (job : Tells told (λ m. IsJob words m (Run items calls steps))) where
   pub running_work : (reads reads' : ℕ) (named : Option Name) (old new : Option (List ℕ)) (faults faults' : ℕ) (why : Reason)
       → StopsRunning items calls steps old new faults faults' why → StopsWork words told reads reads' named old new faults faults' why
-  running_work reads reads' named old new faults faults' Unwritten stop = (stop.0, reading, λ m tells. inr (items, calls, steps, job m tells, stop.1))
+  running_work reads reads' named old new faults faults' Unwritten stop =
+      (stop.0, reading, λ m tells. (items, calls, steps, job m tells, stop.1))
   running_work reads reads' named old new faults faults' WantOfMemory stop = λ m tells. inr (items, calls, steps, job m tells, stop)
   running_work reads reads' named old new faults faults' Usage stop = absurd stop
   running_work reads reads' named old new faults faults' CallsTooLong stop = absurd stop

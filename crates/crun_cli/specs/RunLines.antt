@@ -1,10 +1,9 @@
 -- The lines that a run prints: one for each call that ended, and one for what did not end.
-use Rattle.std.specs.Prelude.{◌≡◌, ℕ, ◌+◌, List, [], ◌∷◌, ◌++◌, flat_map, codes, Option, Some, None}
+use Rattle.std.specs.Prelude.{◌≡◌, ℕ, ◌+◌, List, [], ◌∷◌, ◌++◌, codes, Option, Some, None}
 use Rattle.std.specs.Fmt.{decimal}
 use Rattle.w2c_base.specs.declared.value.Value.{Value}
 use Rattle.w2c_base.specs.declared.value.Value.TheVariants.{I32, I64}
-use Rattle.w2c_base.specs.Lookup.{numbered}
-use Rattle.w2c_base.specs.Run.{Phase, Init, Call}
+use Rattle.w2c_base.specs.Run.{Event, Asked, CallEnded, Phase, Init, Call}
 use Rattle.w2c_base.specs.Trap.{code_of, text_of}
 use Rattle.c_meaning.specs.State.{Place, Trapped, Undefined, Asks, Stuck}
 use Rattle.c_meaning.specs.Run.{CRun, Outcome, Ended, Stopped, OutOfSteps}
@@ -39,9 +38,16 @@ abbrev pub last_line : Phase → List ℕ → List ℕ
 last_line phase [] = []
 last_line phase (b ∷ text) = phase_text phase ++ b ∷ text
 
--- the lines of a run in which no host was asked
+-- the lines of what happened in a run in which no host was asked, k calls having ended before: one for
+-- each call that ended
+abbrev pub event_lines : ℕ → List Event → List ℕ
+event_lines k [] = []
+event_lines k (Asked a reply ∷ events) = event_lines k events
+event_lines k (CallEnded value ∷ events) = ended_line (k, value) ++ event_lines (k + 1) events
+
+-- the lines of a run: what happened in it, and why it did not end
 abbrev pub lines_of : CRun → List ℕ
-lines_of run = flat_map ended_line (numbered run.values) ++ last_line run.phase (stop_text run.outcome)
+lines_of run = event_lines 0 run.events ++ last_line run.phase (stop_text run.outcome)
 
 -- the status of a run
 abbrev pub HasStatus : Outcome → ℕ → Type 0

@@ -1,5 +1,6 @@
 -- Where a session and its lines stand in the middle of a run, and the text of one outcome.
 use Rattle.std.specs.Prelude.{◌≡◌, ℕ, List, ◌++◌, length, codes, Option, Some, None}
+use Rattle.w2c_base.specs.Run.{values_in}
 use Rattle.w2c_io.specs.Contents.{extended}
 use Rattle.c_tree.specs.View.{unit_of}
 use Rattle.c_meaning.specs.State.{Trapped, Undefined}
@@ -29,5 +30,5 @@ status_of_outcome outcome.OutOfSteps = Some 7
 pub record Behind (s : State) (calls : List SymbolCall) (old now : Option (List ℕ)) : Type 0 where
   pub stands : Stands s calls
   pub ended : (run_of (unit_of s.unit) calls s.steps).outcome ≡ Ended
-  pub count : length (run_of (unit_of s.unit) calls s.steps).values ≡ length calls
+  pub count : length (values_in (run_of (unit_of s.unit) calls s.steps).events) ≡ length calls
   pub printed : now ≡ extended old (lines_of (run_of (unit_of s.unit) calls s.steps))

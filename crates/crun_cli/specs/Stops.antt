@@ -18,6 +18,11 @@ abbrev pub IsInput : Name → Option Line → Type 0
 IsInput name None = ⊥
 IsInput name (Some line) = (name ≡ line.unit) ⊎ (name ≡ line.calls)
 
+-- the unit's file, by the words
+abbrev pub IsUnitFile : Name → Option Line → Type 0
+IsUnitFile name None = ⊥
+IsUnitFile name (Some line) = name ≡ line.unit
+
 -- the words have a reading
 abbrev pub HasReading : List Name → Type 0
 HasReading words = line_of words ≡ None → ⊥
@@ -25,7 +30,8 @@ HasReading words = line_of words ≡ None → ⊥
 -- why the words, the unit or the calls file are refused, over what the files tell
 abbrev pub Refuses : List Name → Told → Reason → Type 0
 Refuses words told Usage = line_of words ≡ None
-Refuses words told (Refused file why) = IsInput file (line_of words) × Tells told (λ contents. IsJob words contents (Stops (Refused file why)))
+Refuses words told (Refused file why) =
+    IsUnitFile file (line_of words) × Tells told (λ contents. IsJob words contents (Stops (Refused file why)))
 Refuses words told CallsTooLong = HasReading words × Tells told (λ contents. IsJob words contents (Stops CallsTooLong))
 Refuses words told (CallsLine number) = HasReading words × Tells told (λ contents. IsJob words contents (Stops (CallsLine number)))
 Refuses words told (Unread file) = ⊥
@@ -61,9 +67,14 @@ StopsRunning items calls steps old new before after (CallsLine number) = ⊥
 abbrev pub Ran : List Name → Contents → Option (List ℕ) → Option (List ℕ) → ℕ → Type 0
 Ran words contents old new status = (items : List tree.Item) × (calls : List SymbolCall) × (steps : ℕ) × IsJob words contents (Run items calls steps) × HasRun items calls steps old new status
 
--- nothing was written, or the words ask for a run, and a part of its lines is written
+-- the words ask for a run, and a part of its lines is written
+abbrev pub RunsPart : List Name → Contents → Option (List ℕ) → Option (List ℕ) → Type 0
+RunsPart words contents old new = (items : List tree.Item) × (calls : List SymbolCall) × (steps : ℕ)
+    × IsJob words contents (Run items calls steps) × SaysPart old new (lines_of (run_of items calls steps))
+
+-- nothing was written, or a part of a run's lines
 abbrev pub RanPart : List Name → Contents → Option (List ℕ) → Option (List ℕ) → Type 0
-RanPart words contents old new = (new ≡ old) ⊎ ((items : List tree.Item) × (calls : List SymbolCall) × (steps : ℕ) × IsJob words contents (Run items calls steps) × SaysPart old new (lines_of (run_of items calls steps)))
+RanPart words contents old new = (new ≡ old) ⊎ RunsPart words contents old new
 
 -- why the lines of a calls file name no calls
 abbrev pub StopsCalls : List tree.Item → List (List ℕ) → Reason → Type 0
@@ -111,7 +122,8 @@ IsRunStatus status = (status ≡ 0) ⊎ (status ≡ 1) ⊎ (status ≡ 7) ⊎ (s
 
 -- why the program stops: before it has run, with nothing written, or in the middle of a run
 abbrev pub StopsWork : List Name → Told → ℕ → ℕ → Option Name → Option (List ℕ) → Option (List ℕ) → ℕ → ℕ → Reason → Type 0
-StopsWork words told reads reads' named old new faults faults' Unwritten = Rose faults faults' × HasReading words × Tells told (λ contents. RanPart words contents old new)
+StopsWork words told reads reads' named old new faults faults' Unwritten =
+    Rose faults faults' × HasReading words × Tells told (λ contents. RunsPart words contents old new)
 StopsWork words told reads reads' named old new faults faults' WantOfMemory = Tells told (λ contents. RanPart words contents old new)
 StopsWork words told reads reads' named old new faults faults' Usage = StopsBefore words told reads reads' named Usage × (new ≡ old)
 StopsWork words told reads reads' named old new faults faults' (Unread file) = StopsBefore words told reads reads' named (Unread file) × (new ≡ old)

@@ -6,7 +6,7 @@ ghost use Rattle.crun_cli.specs.CallsFile.{IsSymbolOf, Names};
 ghost use Rattle.crun_cli.specs.Parts.{argument_of, arguments_of, parts_behind};
 ghost use Rattle.crun_cli.specs.Seen.{call_seen};
 ghost use Rattle.w2c_mangle.specs.Escaping.{escaped};
-ghost use Rattle.crun.specs.Built.{IsBuilt, IsBytes};
+ghost use Rattle.crun.specs.Built.{IsBytes};
 ghost use Rattle.crun_cli.specs.CallsFile.{word_of_name};
 
 use crate::numbers::{number, number_32};
@@ -27,7 +27,6 @@ pub struct NamedCall {
 /// The call that a line names: a module's name and an export's, escaped, and an argument for each
 /// parameter, with one space between. None exactly where it names none.
 pub fn named_call(alloc: Global, linked: &Linked, line: &[u8]) -> Result<Option<NamedCall>, Memory>
-    requires built { IsBuilt (unit_of linked.now) }
     ensures some { IfOk result (λ named. IfSome named (λ call. Names (unit_of linked.now) line.now (call_seen call))) }
     ensures none { IfOk result (λ named. IfNone named ((call : SymbolCall) → Names (unit_of linked.now) line.now call → ⊥)) }
 {

@@ -1,7 +1,6 @@
 // The calls file: a call a line.
 ghost use Rattle.std.specs.Prelude.{IfOk, IfErr};
 ghost use Rattle.c_tree.specs.View.{unit_of};
-ghost use Rattle.crun.specs.Built.{IsBuilt};
 ghost use Rattle.crun_cli.specs.CallsFile.{lines_in, AreCalls};
 ghost use Rattle.crun_cli.specs.Seen.{calls_seen, reason_of};
 ghost use Rattle.crun_cli.specs.Stops.{StopsCalls};
@@ -19,7 +18,6 @@ pub type Calls = Sequence<NamedCall>;
 /// The calls that the lines of a text name, in order; empty lines are passed over. The first line
 /// that is not empty and names no call is refused by its number.
 pub fn read_calls(alloc: Global, linked: &Linked, text: &[u8]) -> Result<Calls, Stop>
-    requires built { IsBuilt (unit_of linked.now) }
     ensures calls { IfOk result (λ calls. AreCalls (unit_of linked.now) (lines_in text.now) (calls_seen calls)) }
     ensures stop { IfErr result (λ stop. StopsCalls (unit_of linked.now) (lines_in text.now) (reason_of stop)) }
 {

@@ -6,7 +6,7 @@ ghost use Rattle.w2c_io.specs.Telling.{Tells, Says, SaysPart};
 ghost use Rattle.crun_cli.specs.CommandLine.{line_of, texts};
 ghost use Rattle.crun_cli.specs.Job.{Answers, IsJob, Job, Stops};
 ghost use Rattle.crun_cli.specs.Lines.{error_line, status_of, Reason, Unread, Unwritten};
-ghost use Rattle.crun_cli.specs.Stops.{IsInput, Ran, RanPart, Refuses};
+ghost use Rattle.crun_cli.specs.Stops.{IsInput, Ran, RanPart, Refuses, RunsPart};
 
 use crate::report::report;
 use crate::work::work;
@@ -34,6 +34,10 @@ pub fn crun_top<F: Files, O: Sink, E: Sink>(
         → (Rose (O.faults out.old) (O.faults out.new) → ⊥)
         → (result ≡ 5) ⊎ ((job : Job) × IsJob (texts words.now) m job × Answers job result)) }
 
+    // Where the files tell and their count does not rise, a refusal decides, whatever `out` does.
+    ensures refused_always { Tells (F.told files.old) (λ m. (Rose (F.read_faults files.old) (F.read_faults files.new) → ⊥)
+        → (why : Reason) → IsJob (texts words.now) m (Stops why) → (result ≡ status_of why) ⊎ (result ≡ 5)) }
+
     // Status 0, 1, 7 and 8 are those of the run of the unit with the calls, whose lines stand on `out`.
     ensures ran { (result ≡ 0) ⊎ (result ≡ 1) ⊎ (result ≡ 7) ⊎ (result ≡ 8)
         → Tells (F.told files.old) (λ m. Ran (texts words.now) m (O.told out.old) (O.told out.new) result) }
@@ -48,13 +52,14 @@ pub fn crun_top<F: Files, O: Sink, E: Sink>(
         ⊎ ((m : Contents) × (F.told files.old ≡ Some m) × IsJob (texts words.now) m (Stops (Unread file))))
         × Says (E.told err.old) (E.told err.new) (E.faults err.old) (E.faults err.new) (error_line (Unread file)) }
     ensures write_fault { result ≡ 4 → Rose (O.faults out.old) (O.faults out.new)
+        × Tells (F.told files.old) (λ m. RunsPart (texts words.now) m (O.told out.old) (O.told out.new))
         × Says (E.told err.old) (E.told err.new) (E.faults err.old) (E.faults err.new) (error_line Unwritten) }
 
     // What stands after each.
     ensures files { F.told files.new ≡ F.told files.old }
     ensures current { F.current files.new ≡ F.current files.old }
     ensures nothing_written { (result ≡ 2) ⊎ (result ≡ 3) ⊎ (result ≡ 6) → O.told out.new ≡ O.told out.old }
-    ensures part { (result ≡ 4) ⊎ (result ≡ 5) → Tells (F.told files.old) (λ m. RanPart (texts words.now) m (O.told out.old) (O.told out.new)) }
+    ensures part { result ≡ 5 → Tells (F.told files.old) (λ m. RanPart (texts words.now) m (O.told out.old) (O.told out.new)) }
     ensures part_of_a_line { result ≡ 5 → (why : Reason) × SaysPart (E.told err.old) (E.told err.new) (error_line why) }
     ensures status { result ≤ 8 }
 {

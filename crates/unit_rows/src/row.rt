@@ -9,6 +9,7 @@ pub struct Around {
 }
 
 impl Around {
+    /// Nothing in front and nothing behind.
     pub fn new(alloc: Global) -> Around {
         Around {
             front: Vec::new(alloc),

@@ -5,6 +5,7 @@ use c_read::read_unit;
 use c_tree::{CReadFault, Part, Tok, Wanted};
 use std::alloc::{AllocError, Global};
 
+/// Accepted, or the line of the first fault or of the first broken rule without the file's name.
 pub fn verdict(alloc: Global, text: &[u8]) -> Result<String, AllocError> {
     match read_unit(alloc, text) {
         Ok(unit) => match CheckedUnit::check(alloc, unit) {

@@ -6,7 +6,7 @@ use Rattle.wasm_spelling.specs.ModuleFields.{Spells}
 use Rattle.wasm_spelling.proofs.Whole.{one_tree}
 use Rattle.wasm_valid.specs.Verdict.{IsValid}
 use Rattle.wasm_valid.proofs.Verdicts.{valid}
-use Rattle.c_body.specs.Limits.{AreBytes}
+use Rattle.wasm_spelling.specs.Bytes.{AreBytes}
 use Rattle.c_unit.specs.Sets.{IsAccepted}
 use Rattle.w2c_sim.specs.Translation.{IsModuleOf}
 use Rattle.w2c_sim.proofs.Within.{spelled_is_within}

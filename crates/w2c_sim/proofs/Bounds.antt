@@ -5,9 +5,9 @@ use Rattle.wasm_tree.specs.declared.tree.Module.{Module}
 use Rattle.wasm_tree.specs.declared.entries.BodyEntry.{BodyEntry}
 use Rattle.wasm_tree.specs.Instructions.{Code, end_code, then_code, Kind, Otherwise, no_else, else_code, Select, Block, Loop, If, BrIf, BrTable}
 use Rattle.wasm_tree.specs.Size.{code_size, kind_size, otherwise_size}
-use Rattle.w2c_sim.specs.Bytes.{IsFormed}
-use Rattle.w2c_sim.specs.Within.{IsWithin, BodyIsWithin, some_in, some_inside, some_in_else, least_bytes, least_bytes_of, least_bytes_of_else}
-use Rattle.w2c_sim.proofs.WithinPlaces.{formed_is_within}
+use Rattle.wasm_spelling.specs.Places.{IsFormed}
+use Rattle.wasm_spelling.specs.Within.{IsWithin, BodyIsWithin, some_in, some_inside, some_in_else, least_bytes, least_bytes_of, least_bytes_of_else}
+use Rattle.wasm_spelling.proofs.WithinPlaces.{formed_is_within}
 use Rattle.wasm_valid.specs.Context.{Context}
 use Rattle.c_body.specs.Stack.{ends, peak}
 use Rattle.c_body.specs.Labels.{labels_in, labels_of, labels_in_else, any_in, any_inside, any_in_else}

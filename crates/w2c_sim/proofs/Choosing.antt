@@ -11,7 +11,7 @@ use Rattle.c_tree.specs.Spelled.{CSpells}
 use Rattle.c_tree.proofs.OfEach.{of_contained}
 use Rattle.c_print.specs.Print.{print_of}
 use Rattle.c_meaning.specs.Linking.{Program}
-use Rattle.c_body.specs.Limits.{AreBytes}
+use Rattle.wasm_spelling.specs.Bytes.{AreBytes}
 use Rattle.c_unit.specs.Items.{items}
 use Rattle.c_unit.specs.Sets as sets
 use Rattle.c_unit.proofs.Linking.{units_link}

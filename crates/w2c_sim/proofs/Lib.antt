@@ -1,7 +1,3 @@
-pub mod Behind
-pub mod WithinCode
-pub mod WithinModule
-pub mod WithinPlaces
 pub mod Bounds
 pub mod Within
 pub mod Accepting

@@ -17,7 +17,7 @@ use Rattle.c_meaning.specs.Linking.{Program, link_refusal}
 use Rattle.c_meaning.specs.Run.{CRun, c_run}
 use Rattle.c_meaning.specs.Run as c
 use Rattle.alike.specs.Alike.{Alike}
-use Rattle.c_body.specs.Limits.{AreBytes}
+use Rattle.wasm_spelling.specs.Bytes.{AreBytes}
 use Rattle.c_unit.specs.Sets.{IsListing, symbol_call}
 use Rattle.w2c_sim.specs.Translation.{IsModuleOf, text_of}
 

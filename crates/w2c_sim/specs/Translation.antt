@@ -10,7 +10,7 @@ use Rattle.c_tree.specs.Spelled.{CSpells}
 use Rattle.c_tree.specs.FirstBroken.{KeepsRules}
 use Rattle.c_print.specs.Print.{print_of}
 use Rattle.c_print.specs.Header.{header_text}
-use Rattle.c_body.specs.Limits.{AreBytes}
+use Rattle.wasm_spelling.specs.Bytes.{AreBytes}
 use Rattle.c_unit.specs.Items.{items_of, header_of}
 use Rattle.c_unit.specs.Shape.{IsShape}
 use Rattle.w2c_sim.specs.declared.translation.Texts.{Texts}

@@ -2,7 +2,6 @@
 //! their modules do.
 #![tactic(auto)]
 
-mod bytes;
 mod laws;
 mod refusal;
 mod translation;

@@ -9,7 +9,6 @@ ghost use Rattle.w2c_sim.specs.Refusals.{IsRefusal, IsRefused};
 ghost use Rattle.c_unit.specs.Sets.{IsAccepted};
 ghost use Rattle.w2c_sim.specs.Translation.{AreTextsOf, IsTranslation};
 
-use crate::bytes::know_bytes;
 use crate::refusal::Refusal;
 use c_print::{print_header, print_unit};
 use c_unit::unit;
@@ -56,8 +55,6 @@ fn translation(alloc: Global, bytes: &[u8], name: &[u8]) -> Result<Texts, Refusa
     ensures texts { IfOk result (IsTranslation bytes.now name.now) }
     ensures refused { IfErr result (IsRefusal bytes.now) }
 {
-    know_bytes(bytes);
-    know_bytes(name);
     let module = accept(alloc, bytes)?;
     let texts = print_texts(alloc, &module, name)?;
     Ok(texts)

@@ -1,4 +1,5 @@
-// The program over files in memory: what it accepts, each refusal, and faults of the outside.
+// The program over files in memory: what it accepts, a refusal of each kind, and faults of the outside. Rows say what is
+// said of other files (crates/module_rows).
 use crate::module_name::module_name;
 use crate::top::{sure_top, wasm2c_top};
 use std::alloc::Global;
@@ -60,14 +61,6 @@ fn words(alloc: Global, texts: &[&str]) -> Result<Vec<String>, Fail> {
         words.push(String::from_str(alloc, text)?)?;
     }
     Ok(words)
-}
-
-// The status of `two.wasm -o two.c`, where two.wasm holds these bytes.
-fn status_of(alloc: Global, bytes: &[u8], err: &mut MemSink) -> Result<u8, Fail> {
-    let words = words(alloc, &["two.wasm", "-o", "two.c"])?;
-    let mut files = MemFiles::new(alloc);
-    files.add("two.wasm", bytes)?;
-    Ok(wasm2c_top(alloc, words.as_slice(), &mut files, err))
 }
 
 #[test]
@@ -178,49 +171,6 @@ fn is_refused(alloc: Global, bytes: &[u8], reason: &str) -> Result<bool, Fail> {
     )
 }
 
-#[test]
-fn modules_that_are_not_valid(rt: HostRuntime) -> Result<(), Fail> {
-    let alloc = rt.alloc();
-    let one_operand = with_code(alloc, b"\x0A\x07\x01\x05\0\x41\x28\x6A\x0B")?;
-    let two_operands = with_code(alloc, b"\x0A\x08\x01\x06\0\x41\x28\x41\x02\x0B")?;
-    let other_type = with_code(alloc, b"\x0A\x06\x01\x04\0\x42\x28\x0B")?;
-    let rows: [(&[u8], &str); 3] = [
-        (one_operand.as_slice(), "invalid at 33: type mismatch"),
-        (two_operands.as_slice(), "invalid at 35: type mismatch"),
-        (other_type.as_slice(), "invalid at 33: type mismatch"),
-    ];
-    for (bytes, reason) in rows {
-        assert!(rt; is_refused(alloc, bytes, reason)?);
-    }
-    Ok(())
-}
-
-// A module whose body has so many blocks, each inside the one before; from 43 to 5,000.
-fn nested(alloc: Global, depth: usize) -> Result<Vec<u8>, Fail> {
-    let mut bytes = Vec::from_slice(alloc, b"\0asm\x01\0\0\0\x01\x04\x01\x60\0\0\x03\x02\x01\0")?;
-    let body = 3 * depth.min(5_000) + 2;
-    bytes.push(0x0A)?;
-    push_size(&mut bytes, body + 3)?;
-    bytes.push(0x01)?;
-    push_size(&mut bytes, body)?;
-    bytes.push(0x00)?;
-    for _ in 0..depth {
-        bytes.extend_from_slice(&[0x02, 0x40])?;
-    }
-    for _ in 0..depth {
-        bytes.push(0x0B)?;
-    }
-    bytes.push(0x0B)?;
-    Ok(bytes)
-}
-
-// A size in two bytes.
-fn push_size(bytes: &mut Vec<u8>, size: usize) -> Result<(), Fail> {
-    bytes.push((size % 128) as u8 + 128)?;
-    bytes.push((size / 128 % 128) as u8)?;
-    Ok(())
-}
-
 fn zeros(alloc: Global, count: usize) -> Result<Vec<u8>, Fail> {
     Ok(vec![in alloc; 0u8; count]?)
 }
@@ -228,61 +178,19 @@ fn zeros(alloc: Global, count: usize) -> Result<Vec<u8>, Fail> {
 #[test]
 fn reasons_of_refused_files(rt: HostRuntime) -> Result<(), Fail> {
     let alloc = rt.alloc();
-    let unused_bits = with_code(alloc, b"\x0A\x0A\x01\x08\0\x41\x80\x80\x80\x80\x08\x0B")?;
+    let one_operand = with_code(alloc, b"\x0A\x07\x01\x05\0\x41\x28\x6A\x0B")?;
     let float = b"\0asm\x01\0\0\0\x01\x05\x01\x60\0\x01\x7D";
-    let too_deep = nested(alloc, 501)?;
     let most = zeros(alloc, 8_388_608)?;
     let more = zeros(alloc, 8_388_609)?;
-    let rows: [(&[u8], &str); 6] = [
+    let rows: [(&[u8], &str); 5] = [
         (&TWO[..7], "malformed at 7: unexpected end"),
-        (unused_bits.as_slice(), "malformed at 32: unused bits"),
         (float.as_slice(), "float at 14"),
-        (too_deep.as_slice(), "limit at 1025: block depth"),
+        (one_operand.as_slice(), "invalid at 33: type mismatch"),
         (most.as_slice(), "malformed at 1: bad magic"),
         (more.as_slice(), "limit at 8388608: module bytes"),
     ];
     for (bytes, reason) in rows {
         assert!(rt; is_refused(alloc, bytes, reason)?);
-    }
-    Ok(())
-}
-
-#[test]
-fn valid_modules(rt: HostRuntime) -> Result<(), Fail> {
-    let alloc = rt.alloc();
-    let mut err = MemSink::new(alloc);
-    let padded = with_code(alloc, b"\x0A\x0A\x01\x08\0\x41\x80\x80\x80\x80\x78\x0B")?;
-    let deep = nested(alloc, 500)?;
-    for bytes in [padded.as_slice(), &TWO[..8], deep.as_slice(), LINKED] {
-        assert_eq!(rt; status_of(alloc, bytes, &mut err)?, 0);
-    }
-    assert_eq!(rt; err.bytes(), b"".as_slice());
-    Ok(())
-}
-
-// As a linker writes it: memory, table, global, two exports, a body and a custom section.
-const LINKED: &[u8] =
-    b"\0asm\x01\0\0\0\x01\x06\x01\x60\x01\x7F\x01\x7F\x03\x02\x01\0\x04\x05\x01\x70\x01\x01\x01\x05\x03\x01\0\x02\x06\x08\x01\x7F\x01\x41\x80\x88\x04\x0B\x07\x0E\x02\x06memory\x02\0\x01f\0\0\x0A\x1A\x01\x18\x01\x01\x7F\x23\0\x41\x10\x6B\x22\x01\x20\0\x36\x02\x0C\x20\x01\x28\x02\x0C\x20\0\x6C\x0B\0\x0B\x04name\x01\x04\x01\0\x01f";
-
-#[test]
-fn each_prefix_of_the_linker_module(rt: HostRuntime) -> Result<(), Fail> {
-    let alloc = rt.alloc();
-    let mut last = 0;
-    let mut err = MemSink::new(alloc);
-    for length in 0..100 {
-        let reason = match length {
-            8 | 16 | 86 | 99 => {
-                assert_eq!(rt; status_of(alloc, &LINKED[..length], &mut err)?, 0);
-                continue;
-            }
-            20 | 27 | 32 | 42 | 58 => format!(in alloc; "malformed at {length}: count differs")?,
-            0..8 | 9 | 17 | 21 | 28 | 33 | 43 | 59 | 87 => {
-                last = length;
-                format!(in alloc; "malformed at {length}: unexpected end")?
-            }
-            _ => format!(in alloc; "malformed at {last}: size past end")?,
-        };
-        assert!(rt; is_refused(alloc, &LINKED[..length], reason.as_str())?);
     }
     Ok(())
 }

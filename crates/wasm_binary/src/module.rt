@@ -4,6 +4,7 @@ ghost use Rattle.wasm_tree.specs.declared.tree.Module.{Module as Tree};
 ghost use Rattle.wasm_spelling.specs.declared.fault.ReadFault.{ReadFault as Fault};
 ghost use Rattle.wasm_spelling.specs.declared.fault.ReadFault.TheVariants.{Memory as memory_wanted};
 ghost use Rattle.wasm_spelling.specs.ModuleFields.{Spells};
+ghost use Rattle.wasm_spelling.specs.Places.{IsFormed};
 ghost use Rattle.wasm_spelling.specs.Table.{Upto};
 ghost use Rattle.wasm_spelling.specs.Reading.{magic_at, version_at, file_at, no_module};
 ghost use Rattle.wasm_binary.specs.View.{Gives, at, seen, UnlessMemory};
@@ -87,6 +88,8 @@ pub fn read_module(alloc: Global, bytes: &[u8]) -> Result<Module, ReadFault>
     requires { length bytes.now ≤ 8388608 }
     // What is read is spelled so.
     ensures found { IfOk result (λ tree. Spells tree bytes.now) }
+    // So it has a file.
+    ensures formed { IfOk result IsFormed }
     // What is spelled so is read.
     ensures only { (tree : Tree) → Spells tree bytes.now → UnlessMemory result (Ok tree) }
     // A fault is the first one.

@@ -16,3 +16,7 @@ pub mod Sections
 pub mod SectionsAgain
 pub mod Whole
 pub mod ConstantSpelled
+pub mod Behind
+pub mod WithinCode
+pub mod WithinModule
+pub mod WithinPlaces

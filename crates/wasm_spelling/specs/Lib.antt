@@ -1,4 +1,5 @@
 pub mod At
+pub mod Bytes
 pub mod FaultTexts
 pub mod Fields
 pub mod Limits
@@ -8,3 +9,4 @@ pub mod Reading
 pub mod Samples
 pub mod Steps
 pub mod Table
+pub mod Within

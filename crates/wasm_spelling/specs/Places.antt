@@ -16,6 +16,7 @@ use Rattle.wasm_tree.specs.declared.entries.SegmentEntry.{SegmentEntry}
 use Rattle.wasm_tree.specs.declared.entries.BodyEntry.{BodyEntry}
 use Rattle.wasm_tree.specs.declared.tree.Module.{Module}
 use Rattle.wasm_tree.specs.Instructions.{Code, end_code, then_code, Kind, Otherwise, no_else, else_code, Block, Loop, If}
+use Rattle.wasm_spelling.specs.Bytes.{AreBytes}
 use Rattle.wasm_spelling.specs.ModuleFields.{Spells}
 
 -- Each of these gives the same with every place 0.
@@ -102,4 +103,4 @@ SpellsAside t bytes = (u : Module) × SameApartFromPlaces t u × Spells u bytes
 
 -- some file spells it, places aside
 abbrev pub IsFormed : Module → Type 0
-IsFormed t = (bytes : List ℕ) × SpellsAside t bytes
+IsFormed t = (bytes : List ℕ) × AreBytes bytes × SpellsAside t bytes

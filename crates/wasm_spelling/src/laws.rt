@@ -6,7 +6,10 @@ ghost use Rattle.wasm_tree.specs.declared.constant_module.ConstantInstr.{Constan
 ghost use Rattle.wasm_tree.specs.declared.tree.Module.{Module as Tree};
 ghost use Rattle.wasm_spelling.specs.declared.fault.ReadFault.{ReadFault as Fault};
 ghost use Rattle.wasm_spelling.specs.ModuleFields.{Spells};
+ghost use Rattle.wasm_spelling.specs.Bytes.{AreBytes};
+ghost use Rattle.wasm_spelling.specs.Places.{IsFormed};
 ghost use Rattle.wasm_spelling.specs.Table.{Upto};
+ghost use Rattle.wasm_spelling.specs.Within.{IsWithin};
 
 /// Bytes of at most 8,388,608 spell exactly one module or have exactly one first fault.
 pub fn each_file_has_one_reading()
@@ -24,4 +27,10 @@ pub fn each_file_has_one_reading()
 pub fn constant_modules_are_spelled()
     ensures { (bytes name : List ℕ) (code : List Constant)
         → IsConstantModule bytes name code → Spells (tree_of_constant name code) bytes }
+{}
+
+/// A module that has a file, places aside, keeps within the limits of reading. What a file spells has a file.
+pub fn a_formed_module_keeps_within_the_limits()
+    ensures within { (tree : Tree) → IsFormed tree → IsWithin tree }
+    ensures spelled { (tree : Tree) (bytes : List ℕ) → AreBytes bytes → Spells tree bytes → IsFormed tree }
 {}

@@ -1,5 +1,5 @@
 -- A file has one verdict: it has one reading, and a module has one verdict.
-use Rattle.std.proofs.Common.{◌≡◌, ℕ, ◌≤◌, List, length, sym, subst, ap, ◌∙◌, ◌⊎◌, inl, inr}
+use Rattle.std.proofs.Common.{◌≡◌, ℕ, ◌≤◌, List, length, subst, ap, ◌∙◌, ◌⊎◌, inl, inr}
 use Rattle.wasm_tree.specs.declared.tree.Module.{Module}
 use Rattle.wasm_spelling.specs.declared.fault.ReadFault.{ReadFault}
 use Rattle.wasm_spelling.specs.Limits.{most_module_bytes}

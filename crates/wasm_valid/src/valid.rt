@@ -2,6 +2,7 @@
 ghost use Rattle.std.specs.Prelude.{◌≡◌, ◌≢◌, ◌++◌, Some, Ok, Err, IfOk, OnOk};
 ghost use Rattle.wasm_tree.specs.declared.tree.Module.{Module as Tree};
 ghost use Rattle.wasm_tree.specs.IndexSpaces.{declared_locals};
+ghost use Rattle.wasm_spelling.specs.Places.{IsFormed};
 ghost use Rattle.wasm_valid.specs.declared.fault.Fault.{Fault as OneFault};
 ghost use Rattle.wasm_valid.specs.declared.fault.ValidRefusal.TheVariants.{Invalid as refused_by, Memory as memory_wanted};
 ghost use Rattle.wasm_valid.specs.Verdict.{Verdict, Invalid, IsValid, outcome_of, bodies_of};
@@ -18,7 +19,8 @@ use std::marker::Model;
 use w2c_base::{FuncType, Memory, ValType};
 use wasm_tree::{BodyEntry, FuncEntry, Module};
 
-/// A module in which every body has a typing, and that has no fault outside its bodies.
+/// A module that has a file, in which every body has a typing, and that has no fault outside its bodies. So it keeps
+/// within the limits of reading (`a_formed_module_keeps_within_the_limits` of wasm_spelling).
 #[derive(Drop)]
 pub struct ValidModule {
     tree: Module,
@@ -28,6 +30,7 @@ impl Model for ValidModule {
     ghost use Rattle.std.specs.Coded.{codes};
     ghost use Rattle.wasm_tree.specs.declared.tree.Module.{Module as Tree};
     ghost use Rattle.wasm_tree.specs.contracts.code.Code as code;
+    ghost use Rattle.wasm_spelling.specs.Places.{IsFormed};
     ghost use Rattle.wasm_valid.specs.Verdict.{IsValid};
 
     ghost Value = { Tree };
@@ -36,12 +39,12 @@ impl Model for ValidModule {
 
     ghost view = { λ v. v.tree };
 
-    ghost invariant = { λ v. IsValid v.tree };
+    ghost invariant = { λ v. IsValid v.tree × IsFormed v.tree };
 }
 
 impl ValidModule {
-    /// Checks a module. The checker calls itself for each block in a block: in a module that was read they are at most
-    /// 500 deep.
+    /// Checks a module. The checker calls itself for each block in a block: in a module that has a file they are at
+    /// most 500 deep.
     ///
     /// # Errors
     ///
@@ -49,6 +52,8 @@ impl ValidModule {
     /// the one of the earliest row of the table of causes. `Memory` where memory was wanting, which may come in any case.
     /// The module is dropped.
     pub fn check(alloc: Global, m: Module) -> Result<ValidModule, ValidRefusal>
+        // Some file spells it, places aside.
+        requires { IsFormed m }
         // What is accepted is this module,
         ensures found { IfOk result (λ checked. checked ≡ m) }
         // and it is valid.
@@ -71,6 +76,7 @@ impl ValidModule {
     pub fn module(&self) -> &Module
         ensures same { result.now ≡ self.now }
         ensures valid { IsValid result.now }
+        ensures formed { IsFormed result.now }
     {
         &self.tree
     }

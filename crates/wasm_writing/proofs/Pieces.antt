@@ -1,7 +1,9 @@
 -- A piece is put behind a draft: which fields it is the shortest spelling of.
-use Rattle.std.proofs.Common.{◌≡◌, ℕ, ℤ, ◌+◌, ◌^◌, ◌≤◌, List, [], ◌∷◌, ◌++◌, length, length-append, append_assoc, Bool, true, false, refl, sym, ap, subst, ◌∙◌, arith}
+use Rattle.std.proofs.Common.{◌≡◌, ℕ, ℤ, ◌+◌, ◌^◌, ◌<◌, ◌≤◌, List, [], ◌∷◌, ◌++◌, length, length-append, append_assoc, Bool, true, false, refl, sym, ap, subst, ◌∙◌, arith}
 use Rattle.w2c_base.specs.SpelledNumber.{SpellsSigned, SpellsUnsigned}
 use Rattle.leb_bytes.specs.Shortest.{IsShortest}
+use Rattle.wasm_spelling.specs.Bytes.{AreBytes}
+use Rattle.wasm_spelling.proofs.Behind.{all_append}
 use Rattle.wasm_spelling.specs.Fields.{Fields, byte, number, signed, text, here, provided}
 use Rattle.wasm_spelling.specs.Limits.{most_module_bytes}
 use Rattle.wasm_writing.specs.declared.draft.Draft.{Draft}
@@ -16,12 +18,28 @@ pub record IsField (field : Fields → Fields) (piece : List ℕ) : Type 0 where
   pub least : (rest : Fields) (bytes : List ℕ) → SpelledAside (field rest) bytes → (back : List ℕ) × (length piece + length back ≤ length bytes) × SpelledAside rest back
 
 -- the piece is put behind a draft that goes on
-pub puts_piece : (field : Fields → Fields) (piece : List ℕ) (old new : Draft) → IsField field piece → Takes piece old new → Puts field old new
-puts_piece field piece old new f t = (makes old new t, fits old new t, small old new t)
+pub puts_piece : (field : Fields → Fields) (piece : List ℕ) (old new : Draft) → IsField field piece → AreBytes piece → Takes piece old new
+    → Puts field old new
+puts_piece field piece old new f are t = (makes old new t, fits old new t, small old new t)
   where
+    bytes : (rest : List ℕ) → AreBytes rest → AreBytes (piece ++ rest)
+    bytes rest h = all_append (λ b. b < 256) piece rest are h
+
     makes : (old new : Draft) → Takes piece old new → (file : List ℕ) (rest : Fields) → Makes file new rest → Makes file old (field rest)
-    makes (Counted n) (Counted m) t file rest h = record { rest = piece ++ h.rest; spelled = f.short rest h.rest h.spelled; completes = omega (arith, t, h.completes, length-append piece h.rest); small = h.small }
-    makes (Written a) (Written b) t file rest h = record { rest = piece ++ h.rest; spelled = f.short rest h.rest h.spelled; completes = sym (append_assoc a piece h.rest) ∙ ap (λ c. c ++ h.rest) (sym t.0) ∙ h.completes; small = h.small }
+    makes (Counted n) (Counted m) t file rest h = record {
+      rest = piece ++ h.rest;
+      spelled = f.short rest h.rest h.spelled;
+      are_bytes = bytes h.rest h.are_bytes;
+      completes = omega (arith, t, h.completes, length-append piece h.rest);
+      small = h.small;
+    }
+    makes (Written a) (Written b) t file rest h = record {
+      rest = piece ++ h.rest;
+      spelled = f.short rest h.rest h.spelled;
+      are_bytes = bytes h.rest h.are_bytes;
+      completes = sym (append_assoc a piece h.rest) ∙ ap (λ c. c ++ h.rest) (sym t.0) ∙ h.completes;
+      small = h.small;
+    }
     makes (Counted n) (Written b) t file rest h = absurd t
     makes (Written a) (Counted m) t file rest h = absurd t
     makes old (Stopped stop) t file rest h = absurd h.completes
@@ -129,7 +147,7 @@ fits_provided written room draft b rest h = fits_as (provided b rest) rest (λ b
 pub puts_nothing : (draft : Draft) → Puts (provided true) draft draft
 unfolding SpelledBy
 puts_nothing draft = (
-  (λ file rest h. record { rest = h.rest; spelled = (refl, h.spelled); completes = h.completes; small = h.small }),
+  (λ file rest h. record { rest = h.rest; spelled = (refl, h.spelled); are_bytes = h.are_bytes; completes = h.completes; small = h.small }),
   (λ written room rest h. fits_provided written room draft true rest h),
   (λ s. s),
 )
@@ -148,13 +166,25 @@ too_large n large rest bytes _ s = omega (arith, large, s.3.fits)
 -- a place says nothing here
 pub makes_here : (file : List ℕ) (draft : Draft) (place : ℕ) (rest : Fields) → Makes file draft rest → Makes file draft (here place rest)
 unfolding SpelledBy
-makes_here file draft place rest h = record { rest = h.rest; spelled = h.spelled; completes = h.completes; small = h.small }
+makes_here file draft place rest h = record {
+  rest = h.rest;
+  spelled = h.spelled;
+  are_bytes = h.are_bytes;
+  completes = h.completes;
+  small = h.small;
+}
 
 -- fields behind a condition that holds
 pub puts_if : (b : Bool) (fields : Fields → Fields) (old new : Draft) → b ≡ true → Puts fields old new → Puts (λ rest. provided b (fields rest)) old new
 unfolding SpelledBy
 puts_if b fields old new e p = (
-  (λ file rest h. let m = p.0 file rest h in record { rest = m.rest; spelled = (e, m.spelled); completes = m.completes; small = m.small }),
+  (λ file rest h. let m = p.0 file rest h in record {
+    rest = m.rest;
+    spelled = (e, m.spelled);
+    are_bytes = m.are_bytes;
+    completes = m.completes;
+    small = m.small;
+  }),
   (λ written room rest h. p.1 written room rest (fits_provided written room old b (fields rest) h)),
   p.2,
 )

@@ -25,10 +25,10 @@ pub counted_is_formed : (t : Module) (n : ℕ) → Puts (short_fields t) (Counte
 counted_is_formed t n p =
     let small : n ≤ most_module_bytes = p.2 (omega arith) in
     let c = counted_inside (short_fields t) n p small in
-    (c.0, short_file_spells t c.0 c.1 (omega (arith, c.2, small)))
+    (c.0, c.3, short_file_spells t c.0 c.1 (omega (arith, c.2, small)))
 
 pub formed_is_counted : (t : Module) (draft : Draft) → Puts (short_fields t) (Counted 0) draft → ((n : ℕ) → draft ≡ Counted n → ⊥) → IsFormed t → ⊥
-formed_is_counted t draft p n (bytes, s) =
+formed_is_counted t draft p n (bytes, are, s) =
     let r = short_of_file t bytes s in
     not_counted (short_fields t) draft r.0 p n r.1 (omega (arith, r.2, r.3))
 
@@ -36,7 +36,7 @@ pub written_is_short : (t : Module) (bytes : List ℕ) → Puts (short_fields t)
 unfolding SpelledBy
 written_is_short t bytes p =
     let small : length bytes ≤ most_module_bytes = p.2 (omega arith) in
-    let m = p.0 bytes finished (record { rest = []; spelled = refl; completes = append-nil bytes; small = small }) in
+    let m = p.0 bytes finished (record { rest = []; spelled = refl; are_bytes = tt; completes = append-nil bytes; small = small }) in
     subst (λ b. SpelledShort (short_fields t finished) b) m.completes m.spelled
 
 pub written_is_small : (t : Module) (bytes : List ℕ) → Puts (short_fields t) (Written []) (Written bytes) → length bytes ≤ most_module_bytes

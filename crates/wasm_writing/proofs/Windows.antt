@@ -4,6 +4,8 @@ use Rattle.std.proofs.lemmas.List.{append-nil, length-replicate, length-take-le}
 use Rattle.w2c_base.specs.SpelledNumber.{SpellsUnsigned, seven_bit_sum}
 use Rattle.leb_bytes.proofs.Existence.{shortest_unsigned}
 use Rattle.leb_bytes.proofs.Runs.{IsNumberRun-some, seven_bit_sum-below}
+use Rattle.wasm_spelling.specs.Bytes.{AreBytes}
+use Rattle.wasm_spelling.proofs.Behind.{all_append}
 use Rattle.wasm_spelling.specs.Fields.{Fields, finished, number, text, window}
 use Rattle.wasm_spelling.specs.Limits.{most_module_bytes}
 use Rattle.wasm_writing.specs.declared.draft.Draft.{Draft}
@@ -160,12 +162,19 @@ joins written r s f g (Stopped stop) new content after so_far file h i a b c = a
 joins written r s f g mid (Stopped stop) content after so_far file h i a b c = absurd c
 
 -- some bytes of the length that was counted spell the content
-pub counted_inside : (fields : Fields → Fields) (m : ℕ) → Puts fields (Counted 0) (Counted m) → m ≤ most_module_bytes → (bytes : List ℕ) × SpelledShort (fields finished) bytes × (length bytes ≡ m)
+pub counted_inside : (fields : Fields → Fields) (m : ℕ) → Puts fields (Counted 0) (Counted m) → m ≤ most_module_bytes
+    → (bytes : List ℕ) × SpelledShort (fields finished) bytes × (length bytes ≡ m) × AreBytes bytes
 unfolding SpelledBy
 counted_inside fields m p small =
     let l : length (replicate m 0) ≡ m = length-replicate {A = ℕ} m 0 in
-    let h = p.0 (replicate m 0) finished (record { rest = []; spelled = refl; completes = omega (arith, l); small = omega (arith, l, small) }) in
-    (h.rest, h.spelled, omega (arith, h.completes, l))
+    let h = p.0 (replicate m 0) finished (record {
+      rest = [];
+      spelled = refl;
+      are_bytes = tt;
+      completes = omega (arith, l);
+      small = omega (arith, l, small);
+    }) in
+    (h.rest, h.spelled, omega (arith, h.completes, l), h.are_bytes)
 
 -- the bytes that were put are as many as were counted
 same_length : (fields : Fields → Fields) (m : ℕ) (mid new : Draft) (content after so_far file : List ℕ) → m ≤ most_module_bytes → Puts fields (Counted 0) (Counted m) → Puts fields mid new → SpelledShort (fields finished) content → Completes mid content so_far → Completes new [] so_far → Completes new after file → length file ≤ most_module_bytes → (length content ≡ m) × Completes mid (content ++ after) file
@@ -186,14 +195,35 @@ unfolding SpelledBy
 window_makes fields m old mid new fits_m counted size put file rest h =
     let k = kept new h.rest file h.completes in
     let f = opens new h.rest file h.completes in
-    let a = put.0 k.0 finished (record { rest = []; spelled = refl; completes = k.1; small = omega (arith, k.2, f.2, h.small) }) in
+    let a = put.0 k.0 finished (record {
+      rest = [];
+      spelled = refl;
+      are_bytes = tt;
+      completes = k.1;
+      small = omega (arith, k.2, f.2, h.small);
+    }) in
     let l = same_length fields m mid new a.rest h.rest k.0 file fits_m counted put a.spelled a.completes k.1 h.completes h.small in
     let both = a.rest ++ h.rest in
-    let there : Makes file mid (behind both) = record { rest = both ++ []; spelled = (both, [], refl, refl, refl); completes = subst (λ x. Completes mid x file) (sym (append-nil both)) l.1; small = h.small } in
+    let there : Makes file mid (behind both) = record {
+      rest = both ++ [];
+      spelled = (both, [], refl, refl, refl);
+      are_bytes = bytes a.rest h.rest a.are_bytes h.are_bytes;
+      completes = subst (λ x. Completes mid x file) (sym (append-nil both)) l.1;
+      small = h.small;
+    } in
     let w = size.0 file (behind both) there in
     let s = w.spelled in
     let back : s.1 ≡ a.rest ++ h.rest = s.4.2 ∙ ap (λ x. x ++ s.4.1) s.4.3 ∙ ap (λ x. both ++ x) s.4.4 ∙ append-nil both in
-    record { rest = w.rest; spelled = (m, (s.0, s.1, s.2, s.3, (a.rest, h.rest, back, (l.0, a.spelled), h.spelled))); completes = w.completes; small = w.small }
+    record {
+      rest = w.rest;
+      are_bytes = w.are_bytes;
+      spelled = (m, (s.0, s.1, s.2, s.3, (a.rest, h.rest, back, (l.0, a.spelled), h.spelled)));
+      completes = w.completes;
+      small = w.small;
+    }
+  where
+    bytes : (content after : List ℕ) → AreBytes content → AreBytes after → AreBytes ((content ++ after) ++ [])
+    bytes content after c d = all_append (λ b. b < 256) (content ++ after) [] (all_append (λ b. b < 256) content after c d) tt
 
 -- nothing was counted, since nothing within the limit spells the content
 pub not_counted : (fields : Fields → Fields) (counted : Draft) (bytes : List ℕ) → Puts fields (Counted 0) counted → ((n : ℕ) → counted ≡ Counted n → ⊥) → SpelledAside (fields finished) bytes → length bytes ≤ most_module_bytes → ⊥

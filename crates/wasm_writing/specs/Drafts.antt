@@ -1,5 +1,6 @@
 -- What a draft of a file has taken.
 use Rattle.std.specs.Prelude.{◌≡◌, ℕ, ◌+◌, ◌<◌, ◌≤◌, List, ◌++◌, length, Bool, true, false}
+use Rattle.wasm_spelling.specs.Bytes.{AreBytes}
 use Rattle.wasm_spelling.specs.Fields.{Fields, number}
 use Rattle.wasm_spelling.specs.Limits.{most_module_bytes}
 use Rattle.wasm_writing.specs.declared.draft.Draft.{Draft}
@@ -46,6 +47,7 @@ Completes (Stopped stop) bytes file = ⊥
 pub record Makes (file : List ℕ) (draft : Draft) (fields : Fields) : Type 0 where
   pub rest : List ℕ
   pub spelled : SpelledShort fields rest
+  pub are_bytes : AreBytes rest
   pub completes : Completes draft rest file
   pub small : length file ≤ most_module_bytes
 

@@ -23,6 +23,7 @@ pub enum Draft {
 }
 
 impl Draft {
+    ghost use Rattle.wasm_spelling.specs.Bytes.{AreBytes};
     ghost use Rattle.wasm_writing.specs.Drafts.{size_of, Takes, Refuses, Puts, PutsSize};
 
     /// How many bytes it has taken.
@@ -38,7 +39,8 @@ impl Draft {
 
     /// Puts a piece at the end, where a file has room for it.
     fn take(&mut self, piece: &[u8])
-        ensures { Takes piece.now self.old self.new }
+        ensures taken { Takes piece.now self.old self.new }
+        ensures bytes { AreBytes piece.now }
     {
         let size = self.taken();
         let fits = size <= MODULE_BYTES && piece.len() <= MODULE_BYTES - size;

@@ -4,8 +4,12 @@ use Rattle.c_tree.specs.Runtime.{same_types}
 use Rattle.crun.proofs.Fitting.{arguments_typed, no_arguments}
 use Rattle.crun.proofs.signatures.are_params.Goals as goal
 
-pub returns-then-is_empty : goal.returns-then-is_empty
-returns-then-is_empty c = c.are_void.ensures ∙ ap (same_types c.args.params.now) (sym (no_arguments c.args.args.now (grind (arith, nat_tests))))
+pub returns-then-is_empty-clause-types : goal.returns-then-is_empty-clause-types
+returns-then-is_empty-clause-types c =
+    c.are_void.ensures
+    ∙ ap (same_types c.args.params.now) (sym (no_arguments c.args.args.now (grind (arith, nat_tests))))
 
-pub returns-else-is_empty : goal.returns-else-is_empty
-returns-else-is_empty c = c.are_types.ensures ∙ ap (same_types c.args.params.now) (sym (arguments_typed c.args.args.now (grind (arith, nat_tests))))
+pub returns-else-is_empty-clause-types : goal.returns-else-is_empty-clause-types
+returns-else-is_empty-clause-types c =
+    c.are_types.ensures.types
+    ∙ ap (same_types c.args.params.now) (sym (arguments_typed c.args.args.now (grind (arith, nat_tests))))

@@ -1,6 +1,12 @@
-use Rattle.std.proofs.Common.{◌≡◌, length}
+use Rattle.std.proofs.Common.{◌≡◌, drop, length}
+use Rattle.std.specs.List.{list_all}
+use Rattle.w2c_base.specs.Values.{is_number}
 use Rattle.crun.proofs.Fitting.{Agree}
 use Rattle.crun.proofs.signatures.are_types.Given as goal
 
 abbrev pub invariant-loop-i : goal.invariant-loop-i
-invariant-loop-i l = (length l.params ≡ length l.args) × Agree l.i l.params l.args
+invariant-loop-i l = record {
+  length : length l.params ≡ length l.args;
+  types : Agree l.i l.params l.args;
+  numbers : list_all is_number (drop l.i l.args) ≡ list_all is_number l.args;
+}

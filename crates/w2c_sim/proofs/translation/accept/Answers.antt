@@ -11,3 +11,6 @@ returns-in_err-module-clause-refused c =
 pub returns-clause-found : goal.returns-clause-found
 returns-clause-found c =
     rw c.in_ok-module.ensures.found (c.in_ok-tree.ensures.found, accepted c.in_ok-tree.tree c.in_ok-module.ensures.valid)
+
+pub check-requires : goal.check-requires
+check-requires c = c.in_ok-tree.ensures.formed

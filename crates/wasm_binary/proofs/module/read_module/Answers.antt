@@ -1,4 +1,4 @@
-use Rattle.wasm_binary.proofs.Result.{is_found, is_only, is_first, is_first_only}
+use Rattle.wasm_binary.proofs.Result.{slice_bytes, is_found, formed_of, is_only, is_first, is_first_only}
 use Rattle.wasm_binary.proofs.module.read_module.Goals as goal
 
 pub returns-clause-found : goal.returns-clause-found
@@ -12,3 +12,7 @@ returns-clause-first c = is_first c.args.bytes.now c.read_file.result c.read_fil
 
 pub returns-clause-first_only : goal.returns-clause-first_only
 returns-clause-first_only c = is_first_only c.args.bytes.now c.read_file.result c.read_file.ensures
+
+pub returns-clause-formed : goal.returns-clause-formed
+returns-clause-formed c = formed_of c.args.bytes.now c.read_file.result (slice_bytes c.args.bytes.now c.type_inv.bytes)
+    (is_found c.args.bytes.now c.read_file.result c.requires c.read_file.ensures)

@@ -6,4 +6,4 @@ pub returns-clause-again : goal.returns-clause-again
 returns-clause-again c = λ written file (u, same, s). (u, same, s, λ other o. one_tree file other u o s)
 
 pub returns-clause-formed : goal.returns-clause-formed
-returns-clause-formed c = λ tree file s. (file, (tree, refl, s))
+returns-clause-formed c = λ tree file are s. (file, are, (tree, refl, s))

@@ -5,7 +5,8 @@ use Rattle.wasm_valid.proofs.Verdicts.{valid, no_fault, same_fault}
 use Rattle.wasm_valid.proofs.valid.ValidModule.check.Goals as goal
 
 pub invariant_of-result : goal.invariant_of-result
-invariant_of-result c = valid c.args.m (subst (λ found. Verdict c.args.m (outcome_of found)) c.in-None.is c.in_ok-fault.ensures)
+invariant_of-result c =
+    (valid c.args.m (subst (λ found. Verdict c.args.m (outcome_of found)) c.in-None.is c.in_ok-fault.ensures), c.requires)
 
 pub returns-in-None-clause-valid : goal.returns-in-None-clause-valid
 returns-in-None-clause-valid c = valid c.args.m (subst (λ found. Verdict c.args.m (outcome_of found)) c.in-None.is c.in_ok-fault.ensures)

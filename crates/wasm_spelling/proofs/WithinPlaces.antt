@@ -14,11 +14,10 @@ use Rattle.wasm_tree.specs.declared.tree.Module.{Module}
 use Rattle.wasm_tree.specs.Instructions.{Code, end_code, then_code, Kind, no_else, else_code, Block, Loop, If}
 use Rattle.wasm_tree.specs.IndexSpaces.{table_of_import, memory_of_import, table_space, memory_space}
 use Rattle.wasm_spelling.specs.Limits.{most_parameters, most_functions, most_memory_pages, most_table_elements, most_module_bytes}
-use Rattle.w2c_sim.specs.Bytes.{IsFormed}
-use Rattle.wasm_spelling.specs.Places.{bare_code, bare_kind, bare_type, bare_import_kind, bare_import, bare_func, bare_limits_entry, bare_global, bare_export, bare_func_ref, bare_element, bare_segment, bare_body, bare_module}
-use Rattle.w2c_sim.specs.Within.{has_wide, some_in, some_inside, least_bytes, least_bytes_of, block_depth, block_depth_of, BodyIsWithin, IsMaximum, IsName, IsWithin}
-use Rattle.w2c_sim.proofs.Behind.{all_append, all_more}
-use Rattle.w2c_sim.proofs.WithinModule.{KindIsWithin, ImportIsWithin, SegmentIsWithin, LimitsAreWithin, PartsAreWithin, spelled_within}
+use Rattle.wasm_spelling.specs.Places.{bare_code, bare_kind, bare_type, bare_import_kind, bare_import, bare_func, bare_limits_entry, bare_global, bare_export, bare_func_ref, bare_element, bare_segment, bare_body, bare_module, IsFormed}
+use Rattle.wasm_spelling.specs.Within.{has_wide, some_in, some_inside, least_bytes, least_bytes_of, block_depth, block_depth_of, BodyIsWithin, IsMaximum, IsName, IsWithin}
+use Rattle.wasm_spelling.proofs.Behind.{all_append, all_more}
+use Rattle.wasm_spelling.proofs.WithinModule.{KindIsWithin, ImportIsWithin, SegmentIsWithin, LimitsAreWithin, PartsAreWithin, spelled_within}
 
 -- ---- code
 

@@ -7,7 +7,7 @@ use Rattle.wasm_tree.specs.declared.tree.Module.{Module}
 use Rattle.wasm_tree.specs.declared.entries.BodyEntry.{BodyEntry}
 use Rattle.wasm_tree.specs.Instructions.{Code, end_code, then_code, Kind, Otherwise, no_else, else_code, Block, Loop, If, BrTable, Load, Store}
 use Rattle.wasm_tree.specs.IndexSpaces.{table_space, memory_space, declared_locals}
-use Rattle.w2c_sim.specs.Bytes.{AreBytes}
+use Rattle.wasm_spelling.specs.Bytes.{AreBytes}
 use Rattle.wasm_spelling.specs.Limits.{most_parameters, most_name_bytes, most_functions, most_locals, most_blocks, most_memory_pages, most_table_elements, most_module_bytes}
 
 -- ---- code

@@ -4,7 +4,7 @@ use Rattle.std.specs.Prelude.{IsTrue}
 use Rattle.std.specs.List.{AllByRecursion}
 use Rattle.w2c_base.specs.SpelledNumber.{SpellsSigned, SpellsUnsigned}
 use Rattle.leb_bytes.proofs.Runs.{IsNumberRun-some}
-use Rattle.w2c_sim.specs.Bytes.{AreBytes}
+use Rattle.wasm_spelling.specs.Bytes.{AreBytes}
 use Rattle.wasm_spelling.specs.Fields.{Custom, Fields, Then, Sized, Spelled, byte, number, signed, text, here, provided, window, either, for_some}
 use Rattle.wasm_spelling.specs.Limits.{most_module_bytes}
 

@@ -7,8 +7,8 @@ use Rattle.wasm_tree.specs.Instructions.{Code, end_code, then_code, Kind, no_els
 use Rattle.wasm_tree.specs.Opcodes.{opcode_of}
 use Rattle.wasm_spelling.specs.Fields.{Fields, byte, number, here, provided}
 use Rattle.wasm_spelling.specs.ModuleFields.{each, immediates, block_type_code, code_fields, instr_fields, end_byte}
-use Rattle.w2c_sim.specs.Within.{has_wide, is_wide, some_in, some_inside, least_bytes, least_bytes_of, block_depth, block_depth_of}
-use Rattle.w2c_sim.proofs.Behind.{Behind, behind_fewer, past_byte, past_number, past_signed, past_here, past_provided}
+use Rattle.wasm_spelling.specs.Within.{has_wide, is_wide, some_in, some_inside, least_bytes, least_bytes_of, block_depth, block_depth_of}
+use Rattle.wasm_spelling.proofs.Behind.{Behind, behind_fewer, past_byte, past_number, past_signed, past_here, past_provided}
 
 -- ---- vectors
 
