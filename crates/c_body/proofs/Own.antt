@@ -24,11 +24,12 @@ use Rattle.c_meaning.specs.Primitives.{primitive}
 use Rattle.c_meaning.proofs.Ways.{stays}
 use Rattle.alike.specs.Alike.{func_name}
 use Rattle.c_body.specs.Symbols.{c_func_type}
-use Rattle.c_body.specs.Limits.{BodyIsWithin, IsWithin}
+use Rattle.c_body.specs.Limits.{BodyHasLimits, HasLimits}
 use Rattle.c_body.specs.Passing.{StandsFor, called, given}
 use Rattle.c_body.specs.Agree.{IsDefined}
 use Rattle.c_body.specs.Body.{params_of, params_from, locals_from, slots_of, element_local, stmts_of, func_of, defined_at, no_func, body_of}
 use Rattle.c_body.specs.Serves.{AreServed}
+use Rattle.c_body.proofs.Bounds.{within_of}
 use Rattle.c_body.proofs.Lists.{get_zipped, all_at}
 use Rattle.c_body.proofs.Indexes.{own_type}
 use Rattle.c_body.proofs.Spaces.{module_is}
@@ -57,7 +58,7 @@ pub record IsOwn (p : Program) (s : link.LinkedSet) (u : ℕ) (m : link.NamedMod
   pub c_typed : func_type p (state.UnitFunc u (func_name index)) ≡ Some (func_type_of (func_of m index ty entry))
   pub is_no_primitive : primitive (func_name index) ≡ None
   pub valid : BodyHasType (context_of m.tree ty entry) entry.code
-  pub within : BodyIsWithin entry
+  pub within : BodyHasLimits entry
   pub few : length ty.params ≤ 60
 
 -- a function that is there has an entry, a body and a type
@@ -88,7 +89,7 @@ body_found m index body has = of_entry (defined_at m.tree index) refl has
     of_entry None at has = absurd cc
     of_entry (Some d) at has = of_type d (type_in m.tree d.0.type_index) at refl has
 
-typed_body : (m : Module) (bodies : List (FuncEntry × BodyEntry)) (j : ℕ) (d : FuncEntry × BodyEntry) (ty : FuncType) → AreTyped m bodies
+pub typed_body : (m : Module) (bodies : List (FuncEntry × BodyEntry)) (j : ℕ) (d : FuncEntry × BodyEntry) (ty : FuncType) → AreTyped m bodies
     → slice_get bodies j ≡ Some d
     → type_in m d.0.type_index ≡ Some ty → BodyHasType (context_of m ty d.1) d.1.code
 typed_body m [] j d ty all at is = absurd cc
@@ -99,7 +100,7 @@ typed_body m (b ∷ bodies) zero d ty all at is =
     subst (λ (c : Option Context). IsTyped c d.1) (ap (option_map (λ (t : FuncType). context_of m t d.1)) is) typed
 typed_body m (b ∷ bodies) (suc j) d ty all at is = typed_body m bodies j d ty all.1 at is
 
-few_params : (m : Module) (t : ℕ) (ty : FuncType) → IsWithin m → type_in m t ≡ Some ty → length ty.params ≤ 60
+pub few_params : (m : Module) (t : ℕ) (ty : FuncType) → HasLimits m → type_in m t ≡ Some ty → length ty.params ≤ 60
 few_params m t ty within is = of_type (slice_get m.types t) refl is
   where
     of_type : (o : Option TypeEntry) → slice_get m.types t ≡ o → option_map (λ t. t.ty) o ≡ Some ty → length ty.params ≤ 60
@@ -137,8 +138,8 @@ own_is p s u m index served is known =
       c_typed = subst (λ (f : tree.Func). func_type p (state.UnitFunc u f.name) ≡ Some (func_type_of f)) found.4 defines.typed;
       is_no_primitive = ap (λ (f : tree.Func). primitive f.name) (sym found.4) ∙ defines.is_no_primitive;
       valid = typed_body m.tree (bodies_of m.tree) j d found.1 (served.valid u m is).bodies entries found.3;
-      within = all_at BodyIsWithin m.tree.bodies j d.1 (served.within u m is).bodies parts.1;
-      few = few_params m.tree d.0.type_index found.1 (served.within u m is) found.3;
+      within = all_at BodyHasLimits m.tree.bodies j d.1 (within_of m.tree (served.formed u m is)).bodies parts.1;
+      few = few_params m.tree d.0.type_index found.1 (within_of m.tree (served.formed u m is)) found.3;
     }
 
 -- ---- their C types

@@ -30,12 +30,13 @@ use Rattle.c_meaning.specs.Step.{Step, Next, Stops, depth_name, in_unit, value_o
 use Rattle.c_meaning.proofs.Takes.{put_number}
 use Rattle.alike.specs.Alike.{memory_name, table_name, global_name, first_global}
 use Rattle.c_body.specs.Names.{pointer_name}
-use Rattle.c_body.specs.Limits.{IsWithin}
+use Rattle.c_body.specs.Limits.{HasLimits}
 use Rattle.c_body.specs.Symbols.{table_imports, memory_imports, global_imports}
 use Rattle.c_body.specs.Objects.{memory_arg, table_arg, global_value, set_global}
 use Rattle.c_body.specs.Agree.{MemoryAgrees, TableAgrees, PointsTo, PointersAreSet, IsMade, IsCallableIfAny}
 use Rattle.c_body.specs.Follows.{Site, StandsAt, state_at}
 use Rattle.c_body.specs.Parts.{IsSite}
+use Rattle.c_body.proofs.Bounds.{within_of}
 use Rattle.c_body.proofs.Store.{AreFew, global_object, memory_object, table_object, global_seen, memory_seen, table_seen}
 use Rattle.c_body.proofs.Spaces.{looked_up, memory_owner, table_owner, global_owner, module_is, module_named, ResolvesAs, of_kind, memory_count, table_count, global_count}
 use Rattle.c_body.proofs.Lists.{get_behind, get_front, get_none, get_numbered, get_past, get_replicated, filter_few}
@@ -224,7 +225,7 @@ pub few_globals : (p : Program) (s : LinkedSet) (owner : ℕ) (tree : Module) (o
     → module_at s owner ≡ Some tree → IsMade tree o → AreFew s owner o
 few_globals p s owner tree o served is made =
     let m = module_named s owner tree is in
-    let within : IsWithin tree = subst IsWithin m.2 (served.within owner m.0 m.1) in
+    let within : HasLimits tree = subst HasLimits m.2 (within_of _ (served.formed owner m.0 m.1)) in
     let first : first_global s owner ≡ imported_globals tree =
     ap (λ (found : Option Module). elim found [ None ↦ 0 | Some m ↦ imported_globals m ]) is in
     let count : length (types_of o.globals) ≡ length (map (λ g. g.ty) tree.globals) = ap length made.globals in

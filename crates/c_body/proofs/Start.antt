@@ -25,7 +25,7 @@ use Rattle.c_meaning.proofs.Takes.{numbers_of_their_types}
 use Rattle.c_meaning.proofs.Lookups.{bytes_equal, bytes_differ}
 use Rattle.alike.specs.Alike.{global_name}
 use Rattle.c_body.specs.Names.{slot, local_name, element_name, pointer_name}
-use Rattle.c_body.specs.Limits.{BodyIsWithin}
+use Rattle.c_body.specs.Limits.{BodyHasLimits}
 use Rattle.c_body.specs.Agree.{Located, VarsAgree}
 use Rattle.c_body.specs.Body.{params_from, params_of, zero_local, locals_from, has_slot, most_operands, slots_of, has_element, element_local, func_of}
 use Rattle.c_body.proofs.Names.{local_at_another_place, local_is_no_element, slot_is_no_element, slot_is_no_global, slot_is_no_local, slot_is_no_pointer}
@@ -274,7 +274,7 @@ slot_there t test a (suc n) h passes from to = elim (cases_eq a h) [
     by_test false e = e
 
 -- the arguments and zeros are its locals, and it has all its slots
-pub start_agrees : (c : Context) (entry : BodyEntry) (args : List Value) → BodyIsWithin entry → length args ≤ 60
+pub start_agrees : (c : Context) (entry : BodyEntry) (args : List Value) → BodyHasLimits entry → length args ≤ 60
     → AllByRecursion IsNumber args
     → VarsAgree (λ t height. has_slot t c entry.code height) (has_element entry.code) [] (args ++ zeros (declared_locals entry.runs))
     (start_vars c entry args)

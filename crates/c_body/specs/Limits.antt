@@ -1,40 +1,24 @@
 -- What every module that was read keeps within (WebAssembly Core 1.0, appendix A.2), as far as its unit
 -- rests on it: what is counted, and the numbers that stand in instructions.
-use Rattle.std.specs.Prelude.{◌≡◌, ℕ, ◌<◌, ◌≤◌, ◌^◌, ◌+◌, not, nat_lt, Bool, false, [], ◌++◌, List, length, Option, Some, None, ⊤}
+use Rattle.std.specs.Prelude.{◌≡◌, ◌<◌, ◌≤◌, ◌^◌, ◌+◌, false, [], ◌++◌, length}
 use Rattle.std.specs.List.{AllByRecursion}
 use Rattle.wasm_tree.specs.declared.tree.Module.{Module}
 use Rattle.wasm_tree.specs.declared.entries.BodyEntry.{BodyEntry}
-use Rattle.wasm_tree.specs.Instructions.{Kind, BrTable, Load, Store}
 use Rattle.wasm_tree.specs.IndexSpaces.{table_space, memory_space, declared_locals}
+use Rattle.wasm_spelling.specs.Bytes.{AreBytes}
+use Rattle.wasm_spelling.specs.Within.{has_wide, IsMaximum}
 use Rattle.wasm_valid.specs.Context.{Context}
 use Rattle.c_body.specs.Stack.{peak}
 use Rattle.c_body.specs.Labels.{labels_in, any_in}
 
-abbrev is_wide : ℕ → Bool
-is_wide n = not (nat_lt n 4294967296)
-
--- an instruction with a number of more than 32 bits
-abbrev pub has_wide : Kind → Bool
-has_wide (Load op arg) = is_wide arg.offset
-has_wide (Store op arg) = is_wide arg.offset
-has_wide (BrTable labels default) = is_wide (length labels)
-has_wide _ = false
-
-pub record BodyIsWithin (b : BodyEntry) : Type 0 where
+pub record BodyHasLimits (b : BodyEntry) : Type 0 where
   pub locals : length (declared_locals b.runs) < 2 ^ 32
   pub labels : labels_in b.code + 2 < 2 ^ 32
   -- operands on a stack, whatever the types are
   pub operands : (c : Context) → peak c [] b.code < 2 ^ 32
   pub numbers : any_in has_wide b.code ≡ false
 
-abbrev pub IsMaximum : Option ℕ → Type 0
-IsMaximum None = ⊤
-IsMaximum (Some max) = max < 2 ^ 32
-
-abbrev pub AreBytes : List ℕ → Type 0
-AreBytes bytes = AllByRecursion (λ b. b < 256) bytes
-
-pub record IsWithin (m : Module) : Type 0 where
+pub record HasLimits (m : Module) : Type 0 where
   pub imports : length m.imports < 2 ^ 32
   pub types : length m.types < 2 ^ 32
   pub funcs : length m.funcs < 2 ^ 32
@@ -53,4 +37,4 @@ pub record IsWithin (m : Module) : Type 0 where
   pub import_names : AllByRecursion (λ i. AreBytes i.«module» × AreBytes i.field) m.imports
   pub export_names : AllByRecursion (λ e. AreBytes e.name) m.exports
   pub elements : AllByRecursion (λ e. length e.funcs < 2 ^ 32) m.elements
-  pub bodies : AllByRecursion BodyIsWithin m.bodies
+  pub bodies : AllByRecursion BodyHasLimits m.bodies

@@ -1,11 +1,13 @@
 // The function of a body.
-ghost use Rattle.std.specs.Prelude.{◌≡◌, ◌-◌, ◌++◌, replicate, slice_get, IfOk, OnOk};
+ghost use Rattle.std.specs.Prelude.{◌≡◌, ◌<◌, ◌-◌, ◌^◌, ◌++◌, replicate, slice_get, IfOk, OnOk};
 ghost use Rattle.std.specs.Option.{option_copied};
 ghost use Rattle.wasm_tree.specs.IndexSpaces.{declared_locals, at_defined};
+ghost use Rattle.wasm_valid.specs.Context.{context_of};
 ghost use Rattle.c_tree.specs.View.{body_of as body_seen, func_of as func_seen};
 ghost use Rattle.w2c_base.specs.declared.value.ValType.TheVariants as type;
 ghost use Rattle.c_body.specs.Around.{named_of, setting_of};
 ghost use Rattle.c_body.specs.Body as function;
+ghost use Rattle.c_body.specs.Ready.{BodyIsReady};
 
 use crate::around::Around;
 use crate::call::c_result;
@@ -58,6 +60,8 @@ fn statements(emitter: Emitter) -> Stmts
 
 // The variables and the statements of a body, whose own locals are numbered from the first on.
 fn whole_body(around: &Around, first: usize, own: &[ValType], code: &Code) -> Result<Body, Memory>
+    requires first { first < 2 ^ 63 }
+    requires ready { BodyIsReady (setting_of around.now).context code.now }
     ensures { IfOk result (λ b. body_seen b ≡ record {
       locals = function.locals_from first own.now
           ++ (function.slots_of type.I32 (setting_of around.now).context code.now
@@ -95,6 +99,7 @@ impl<'a> IndexSpaces<'a> {
         ty: &FuncType,
         body: &BodyEntry,
     ) -> Result<Func, Memory>
+        requires { BodyIsReady (context_of self.now.tree.now ty.now body.now) body.now.code }
         ensures { IfOk result (λ f. func_seen f ≡ function.func_of (named_of self.now) index ty.now body.now) }
     {
         let own = declared_types(alloc, body)?;
@@ -151,7 +156,11 @@ impl<'a> IndexSpaces<'a> {
                 None => no_func(alloc),
                 Some(body) => match self.ty(func.type_index) {
                     None => no_func(alloc),
-                    Some(ty) => self.defined(alloc, index, ty, body),
+                    Some(ty) => {
+                        // What the check found of the module comes with it.
+                        self.checked.module();
+                        self.defined(alloc, index, ty, body)
+                    }
                 },
             },
         }
@@ -172,11 +181,10 @@ fn no_func(alloc: Global) -> Result<Func, Memory>
 }
 
 /// The function that the function of a module with an index is translated to, under the module's name. Of many
-/// functions of one module it is better to make `IndexSpaces` once. `Memory` comes where memory was wanting, and
-/// where code takes operands that no typed code takes, or has more labels than a `usize` counts.
+/// functions of one module it is better to make `IndexSpaces` once.
 pub fn body(alloc: Global, m: &ValidModule, name: &[u8], index: u32) -> Result<Func, Memory>
     ensures { IfOk result (λ f. func_seen f ≡ function.body_of m.now name.now index) }
 {
-    let spaces = IndexSpaces::new(alloc, m.module(), name)?;
+    let spaces = IndexSpaces::new(alloc, m, name)?;
     spaces.function(alloc, index)
 }

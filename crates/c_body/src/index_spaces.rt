@@ -6,6 +6,7 @@ ghost use Rattle.wasm_tree.specs.IndexSpaces.{func_of_import, func_space, global
 ghost use Rattle.c_tree.specs.View.{arg_of, expr_of, stmt_of};
 ghost use Rattle.c_body.specs.Objects as objects;
 ghost use Rattle.c_body.specs.Symbols.{global_imports, memory_imports, table_imports, func_imports};
+ghost use Rattle.c_body.specs.Ready.{HaveFewParams};
 ghost use Rattle.c_body.specs.Reached.{usable_symbol};
 
 use crate::naming::{func_name, global_name, global_pointer, name_of};
@@ -14,11 +15,13 @@ use c_tree::{Arg, Expr, Name, Stmt};
 use std::alloc::Global;
 use w2c_base::{FuncType, Memory, ValType};
 use wasm_tree::{Import, ImportKind, Module};
+use wasm_valid::ValidModule;
 
 /// The index spaces of a module under its name, and how its functions, globals, memory and table are
 /// reached, so that nothing is searched for at an instruction.
 #[derive(Drop)]
 pub struct IndexSpaces<'a> {
+    pub(crate) checked: &'a ValidModule,
     pub(crate) tree: &'a Module,
     pub(crate) name: &'a [u8],
     /// The index of each function's type.
@@ -29,6 +32,8 @@ pub struct IndexSpaces<'a> {
     imported_globals: usize,
     imports_memory: bool,
     imports_table: bool,
+    ghost same: { checked.now ≡ tree.now },
+    ghost few_params: { HaveFewParams tree.now },
     ghost funcs_are: { funcs.items ≡ func_space tree.now },
     ghost globals_are: { globals.items ≡ global_space tree.now },
     ghost callees_are: { callees.items ≡ map (usable_symbol (record { name = name.now; tree = tree.now })) (func_imports tree.now) },
@@ -137,13 +142,16 @@ impl<'a> IndexSpaces<'a> {
     ghost use Rattle.c_body.specs.Around.{named_of};
 
     /// What is read of a module under its name.
-    pub fn new(alloc: Global, tree: &'a Module, name: &'a [u8]) -> Result<IndexSpaces<'a>, Memory>
-        ensures { IfOk result (λ s. named_of s ≡ record { name = name.now; tree = tree.now }) }
+    #[tactic(auto, using(crate::proofs::Readiness::few_params_of))]
+    pub fn new(alloc: Global, m: &'a ValidModule, name: &'a [u8]) -> Result<IndexSpaces<'a>, Memory>
+        ensures { IfOk result (λ s. named_of s ≡ record { name = name.now; tree = m.now }) }
     {
+        let tree = m.module();
         let funcs = all_funcs(alloc, tree)?;
         let globals = all_globals(alloc, tree)?;
         let callees = callees(alloc, name, tree)?;
         Ok(IndexSpaces {
+            checked: m,
             tree,
             name,
             funcs,

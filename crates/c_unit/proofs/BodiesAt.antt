@@ -18,7 +18,7 @@ use Rattle.wasm_valid.specs.Context.{context_of, body_context}
 use Rattle.wasm_valid.specs.Typing.{values, BodyHasType}
 use Rattle.wasm_valid.specs.Verdict.{IsTyped, AreTyped, bodies_of}
 use Rattle.wasm_valid.specs.ModuleFaults.{fault_if, unknown_import_type, unknown_types, module_faults}
-use Rattle.c_body.specs.Limits.{IsWithin, BodyIsWithin}
+use Rattle.c_body.specs.Limits.{HasLimits, BodyHasLimits}
 use Rattle.c_body.specs.Stack.{peak}
 use Rattle.c_body.specs.Body.{func_of, body_of, most_operands}
 use Rattle.c_unit.specs.Sets.{IsAccepted}
@@ -27,13 +27,14 @@ use Rattle.c_body.proofs.Lists.{all_at}
 use Rattle.c_tree.specs.declared.tree.CType.TheVariants.{Void}
 use Rattle.std.proofs.lemmas.Option.{same_Some}
 use Rattle.std.proofs.lemmas.Map.Keys.{any_passes_from_place}
+use Rattle.c_unit.proofs.AcceptedLimits.{accepted_limits}
 
 pub record BodyAt (m : NamedModule) (k : ℕ) : Type 0 where
   pub ty : FuncType
   pub entry : BodyEntry
   pub is : body_of m.tree m.name k ≡ func_of m k ty entry
   pub typed : BodyHasType (context_of m.tree ty entry) entry.code
-  pub within : BodyIsWithin entry
+  pub within : BodyHasLimits entry
   pub listed : (test : Code → Bool) → test entry.code ≡ true → list_any (λ (b : BodyEntry). test b.code) m.tree.bodies ≡ true
   pub params : length ty.params ≤ 60
   pub func : FuncEntry
@@ -61,7 +62,7 @@ typed_at m [] i b all e = absurd cc
 typed_at m (c ∷ bodies) zero b all e = subst (λ (d : FuncEntry × BodyEntry). IsTyped (body_context m d.0 d.1) d.1) (same_Some c b e) all.0
 typed_at m (c ∷ bodies) (suc i) b all e = typed_at m bodies i b all.1 e
 
-pub few_params : (m : Module) → IsWithin m → (x : ℕ) (ty : FuncType) → type_in m x ≡ Some ty → length ty.params ≤ 60
+pub few_params : (m : Module) → HasLimits m → (x : ℕ) (ty : FuncType) → type_in m x ≡ Some ty → length ty.params ≤ 60
 few_params m w x ty e = by (slice_get m.types x) refl e
   where
     by : (o : Option TypeEntry) → slice_get m.types x ≡ o → option_map (λ (t : TypeEntry). t.ty) o ≡ Some ty → length ty.params ≤ 60
@@ -73,7 +74,7 @@ few_params m w x ty e = by (slice_get m.types x) refl e
 
 pub body_at : (m : NamedModule) → IsAccepted m → (i : ℕ) → i < length m.tree.funcs → BodyAt m (imported_funcs m.tree + i)
 body_at m a i less =
-    let found = get_zip m.tree.funcs m.tree.bodies i less a.within.bodies_are_there in
+    let found = get_zip m.tree.funcs m.tree.bodies i less (accepted_limits a).bodies_are_there in
     let fault = none_at (λ (f : FuncEntry). fault_if (is_none (type_in m.tree f.type_index)) f.place cause.UnknownType)
     m.tree.funcs i found.0
     (no_right (flat_map (unknown_import_type m.tree) m.tree.imports) _ (types_known m.tree a.valid.no_faults)) found.2 in
@@ -91,9 +92,9 @@ body_at m a i less =
           (record { is_static = true; result = Void; name = []; params = []; body = None })) known.1;
       typed = subst (λ o. IsTyped (option_map (λ ty. context_of m.tree ty found.1) o) found.1) known.1
           (typed_at m.tree (bodies_of m.tree) i (found.0, found.1) a.valid.bodies found.4);
-      within = all_at BodyIsWithin m.tree.bodies i found.1 a.within.bodies found.3;
+      within = all_at BodyHasLimits m.tree.bodies i found.1 (accepted_limits a).bodies found.3;
       listed = λ test e. any_passes_from_place (λ (b : BodyEntry). test b.code) m.tree.bodies i found.1 found.3 e;
-      params = few_params m.tree a.within found.0.type_index known.0 known.1;
+      params = few_params m.tree (accepted_limits a) found.0.type_index known.0 known.1;
       func = found.0;
       func_is = ap (slice_get m.tree.funcs) back ∙ found.2;
       type_is = known.1;

@@ -38,6 +38,7 @@ use Rattle.c_unit.proofs.Small.{there_is, some_same}
 use Rattle.c_body.proofs.OwnNames.{named_in}
 use Rattle.c_body.proofs.Lists.{get_left}
 use Rattle.c_tree.specs.Runtime.{primitives}
+use Rattle.c_unit.proofs.AcceptedLimits.{accepted_limits}
 
 -- what the functions of exports need of what is declared before them
 pub record Sees (m : NamedModule) (declared : List tree.Item) : Type 0 where
@@ -100,7 +101,7 @@ module _ (m : NamedModule) (a : IsAccepted m) (declared : List tree.Item) (sees 
     where
       few_at : (o : Option ℕ) (ty : FuncType) → if_found o (type_in t) ≡ Some ty → length ty.params ≤ 60
       few_at None ty e = absurd cc
-      few_at (Some x) ty e = few_params t a.within x ty e
+      few_at (Some x) ty e = few_params t (accepted_limits a) x ty e
 
   object_is : (pointer u : CType) (object sym_name : Name) (imports : List Import) (k : ℕ) → is_symbol sym_name ≡ true
       → pointer_to u ≡ Some pointer → is_void pointer ≡ false → is_object_type pointer ≡ false

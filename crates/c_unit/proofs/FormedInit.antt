@@ -29,7 +29,7 @@ use Rattle.alike.specs.Alike.{memory_name, table_name, global_name}
 use Rattle.c_body.specs.Names.{pointer_name}
 use Rattle.c_body.specs.Symbols.{is_usable, import_symbol, global_imports, memory_imports, table_imports}
 use Rattle.c_body.specs.Objects.{callee, memory_arg, table_arg}
-use Rattle.c_body.specs.Limits.{IsMaximum}
+use Rattle.wasm_spelling.specs.Within.{IsMaximum}
 use Rattle.c_body.proofs.FormedCode.{Fits, signature_below}
 use Rattle.c_unit.specs.Init.{n64, limits_label, bounds_label, byte_name, max_number, constant_expr, place_expr, set_pointer, test_min, test_max, take_stmts, takes_from, make_table, make_memory, make_global, test_bounds, test_elements, test_data, signature, write_element, write_elements, write_data, call_start, start_stmts, trap_if, tests_limits, tests_bounds, init_stmts}
 use Rattle.c_unit.specs.Sets.{IsAccepted}
@@ -38,6 +38,7 @@ use Rattle.c_unit.proofs.InitSegments.{flat_all}
 use Rattle.c_body.proofs.Lists.{all_append, all_weaker, all_front, all_behind}
 use Rattle.c_unit.proofs.Small.{all_images}
 use Rattle.c_body.proofs.Classes.{all_kept}
+use Rattle.c_unit.proofs.AcceptedLimits.{accepted_limits}
 
 abbrev FitsHere : tree.Stmt → Type 0
 FitsHere stmt = FitsStmt depth_limit stmt
@@ -175,12 +176,12 @@ module _ (m : NamedModule) (a : IsAccepted m) where
   limits_of (l ∷ xs) most small low high = ((omega (arith, small, low.0), high.0), limits_of xs most small low.1 high.1)
 
   tables_limits : AllByRecursion AreLimits (table_space t)
-  tables_limits = limits_of (table_space t) 1000000 (omega arith) a.within.tables
-      (all_front (λ (l : Limits). IsMaximum l.max) (table_space t) (memory_space t) a.within.maxima)
+  tables_limits = limits_of (table_space t) 1000000 (omega arith) (accepted_limits a).tables
+      (all_front (λ (l : Limits). IsMaximum l.max) (table_space t) (memory_space t) (accepted_limits a).maxima)
 
   memories_limits : AllByRecursion AreLimits (memory_space t)
-  memories_limits = limits_of (memory_space t) 16384 (omega arith) a.within.memories
-      (all_behind (λ (l : Limits). IsMaximum l.max) (table_space t) (memory_space t) a.within.maxima)
+  memories_limits = limits_of (memory_space t) 16384 (omega arith) (accepted_limits a).memories
+      (all_behind (λ (l : Limits). IsMaximum l.max) (table_space t) (memory_space t) (accepted_limits a).maxima)
 
   -- ---- what the module defines
 
@@ -227,7 +228,7 @@ module _ (m : NamedModule) (a : IsAccepted m) where
 
       by : (o : Option ℕ) → signature (if_found o (type_in t)) < 2 ^ 64
       by None = omega arith
-      by (Some x) = of_type (type_in t x) (few_params t a.within x)
+      by (Some x) = of_type (type_in t x) (few_params t (accepted_limits a) x)
 
   elements_fit : (xs : List ElementEntry) → AllByRecursion (λ (e : ElementEntry). length e.funcs < 2 ^ 32) xs
       → Fits (flat_map (write_elements t) xs)
@@ -306,10 +307,10 @@ module _ (m : NamedModule) (a : IsAccepted m) where
         (map (λ (x : LimitsEntry). x.limits) t.memories) memories_limits))
         (all_append FitsHere (map (make_global t) (numbered t.globals)) _
         (all_images FitsHere (make_global t) (numbered t.globals) (λ g. constant_fits 99 g.1.code))
-        (all_append FitsHere (flat_map (test_elements t) t.elements) _ (element_tests_fit t.elements a.within.elements)
-        (all_append FitsHere (flat_map (test_data t) t.segments) _ (data_tests_fit t.segments a.within.bytes)
-        (all_append FitsHere (flat_map (write_elements t) t.elements) _ (elements_fit t.elements a.within.elements)
-        (all_append FitsHere (flat_map (write_data t) (numbered t.segments)) _ (all_data_fit 0 t.segments a.within.bytes)
+        (all_append FitsHere (flat_map (test_elements t) t.elements) _ (element_tests_fit t.elements (accepted_limits a).elements)
+        (all_append FitsHere (flat_map (test_data t) t.segments) _ (data_tests_fit t.segments (accepted_limits a).bytes)
+        (all_append FitsHere (flat_map (write_elements t) t.elements) _ (elements_fit t.elements (accepted_limits a).elements)
+        (all_append FitsHere (flat_map (write_data t) (numbered t.segments)) _ (all_data_fit 0 t.segments (accepted_limits a).bytes)
         (all_append FitsHere (start_stmts m t.start) _ (start_fits t.start) (
           tt,
           all_append FitsHere (trap_if (tests_limits t) limits_label (pieces.trap trap.ImportLimits)) _

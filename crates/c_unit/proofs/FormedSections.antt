@@ -57,6 +57,7 @@ use Rattle.c_unit.proofs.UnitNames.{import_named, export_named, func_named, glob
 use Rattle.c_body.proofs.Lists.{all_map, all_append, all_at, get_unmapped, all_front, all_behind}
 use Rattle.c_unit.proofs.Small.{no_fault, all_images, each_none}
 use Rattle.c_body.proofs.Spaces.{global_count, func_count}
+use Rattle.c_unit.proofs.AcceptedLimits.{accepted_limits}
 
 abbrev pub IsFormed : tree.Item → Type 0
 IsFormed o = NamedItem o × FitsItem depth_limit o
@@ -261,7 +262,7 @@ module _ (m : NamedModule) (a : IsAccepted m) where
   of_bytes d bytes = record { memory = d.memory; offset = d.offset; bytes = bytes; place = d.place; offset_place = d.offset_place }
 
   pub data_formed : AllByRecursion IsFormed (data_of t)
-  data_formed = each 0 t.segments (data_names m a) a.within.bytes a.within.are_bytes
+  data_formed = each 0 t.segments (data_names m a) (accepted_limits a).bytes (accepted_limits a).are_bytes
     where
       each : (n : ℕ) (xs : List SegmentEntry) → NamedItems (flat_map data_item (zip (range_with_len n (length xs)) xs))
           → AllByRecursion (λ (d : SegmentEntry). length d.bytes < 2 ^ 32) xs
@@ -336,7 +337,7 @@ module _ (m : NamedModule) (a : IsAccepted m) where
   signatures : (x : ℕ) (ty : FuncType) → slice_get (map (λ (e : TypeEntry). e.ty) t.types) x ≡ Some ty → length ty.params ≤ 60
   signatures x ty e =
       let found = get_unmapped (λ (e : TypeEntry). e.ty) t.types x ty e in
-      few_params t a.within x ty (ap (option_map (λ (e : TypeEntry). e.ty)) found.1 ∙ ap Some found.2)
+      few_params t (accepted_limits a) x ty (ap (option_map (λ (e : TypeEntry). e.ty)) found.1 ∙ ap Some found.2)
 
   pub bodies_formed : AllByRecursion IsFormed functions_of
   bodies_formed = all_map IsFormed tree.Function (bodies m)
@@ -368,7 +369,7 @@ module _ (m : NamedModule) (a : IsAccepted m) where
           )
 
   import_names : AllByRecursion (λ (i : Import). IsName (import_symbol i)) t.imports
-  import_names = each t.imports a.within.import_names
+  import_names = each t.imports (accepted_limits a).import_names
     where
       each : (imports : List Import) → AllByRecursion
           (λ (i : Import). AllByRecursion (λ b. b < 256) i.«module» × AllByRecursion (λ b. b < 256) i.field) imports
@@ -406,7 +407,7 @@ module _ (m : NamedModule) (a : IsAccepted m) where
     where
       few_at : (o : Option ℕ) (ty : FuncType) → if_found o (type_in t) ≡ Some ty → length ty.params ≤ 60
       few_at None ty e = absurd cc
-      few_at (Some x) ty e = few_params t a.within x ty e
+      few_at (Some x) ty e = few_params t (accepted_limits a) x ty e
 
   global_low : (index : ℕ) → is_none (slice_get (global_space t) index) ≡ false → index < 2 ^ 64
   global_low index out =
@@ -448,7 +449,7 @@ module _ (m : NamedModule) (a : IsAccepted m) where
           (no_fault (is_none (slice_get (global_space t) e.index)) e.index_place cause.UnknownGlobal v)
 
   pub exports_formed : AllByRecursion IsFormed (map (λ e. tree.Function (export_func m e)) t.exports)
-  exports_formed = each t.exports a.within.export_names (each_none (unknown_export t) t.exports (exports_known t a.valid.no_faults).0)
+  exports_formed = each t.exports (accepted_limits a).export_names (each_none (unknown_export t) t.exports (exports_known t a.valid.no_faults).0)
     where
       each : (exports : List Export) → AllByRecursion (λ (e : Export). AllByRecursion (λ b. b < 256) e.name) exports
           → AllByRecursion (λ e. unknown_export t e ≡ []) exports

@@ -28,6 +28,7 @@ use Rattle.c_unit.proofs.Usable.{type_at_is}
 use Rattle.c_unit.proofs.Small.{some_same, less_or_not, nothing_joined, there_in, none_at, no_fault, there_is}
 use Rattle.c_body.proofs.Lists.{get_behind, get_numbered, get_within, get_mapped, get_front, get_unmapped}
 use Rattle.wasm_valid.specs.declared.fault.ValidCause.TheVariants.{UnknownType}
+use Rattle.c_unit.proofs.AcceptedLimits.{accepted_limits}
 
 -- ---- imported functions
 
@@ -213,7 +214,7 @@ own_func s accepted u m is k there =
     let j : ℕ = k - imported_funcs m.tree in
     let place : k ≡ imported_funcs m.tree + j = omega (arith, there.behind) in
     let f = get_within m.tree.funcs j (omega (arith, there.behind, there.within)) in
-    let b = get_within m.tree.bodies j (omega (arith, there.behind, there.within, a.within.bodies_are_there)) in
+    let b = get_within m.tree.bodies j (omega (arith, there.behind, there.within, (accepted_limits a).bodies_are_there)) in
     let t = func_has_type m.tree a.valid j f.0 f.1 in
     let e : k ≡ length (flat_map func_of_import m.tree.imports) + j = omega (arith, there.behind, count_funcs m.tree.imports) in
     let in_space : slice_get (func_space m.tree) k ≡ Some f.0.type_index

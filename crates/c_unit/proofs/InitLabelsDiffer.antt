@@ -25,6 +25,7 @@ use Rattle.c_body.proofs.RulesOfCode.{labels-append}
 use Rattle.c_body.proofs.RulesOfLabels.{Within, none, one, upward, downward, wider, behind_one, labels_differ}
 use Rattle.c_unit.specs.Init.{limits_label, bounds_label, loop_label, set_pointer, test_min, test_max, test_limits, take_stmts, takes_from, make_table, make_memory, make_global, test_elements, test_data, write_element, write_elements, write_data, call_start, start_stmts, trap_if, tests_limits, tests_bounds, init_stmts}
 use Rattle.c_unit.specs.Sets.{IsAccepted}
+use Rattle.c_unit.proofs.AcceptedLimits.{accepted_limits}
 
 skip : (l u : ℕ) (xs ys : List tree.Stmt) → labels_of xs ≡ [] → Within l u ys → Within l u (xs ++ ys)
 skip l u xs ys e w = record {
@@ -147,4 +148,4 @@ init_within m =
     (trap_within (tests_bounds m.tree) 1 2 1 trap.SegmentOut (omega arith) (omega arith)))))))))))))
 
 pub init_labels : (m : NamedModule) → IsAccepted m → are_distinct (labels_of (init_stmts m)) ≡ true
-init_labels m a = labels_differ 0 (length m.tree.segments + 2) (init_stmts m) (omega (arith, a.within.segments)) (init_within m)
+init_labels m a = labels_differ 0 (length m.tree.segments + 2) (init_stmts m) (omega (arith, (accepted_limits a).segments)) (init_within m)

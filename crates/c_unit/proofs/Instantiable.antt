@@ -18,7 +18,7 @@ use Rattle.wasm_tree.specs.declared.entries.Start.{Start}
 use Rattle.wasm_tree.specs.IndexSpaces.{func_space, table_space, memory_space, global_space, imported_global_space, func_type_in, table_of_import, memory_of_import, is_global_import}
 use Rattle.wasm_valid.specs.declared.fault.ValidCause.TheVariants as cause
 use Rattle.wasm_valid.specs.ModuleFaults.{module_faults, unknown_types, too_many, min_above_max, too_many_pages, Expression, expressions, constant_expected, unknown_global, type_mismatch, unknown_export, duplicate_exports, start_faults, unknown_segments, unknown_elements, fault_if, is_out, Shape, constant, got, got_unknown, neither, shape_of, is_no_constant, is_got_unknown, has_other_type, is_no_first, is_other_than_start}
-use Rattle.c_body.specs.Limits.{IsMaximum}
+use Rattle.wasm_spelling.specs.Within.{IsMaximum}
 use Rattle.c_unit.specs.Init.{max_number}
 use Rattle.c_unit.proofs.InitConstants.{ShapeFits}
 use Rattle.c_unit.proofs.Surroundings.{ElementIsValid, DataIsValid, StartIsValid}

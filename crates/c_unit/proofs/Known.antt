@@ -27,6 +27,7 @@ use Rattle.c_unit.proofs.Tasks.{UnitsAreKnown, instantiated_alike}
 use Rattle.c_unit.proofs.Instantiable.{modules_are_instantiable}
 use Rattle.c_unit.proofs.Small.{is_func, is_table, is_memory, is_global}
 use Rattle.c_unit.proofs.Pointers.{target_of}
+use Rattle.c_unit.proofs.AcceptedLimits.{accepted_limits}
 
 -- ---- what is shown of functions
 
@@ -199,7 +200,7 @@ accepted_at modules u m all is = all_at IsAccepted modules u m all is
 pub units_are_known : InitsAreDefined → FuncsAreReached → ImportsGivePointers → UnitsAreKnown
 units_are_known inits functions gives s accepted u m is =
     let a : IsAccepted m = accepted_at s.modules u m accepted.accepted is in
-    let instantiable : IsInstantiable m.tree = modules_are_instantiable m.tree a.valid a.within in
+    let instantiable : IsInstantiable m.tree = modules_are_instantiable m.tree a.valid (accepted_limits a) in
     record {
       init = inits s accepted u m is;
       declared = units_declare m a;

@@ -55,6 +55,7 @@ use Rattle.c_unit.proofs.Pairs.{AllPairs, all_zip, pairs_zip, all_flat, pairs_fl
 use Rattle.c_body.proofs.Lists.{all_append, filter_few, all_map}
 use Rattle.c_unit.proofs.Small.{no_left, no_right, few, all_images}
 use Rattle.c_body.proofs.Spaces.{memory_count, table_count}
+use Rattle.c_unit.proofs.AcceptedLimits.{accepted_limits}
 
 -- ---- classes
 
@@ -196,10 +197,10 @@ module _ (m : NamedModule) (a : IsAccepted m) where
   t = m.tree
 
   pub few_globals : imported_globals t + length t.globals ≤ 2 ^ 64
-  few_globals = let i = filter_few is_global_import t.imports in omega (arith, i, a.within.imports, a.within.globals)
+  few_globals = let i = filter_few is_global_import t.imports in omega (arith, i, (accepted_limits a).imports, (accepted_limits a).globals)
 
   pub few_funcs : imported_funcs t + length t.funcs ≤ 2 ^ 64
-  few_funcs = let i = filter_few is_func_import t.imports in omega (arith, i, a.within.imports, a.within.funcs)
+  few_funcs = let i = filter_few is_func_import t.imports in omega (arith, i, (accepted_limits a).imports, (accepted_limits a).funcs)
 
   -- objects
   abbrev tabs : List tree.Item
@@ -249,7 +250,7 @@ module _ (m : NamedModule) (a : IsAccepted m) where
   pointer_item i = variable (import_type t i.1).result (pointer_name (global_name i.0))
 
   pub few_imports : length (global_imports t) ≤ 2 ^ 64
-  few_imports = let i = filter_few is_global_import t.imports in omega (arith, i, a.within.imports)
+  few_imports = let i = filter_few is_global_import t.imports in omega (arith, i, (accepted_limits a).imports)
 
   abbrev memory_pointers : List tree.Item
   memory_pointers = map (λ (i : Import). variable type.PtrMem (pointer_name memory_name)) (memory_imports t)
@@ -323,14 +324,14 @@ module _ (m : NamedModule) (a : IsAccepted m) where
 
   pub data_class : AllClass 5 (data_of t)
   data_class = all_flat (λ o. class (name_of o) ≡ 5) data_item 0 (length t.segments) t.segments (omega arith)
-      (λ j d low high. one_data (λ o. class (name_of o) ≡ 5) (j, d) (class_lettered 100 j (omega (arith, high, a.within.segments)) refl))
+      (λ j d low high. one_data (λ o. class (name_of o) ≡ 5) (j, d) (class_lettered 100 j (omega (arith, high, (accepted_limits a).segments)) refl))
 
   pub data_pairs : AllPairs NotSame (data_of t)
   data_pairs = pairs_flat NotSame data_item 0 (length t.segments) t.segments (omega arith)
       (λ i d. single (i, d))
       (λ i j x y less high. one_data (λ o. AllByRecursion (NotSame o) (data_item (j, y))) (i, x)
       (one_data (NotSame (tree.Array (data_name i) (length x.bytes) x.bytes)) (j, y)
-      (lettered 100 i j (omega (arith, less, high, a.within.segments)) (omega (arith, high, a.within.segments))
+      (lettered 100 i j (omega (arith, less, high, (accepted_limits a).segments)) (omega (arith, high, (accepted_limits a).segments))
       (λ e. absurd (omega (arith, e, less))))))
     where
       single : (d : ℕ × SegmentEntry) → AllPairs NotSame (data_item d)

@@ -51,6 +51,7 @@ use Rattle.c_unit.proofs.Sections.{pointers_are}
 use Rattle.c_body.proofs.Lists.{all_map, all_append, all_weaker, all_of}
 use Rattle.c_unit.proofs.Small.{all_pass, all_images}
 use Rattle.c_unit.proofs.InitPasses.{self_among}
+use Rattle.c_unit.proofs.AcceptedLimits.{accepted_limits}
 
 -- ---- lists
 
@@ -337,7 +338,7 @@ module _ (m : NamedModule) (a : IsAccepted m) where
       (λ e known there. ap (symbol_type m) (export_external m e).named ∙ (known ∙ ap Some (sym (export_shape m e).1)))
       (symbol_types m a))) (
         (λ there. absurd (let wrong : true ≡ false = sym there
-            ∙ none_among (init_symbol_of m.name) import_symbols (imports_apart m a t.imports a.within.import_names) in cc)),
+            ∙ none_among (init_symbol_of m.name) import_symbols (imports_apart m a t.imports (accepted_limits a).import_names) in cc)),
         tt,
       ))
 

@@ -34,7 +34,7 @@ use Rattle.alike.specs.Alike.{FunctionsAlike, func_name, memory_name, table_name
 use Rattle.c_body.specs.Symbols.{c_func_type, c_func_type_if, accessor_type, global_symbol, global_accessor_type, table_imports, memory_imports, global_imports, import_symbol, is_usable, export_symbol, export_type}
 use Rattle.c_body.specs.Objects.{callee}
 use Rattle.c_body.specs.Agree.{IsDefined, IsCallable}
-use Rattle.c_body.specs.Limits.{IsWithin}
+use Rattle.c_body.specs.Limits.{HasLimits}
 use Rattle.c_body.specs.Passing.{PassesOn, StandsFor, called, given, core}
 use Rattle.c_body.specs.Body.{params_of, params_from, func_of, body_of}
 use Rattle.c_unit.specs.Exports.{export_func, passes_on, accessor}
@@ -53,6 +53,7 @@ use Rattle.c_unit.proofs.Small.{some_same}
 use Rattle.c_body.proofs.Lists.{get_front, filter_few}
 use Rattle.c_unit.proofs.BodiesAt.{few_params}
 use Rattle.c_body.proofs.Spaces.{ResolvesAs, callable_later}
+use Rattle.c_unit.proofs.AcceptedLimits.{accepted_limits}
 
 -- the same as `StandsFor`, with so many statements at most
 pub record StandsIn (p : Program) (s : LinkedSet) (most : ℕ) (f : link.FuncAddress) (a : FuncAddress) : Type 0 where
@@ -131,7 +132,7 @@ pub record FuncStands (s : LinkedSet) (u : ℕ) (m : NamedModule) (k : ℕ) (f :
   pub typed : func_type_in m.tree k ≡ Some stands.ty
   pub callable : IsCallable s (suc u) f
 
-few_of_func : (m : Module) → IsWithin m → (k : ℕ) (ty : FuncType) → func_type_in m k ≡ Some ty → length ty.params ≤ 60
+few_of_func : (m : Module) → HasLimits m → (k : ℕ) (ty : FuncType) → func_type_in m k ≡ Some ty → length ty.params ≤ 60
 few_of_func m within k ty typed = go (slice_get (func_space m) k) typed
   where
     go : (o : Option ℕ) → if_found o (type_in m) ≡ Some ty → length ty.params ≤ 60
@@ -163,7 +164,7 @@ own_definition s accepted u m is k there =
     let body_is : body_of m.tree m.name k ≡ func_of m k own.ty own.entry.1 =
     body_with m.tree m.name k own.entry own.ty own.entry_is own.typed in
     let few : imported_funcs m.tree + length m.tree.funcs ≤ 2 ^ 64 =
-    omega (arith, filter_few is_func_import m.tree.imports, a.within.imports, a.within.funcs) in
+    omega (arith, filter_few is_func_import m.tree.imports, (accepted_limits a).imports, (accepted_limits a).funcs) in
     let has_body : (body_of m.tree m.name k).body ≡ (func_of m k own.ty own.entry.1).body = ap (λ (f : tree.Func). f.body) body_is in
     let name_is : (body_of m.tree m.name k).name ≡ func_name k = ap (λ (f : tree.Func). f.name) body_is in
     let definition = body_defined m k _ there few has_body name_is in (
@@ -310,7 +311,7 @@ exported_func s accepted many module_name name f h found inner =
     (record { item = found_symbol.definition.0; func = g; body = x.body })) func_is in
     let has_body : (passes_on (c_func_type ty) (export_symbol n e) (Some at.name)).body ≡ Some x.body =
     sym (ap (λ (g : tree.Func). g.body) func_is) ∙ x.has_body in
-    let few = few_of_func n.tree (accepted_at s accepted v n h.exporter_is).within e.index ty at.typed in
+    let few = few_of_func n.tree (accepted_limits (accepted_at s accepted v n h.exporter_is)) e.index ty at.typed in
     let once : (pending : Pending) (machine : Machine) (args : List Value) (below : List Frame) → types_of args ≡ ty.params
     → WrapsOnce p ty (UnitFunc v (export_symbol n e)) at.address pending machine args below
     = λ pending machine args below fit. wraps p pending v found_symbol.definition.0

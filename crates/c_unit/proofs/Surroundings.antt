@@ -22,7 +22,7 @@ use Rattle.c_meaning.specs.State as state
 use Rattle.c_meaning.specs.Linking.{Program, func_named, array_named}
 use Rattle.c_meaning.specs.Machine as machine
 use Rattle.c_meaning.specs.Primitives.{primitive}
-use Rattle.c_body.specs.Limits.{IsMaximum}
+use Rattle.wasm_spelling.specs.Within.{IsMaximum}
 use Rattle.c_body.specs.Passing.{StandsFor}
 use Rattle.c_body.specs.Agree.{IsCallable, PointersAreSet, TableAgrees, MemoryAgrees, ElementsAgree}
 use Rattle.c_body.specs.Objects.{callee, function_name, table_arg, memory_arg}

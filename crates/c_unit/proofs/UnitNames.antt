@@ -57,6 +57,7 @@ use Rattle.c_unit.proofs.InitSegments.{data_item}
 use Rattle.c_body.proofs.Lists.{all_map, all_append}
 use Rattle.c_unit.proofs.Small.{all_images}
 use Rattle.std.proofs.lemmas.List.Elements.{All-from_recursion}
+use Rattle.c_unit.proofs.AcceptedLimits.{accepted_limits}
 
 -- ---- words
 
@@ -168,7 +169,7 @@ module _ (m : NamedModule) (a : IsAccepted m) where
 
   pub data_names : NamedItems (data_of t)
   data_names = all_flat Named data_item 0 (length t.segments) t.segments (omega arith)
-      (λ j d low high. one j d (data_named j (omega (arith, high, a.within.segments))))
+      (λ j d low high. one j d (data_named j (omega (arith, high, (accepted_limits a).segments))))
     where
       one : (j : ℕ) (d : SegmentEntry) → IsName (data_name j) → NamedItems (data_item (j, d))
       one j d p = by d.bytes
@@ -178,7 +179,7 @@ module _ (m : NamedModule) (a : IsAccepted m) where
           by (b ∷ bytes) = (p, tt)
 
   pub symbols_named : AllByRecursion IsName (firsts [] (map import_symbol t.imports))
-  symbols_named = firsts_all IsName [] (map import_symbol t.imports) (each t.imports a.within.import_names)
+  symbols_named = firsts_all IsName [] (map import_symbol t.imports) (each t.imports (accepted_limits a).import_names)
     where
       each : (imports : List Import) → AllByRecursion
           (λ (i : Import). AllByRecursion (λ b. b < 256) i.«module» × AllByRecursion (λ b. b < 256) i.field) imports
@@ -211,7 +212,7 @@ module _ (m : NamedModule) (a : IsAccepted m) where
   helpers_named = all_images Named (λ which. tree.Function (helper_of which)) (helpers_of t) (λ which. (helper_formed which).0.0)
 
   pub exports_named : NamedItems (map (λ e. tree.Function (export_func m e)) t.exports)
-  exports_named = each t.exports a.within.export_names
+  exports_named = each t.exports (accepted_limits a).export_names
     where
       each : (exports : List Export) → AllByRecursion (λ (e : Export). AllByRecursion (λ b. b < 256) e.name) exports
           → NamedItems (map (λ e. tree.Function (export_func m e)) exports)

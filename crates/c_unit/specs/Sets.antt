@@ -15,14 +15,14 @@ use Rattle.c_meaning.specs.Linking.{Program, SymbolCall, link_refusal}
 use Rattle.c_meaning.specs.Run.{CRun, c_run}
 use Rattle.c_meaning.specs.Run as c
 use Rattle.alike.specs.Alike.{Alike}
-use Rattle.c_body.specs.Limits.{IsWithin}
+use Rattle.wasm_spelling.specs.Places.{IsFormed}
 use Rattle.c_body.specs.Serves.{AreServed}
 use Rattle.c_unit.specs.Items.{items}
 
--- a module that was read and is valid, under a name of 1 to 1,024 bytes
+-- a module that has a file and is valid, under a name of 1 to 1,024 bytes
 pub record IsAccepted (m : NamedModule) : Type 0 where
   pub valid : IsValid m.tree
-  pub within : IsWithin m.tree
+  pub formed : IsFormed m.tree
   pub named : 1 ≤ length m.name
   pub short : length m.name ≤ 1024
   pub bytes : All (λ b. b < 256) m.name
