@@ -1,5 +1,5 @@
--- A file's module is one that c_unit accepts: it is valid, and keeps within the limits.
-use Rattle.std.proofs.Common.{◌≡◌, ◌<◌, ℕ, List}
+-- A file's module is one that c_unit accepts: it is valid, and has a file.
+use Rattle.std.proofs.Common.{◌≡◌, ◌<◌, ℕ, List, refl}
 use Rattle.std.proofs.lemmas.List.Elements.{All-from_recursion}
 use Rattle.wasm_tree.specs.declared.tree.Module.{Module}
 use Rattle.wasm_spelling.specs.ModuleFields.{Spells}
@@ -9,13 +9,12 @@ use Rattle.wasm_valid.proofs.Verdicts.{valid}
 use Rattle.wasm_spelling.specs.Bytes.{AreBytes}
 use Rattle.c_unit.specs.Sets.{IsAccepted}
 use Rattle.w2c_sim.specs.Translation.{IsModuleOf}
-use Rattle.w2c_sim.proofs.Within.{spelled_is_within}
 
 pub module_is_accepted : (bytes name : List ℕ) (tree : Module) → IsModuleOf bytes name tree
     → IsAccepted (record { name = name; tree = tree })
 module_is_accepted bytes name tree is = record {
   valid = valid tree is.accepted.1;
-  within = spelled_is_within tree bytes is.are_bytes is.accepted.0;
+  formed = (bytes, is.are_bytes, (tree, refl, is.accepted.0));
   named = is.named;
   short = is.short;
   bytes = All-from_recursion (λ b. b < 256) name is.name_bytes;

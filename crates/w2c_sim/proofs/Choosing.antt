@@ -20,6 +20,7 @@ use Rattle.w2c_sim.specs.Selections as selection
 use Rattle.w2c_sim.specs.Selections.{File, IsTranslated, Chosen, ComesFrom, ComesFromOne, set_of, program_of}
 use Rattle.w2c_sim.proofs.Accepting.{module_is_accepted}
 use Rattle.w2c_sim.proofs.Spelling.{spells_no_other}
+use Rattle.w2c_sim.proofs.Wiring.{calls_fit}
 
 -- ---- one of a selection
 
@@ -71,7 +72,7 @@ of_set : sets.UnitsDoTheSame → (s : LinkedSet) → sets.IsAcceptedSet s → se
 of_set same s accepted =
     let does : sets.DoTheSame s = same s accepted in
     record {
-      link = units_link s accepted;
+      wired = record { link = units_link s accepted; calls = calls_fit s accepted };
       forward = does.forward;
       backward = does.backward;
       never_stops = record {

@@ -1,6 +1,5 @@
-pub mod Bounds
-pub mod Within
 pub mod Accepting
 pub mod Spelling
+pub mod Wiring
 pub mod Choosing
 pub mod Refusing

@@ -1,19 +1,19 @@
 -- The theorem of linked sets over files and texts: units that texts of files spell, in any selection and
 -- order that links with any hosts, do what the files' modules do (WebAssembly Core 1.0, 4.5.4 and 4.5.5;
 -- C11, 5.1.2.3).
-use Rattle.std.specs.Prelude.{◌≡◌, ◌≢◌, ℕ, ◌+◌, ◌*◌, ◌≤◌, List, map, None}
+use Rattle.std.specs.Prelude.{◌≡◌, ◌≢◌, ℕ, ◌+◌, ◌*◌, ◌≤◌, List, map, None, IsTrue}
 use Rattle.std.specs.List.{AllByRecursion, Contains}
 use Rattle.w2c_base.specs.Run.{Host, Reply}
 use Rattle.wasm_tree.specs.declared.tree.Module.{Module}
 use Rattle.wasm_spelling.specs.ModuleFields.{Spells}
 use Rattle.wasm_meaning.specs.LinkedSet.{LinkedSet, NamedModule, IsLinked}
 use Rattle.wasm_meaning.specs.Execution as exec
-use Rattle.wasm_meaning.specs.Run.{ListedCall, WasmRun, wasm_run}
+use Rattle.wasm_meaning.specs.Run.{ListedCall, Fits, WasmRun, wasm_run}
 use Rattle.wasm_meaning.specs.Run as wasm
 use Rattle.c_tree.specs.Tree as tree
 use Rattle.c_tree.specs.Spelled.{CSpells}
 use Rattle.c_meaning.specs.State.{Place, Undefined, Stuck}
-use Rattle.c_meaning.specs.Linking.{Program, link_refusal}
+use Rattle.c_meaning.specs.Linking.{Program, fits, link_refusal}
 use Rattle.c_meaning.specs.Run.{CRun, c_run}
 use Rattle.c_meaning.specs.Run as c
 use Rattle.alike.specs.Alike.{Alike}
@@ -81,8 +81,13 @@ pub record NeverStops (p : Program) (s : LinkedSet) : Type 0 where
   pub modules_never_stuck : (calls : List ListedCall) (replies : List Reply) (n : ℕ) → IsListing s calls
       → (wasm_run s calls n replies).outcome ≢ wasm.Stopped exec.Stuck
 
-pub record DoTheSame (p : Program) (s : LinkedSet) : Type 0 where
+-- the units link, and a listed call that fits the modules fits them under its symbol
+pub record AreWired (p : Program) (s : LinkedSet) : Type 0 where
   pub link : link_refusal p ≡ None
+  pub calls : (call : ListedCall) → Fits s call → IsTrue (fits p (symbol_call call))
+
+pub record DoTheSame (p : Program) (s : LinkedSet) : Type 0 where
+  pub wired : AreWired p s
   pub forward : Forward p s
   pub backward : Backward p s
   pub never_stops : NeverStops p s
