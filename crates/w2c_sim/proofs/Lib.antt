@@ -1,9 +1,5 @@
-pub mod Names
-pub mod Units
-pub mod Constants
-pub mod WasmCode
-pub mod WasmRuns
-pub mod CCode
-pub mod CRuns
-pub mod Pairing
-pub mod UnitRules
+pub mod Accepting
+pub mod Spelling
+pub mod Wiring
+pub mod Choosing
+pub mod Refusing

@@ -1,4 +1,4 @@
-pub mod Headers
-pub mod Runs
-pub mod Simulation
+-- promised
 pub mod Translation
+pub mod Refusals
+pub mod Selections

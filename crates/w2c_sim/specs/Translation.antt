@@ -1,49 +1,46 @@
--- The unit that a module of one constant function is translated to: a u32 variable `i<h>` for the
--- operand at height h, and one assignment for each instruction.
-use Rattle.std.specs.Prelude.{ℕ, zero, suc, ◌+◌, max, List, [], ◌∷◌, ◌++◌}
-use Rattle.std.specs.Fmt.{decimal}
+-- What is made of a file: where its bytes spell a valid module within the limits (WebAssembly Core 1.0,
+-- chapter 5 and 3.4.10), the text of the module's unit and that of its header.
+use Rattle.std.specs.Prelude.{◌≡◌, ℕ, ◌≤◌, List, length}
+use Rattle.wasm_tree.specs.declared.tree.Module.{Module}
+use Rattle.wasm_valid.specs.Verdict.{Accepted}
+use Rattle.wasm_valid.specs.FileVerdict.{Read, IsVerdictOn}
+use Rattle.wasm_meaning.specs.LinkedSet.{NamedModule}
 use Rattle.c_tree.specs.Tree as tree
-use Rattle.c_tree.specs.ConstantUnit.{ConstantSet, SetsNumber, SetsSum, constant_unit}
+use Rattle.c_tree.specs.Spelled.{CSpells}
+use Rattle.c_tree.specs.FirstBroken.{KeepsRules}
 use Rattle.c_print.specs.Print.{print_of}
-use Rattle.w2c_mangle.specs.Symbols.{export_symbol_of, init_symbol_of}
-use Rattle.w2c_mangle.specs.declared.symbol.SymbolKind.TheVariants.{Func}
-use Rattle.wasm_tree.specs.ConstantModule.{IsConstantModule}
-use Rattle.wasm_tree.specs.declared.constant_module.ConstantInstr.{ConstantInstr}
-use Rattle.wasm_tree.specs.declared.constant_module.ConstantInstr.TheVariants.{I32Const, I32Add}
+use Rattle.c_print.specs.Header.{header_text}
+use Rattle.wasm_spelling.specs.Bytes.{AreBytes}
+use Rattle.c_unit.specs.Items.{items_of, header_of}
+use Rattle.c_unit.specs.Shape.{IsShape}
+use Rattle.w2c_sim.specs.declared.translation.Texts.{Texts}
 
--- the variable of a height
-abbrev pub slot : ℕ → List ℕ
-slot height = 105 ∷ decimal height
+-- the file is accepted, and this is its module; the module gets this name, of 1 to 1,024 bytes
+pub record IsModuleOf (bytes name : List ℕ) (module_tree : Module) : Type 0 where
+  pub accepted : IsVerdictOn bytes (Read module_tree Accepted)
+  pub are_bytes : AreBytes bytes
+  pub named : 1 ≤ length name
+  pub short : length name ≤ 1024
+  pub name_bytes : AreBytes name
 
--- the variables of the heights below one, each 0 at first
-abbrev pub slots : ℕ → List (List ℕ × ℕ)
-slots zero = []
-slots (suc height) = slots height ++ (slot height, 0) ∷ []
+-- the text of a module's unit under a name, and that of its header
+abbrev pub text_of : Module → List ℕ → List ℕ
+text_of module_tree name = print_of (items_of module_tree name)
 
--- the assignments of code that begins at a height
-abbrev pub sets_of : ℕ → List ConstantInstr → List ConstantSet
-sets_of height [] = []
-sets_of height (I32Const number ∷ code) = SetsNumber (slot height) number ∷ sets_of (height + 1) code
-sets_of (suc (suc height)) (I32Add ∷ code) = SetsSum (slot height) (slot height) (slot (height + 1)) ∷ sets_of (height + 1) code
-sets_of (suc zero) (I32Add ∷ code) = []
-sets_of zero (I32Add ∷ code) = []
+abbrev pub header_text_of : Module → List ℕ → List ℕ
+header_text_of module_tree name = header_text (header_of module_tree name)
 
--- the greatest height that code reaches from one on
-abbrev pub peak : ℕ → List ConstantInstr → ℕ
-peak height [] = height
-peak height (I32Const number ∷ code) = max height (peak (height + 1) code)
-peak (suc height) (I32Add ∷ code) = max (suc height) (peak height code)
-peak zero (I32Add ∷ code) = 0
+abbrev pub AreTextsOf : Module → List ℕ → Texts → Type 0
+AreTextsOf module_tree name texts = (texts.unit ≡ text_of module_tree name) × (texts.header ≡ header_text_of module_tree name)
 
--- the unit of a module's name, an export's name and the code
-abbrev pub unit_of_constant : List ℕ → List ℕ → List ConstantInstr → List tree.Item
-unit_of_constant module_name name code =
-    constant_unit (init_symbol_of module_name) (export_symbol_of module_name Func name) (slots (peak 0 code)) (sets_of 0 code) (slot 0)
+-- the texts are those of the file's module under the name
+abbrev pub IsTranslation : List ℕ → List ℕ → Texts → Type 0
+IsTranslation bytes name texts = (module_tree : Module) × IsModuleOf bytes name module_tree × AreTextsOf module_tree name texts
 
--- its text
-abbrev pub text_of : List ℕ → List ℕ → List ConstantInstr → List ℕ
-text_of module_name name code = print_of (unit_of_constant module_name name code)
-
--- some file spells the module
-abbrev pub IsSpelledModule : List ℕ → List ConstantInstr → Type 0
-IsSpelledModule name code = (bytes : List ℕ) × IsConstantModule bytes name code
+-- the text spells a unit and no other, which keeps the rules of the subset of C and has the module's shape
+pub record SpellsUnit (m : NamedModule) (text : List ℕ) : Type 0 where
+  pub unit : List tree.Item
+  pub spells : CSpells unit text
+  pub only : (other : List tree.Item) → CSpells other text → other ≡ unit
+  pub keeps_rules : KeepsRules unit
+  pub shape : IsShape m unit

@@ -1,12 +1,11 @@
-//! From a module to the texts of its unit and its header, and that the unit does what the module
-//! does. So far for modules of one constant function.
+//! From the bytes of a module to the texts of its unit and its header, and that linked units do what
+//! their modules do.
 #![tactic(auto)]
 
-mod cases;
-mod header;
-mod text;
+mod laws;
+mod refusal;
 mod translation;
 
-pub use cases::run_cases;
-pub use header::unit_header;
-pub use text::unit_text;
+pub use laws::{linked_units_do_what_modules_do, texts_spell_units};
+pub use refusal::Refusal;
+pub use translation::{Texts, translate};

@@ -1,12 +1,10 @@
 -- The header's name: what it is made of, and that it is not the C file's.
-use Rattle.std.proofs.Common.{append_assoc, take-append-drop, ◌≡◌, ℕ, ◌-◌, ◌<◌, ◌≤◌, ◌&&◌, Bool, true, false, if◌then◌else◌, List, [], ◌∷◌, ◌++◌, length, length-append, get_or, take, drop, refl, sym, ◌∙◌, ap, subst, arith, Option, Some, None, IsTrue, codes}
+use Rattle.std.proofs.Common.{append_assoc, take-append-drop, ◌≡◌, ℕ, ◌-◌, ◌<◌, ◌&&◌, Bool, true, false, if◌then◌else◌, List, [], ◌∷◌, ◌++◌, length, length-append, get_or, take, drop, refl, sym, ◌∙◌, ap, subst, arith, Option, Some, None, IsTrue, codes}
 use Rattle.std.proofs.Math.Seq.{get_or-append_seam, take-append_seam}
 use Rattle.std.proofs.lemmas.List.{append_cancel_left}
 use Rattle.std.proofs.lemmas.Slice.Eq.{bytes_eq-Decides}
 use Rattle.w2c_io.specs.Contents.{Name}
-use Rattle.std.specs.Prelude.{nat_le}
-use Rattle.std.proofs.lemmas.Bool.{leb-true}
-use Rattle.wasm2c_cli.specs.CommandLine.{Line, header_name_of, is_c_file, is_module_name, is_line, line_named, line_of, module_name_by}
+use Rattle.wasm2c_cli.specs.CommandLine.{Line, header_name_of, is_c_file, is_line, line_named, line_of, module_name_by}
 
 not_true : IsTrue false → ⊥
 not_true h = cc
@@ -49,17 +47,14 @@ last_is front b =
     ap (λ (n : ℕ). get_or (front ++ b ∷ []) n 0) len ∙ get_or-append_seam front b [] 0
 
 -- the last character leaves, and h comes
-changed : (out front mid new : List ℕ) → out ≡ front ++ 99 ∷ []
-    → (0 < length out → get_or out (length out - 1) 0 < 128 → mid ≡ take (length out - 1) out) → new ≡ mid ++ 104 ∷ []
-    → new ≡ front ++ 104 ∷ []
+changed : (out front mid new : List ℕ) → out ≡ front ++ 99 ∷ [] → (0 < length out → get_or out (length out - 1) 0 < 128 → mid ≡ take (length out - 1) out) → new ≡ mid ++ 104 ∷ [] → new ≡ front ++ 104 ∷ []
 changed out front mid new ends pops is =
     let some : 0 < length out = omega (arith, ap length ends, length-append front (99 ∷ [])) in
     let last : get_or out (length out - 1) 0 ≡ 99 = ap (λ (l : List ℕ). get_or l (length l - 1) 0) ends ∙ last_is front 99 in
     let cut : take (length out - 1) out ≡ front = ap (λ (l : List ℕ). take (length l - 1) l) ends ∙ but_last front 99 in
     is ∙ ap (λ (l : List ℕ). l ++ 104 ∷ []) (pops some (omega (arith, last)) ∙ cut)
 
-pub header_name_is : (out old mid new : List ℕ) (len : ℕ) → IsTrue (is_c_file out) → old ≡ out → len ≡ length old
-    → (0 < len → get_or old (len - 1) 0 < 128 → mid ≡ take (len - 1) old) → new ≡ mid ++ 104 ∷ [] → new ≡ header_name_of out
+pub header_name_is : (out old mid new : List ℕ) (len : ℕ) → IsTrue (is_c_file out) → old ≡ out → len ≡ length old → (0 < len → get_or old (len - 1) 0 < 128 → mid ≡ take (len - 1) old) → new ≡ mid ++ 104 ∷ [] → new ≡ header_name_of out
 header_name_is out old mid new len h same is_len pops is =
     let stem = take (length out - 2) out in
     let ends : old ≡ (stem ++ 46 ∷ []) ++ 99 ∷ [] = same ∙ ends_in_c out h ∙ sym (append_assoc stem (46 ∷ []) (99 ∷ [])) in
@@ -71,36 +66,17 @@ none_some line e = cc
 some_same : (a b : Line) → ◌≡◌ {A = Option Line} (Some a) (Some b) → a ≡ b
 some_same a b e = cc
 
--- the names that a line gives to what is made
-abbrev IsNamed : Line → Type 0
-IsNamed line = IsTrue (is_c_file line.output && is_module_name line.module_name)
-
-of_test : (file flag out : Name) (name : List ℕ) (line : Line) (test : Bool) → is_line flag out name ≡ test
-    → ◌≡◌ {A = Option Line} (if test then Some (record { input = file; output = out; module_name = name }) else None) (Some line)
-    → IsNamed line
+of_test : (file flag out : Name) (name : List ℕ) (line : Line) (test : Bool) → is_line flag out name ≡ test → ◌≡◌ {A = Option Line} (if test then Some (record { input = file; output = out; module_name = name }) else None) (Some line) → IsTrue (is_c_file line.output)
 of_test file flag out name line true passed is =
-    subst IsNamed (some_same (record { input = file; output = out; module_name = name }) line is) (second_true _ _ passed)
+    subst (λ (l : Line). IsTrue (is_c_file l.output)) (some_same (record { input = file; output = out; module_name = name }) line is) (first_true _ _ (second_true _ _ passed))
 of_test file flag out name line false failed is = absurd (none_some line is)
 
-of_name : (file flag out : Name) (name : Option (List ℕ)) (line : Line) → line_named file flag out name ≡ Some line → IsNamed line
+of_name : (file flag out : Name) (name : Option (List ℕ)) (line : Line) → line_named file flag out name ≡ Some line → IsTrue (is_c_file line.output)
 of_name file flag out None line is = absurd (none_some line is)
 of_name file flag out (Some name) line is = of_test file flag out name line (is_line flag out name) refl is
 
-line_is_named : (words : List Name) (line : Line) → line_of words ≡ Some line → IsNamed line
-line_is_named [] line is = absurd (none_some line is)
-line_is_named (file ∷ []) line is = absurd (none_some line is)
-line_is_named (file ∷ flag ∷ []) line is = absurd (none_some line is)
-line_is_named (file ∷ flag ∷ out ∷ words) line is = of_name file flag out (module_name_by file words) line is
-
 pub output_is_c_file : (words : List Name) (line : Line) → line_of words ≡ Some line → IsTrue (is_c_file line.output)
-output_is_c_file words line is = first_true _ _ (line_is_named words line is)
-
-pub module_has_name : (words : List Name) (line : Line) → line_of words ≡ Some line → IsTrue (is_module_name line.module_name)
-module_has_name words line is = second_true (is_c_file line.output) _ (line_is_named words line is)
-
--- such a name has 1 to 1,024 bytes
-pub some_bytes : (name : List ℕ) → IsTrue (is_module_name name) → 1 ≤ length name
-some_bytes name h = leb-true 1 (length name) (first_true (nat_le 1 (length name)) (nat_le (length name) 1024) h)
-
-pub few_bytes : (name : List ℕ) → IsTrue (is_module_name name) → length name ≤ 1024
-few_bytes name h = leb-true (length name) 1024 (second_true (nat_le 1 (length name)) (nat_le (length name) 1024) h)
+output_is_c_file [] line is = absurd (none_some line is)
+output_is_c_file (file ∷ []) line is = absurd (none_some line is)
+output_is_c_file (file ∷ flag ∷ []) line is = absurd (none_some line is)
+output_is_c_file (file ∷ flag ∷ out ∷ words) line is = of_name file flag out (module_name_by file words) line is

@@ -2,17 +2,17 @@
 use Rattle.std.proofs.Common.{◌≡◌, ℕ, List, [], ◌∷◌, ◌++◌, codes, refl, sym, ◌∙◌, ap, subst, Option, Some, None, MatchOption, inl, inr}
 use Rattle.std.specs.FinMap.{get}
 use Rattle.w2c_io.specs.Contents.{Name, Contents}
-use Rattle.wasm_tree.specs.ConstantModule.{IsConstantModule}
-use Rattle.wasm_tree.proofs.OneSpelling.{one_spelling}
+use Rattle.wasm_spelling.proofs.Whole.{one_tree}
+use Rattle.wasm_tree.specs.declared.tree.Module.{Module}
+use Rattle.wasm_valid.specs.Verdict.{Accepted}
+use Rattle.wasm_valid.specs.FileVerdict.{Read, IsVerdictOn}
 use Rattle.wasm2c_cli.specs.declared.stop.Reason.{Reason}
 use Rattle.wasm2c_cli.specs.CommandLine.{Line, header_name_of, line_of, runtime_of}
-use Rattle.w2c_sim.specs.Headers.{header_of}
-use Rattle.w2c_sim.specs.Translation.{text_of}
-use Rattle.wasm2c_cli.specs.Job.{Job, Usage, Missing, Refused, Write, IsJobOf, IsJob, IsOtherJob, Translates}
+use Rattle.wasm2c_cli.specs.Job.{Job, Usage, Missing, Refused, Write, IsJobOf, IsJob, IsOtherJob, Translates, made_of}
 use Rattle.wasm2c_cli.specs.Reasons.{IsRefused}
 use Rattle.wasm2c_cli.specs.Runtime.{runtime_files}
 use Rattle.wasm2c_cli.specs.Standing.{file_names, AreDistinct, IsOneOf}
-use Rattle.wasm2c_cli.proofs.ReasonLaws.{built_not_refused, one_reason}
+use Rattle.wasm2c_cli.proofs.ReasonLaws.{accepted_not_refused, one_reason}
 use Rattle.wasm2c_cli.proofs.HeaderName.{is_apart, h_is_not_c, output_is_c_file}
 
 -- a file is not there and there, or has two contents
@@ -29,7 +29,9 @@ same_bytes contents file other bytes others held held' same =
 -- a file is translated and refused
 refused_translated : (line : Line) (contents : Contents) (file : Name) (bytes : List ℕ) (reason : Reason) (files : List (Name × List ℕ)) → file ≡ line.input → get contents file ≡ Some bytes → IsRefused bytes reason → Translates line contents files → ⊥
 refused_translated line contents file bytes reason files of_input held refused t =
-    built_not_refused bytes reason (t.name, t.code, subst (λ (b : List ℕ). IsConstantModule b t.name t.code) (same_bytes contents line.input file t.bytes bytes t.held held (sym of_input)) t.built) refused
+    accepted_not_refused bytes t.tree reason
+    (subst (λ (b : List ℕ). IsVerdictOn b (Read t.tree Accepted)) (same_bytes contents line.input file t.bytes bytes t.held held (sym of_input)) t.accepted)
+    refused
 
 same_reason : (contents : Contents) (file other : Name) (bytes others : List ℕ) (reason r : Reason) → get contents file ≡ Some bytes → get contents other ≡ Some others → file ≡ other → IsRefused bytes reason → IsRefused others r → reason ≡ r
 same_reason contents file other bytes others reason r held held' same refused refused' =
@@ -38,8 +40,8 @@ same_reason contents file other bytes others reason r held held' same refused re
 same_files : (line : Line) (contents : Contents) (files others : List (Name × List ℕ)) → Translates line contents files → Translates line contents others → files ≡ others
 same_files line contents files others t u =
     let bytes = same_bytes contents line.input line.input t.bytes u.bytes t.held u.held refl in
-    let parts = one_spelling t.bytes t.name u.name t.code u.code t.built (subst (λ (b : List ℕ). IsConstantModule b u.name u.code) (sym bytes) u.built) in
-    t.written ∙ (λ i. (line.output, text_of line.module_name (parts.0 i) (parts.1 i)) ∷ (header_name_of line.output, header_of line.module_name (parts.0 i)) ∷ []) ∙ sym u.written
+    let spelled : IsVerdictOn t.bytes (Read u.tree Accepted) = subst (λ (b : List ℕ). IsVerdictOn b (Read u.tree Accepted)) (sym bytes) u.accepted in
+    t.written ∙ ap (made_of line) (one_tree t.bytes t.tree u.tree t.accepted.0 spelled.0) ∙ sym u.written
 
 one_of_line : (line : Line) (contents : Contents) (job other : Job) → IsJobOf line contents job → IsJobOf line contents other → job ≡ other
 one_of_line line contents Usage other p q = absurd p

@@ -1,4 +1,3 @@
-pub mod Decoding
 pub mod HeaderName
 pub mod ModuleName
 pub mod ReasonLaws

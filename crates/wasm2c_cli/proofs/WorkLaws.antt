@@ -5,15 +5,14 @@ use Rattle.w2c_io.specs.Contents.{Name, Contents, Told, HasFile}
 use Rattle.w2c_io.specs.Causes.{Rose, Faulted}
 use Rattle.w2c_io.specs.Telling.{Tells}
 use Rattle.w2c_io.proofs.Names.{get_here, get_other}
-use Rattle.wasm_tree.specs.ConstantModule.{IsConstantModule}
-use Rattle.wasm_tree.specs.declared.constant_module.ConstantInstr.{ConstantInstr}
-use Rattle.w2c_sim.specs.Headers.{header_of}
-use Rattle.w2c_sim.specs.Simulation.{IsTranslation}
-use Rattle.w2c_sim.specs.Translation.{text_of}
+use Rattle.wasm_tree.specs.declared.tree.Module.{Module}
+use Rattle.w2c_sim.specs.declared.translation.Texts.{Texts}
+use Rattle.w2c_sim.specs.Translation.{IsModuleOf, IsTranslation, AreTextsOf, SpellsUnit, text_of, header_text_of}
+use Rattle.w2c_sim.proofs.Spelling.{spells_unit}
 use Rattle.wasm2c_cli.specs.declared.stop.Stop.{Stop}
 use Rattle.wasm2c_cli.specs.declared.stop.Stop.TheVariants as stops
 use Rattle.wasm2c_cli.specs.CommandLine.{Line, header_name_of, line_of, runtime_of}
-use Rattle.wasm2c_cli.specs.Job.{Job, Makes, Missing, Refused, Write, IsJobOf, IsJob, IsOtherJob}
+use Rattle.wasm2c_cli.specs.Job.{Job, Missing, Refused, Write, IsJobOf, IsJob, IsOtherJob, made_of}
 use Rattle.wasm2c_cli.specs.Standing.{file_names, written, IsOneOf, Stands, StandsAt}
 use Rattle.wasm2c_cli.specs.Stops.{HasReading, IsInput, IsOutput, StopsReading, StopsWriting, StopsWork, Done, HoldsUnit, WritesUnit}
 use Rattle.wasm2c_cli.proofs.HeaderName.{is_apart, output_is_c_file}
@@ -44,53 +43,33 @@ reading_stops_work words line old new r r' w w' named stops.Usage is same why = 
 reading_stops_work words line old new r r' w w' named (stops.Unwritten name) is same why = absurd why
 reading_stops_work words line old new r r' w w' named stops.Memory is same why = λ contents told. inl same
 
--- the file that the line names holds this module
-abbrev pub Finds : Told → Name → List ℕ → List ConstantInstr → Type 0
-Finds told file name code = Tells told (λ contents. (bytes : List ℕ) × (get contents file ≡ Some bytes) × IsConstantModule bytes name code)
+-- the file that the line names holds a module with these texts
+abbrev pub Finds : Told → Line → Texts → Type 0
+Finds told line made = Tells told (λ contents. (bytes : List ℕ) × (get contents line.input ≡ Some bytes) × IsTranslation bytes line.module_name made)
 
-job_write : (words : List Name) (line : Line) (old : Told) (contents : Contents) (name : List ℕ) (code : List ConstantInstr) (files : List (Name × List ℕ)) → line_of words ≡ Some line → Makes line name code files → Finds old line.input name code → old ≡ Some contents
-    → IsJob words contents (Write files)
-job_write words line old contents name code files is made found told =
+-- the files to write
+abbrev pub files_of : Line → Texts → List (Name × List ℕ)
+files_of line made = (line.output, made.unit) ∷ (header_name_of line.output, made.header) ∷ []
+
+files_made : (line : Line) (made : Texts) (tree : Module) → AreTextsOf tree line.module_name made → files_of line made ≡ made_of line tree
+files_made line made tree texts = λ i. (line.output, texts.0 i) ∷ (header_name_of line.output, texts.1 i) ∷ []
+
+job_write : (words : List Name) (line : Line) (old : Told) (contents : Contents) (made : Texts) → line_of words ≡ Some line → Finds old line made
+    → old ≡ Some contents → IsJob words contents (Write (files_of line made))
+job_write words line old contents made is found told =
     let held = found contents told in
-    is_job words line contents (Write files) is (record {
+    is_job words line contents (Write (files_of line made)) is (record {
       bytes = held.0;
-      name = name;
-      code = code;
+      tree = held.2.0;
       held = held.1;
-      built = held.2;
-      written = made;
+      accepted = held.2.1.accepted;
+      written = files_made line made held.2.0 held.2.2;
     })
-
-pub makes : (line : Line) (name : List ℕ) (code : List ConstantInstr) (out text beside header : List ℕ) → out ≡ line.output → text ≡ text_of line.module_name name code → beside ≡ header_name_of line.output → header ≡ header_of line.module_name name
-    → Makes line name code ((out, text) ∷ (beside, header) ∷ [])
-makes line name code out text beside header same is_text is_beside is_header = λ i.
-    (same i, is_text i) ∷ (is_beside i, is_header i) ∷ []
-
-pub translated : (module_name name : List ℕ) (code : List ConstantInstr) (text : List ℕ) → text ≡ text_of module_name name code → IsTranslation module_name name code text → IsTranslation module_name name code (text_of module_name name code)
-translated module_name name code text is_text translation = subst (λ (t : List ℕ). IsTranslation module_name name code t) is_text translation
 
 one_of_two : (name first second : Name) → IsOneOf name (first ∷ second ∷ []) → (name ≡ first) ⊎ (name ≡ second)
 one_of_two name first second (inl e) = inl e
 one_of_two name first second (inr (inl e)) = inr e
 one_of_two name first second (inr (inr none)) = absurd none
-
-pub writing_stops_work : (words : List Name) (line : Line) (name : List ℕ) (code : List ConstantInstr) (files : List (Name × List ℕ)) (old mid new : Told) (r r' w0 w w' : ℕ) (named : Option Name) (stop : Stop) → line_of words ≡ Some line → Makes line name code files → Finds old line.input name code → mid ≡ old → w ≡ w0
-    → StopsWriting mid new files w w' named stop → StopsWork words old new r r' w0 w' named stop
-writing_stops_work words line name code files old mid new r r' w0 w w' named (stops.Unwritten file) is made found same count (one, faulted, stands) = (
-  subst (λ (o : Option Line). IsOutput (string_bytes file) o (runtime_of words)) (sym is) (one_of_two (string_bytes file) line.output (header_name_of line.output) (subst (λ (all : List (Name × List ℕ)). IsOneOf (string_bytes file) (file_names all)) made one)),
-  record { rose = subst (λ n. Rose n w') count faulted.rose; named = faulted.named },
-  λ contents told. (files, job_write words line old contents name code files is made found told, subst (λ t. StandsAt t new files (string_bytes file)) same stands),
-  no_usage words line is,
-)
-writing_stops_work words line name code files old mid new r r' w0 w w' named stops.Memory is made found same count why = λ contents told.
-    inr (files, job_write words line old contents name code files is made found told, subst (λ t. Stands t new files) same why)
-writing_stops_work words line name code files old mid new r r' w0 w w' named (stops.Unread file) is made found same count why = absurd why
-writing_stops_work words line name code files old mid new r r' w0 w w' named (stops.Refused file cause) is made found same count why = absurd why
-writing_stops_work words line name code files old mid new r r' w0 w w' named stops.Usage is made found same count why = absurd why
-
-pub done_work : (words : List Name) (line : Line) (name : List ℕ) (code : List ConstantInstr) (files : List (Name × List ℕ)) (old mid new : Told) → line_of words ≡ Some line → Makes line name code files → Finds old line.input name code → mid ≡ old → new ≡ written mid files → Done words old new
-done_work words line name code files old mid new is made found same whole = λ contents told.
-    (files, job_write words line old contents name code files is made found told, whole ∙ ap (λ (t : Told). written t files) same)
 
 -- two files of distinct names stand, the first one too
 first_stands : (contents : Contents) (new : Told) (name other : Name) (text more : List ℕ) → (name ≡ other → ⊥) → new ≡ written (Some contents) ((name, text) ∷ (other, more) ∷ []) → HasFile new name text
@@ -101,28 +80,58 @@ second_stands : (contents : Contents) (new : Told) (name other : Name) (text mor
 second_stands contents new name other text more is =
     subst (λ (t : Told). HasFile t other more) (sym is) (get_here (insert contents name text) other more)
 
-pub unit_written : (words : List Name) (line : Line) (name : List ℕ) (code : List ConstantInstr) (files : List (Name × List ℕ)) (old mid new : Told) → line_of words ≡ Some line → Makes line name code files → Finds old line.input name code → mid ≡ old → new ≡ written mid files
-    → IsTranslation line.module_name name code (text_of line.module_name name code) → WritesUnit words old new
-unit_written words line name code files old mid new is made found same whole translation = λ contents told. (line, is, unit contents told (found contents told))
-  where
-    text : List ℕ
-    text = text_of line.module_name name code
+module _ (words : List Name) (line : Line) (made : Texts) (old mid : Told) (is : line_of words ≡ Some line) (found : Finds old line made) (same : mid ≡ old) where
+  pub writing_stops_work : (files : List (Name × List ℕ)) → files ≡ files_of line made → (new : Told) (r r' w0 w w' : ℕ) (named : Option Name) (stop : Stop)
+      → w ≡ w0 → StopsWriting mid new files w w' named stop → StopsWork words old new r r' w0 w' named stop
+  writing_stops_work files are new r r' w0 w w' named (stops.Unwritten file) count (one, faulted, stands) = (
+    subst (λ (o : Option Line). IsOutput (string_bytes file) o (runtime_of words)) (sym is)
+        (one_of_two (string_bytes file) line.output (header_name_of line.output)
+        (subst (λ (all : List (Name × List ℕ)). IsOneOf (string_bytes file) (file_names all)) are one)),
+    record { rose = subst (λ n. Rose n w') count faulted.rose; named = faulted.named },
+    λ contents told. (
+      files_of line made,
+      job_write words line old contents made is found told,
+      subst (λ (all : List (Name × List ℕ)). StandsAt old new all (string_bytes file)) are
+          (subst (λ (t : Told). StandsAt t new files (string_bytes file)) same stands),
+    ),
+    no_usage words line is,
+  )
+  writing_stops_work files are new r r' w0 w w' named stops.Memory count why = λ contents told. inr (
+    files_of line made,
+    job_write words line old contents made is found told,
+    subst (λ (all : List (Name × List ℕ)). Stands old new all) are (subst (λ (t : Told). Stands t new files) same why),
+  )
+  writing_stops_work files are new r r' w0 w w' named (stops.Unread file) count why = absurd why
+  writing_stops_work files are new r r' w0 w w' named (stops.Refused file cause) count why = absurd why
+  writing_stops_work files are new r r' w0 w w' named stops.Usage count why = absurd why
 
-    header : List ℕ
-    header = header_of line.module_name name
+  is_written : (files : List (Name × List ℕ)) → files ≡ files_of line made → (new : Told) → new ≡ written mid files
+      → new ≡ written old (files_of line made)
+  is_written files are new whole = whole ∙ (λ i. written (same i) (are i))
 
-    is_new : (contents : Contents) → old ≡ Some contents → new ≡ written (Some contents) ((line.output, text) ∷ (header_name_of line.output, header) ∷ [])
-    is_new contents told = whole ∙ ap (written mid) made ∙ ap (λ (t : Told). written t ((line.output, text) ∷ (header_name_of line.output, header) ∷ [])) (same ∙ told)
+  pub done_work : (files : List (Name × List ℕ)) → files ≡ files_of line made → (new : Told) → new ≡ written mid files → Done words old new
+  done_work files are new whole = λ contents told. (
+    files_of line made,
+    job_write words line old contents made is found told,
+    is_written files are new whole,
+  )
 
-    unit : (contents : Contents) → old ≡ Some contents → (bytes : List ℕ) × (get contents line.input ≡ Some bytes) × IsConstantModule bytes name code → HoldsUnit line contents new
-    unit contents told (bytes, held, built) = record {
-      bytes = bytes;
-      name = name;
-      code = code;
-      text = text;
-      held = held;
-      built = built;
-      stands = first_stands contents new line.output (header_name_of line.output) text header (is_apart line.output (output_is_c_file words line is)) (is_new contents told);
-      header_stands = second_stands contents new line.output (header_name_of line.output) text header (is_new contents told);
-      translation = translation;
-    }
+  pub unit_written : (files : List (Name × List ℕ)) → files ≡ files_of line made → (new : Told) → new ≡ written mid files → WritesUnit words old new
+  unit_written files are new whole = λ contents told. (line, is, unit contents told (found contents told))
+    where
+      unit : (contents : Contents) → old ≡ Some contents
+          → (bytes : List ℕ) × (get contents line.input ≡ Some bytes) × IsTranslation bytes line.module_name made → HoldsUnit line contents new
+      unit contents told (bytes, held, (tree, is_module, texts)) =
+          let text : List ℕ = text_of tree line.module_name in
+          let header : List ℕ = header_text_of tree line.module_name in
+          let stand : new ≡ written (Some contents) ((line.output, text) ∷ (header_name_of line.output, header) ∷ []) =
+          is_written files are new whole ∙ (λ i. written (told i) (files_made line made tree texts i)) in
+          record {
+            bytes = bytes;
+            tree = tree;
+            held = held;
+            is_module = is_module;
+            stands = first_stands contents new line.output (header_name_of line.output) text header (is_apart line.output (output_is_c_file words line is)) stand;
+            header_stands = second_stands contents new line.output (header_name_of line.output) text header stand;
+            unit = spells_unit bytes line.module_name tree is_module;
+          }

@@ -2,14 +2,14 @@
 use Rattle.std.specs.Prelude.{◌≡◌, ℕ, List, [], ◌∷◌, Option, Some, None, MatchOption}
 use Rattle.std.specs.FinMap.{get}
 use Rattle.w2c_io.specs.Contents.{Name, Contents}
-use Rattle.wasm_tree.specs.ConstantModule.{IsConstantModule}
-use Rattle.wasm_tree.specs.declared.constant_module.ConstantInstr.{ConstantInstr}
+use Rattle.wasm_tree.specs.declared.tree.Module.{Module}
+use Rattle.wasm_valid.specs.Verdict.{Accepted}
+use Rattle.wasm_valid.specs.FileVerdict.{Read, IsVerdictOn}
 use Rattle.wasm2c_cli.specs.declared.stop.Reason.{Reason}
 use Rattle.wasm2c_cli.specs.CommandLine.{Line, header_name_of, line_of, runtime_of}
 use Rattle.wasm2c_cli.specs.Reasons.{IsRefused}
 use Rattle.wasm2c_cli.specs.Runtime.{runtime_files}
-use Rattle.w2c_sim.specs.Headers.{header_of}
-use Rattle.w2c_sim.specs.Translation.{text_of}
+use Rattle.w2c_sim.specs.Translation.{text_of, header_text_of}
 
 pub data Job : Type 0 where
   Usage : Job
@@ -18,18 +18,17 @@ pub data Job : Type 0 where
   Write : (files : List (Name × List ℕ)) → Job
 
 -- what is made of a line and a module: the C file, then the header
-abbrev pub Makes : Line → List ℕ → List ConstantInstr → List (Name × List ℕ) → Type 0
-Makes line name code files =
-    files ≡ (line.output, text_of line.module_name name code) ∷ (header_name_of line.output, header_of line.module_name name) ∷ []
+abbrev pub made_of : Line → Module → List (Name × List ℕ)
+made_of line tree =
+    (line.output, text_of tree line.module_name) ∷ (header_name_of line.output, header_text_of tree line.module_name) ∷ []
 
--- the file that a line names holds a module, and these are the files to write
+-- the file that a line names holds a valid module, and these are the files to write
 pub record Translates (line : Line) (contents : Contents) (files : List (Name × List ℕ)) : Type 0 where
   pub bytes : List ℕ
-  pub name : List ℕ
-  pub code : List ConstantInstr
+  pub tree : Module
   pub held : get contents line.input ≡ Some bytes
-  pub built : IsConstantModule bytes name code
-  pub written : Makes line name code files
+  pub accepted : IsVerdictOn bytes (Read tree Accepted)
+  pub written : files ≡ made_of line tree
 
 -- what a line asks for
 abbrev pub IsJobOf : Line → Contents → Job → Type 0

@@ -4,7 +4,7 @@ use Rattle.w2c_io.specs.Contents.{Name}
 use Rattle.wasm_spelling.specs.FaultTexts.{cause_text, which_text}
 use Rattle.wasm_valid.specs.CauseTexts.{cause_text as rule_text}
 use Rattle.wasm2c_cli.specs.declared.stop.Reason.{Reason}
-use Rattle.wasm2c_cli.specs.declared.stop.Reason.TheVariants.{Malformed, Float, Limit, Invalid, NotBuilt}
+use Rattle.wasm2c_cli.specs.declared.stop.Reason.TheVariants.{Malformed, Float, Limit, Invalid}
 use Rattle.wasm2c_cli.specs.declared.stop.Stop.{Stop}
 use Rattle.wasm2c_cli.specs.declared.stop.Stop.TheVariants as stops
 
@@ -13,7 +13,6 @@ reason_text (Malformed place cause) = codes "malformed at " ++ decimal place ++ 
 reason_text (Float place) = codes "float at " ++ decimal place
 reason_text (Limit place which) = codes "limit at " ++ decimal place ++ codes ": " ++ which_text which
 reason_text (Invalid place cause) = codes "invalid at " ++ decimal place ++ codes ": " ++ rule_text cause
-reason_text NotBuilt = codes "not built"
 
 abbrev pub usage_line : List ℕ
 usage_line = codes "wasm2c: bad command line\n"

@@ -1,6 +1,5 @@
 -- What the program keeps, without where it lies in memory.
-use Rattle.std.specs.Prelude.{◌≡◌, ℕ, List, Option, Some, None, string_bytes}
-use Rattle.wasm2c_cli.specs.declared.constant_reader.Parts.{Parts}
+use Rattle.std.specs.Prelude.{Option, Some, None, string_bytes}
 use Rattle.wasm2c_cli.specs.declared.words.Line.{Line}
 use Rattle.wasm2c_cli.specs.CommandLine as words
 
@@ -10,8 +9,3 @@ names_of_line line = record { input = string_bytes line.input.now; output = stri
 abbrev pub seen_line : Option Line → Option words.Line
 seen_line None = None
 seen_line (Some line) = Some (names_of_line line)
-
--- the parts are there, and are these
-abbrev pub HasParts : Option Parts → List ℕ → List ℕ → Type 0
-HasParts None name code = ⊥
-HasParts (Some parts) name code = (parts.name.now ≡ name) × (parts.code.now ≡ code)

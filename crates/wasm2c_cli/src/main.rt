@@ -1,11 +1,9 @@
 //! Translates WebAssembly modules to C.
 #![tactic(auto)]
 
-mod constant_reader;
 mod law;
 mod module_name;
 mod reading;
-mod refusal;
 mod report;
 mod runtime;
 mod stop;

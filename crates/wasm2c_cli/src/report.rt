@@ -73,7 +73,6 @@ fn push_reason(line: &mut String, reason: Reason) -> Result<(), AllocError>
             push_place(line, "invalid at ", place)?;
             push_why(line, cause.text())
         }
-        Reason::NotBuilt => line.push_str("not built"),
     }
 }
 

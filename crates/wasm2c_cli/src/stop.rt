@@ -1,10 +1,12 @@
 // Why the work stopped.
 ghost use Rattle.std.specs.Prelude.{◌≡◌};
 ghost use Rattle.wasm2c_cli.specs.declared.stop.Stop.TheVariants.{Memory as WantOfMemory};
+ghost use Rattle.wasm2c_cli.specs.Reasons.{reason_of};
 
 use std::alloc::{AllocError, AllocFailed};
 use w2c_base::Memory;
-use wasm_binary::{Cause, Which};
+use w2c_sim::Refusal;
+use wasm_spelling::{Cause, Which};
 use wasm_valid::ValidCause;
 
 /// Why a file is refused.
@@ -18,8 +20,21 @@ pub enum Reason {
     Limit(u32, Which),
     /// It spells a module that is not valid: the first fault of the typing rules, at this place.
     Invalid(u32, ValidCause),
-    /// It spells a valid module, and none of the form that is translated so far.
-    NotBuilt,
+}
+
+impl Reason {
+    /// The reason of a refusal, None where memory was wanting.
+    pub fn of(refusal: Refusal) -> Option<Reason>
+        ensures { result ≡ reason_of refusal }
+    {
+        match refusal {
+            Refusal::Malformed(place, cause) => Some(Reason::Malformed(place, cause)),
+            Refusal::Float(place) => Some(Reason::Float(place)),
+            Refusal::Limit(place, which) => Some(Reason::Limit(place, which)),
+            Refusal::Invalid(place, cause) => Some(Reason::Invalid(place, cause)),
+            Refusal::Memory => None,
+        }
+    }
 }
 
 /// Why the work stopped, with the file's name.

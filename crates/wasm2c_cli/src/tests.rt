@@ -15,22 +15,27 @@ const TWO: [u8; 37] = [
 
 const TWO_C: &str = "#include \"w2c_rt.h\"
 static u32 f0(void);
-void w2cZ_twoZ_i(void) {
-;
-return;
+static u32 f0(void) {
+u32 i0 = 0u;
+u32 i1 = 0u;
+if (w2c_depth < 1024u) goto L0;
+w2c_trap(8u);
+return i0;
+L0: w2c_depth = (w2c_depth + 1u);
+i0 = 40u;
+i1 = 2u;
+i0 = (i0 + i1);
+w2c_depth = (w2c_depth - 1u);
+return i0;
 }
 u32 w2cZ_twoZ_fZ_f(void) {
 u32 r = 0u;
 r = f0();
 return r;
 }
-static u32 f0(void) {
-u32 i0 = 0u;
-u32 i1 = 0u;
-i0 = 40u;
-i1 = 2u;
-i0 = (i0 + i1);
-return i0;
+void w2cZ_twoZ_i(void) {
+;
+return;
 }
 ";
 
@@ -123,19 +128,31 @@ fn the_runtime(rt: HostRuntime) -> Result<(), Fail> {
     Ok(())
 }
 
+const ADD: &[u8] =
+    b"\0asm\x01\0\0\0\x01\x07\x01\x60\x02\x7F\x7F\x01\x7F\x03\x02\x01\0\x07\x07\x01\x03add\0\0\x0A\x09\x01\x07\0\x20\0\x20\x01\x6A\x0B";
+
+const ADD_H: &str = "/* made by wasm2c; int has 32 bits and every character of a name counts */
+#ifndef W2CZ_addZ_H
+#define W2CZ_addZ_H
+#include \"w2c_rt.h\"
+void w2cZ_addZ_i(void);
+u32 w2cZ_addZ_fZ_add(u32, u32);
+#endif
+";
+
 #[test]
-fn a_negative_constant(rt: HostRuntime) -> Result<(), Fail> {
+fn add_two_numbers(rt: HostRuntime) -> Result<(), Fail> {
     let alloc = rt.alloc();
-    let words = words(alloc, &["n.wasm", "-o", "n.c"])?;
-    let bytes = with_code(alloc, b"\x0A\x06\x01\x04\x00\x41\x7F\x0B")?;
+    let words = words(alloc, &["add.wasm", "-o", "add.c"])?;
     let mut files = SureFiles::new(alloc);
     let mut err = SureSink::new(alloc);
-    files.add("n.wasm", bytes.as_slice())?;
+    files.add("add.wasm", ADD)?;
     assert_eq!(rt; sure_top(alloc, words.as_slice(), &mut files, &mut err), 0);
-    let end = b"i0 = 4294967295u;\nreturn i0;\n}\n".as_slice();
-    assert!(rt; files.get("n.c").is_some_and(|text| text.ends_with(end)));
-    let lines = b"void w2cZ_nZ_i(void);\nu32 w2cZ_nZ_fZ_f(void);\n#endif\n".as_slice();
-    assert!(rt; files.get("n.h").is_some_and(|text| text.ends_with(lines)));
+    assert!(rt;
+        files
+            .get("add.h")
+            .is_some_and(|text| text == ADD_H.as_bytes())
+    );
     Ok(())
 }
 
@@ -165,11 +182,10 @@ fn reasons_of_refused_files(rt: HostRuntime) -> Result<(), Fail> {
     let float = b"\0asm\x01\0\0\0\x01\x05\x01\x60\0\x01\x7D";
     let most = zeros(alloc, 8_388_608)?;
     let more = zeros(alloc, 8_388_609)?;
-    let rows: [(&[u8], &str); 6] = [
+    let rows: [(&[u8], &str); 5] = [
         (&TWO[..7], "malformed at 7: unexpected end"),
         (float.as_slice(), "float at 14"),
         (one_operand.as_slice(), "invalid at 33: type mismatch"),
-        (&TWO[..8], "not built"),
         (most.as_slice(), "malformed at 1: bad magic"),
         (more.as_slice(), "limit at 8388608: module bytes"),
     ];

@@ -3,21 +3,20 @@ ghost use Rattle.std.specs.Prelude.{◌≡◌, ◌⊎◌, ◌≤◌, List, ℕ, 
 ghost use Rattle.w2c_io.specs.Contents.{Name, Contents};
 ghost use Rattle.w2c_io.specs.Causes.{Rose, Faulted};
 ghost use Rattle.w2c_io.specs.Telling.{Tells, Says, SaysPart};
-ghost use Rattle.c_tree.specs.FirstBroken.{KeepsRules};
-ghost use Rattle.w2c_sim.specs.Simulation.{Backward, Forward, HasShape, NeverStops};
 ghost use Rattle.wasm2c_cli.specs.declared.stop.Reason.{Reason};
 ghost use Rattle.wasm2c_cli.specs.declared.stop.Stop.{Stop as AnyStop};
 ghost use Rattle.wasm2c_cli.specs.CommandLine.{line_of, runtime_of, texts};
 ghost use Rattle.wasm2c_cli.specs.Job.{IsJob, Job, Missing, Refused, Write};
 ghost use Rattle.wasm2c_cli.specs.Lines.{line_for, read_line, refused_line, usage_line, write_line};
 ghost use Rattle.wasm2c_cli.specs.Standing.{StandsAt};
-ghost use Rattle.wasm2c_cli.specs.Stops.{Done, IsInput, IsOutput, StandsOfJob, WritesUnit, WritesUnitThat};
+ghost use Rattle.wasm2c_cli.specs.Stops.{Done, IsInput, IsOutput, StandsOfJob, WritesLinkedUnit, WritesUnit};
 ghost use Rattle.wasm2c_cli.specs.Top.{Answers};
 
 use crate::report::report;
 use crate::work::work;
 use std::alloc::Global;
 use w2c_io::{Files, Sink, SureFiles, SureSink};
+use w2c_sim::linked_units_do_what_modules_do;
 
 /// Does what the words ask for, and gives the exit status: 0 where the C file and the header
 /// stand, or the runtime's two files, 1 for a file that is refused, 2 for words without a reading,
@@ -35,20 +34,12 @@ pub fn wasm2c_top<F: Files, E: Sink>(
         → (result ≡ 5) ⊎ ((job : Job) × IsJob (texts words.now) m job × Answers job result)) }
 
     // Status 0: the job's files stand whole, and nothing else has changed. Where a module was asked
-    // for, the output holds such a unit, and the header stands beside it.
+    // for, the output holds the text of its unit, and the header stands beside it.
     ensures done { result ≡ 0 → Done (texts words.now) (F.told files.old) (F.told files.new) }
     ensures unit { result ≡ 0 → runtime_of (texts words.now) ≡ None → WritesUnit (texts words.now) (F.told files.old) (F.told files.new) }
-    // The unit has the shape of the module's,
-    ensures shape { result ≡ 0 → runtime_of (texts words.now) ≡ None → WritesUnitThat HasShape
-        (texts words.now) (F.told files.old) (F.told files.new) }
-    // keeps the rules of the subset of C,
-    ensures rules { result ≡ 0 → runtime_of (texts words.now) ≡ None → WritesUnitThat (λ name export code unit. KeepsRules unit)
-        (texts words.now) (F.told files.old) (F.told files.new) }
-    // and does what the module does, both ways, and nothing that is undefined.
-    ensures forward { result ≡ 0 → runtime_of (texts words.now) ≡ None → WritesUnitThat Forward (texts words.now) (F.told files.old) (F.told files.new) }
-    ensures backward { result ≡ 0 → runtime_of (texts words.now) ≡ None → WritesUnitThat Backward (texts words.now) (F.told files.old) (F.told files.new) }
-    ensures never_stops { result ≡ 0 → runtime_of (texts words.now) ≡ None → WritesUnitThat (λ name export code unit. NeverStops name export unit)
-        (texts words.now) (F.told files.old) (F.told files.new) }
+    // The translation theorem: what is linked of this unit, and of units that other calls have made, with any hosts,
+    // does what the modules do, both ways, and nothing that is undefined.
+    ensures linked { result ≡ 0 → runtime_of (texts words.now) ≡ None → WritesLinkedUnit (texts words.now) (F.told files.old) (F.told files.new) }
     ensures silent { result ≡ 0 → E.told err.new ≡ E.told err.old }
 
     // Status 1 to 4: when each comes, and the line on the error stream.
@@ -75,6 +66,7 @@ pub fn wasm2c_top<F: Files, E: Sink>(
     ensures part { result ≡ 5 → (stop : AnyStop) × SaysPart (E.told err.old) (E.told err.new) (line_for stop) }
     ensures status { result ≤ 5 }
 {
+    linked_units_do_what_modules_do();
     match work(alloc, words, files) {
         Ok(()) => 0,
         Err(stop) => report(alloc, &stop, err),

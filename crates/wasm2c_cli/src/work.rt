@@ -1,23 +1,17 @@
 // The work that a command line asks for.
-ghost use Rattle.std.specs.Prelude.{◌≡◌, ◌≤◌, OnOk, IfOk, IfErr, IsTrue, None, string_bytes};
-ghost use Rattle.wasm2c_cli.specs.CommandLine.{is_c_file, is_module_name, runtime_of, texts};
-ghost use Rattle.wasm2c_cli.specs.Job.{Makes};
-ghost use Rattle.wasm2c_cli.specs.Seen.{names_of_line};
+ghost use Rattle.std.specs.Prelude.{◌≡◌, ◌≤◌, [], ◌∷◌, OnOk, IfOk, IfErr, IsTrue, None, string_bytes};
+ghost use Rattle.wasm2c_cli.specs.CommandLine.{header_name_of, is_c_file, runtime_of, texts};
 ghost use Rattle.wasm2c_cli.specs.SeenOutputs.{seen_outputs};
 ghost use Rattle.wasm2c_cli.specs.Stops.{Done, HasReading, KeepsCurrent, StopsWork, WritesUnit};
-ghost use Rattle.w2c_sim.specs.Simulation.{IsTranslation};
-ghost use Rattle.w2c_sim.specs.Translation.{text_of, IsSpelledModule};
 
-use crate::reading::read_module;
+use crate::reading::read_texts;
 use crate::runtime::runtime_outputs;
 use crate::stop::Stop;
-use crate::words::{Line, header_name, read_words, runtime_dir};
+use crate::words::{header_name, read_words, runtime_dir};
 use crate::writing::{Output, write_all};
-use std::alloc::Global;
-use w2c_base::Memory;
+use std::alloc::{AllocError, Global};
 use w2c_io::Files;
-use w2c_sim::{unit_header, unit_text};
-use wasm_tree::ConstantModule;
+use w2c_sim::Texts;
 
 /// Reads the words, then the file, translates it, and writes the C file, then the header. For
 /// `--runtime` it reads none, and writes the runtime's two files.
@@ -38,11 +32,11 @@ pub fn work<F: Files>(alloc: Global, words: &[String], files: &mut F) -> Result<
     let Some(line) = read_words(words) else {
         return Err(Stop::Usage);
     };
-    let module = match read_module(alloc, line.input, files) {
-        Ok(module) => module,
+    let made = match read_texts(alloc, line.input, line.module_name, files) {
+        Ok(made) => made,
         Err(stop) => return Err(stop),
     };
-    let outputs = make_outputs(alloc, &line, &module)?;
+    let outputs = outputs(line.output, made)?;
     match write_all(&outputs, files) {
         Ok(()) => Ok(()),
         Err(stop) => Err(stop),
@@ -50,25 +44,18 @@ pub fn work<F: Files>(alloc: Global, words: &[String], files: &mut F) -> Result<
 }
 
 // The files to write: the C text of a module, then its header.
-fn make_outputs(
-    alloc: Global,
-    line: &Line<'_>,
-    module: &ConstantModule,
-) -> Result<[Output; 2], Memory>
-    requires spelled { IsSpelledModule «module».now.name «module».now.code }
-    requires c_file { IsTrue (is_c_file (string_bytes line.now.output.now)) }
-    requires named { IsTrue (is_module_name line.now.module_name.now) }
-    ensures made { IfOk result (λ outputs. Makes (names_of_line line.now) «module».now.name «module».now.code (seen_outputs outputs)) }
-    ensures translated { OnOk result (IsTranslation line.now.module_name.now «module».now.name «module».now.code
-        (text_of line.now.module_name.now «module».now.name «module».now.code)) }
+fn outputs(output: &String, made: Texts) -> Result<[Output; 2], AllocError>
+    requires { IsTrue (is_c_file (string_bytes output.now)) }
+    ensures { IfOk result (λ outputs. seen_outputs outputs
+        ≡ (string_bytes output.now, made.unit) ∷ (header_name_of (string_bytes output.now), made.header) ∷ []) }
 {
     let unit = Output {
-        name: line.output.clone()?,
-        text: unit_text(alloc, line.module_name, module)?,
+        name: output.clone()?,
+        text: made.unit,
     };
     let header = Output {
-        name: header_name(line.output)?,
-        text: unit_header(alloc, line.module_name, module)?,
+        name: header_name(output)?,
+        text: made.header,
     };
     Ok([unit, header])
 }

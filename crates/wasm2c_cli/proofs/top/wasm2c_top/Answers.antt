@@ -1,5 +1,5 @@
 use Rattle.wasm2c_cli.specs.CommandLine.{texts}
-use Rattle.wasm2c_cli.proofs.TopLaws.{goes_backward, goes_forward, has_shape, keeps_rules, stop_complete, stop_refused, stop_stands, stops_never}
+use Rattle.wasm2c_cli.proofs.TopLaws.{is_linked, stop_complete, stop_refused, stop_stands}
 use Rattle.wasm2c_cli.proofs.top.wasm2c_top.Goals as goal
 
 pub returns-in-Err-clause-complete : goal.returns-in-Err-clause-complete
@@ -18,20 +18,7 @@ returns-in-Err-clause-stands g c = λ five.
     let files = g.F.Files in
     stop_stands (texts c.args.words.now) (files.told c.args.files.now) (files.told c.work.new.files) (files.read_faults c.args.files.now) (files.read_faults c.work.new.files) (files.write_faults c.args.files.now) (files.write_faults c.work.new.files) (files.fault_name c.work.new.files) c.in-Err.stop c.in-Err.ensures.stop
 
-pub returns-in-Ok-clause-forward : goal.returns-in-Ok-clause-forward
-returns-in-Ok-clause-forward g c = λ zero no_runtime. goes_forward (texts c.args.words.now) (g.F.Files.told c.args.files.now) (g.F.Files.told c.work.new.files) (c.in-Ok.ensures.unit no_runtime)
-
-pub returns-in-Ok-clause-backward : goal.returns-in-Ok-clause-backward
-returns-in-Ok-clause-backward g c = λ zero no_runtime. goes_backward (texts c.args.words.now) (g.F.Files.told c.args.files.now) (g.F.Files.told c.work.new.files) (c.in-Ok.ensures.unit no_runtime)
-
-pub returns-in-Ok-clause-never_stops : goal.returns-in-Ok-clause-never_stops
-returns-in-Ok-clause-never_stops g c = λ zero no_runtime. stops_never (texts c.args.words.now) (g.F.Files.told c.args.files.now) (g.F.Files.told c.work.new.files) (c.in-Ok.ensures.unit no_runtime)
-
-pub returns-in-Ok-clause-shape : goal.returns-in-Ok-clause-shape
-returns-in-Ok-clause-shape g c = λ zero no_runtime.
-    has_shape (texts c.args.words.now) (g.F.Files.told c.args.files.now) (g.F.Files.told c.work.new.files) (c.in-Ok.ensures.unit no_runtime)
-
-pub returns-in-Ok-clause-rules : goal.returns-in-Ok-clause-rules
-returns-in-Ok-clause-rules g c = λ zero no_runtime.
-    keeps_rules (texts c.args.words.now) (g.F.Files.told c.args.files.now) (g.F.Files.told c.work.new.files)
+pub returns-in-Ok-clause-linked : goal.returns-in-Ok-clause-linked
+returns-in-Ok-clause-linked g c = λ zero no_runtime.
+    is_linked c.linked_units_do_what_modules_do.ensures (texts c.args.words.now) (g.F.Files.told c.args.files.now) (g.F.Files.told c.work.new.files)
     (c.in-Ok.ensures.unit no_runtime)

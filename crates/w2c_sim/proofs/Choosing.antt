@@ -1,0 +1,95 @@
+-- A selection of translated files: its modules are accepted, and its units are those of c_unit.
+use Rattle.std.proofs.Common.{◌≡◌, ◌<◌, ℕ, List, [], ◌∷◌, map, refl, sym, ◌∙◌, ap, subst}
+use Rattle.std.specs.List.{All, AllByRecursion}
+use Rattle.std.proofs.lemmas.List.Elements.{All-from_recursion}
+use Rattle.w2c_base.specs.Run.{Host}
+use Rattle.wasm_tree.specs.declared.tree.Module.{Module}
+use Rattle.wasm_spelling.proofs.Whole.{one_tree}
+use Rattle.wasm_meaning.specs.LinkedSet.{LinkedSet, NamedModule, IsLinked}
+use Rattle.c_tree.specs.Tree as tree
+use Rattle.c_tree.specs.Spelled.{CSpells}
+use Rattle.c_tree.proofs.OfEach.{of_contained}
+use Rattle.c_print.specs.Print.{print_of}
+use Rattle.c_meaning.specs.Linking.{Program}
+use Rattle.wasm_spelling.specs.Bytes.{AreBytes}
+use Rattle.c_unit.specs.Items.{items}
+use Rattle.c_unit.specs.Sets as sets
+use Rattle.c_unit.proofs.Linking.{units_link}
+use Rattle.w2c_sim.specs.Translation.{IsModuleOf, text_of}
+use Rattle.w2c_sim.specs.Selections as selection
+use Rattle.w2c_sim.specs.Selections.{File, IsTranslated, Chosen, ComesFrom, ComesFromOne, set_of, program_of}
+use Rattle.w2c_sim.proofs.Accepting.{module_is_accepted}
+use Rattle.w2c_sim.proofs.Spelling.{spells_no_other}
+use Rattle.w2c_sim.proofs.Wiring.{calls_fit}
+
+-- ---- one of a selection
+
+abbrev IsOfItself : Chosen → Type 0
+IsOfItself c = sets.IsAccepted c.«module» × (c.unit ≡ items c.«module»)
+
+abbrev file_module : File → Module → NamedModule
+file_module f module_tree = record { name = f.name; tree = module_tree }
+
+same_module : (c : Chosen) (f : File) (module_tree : Module) → c.«module».name ≡ f.name → c.«module».tree ≡ module_tree
+    → file_module f module_tree ≡ c.«module»
+same_module c f module_tree named same = λ i. record { name = sym named i; tree = sym same i }
+
+from_file : (c : Chosen) (f : File) → IsTranslated f → ComesFrom c f → IsOfItself c
+from_file c f (module_tree, is, is_text) from =
+    let same : file_module f module_tree ≡ c.«module» =
+    same_module c f module_tree from.named (one_tree f.bytes c.«module».tree module_tree from.bytes_spell is.accepted.0) in
+    let accepted : sets.IsAccepted (file_module f module_tree) = module_is_accepted f.bytes f.name module_tree is in
+    let spelled : CSpells c.unit (print_of (items (file_module f module_tree))) = subst (CSpells c.unit) is_text from.text_spells in
+    subst (λ (m : NamedModule). sets.IsAccepted m × (c.unit ≡ items m)) same
+    (accepted, spells_no_other (file_module f module_tree) accepted c.unit spelled)
+
+-- ---- all of it
+
+all_from_files : (files : List File) → AllByRecursion IsTranslated files → (chosen : List Chosen) → AllByRecursion (ComesFromOne files) chosen
+    → AllByRecursion IsOfItself chosen
+all_from_files files translated [] from = tt
+all_from_files files translated (c ∷ chosen) ((f, there, one), from) =
+    (from_file c f (of_contained IsTranslated files f translated there) one, all_from_files files translated chosen from)
+
+modules_accepted : (chosen : List Chosen) → AllByRecursion IsOfItself chosen
+    → AllByRecursion sets.IsAccepted (map (λ (c : Chosen). c.«module») chosen)
+modules_accepted [] of_all = tt
+modules_accepted (c ∷ chosen) (of_one, of_all) = (of_one.0, modules_accepted chosen of_all)
+
+units_are_items : (chosen : List Chosen) → AllByRecursion IsOfItself chosen
+    → map items (map (λ (c : Chosen). c.«module») chosen) ≡ map (λ (c : Chosen). c.unit) chosen
+units_are_items [] of_all = refl
+units_are_items (c ∷ chosen) (of_one, of_all) = λ i. sym of_one.1 i ∷ units_are_items chosen of_all i
+
+named_hosts : (hosts : List Host) → AllByRecursion (λ (h : Host). AreBytes h.name) hosts
+    → AllByRecursion (λ (h : Host). All (λ b. b < 256) h.name) hosts
+named_hosts [] of_all = tt
+named_hosts (h ∷ hosts) (of_one, of_all) = (All-from_recursion (λ b. b < 256) h.name of_one, named_hosts hosts of_all)
+
+-- ---- the theorem, of the units of c_unit and of others that are equal to them
+
+of_set : sets.UnitsDoTheSame → (s : LinkedSet) → sets.IsAcceptedSet s → selection.DoTheSame (sets.program_of s) s
+of_set same s accepted =
+    let does : sets.DoTheSame s = same s accepted in
+    record {
+      wired = record { link = units_link s accepted; calls = calls_fit s accepted };
+      forward = does.forward;
+      backward = does.backward;
+      never_stops = record {
+        never_undefined = does.never_stops.never_undefined;
+        never_stuck = does.never_stops.never_stuck;
+        modules_never_stuck = does.never_stops.modules_never_stuck;
+      };
+    }
+
+pub translation_theorem : sets.UnitsDoTheSame → selection.TranslationTheorem
+translation_theorem same files translated chosen hosts from named linked =
+    let of_all : AllByRecursion IsOfItself chosen = all_from_files files translated chosen from in
+    let s : LinkedSet = set_of chosen hosts in
+    let accepted : sets.IsAcceptedSet s = record {
+      linked = linked;
+      accepted = modules_accepted chosen of_all;
+      host_bytes = named_hosts hosts named;
+    } in
+    let program : sets.program_of s ≡ program_of chosen hosts = λ i. record { units = units_are_items chosen of_all i; hosts = hosts } in
+    subst (λ (p : Program). selection.DoTheSame p s) program (of_set same s accepted)

@@ -1,0 +1,93 @@
+-- Refusals are verdicts: each comes where its verdict does, and there is one at most.
+use Rattle.std.proofs.Common.{◌≡◌, ◌≢◌, ℕ, List, Result, Ok, Err, IfOk, IfErr, IsOk, refl, sym, ◌∙◌, ap, subst}
+use Rattle.wasm_tree.specs.declared.tree.Module.{Module}
+use Rattle.wasm_spelling.specs.declared.fault.ReadFault.TheVariants as fault
+use Rattle.wasm_spelling.specs.ModuleFields.{Spells}
+use Rattle.wasm_valid.specs.declared.fault.Fault.{Fault}
+use Rattle.wasm_valid.specs.declared.fault.ValidRefusal.{ValidRefusal}
+use Rattle.wasm_valid.specs.declared.fault.ValidRefusal.TheVariants as rule
+use Rattle.wasm_valid.specs.Verdict.{Outcome, Verdict, Accepted, Invalid as is_invalid}
+use Rattle.wasm_valid.specs.FileVerdict.{FileVerdict, Unread, Read, IsVerdictOn}
+use Rattle.wasm_valid.proofs.Files.{one_file_verdict}
+use Rattle.w2c_sim.specs.declared.refusal.Refusal.{Refusal}
+use Rattle.w2c_sim.specs.declared.refusal.Refusal.TheVariants.{Malformed, Float, Limit, Invalid, Memory}
+use Rattle.w2c_sim.specs.declared.translation.Texts.{Texts}
+use Rattle.w2c_sim.specs.Translation.{IsTranslation}
+use Rattle.w2c_sim.specs.Refusals.{IsRefused, IsRefusal, refusal_of, invalid_of}
+
+-- ---- what the checker says
+
+pub rule_refusal : (bytes : List ℕ) (tree : Module) (r : ValidRefusal) → Spells tree bytes
+    → ((f : Fault) → ◌≡◌ {A = Result Module ValidRefusal} (Err r) (Err (rule.Invalid f.place f.cause)) → Verdict tree (is_invalid f)) → IsRefusal bytes (invalid_of r)
+rule_refusal bytes tree (rule.Invalid place cause) spelled first = (tree, (spelled, first (record { place = place; cause = cause }) refl))
+rule_refusal bytes tree rule.Memory spelled first = tt
+
+-- ---- one verdict
+
+-- the verdict that a refusal is
+abbrev verdict_of : Refusal → FileVerdict → Type 0
+verdict_of (Malformed place cause) v = v ≡ Unread (fault.Malformed place cause)
+verdict_of (Float place) v = v ≡ Unread (fault.Float place)
+verdict_of (Limit place which) v = v ≡ Unread (fault.Limit place which)
+verdict_of (Invalid place cause) v = (tree : Module) × (v ≡ Read tree (is_invalid (record { place = place; cause = cause })))
+verdict_of Memory v = ⊥
+
+refusal_verdict : (bytes : List ℕ) (r : Refusal) → IsRefused bytes r → (v : FileVerdict) × IsVerdictOn bytes v × verdict_of r v
+refusal_verdict bytes (Malformed place cause) is = (Unread (fault.Malformed place cause), is, refl)
+refusal_verdict bytes (Float place) is = (Unread (fault.Float place), is, refl)
+refusal_verdict bytes (Limit place which) is = (Unread (fault.Limit place which), is, refl)
+refusal_verdict bytes (Invalid place cause) is = (Read is.0 (is_invalid (record { place = place; cause = cause })), is.1, (is.0, refl))
+refusal_verdict bytes Memory is = absurd is
+
+-- a verdict makes one refusal
+abbrev refusal_for : FileVerdict → Refusal
+refusal_for (Unread f) = refusal_of f
+refusal_for (Read tree Accepted) = Memory
+refusal_for (Read tree (is_invalid f)) = Invalid f.place f.cause
+
+verdict_makes : (r : Refusal) (v : FileVerdict) → verdict_of r v → refusal_for v ≡ r
+verdict_makes (Malformed place cause) v e = ap refusal_for e
+verdict_makes (Float place) v e = ap refusal_for e
+verdict_makes (Limit place which) v e = ap refusal_for e
+verdict_makes (Invalid place cause) v (tree, e) = ap refusal_for e
+verdict_makes Memory v e = absurd e
+
+pub one_refusal : (bytes : List ℕ) (r other : Refusal) → IsRefused bytes r → IsRefused bytes other → r ≡ other
+one_refusal bytes r other is is' =
+    let (v, on, of_r) = refusal_verdict bytes r is in
+    let (w, on', of_other) = refusal_verdict bytes other is' in
+    sym (verdict_makes r v of_r) ∙ ap refusal_for (one_file_verdict bytes v w on on') ∙ verdict_makes other w of_other
+
+pub accepted_is_not_refused : (bytes : List ℕ) (tree : Module) (r : Refusal) → IsVerdictOn bytes (Read tree Accepted) → IsRefused bytes r → ⊥
+accepted_is_not_refused bytes tree r accepted is =
+    let (v, on, of_r) = refusal_verdict bytes r is in
+    no_memory r is (sym (verdict_makes r v of_r) ∙ ap refusal_for (one_file_verdict bytes v (Read tree Accepted) on accepted))
+  where
+    no_memory : (r : Refusal) → IsRefused bytes r → r ≡ Memory → ⊥
+    no_memory (Malformed place cause) is e = cc
+    no_memory (Float place) is e = cc
+    no_memory (Limit place which) is e = cc
+    no_memory (Invalid place cause) is e = cc
+    no_memory Memory is e = absurd is
+
+-- what is refused was refused for it, unless memory was wanting
+pub refused_for : (bytes : List ℕ) (r : Refusal) → r ≢ Memory → IsRefusal bytes r → IsRefused bytes r
+refused_for bytes (Malformed place cause) no_memory is = is
+refused_for bytes (Float place) no_memory is = is
+refused_for bytes (Limit place which) no_memory is = is
+refused_for bytes (Invalid place cause) no_memory is = is
+refused_for bytes Memory no_memory is = absurd (no_memory refl)
+
+-- ---- the answers of a translation
+
+pub accepted_is_translated : (bytes name : List ℕ) (result : Result Texts Refusal) → IfErr result (IsRefusal bytes)
+    → (tree : Module) → IsVerdictOn bytes (Read tree Accepted) → result ≢ Err Memory → IsOk result
+accepted_is_translated bytes name (Ok texts) refused tree accepted no_memory = refl
+accepted_is_translated bytes name (Err r) refused tree accepted no_memory =
+    absurd (accepted_is_not_refused bytes tree r accepted (refused_for bytes r (λ e. no_memory (ap Err e)) refused))
+
+pub refused_is_given : (bytes name : List ℕ) (result : Result Texts Refusal) → IfOk result (IsTranslation bytes name) → IfErr result (IsRefusal bytes)
+    → (r : Refusal) → IsRefused bytes r → result ≢ Err Memory → result ≡ Err r
+refused_is_given bytes name (Ok texts) made refused r is no_memory = absurd (accepted_is_not_refused bytes made.0 r made.1.accepted is)
+refused_is_given bytes name (Err other) made refused r is no_memory =
+    ap Err (one_refusal bytes other r (refused_for bytes other (λ e. no_memory (ap Err e)) refused) is)

@@ -1,0 +1,25 @@
+// Laws of texts and of linked units. Each is the contract of a function that does nothing.
+ghost use Rattle.std.specs.Prelude.{◌≡◌, List, ℕ};
+ghost use Rattle.wasm_tree.specs.declared.tree.Module.{Module as Tree};
+ghost use Rattle.w2c_sim.specs.Selections.{TranslationTheorem};
+ghost use Rattle.w2c_sim.specs.Translation.{text_of, IsModuleOf, SpellsUnit};
+
+use c_unit::units_do_what_modules_do;
+
+/// The translation theorem: the units that the texts of translated files spell, in any selection and order
+/// that makes a linked set with any hosts, link, and do what the files' modules do, both ways; no run of
+/// them is undefined or stuck.
+pub fn linked_units_do_what_modules_do()
+    ensures { TranslationTheorem }
+{
+    units_do_what_modules_do();
+}
+
+/// A file has one module at most, so its texts depend on its bytes and the name alone. The text of its unit
+/// spells one unit, which keeps the rules of the subset of C and has the module's shape.
+pub fn texts_spell_units()
+    ensures one { (bytes name : List ℕ) (tree other : Tree)
+        → IsModuleOf bytes name tree → IsModuleOf bytes name other → tree ≡ other }
+    ensures unit { (bytes name : List ℕ) (tree : Tree)
+        → IsModuleOf bytes name tree → SpellsUnit (record { name = name; tree = tree }) (text_of tree name) }
+{}
