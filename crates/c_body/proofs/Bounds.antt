@@ -1,6 +1,5 @@
 -- What a module that has a file keeps within, as its unit counts: labels, operands, numbers.
-use Rattle.std.proofs.Common.{◌≡◌, ◌∙◌, ℕ, ◌+◌, ◌<◌, ◌≤◌, ◌^◌, ◌&&◌, ◌||◌, not, Bool, true, false, List, [], ◌++◌, length, refl, sym, arith}
-use Rattle.std.specs.List.{AllByRecursion}
+use Rattle.std.proofs.Common.{◌≡◌, ◌+◌, ◌≤◌, ◌&&◌, ◌||◌, not, Bool, true, false, [], refl, arith}
 use Rattle.wasm_tree.specs.declared.tree.Module.{Module}
 use Rattle.wasm_tree.specs.declared.entries.BodyEntry.{BodyEntry}
 use Rattle.wasm_tree.specs.Instructions.{Code, end_code, then_code, Kind, Otherwise, no_else, else_code, Select, Block, Loop, If, BrIf, BrTable}
@@ -8,8 +7,7 @@ use Rattle.wasm_tree.specs.Size.{code_size, kind_size, otherwise_size}
 use Rattle.wasm_spelling.specs.Places.{IsFormed}
 use Rattle.wasm_spelling.specs.Within.{IsWithin, BodyIsWithin, some_in, some_inside, some_in_else, least_bytes, least_bytes_of, least_bytes_of_else}
 use Rattle.wasm_spelling.proofs.WithinPlaces.{formed_is_within}
-use Rattle.wasm_valid.specs.Context.{Context}
-use Rattle.c_body.specs.Stack.{ends, peak}
+use Rattle.c_body.specs.Stack.{ends}
 use Rattle.c_body.specs.Labels.{labels_in, labels_of, labels_in_else, any_in, any_inside, any_in_else}
 use Rattle.c_body.specs.Limits.{HasLimits, BodyHasLimits}
 use Rattle.c_body.proofs.Lists.{all_weaker}
@@ -67,7 +65,8 @@ mutual
   pub none_translated : (test : Kind → Bool) (code : Code) → some_in test code ≡ false → any_in test code ≡ false
   none_translated test end_code e = refl
   none_translated test (then_code place kind code) e =
-      both_none (test kind || any_inside test kind) (not (ends kind) && any_in test code) (test kind || some_inside test kind) (some_in test code)
+      both_none (test kind || any_inside test kind) (not (ends kind) && any_in test code)
+      (test kind || some_inside test kind) (some_in test code)
       (both_none (test kind) (any_inside test kind) (test kind) (some_inside test kind) (λ h. h) (none_inside test kind))
       (behind_none (ends kind) (any_in test code) (some_in test code) (none_translated test code)) e
 

@@ -1,6 +1,6 @@
 -- What a function's index stands for in a linked set: an own function, or what an import stands for; and
 -- that it is a function of the modules up to this one, or a host's (WebAssembly Core 1.0, 4.2.5, 4.5.4).
-use Rattle.std.proofs.Common.{◌≡◌, ℕ, zero, suc, ◌+◌, ◌-◌, ◌<◌, inl, inr, true, false, cond, List, [], ◌∷◌, ◌++◌, length, map, filter, slice_get, flat_map, Option, Some, None, option_map, refl, sym, ap, ◌∙◌, subst, arith}
+use Rattle.std.proofs.Common.{◌≡◌, ℕ, zero, suc, ◌+◌, ◌<◌, inl, inr, true, false, cond, List, [], ◌∷◌, ◌++◌, length, map, filter, slice_get, flat_map, Option, Some, None, refl, sym, ap, ◌∙◌, subst, arith}
 use Rattle.std.proofs.lemmas.List.{length-map}
 use Rattle.std.specs.List.{range_with_len}
 use Rattle.std.proofs.lemmas.Option.{slice_get_within, same_Some}

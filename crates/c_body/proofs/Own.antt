@@ -19,7 +19,7 @@ use Rattle.wasm_meaning.specs.LinkedSet as link
 use Rattle.c_tree.specs.Tree as tree
 use Rattle.c_tree.specs.Scope.{func_type_of}
 use Rattle.c_meaning.specs.State as state
-use Rattle.c_meaning.specs.Linking.{Program, Definition, definition_at, func_type, c_type_of, c_params_of}
+use Rattle.c_meaning.specs.Linking.{Program, definition_at, func_type, c_type_of, c_params_of}
 use Rattle.c_meaning.specs.Primitives.{primitive}
 use Rattle.c_meaning.proofs.Ways.{stays}
 use Rattle.alike.specs.Alike.{func_name}

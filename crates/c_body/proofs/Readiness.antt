@@ -5,7 +5,6 @@ use Rattle.std.proofs.lemmas.List.{length-reverse}
 use Rattle.std.proofs.lemmas.Option.{slice_get-map}
 use Rattle.w2c_base.specs.declared.value.ValType.{ValType}
 use Rattle.w2c_base.specs.declared.signature.FuncType.{FuncType}
-use Rattle.w2c_base.specs.Lookup.{at_index}
 use Rattle.wasm_tree.specs.declared.code.Instr.{Instr}
 use Rattle.wasm_tree.specs.declared.tree.Module.{Module}
 use Rattle.wasm_tree.specs.declared.entries.TypeEntry.{TypeEntry}
@@ -22,7 +21,6 @@ use Rattle.wasm_valid.specs.Context.{Context, Labels, context_of}
 use Rattle.wasm_valid.specs.Typing.{Stack, HasType, KindHasType, ElseHasType, TurnsAsTabled, table_type, values}
 use Rattle.c_body.specs.declared.mark.Mark.{Mark}
 use Rattle.c_body.specs.declared.steps.Step.{Step}
-use Rattle.c_body.specs.declared.steps.Step.TheVariants as step
 use Rattle.c_body.specs.declared.emitter.Emitter.{Emitter}
 use Rattle.c_body.specs.declared.stack.Operands.{Operands}
 use Rattle.c_body.specs.Stack.{after, ends, stands}
@@ -36,7 +34,7 @@ use Rattle.c_body.specs.Made.{Made, with_labels, ran, ran_kind, ran_instr, unles
 use Rattle.c_body.specs.MadeBy.{made_by}
 use Rattle.c_body.specs.Shown.{types_of, Keeps}
 use Rattle.c_body.specs.Inside.{Inside}
-use Rattle.c_body.specs.Finished.{begun, first_marks}
+use Rattle.c_body.specs.Finished.{begun}
 use Rattle.c_body.specs.Ready.{HasOperands, operands_in, takes, IsReached, CodeIsReady, KindIsReached, KindIsReady, PlainIsReady, InsideIsReady, BodyIsReady, HaveFewParams}
 use Rattle.c_body.proofs.Lists.{all_at}
 use Rattle.c_body.proofs.Own.{typed_body, few_params}
@@ -216,7 +214,8 @@ code_next c e n place kind rest h made kept = by_dead e.is_dead refl
     most : labels_of kind + labels_in rest + e.labels < 2 ^ 64
     most = h.labels
 
-    live_next : (r : IsReached c.context e (then_code place kind rest)) → Goes c (made_by e) (made_by n) kind → CodeIsReady c.context n rest
+    live_next : (r : IsReached c.context e (then_code place kind rest)) → Goes c (made_by e) (made_by n) kind
+        → CodeIsReady c.context n rest
     live_next r g = record {
       labels = let l : n.labels ≡ labels_of kind + e.labels = g.labels in omega (arith, most, l);
       reached = λ live.
@@ -294,15 +293,18 @@ opened_ready c e n taken code otherwise m h inside made types marks labels =
     let most = h.labels in
     let now : n.labels ≡ taken + e.labels = ap (λ (m : Made). m.labels) made ∙ labels in
     inside_ready c e n code h.label_types h.outs inside same
-    (subst (λ (ts : Stack). Covered ts n.operands.marks.items) (sym same) (subst (λ (ms : List Mark). Covered (types_of e.operands) ms) (sym marked) h.covered))
+    (subst (λ (ts : Stack). Covered ts n.operands.marks.items) (sym same)
+    (subst (λ (ms : List Mark). Covered (types_of e.operands) ms) (sym marked) h.covered))
     h.numbers h.typed (omega (arith, most, now))
 
-pub second_code_ready : (c : Setting) (e first n : Emitter) (t : Option ValType) (code : Code) (otherwise : Otherwise) (place : ℕ) (other : Code)
+pub second_code_ready : (c : Setting) (e first n : Emitter) (t : Option ValType) (code : Code) (otherwise : Otherwise) (place : ℕ)
+    (other : Code)
     → otherwise ≡ else_code place other → InsideIsReady c.context e 2 code otherwise
     → made_by first ≡ ran c (in_first t otherwise (made_by e)) code → made_by n ≡ in_second (made_by e) (made_by first)
     → Inside e.operands n.operands → CodeIsReady c.context n other
 second_code_ready c e first n t code otherwise place other is h first_made made inside =
-    let r : InsideIsReady c.context e 2 code (else_code place other) = subst (λ (o : Otherwise). InsideIsReady c.context e 2 code o) is h in
+    let r : InsideIsReady c.context e 2 code (else_code place other) =
+    subst (λ (o : Otherwise). InsideIsReady c.context e 2 code o) is h in
     let begins : Made = in_first t (else_code place other) (made_by e) in
     let ran_first : made_by first ≡ ran c begins code = first_made ∙ ap (λ (o : Otherwise). ran c (in_first t o (made_by e)) code) is in
     let w : Went c begins (made_by first) code =
@@ -365,7 +367,8 @@ if_ready c e n t code otherwise place live h made =
     record {
       labels = omega (arith, most, now);
       live = ap (λ (m : Made). m.is_dead) made ∙ live;
-      covered = subst (λ (m : Made). Covered m.types m.marks) (sym made) (covered_drop 1 (types_of e.operands) e.operands.marks.items r.covered);
+      covered = subst (λ (m : Made). Covered m.types m.marks) (sym made)
+          (covered_drop 1 (types_of e.operands) e.operands.marks.items r.covered);
       numbers = parts.0;
       numbers_else = parts.1;
       label_types = t ∷ r.labels;
@@ -428,7 +431,8 @@ defined_ready m index func body ty valid formed f b is =
         → (i : ℕ) × (slice_get xs i ≡ Some x)
     got_defined {A} m xs index x = go (nat_lt index (imported_funcs m))
       where
-        go : (imported : Bool) → (if imported then None else slice_get xs (index - imported_funcs m)) ≡ Some x → (i : ℕ) × (slice_get xs i ≡ Some x)
+        go : (imported : Bool) → (if imported then None else slice_get xs (index - imported_funcs m)) ≡ Some x
+            → (i : ℕ) × (slice_get xs i ≡ Some x)
         go true e = absurd cc
         go false e = (index - imported_funcs m, e)
 

@@ -26,7 +26,7 @@ use Rattle.c_meaning.specs.Linking.{Program}
 use Rattle.wasm_meaning.specs.Execution.{Calls}
 use Rattle.wasm_valid.specs.Context.{Context}
 use Rattle.c_body.specs.Serves.{AreServed}
-use Rattle.c_meaning.specs.Step.{Step, Next, Stops, depth_name, in_unit, value_of, number_in, as_object, evaluate_arg, with_value, place_of, with_vars, next, assign, act, c_step, put_in}
+use Rattle.c_meaning.specs.Step.{Step, Next, depth_name, in_unit, value_of, number_in, as_object, evaluate_arg, with_value, place_of, with_vars, next, assign, act, c_step, put_in}
 use Rattle.c_meaning.proofs.Takes.{put_number}
 use Rattle.alike.specs.Alike.{memory_name, table_name, global_name, first_global}
 use Rattle.c_body.specs.Names.{pointer_name}

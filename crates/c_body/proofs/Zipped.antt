@@ -87,3 +87,21 @@ pub by_its_type : (m : Module) (name : List ℕ) (index : ℕ) (func : FuncEntry
 by_its_type m name index func body found e f g =
     ap (typed_entry m name index body) (g ∙ slice_get-map (λ (t : TypeEntry). t.ty) m.types func.type_index)
     ∙ by_entry m name index (Some (func, body)) (pair_at m m.funcs m.bodies index func body (sym e) (sym f))
+
+-- the type of the function that is defined with an index, by its entries
+abbrev type_of_entry : Module → Option (FuncEntry × BodyEntry) → Option FuncType
+type_of_entry m d = if_found d (λ e. type_in m e.0.type_index)
+
+pub no_func_type : (m : Module) (index : ℕ) → None ≡ at_defined m m.funcs index → None ≡ type_of_entry m (at_defined m (zip m.funcs m.bodies) index)
+no_func_type m index e = ap (type_of_entry m) (sym (no_pair_left m m.funcs m.bodies index (sym e)))
+
+pub no_body_type : (m : Module) (index : ℕ) → None ≡ at_defined m m.bodies index → None ≡ type_of_entry m (at_defined m (zip m.funcs m.bodies) index)
+no_body_type m index e = ap (type_of_entry m) (sym (no_pair_right m m.funcs m.bodies index (sym e)))
+
+pub type_of_both : (m : Module) (index : ℕ) (func : FuncEntry) (body : BodyEntry) (found : Option FuncType)
+    → Some func ≡ at_defined m m.funcs index → Some body ≡ at_defined m m.bodies index
+    → found ≡ slice_get (map (λ (t : TypeEntry). t.ty) m.types) func.type_index
+    → found ≡ type_of_entry m (at_defined m (zip m.funcs m.bodies) index)
+type_of_both m index func body found e f g =
+    g ∙ (slice_get-map (λ (t : TypeEntry). t.ty) m.types func.type_index
+    ∙ ap (type_of_entry m) (sym (pair_at m m.funcs m.bodies index func body (sym e) (sym f))))

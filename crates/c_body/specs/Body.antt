@@ -1,6 +1,6 @@
 -- The static function of a module's function (WebAssembly Core 1.0, 2.5.3 functions and 4.4.7.1
 -- invocation): a test of the depth of calls, the code, and one exit, which counts the depth down.
-use Rattle.std.specs.Prelude.{filter, ℕ, suc, ◌||◌, max, Bool, true, false, if◌then◌else◌, List, [], ◌∷◌, ◌++◌, map, length, slice_get, Option, Some, None, option_map, unwrap_or}
+use Rattle.std.specs.Prelude.{filter, ℕ, suc, ◌||◌, max, Bool, true, false, if◌then◌else◌, List, [], ◌∷◌, ◌++◌, map, length, Option, Some, None, option_map, unwrap_or}
 use Rattle.std.specs.List.{range_with_len}
 use Rattle.w2c_base.specs.declared.value.ValType.{ValType}
 use Rattle.w2c_base.specs.declared.value.ValType.TheVariants as type

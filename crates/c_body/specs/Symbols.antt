@@ -126,10 +126,11 @@ abbrev pub firsts : List Name → List Name → List Name
 firsts seen [] = []
 firsts seen (name ∷ names) = if is_among name seen then firsts seen names else name ∷ firsts (name ∷ seen) names
 
+-- each of them has a type
+abbrev pub declared_type : Option tree.FuncType → tree.FuncType
+declared_type None = accessor_type type.Void
+declared_type (Some t) = t
+
 -- the symbols that the unit declares, each once, with their types there
 abbrev pub declared_symbols : NamedModule → List Typed
-declared_symbols m = map (λ name. (name, typed (symbol_type m name))) (firsts [] (map import_symbol m.tree.imports))
-  where
-    typed : Option tree.FuncType → tree.FuncType
-    typed None = accessor_type type.Void
-    typed (Some t) = t
+declared_symbols m = map (λ name. (name, declared_type (symbol_type m name))) (firsts [] (map import_symbol m.tree.imports))

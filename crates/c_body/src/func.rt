@@ -1,7 +1,8 @@
 // The function of a body.
 ghost use Rattle.std.specs.Prelude.{◌≡◌, ◌<◌, ◌-◌, ◌^◌, ◌++◌, replicate, slice_get, IfOk, OnOk};
 ghost use Rattle.std.specs.Option.{option_copied};
-ghost use Rattle.wasm_tree.specs.IndexSpaces.{declared_locals, at_defined};
+ghost use Rattle.w2c_base.specs.Lookup.{if_found};
+ghost use Rattle.wasm_tree.specs.IndexSpaces.{declared_locals, at_defined, type_in};
 ghost use Rattle.wasm_valid.specs.Context.{context_of};
 ghost use Rattle.c_tree.specs.View.{body_of as body_seen, func_of as func_seen};
 ghost use Rattle.w2c_base.specs.declared.value.ValType.TheVariants as type;
@@ -143,6 +144,20 @@ impl<'a> IndexSpaces<'a> {
             None
         } else {
             self.tree.bodies.as_slice().get(index - imported)
+        }
+    }
+
+    /// The type of the function that the module defines with an index.
+    #[tactic(auto, using(crate::proofs::Zipped::no_func_type, crate::proofs::Zipped::no_body_type, crate::proofs::Zipped::type_of_both))]
+    pub fn defined_type(&self, index: u32) -> Option<&'a FuncType>
+        ensures { option_copied result ≡ if_found (function.defined_at self.now.tree.now index) (λ d. type_in self.now.tree.now d.0.type_index) }
+    {
+        match self.func_at(index) {
+            None => None,
+            Some(func) => match self.body_at(index) {
+                None => None,
+                Some(_) => self.ty(func.type_index),
+            },
         }
     }
 

@@ -165,7 +165,7 @@ impl<'a> IndexSpaces<'a> {
 
     /// How many functions are imported.
     #[tactic(auto, using(crate::proofs::LookedUp::as_many))]
-    pub(crate) fn imported_funcs(&self) -> usize
+    pub fn imported_funcs(&self) -> usize
         ensures { result ≡ imported_func_count self.now.tree.now }
     {
         self.callees.len()
@@ -173,7 +173,7 @@ impl<'a> IndexSpaces<'a> {
 
     /// The type with an index.
     #[tactic(auto, using(crate::proofs::LookedUp::type_found))]
-    pub(crate) fn ty(&self, type_index: u32) -> Option<&'a FuncType>
+    pub fn ty(&self, type_index: u32) -> Option<&'a FuncType>
         ensures { option_copied result ≡ slice_get (map (λ t. t.ty) self.now.tree.now.types) type_index }
     {
         match self.tree.types.as_slice().get(type_index as usize) {
@@ -205,7 +205,7 @@ impl<'a> IndexSpaces<'a> {
 
     /// The name of the function with an index, where it may be called.
     #[tactic(auto, using(crate::proofs::LookedUp::callee_imported, crate::proofs::LookedUp::callee_own))]
-    pub(crate) fn callee(&self, alloc: Global, index: u32) -> Result<Option<Name>, Memory>
+    pub fn callee(&self, alloc: Global, index: u32) -> Result<Option<Name>, Memory>
         ensures { IfOk result (λ name. name ≡ objects.callee (named_of self.now) index) }
     {
         match self.callees.get(index as usize) {
@@ -216,7 +216,7 @@ impl<'a> IndexSpaces<'a> {
     }
 
     /// A pointer to the memory.
-    pub(crate) fn memory_arg(&self, alloc: Global) -> Result<Arg, Memory>
+    pub fn memory_arg(&self, alloc: Global) -> Result<Arg, Memory>
         ensures { IfOk result (λ a. arg_of a ≡ objects.memory_arg self.now.tree.now) }
     {
         if self.imports_memory {
@@ -227,7 +227,7 @@ impl<'a> IndexSpaces<'a> {
     }
 
     /// A pointer to the table.
-    pub(crate) fn table_arg(&self, alloc: Global) -> Result<Arg, Memory>
+    pub fn table_arg(&self, alloc: Global) -> Result<Arg, Memory>
         ensures { IfOk result (λ a. arg_of a ≡ objects.table_arg self.now.tree.now) }
     {
         if self.imports_table {
@@ -245,7 +245,7 @@ impl<'a> IndexSpaces<'a> {
     }
 
     /// The value of a global.
-    pub(crate) fn global_value(&self, alloc: Global, index: u32) -> Result<Expr, Memory>
+    pub fn global_value(&self, alloc: Global, index: u32) -> Result<Expr, Memory>
         ensures { IfOk result (λ e. expr_of e ≡ objects.global_value self.now.tree.now index) }
     {
         if self.is_imported_global(index) {

@@ -48,7 +48,8 @@ fn func_type_if(alloc: Global, ty: Option<&FuncType>) -> Result<CFuncType, Memor
     }
 }
 
-fn pointer_type(ty: ValType) -> CType
+/// The type of a pointer to a global.
+pub fn pointer_type(ty: ValType) -> CType
     ensures { result ≡ symbols.pointer_type ty }
 {
     match ty {
@@ -57,7 +58,8 @@ fn pointer_type(ty: ValType) -> CType
     }
 }
 
-fn global_kind(mutable: bool) -> SymbolKind
+/// The kind of a global's symbol.
+pub fn global_kind(mutable: bool) -> SymbolKind
     ensures { result ≡ symbols.global_kind mutable }
 {
     if mutable {

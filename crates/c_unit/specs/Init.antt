@@ -209,12 +209,12 @@ has_test i = elim i.kind [
 abbrev pub tests_limits : Module → Bool
 tests_limits m = list_any has_test m.imports
 
+abbrev pub is_some_of : {A : Type 0} → List A → Bool
+is_some_of [] = false
+is_some_of (a ∷ items) = true
+
 abbrev pub tests_bounds : Module → Bool
 tests_bounds m = is_some_of m.elements || is_some_of m.segments
-  where
-    is_some_of : {A : Type 0} → List A → Bool
-    is_some_of [] = false
-    is_some_of (a ∷ items) = true
 
 abbrev pub has_bytes : SegmentEntry → Bool
 has_bytes d = elim d.bytes [ [] ↦ false | b ∷ bytes ↦ true ]

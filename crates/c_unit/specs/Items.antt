@@ -27,10 +27,10 @@ use Rattle.c_unit.specs.Exports.{export_func}
 
 -- ---- objects: the table, the memory, the globals, and pointers to imported ones
 
-abbrev variable : CType → Name → tree.Item
+abbrev pub variable : CType → Name → tree.Item
 variable t name = tree.Var t name None
 
-abbrev global_item : Module → ℕ × GlobalEntry → tree.Item
+abbrev pub global_item : Module → ℕ × GlobalEntry → tree.Item
 global_item m g = variable (c_type_of g.1.ty) (global_name (imported_globals m + g.0))
 
 abbrev pub objects_of : Module → List (CType × Name) → List tree.Item
@@ -42,7 +42,7 @@ objects_of m pointers =
 
 -- ---- the bytes of the segments that have some
 
-abbrev data_item : ℕ × SegmentEntry → List tree.Item
+abbrev pub data_item : ℕ × SegmentEntry → List tree.Item
 data_item d = elim d.1.bytes [ [] ↦ [] | b ∷ bytes ↦ tree.Array (data_name d.0) (length d.1.bytes) d.1.bytes ∷ [] ]
 
 abbrev pub data_of : Module → List tree.Item
@@ -60,7 +60,7 @@ declaration symbol = tree.Function (record {
   body = None;
 })
 
-abbrev no_name : tree.Param → tree.Param
+abbrev pub no_name : tree.Param → tree.Param
 no_name p = (p.0, None)
 
 -- a declaration of a function that is defined further on

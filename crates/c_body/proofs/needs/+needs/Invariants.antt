@@ -1,0 +1,18 @@
+use Rattle.std.proofs.Common.{◌≡◌, ◌+◌, ◌*◌, drop}
+use Rattle.wasm_tree.specs.Size.{code_size, kind_size, otherwise_size}
+use Rattle.wasm_tree.specs.Views.{code_tree, kind_tree, otherwise_tree}
+use Rattle.c_body.proofs.CalledHelpers.{EntersCode}
+use Rattle.c_body.proofs.needs.+needs.Given as goal
+
+abbrev pub decreases-enter_code : goal.decreases-enter_code
+decreases-enter_code l = 4 * code_size l.code.now
+
+abbrev pub decreases-enter_else : goal.decreases-enter_else
+decreases-enter_else l = 4 * otherwise_size (otherwise_tree l.otherwise.now) + 1
+
+abbrev pub decreases-enter_inside : goal.decreases-enter_inside
+decreases-enter_inside l = 4 * kind_size (kind_tree l.kind.now) + 2
+
+-- what was entered, and what is left
+abbrev pub invariant-enter_code-loop-instr : goal.invariant-enter_code-loop-instr
+invariant-enter_code-loop-instr l = EntersCode l.table l.initial.table (code_tree (drop l.instr-index l.instr-items)) l.code

@@ -1,0 +1,15 @@
+use Rattle.std.proofs.Common.{OnOk, Option, sym, subst, ◌∙◌}
+use Rattle.std.proofs.lemmas.Result.{on_ok_weaker}
+use Rattle.c_prelude.specs.declared.operation.Helper.{Helper}
+use Rattle.c_body.specs.Called.{HasMore}
+use Rattle.c_body.specs.Needs.{named_by}
+use Rattle.c_body.proofs.CalledHelpers.{one_more}
+use Rattle.c_body.proofs.needs.enter.Goals as goal
+
+pub returns-in_ok-name-in-Some : goal.returns-in_ok-name-in-Some
+returns-in_ok-name-in-Some c =
+    subst (λ (w : Option Helper). OnOk c.enter.result (HasMore c.enter.new.self c.args.table.now (λ name. named_by name w)))
+    (sym c.in-Some.is)
+    (on_ok_weaker c.enter.result
+    (one_more c.enter.new.self c.args.table.now c.in-Some.which c.as_slice.result.now _
+    (c.as_slice.ensures ∙ c.in_ok-name-in-Some.ensures)) c.enter.ensures)

@@ -1,0 +1,6 @@
+use Rattle.std.proofs.Common.{◌≡◌, ◌++◌, drop, filter}
+use Rattle.c_body.specs.Called.{is_known}
+use Rattle.c_body.proofs.needs.known.Given as goal
+
+abbrev pub invariant-loop-which : goal.invariant-loop-which
+invariant-loop-which l = l.list.items ++ filter (is_known l.table) (drop l.which-index l.all) ≡ filter (is_known l.table) l.all

@@ -1,0 +1,26 @@
+-- The parts of the init function are the whole.
+use Rattle.std.proofs.Common.{◌≡◌, List, [], ◌∷◌, ◌++◌, append_assoc, map, filter, not}
+use Rattle.std.specs.List.{flat_map}
+use Rattle.w2c_base.specs.declared.trap.TrapKind.TheVariants as trap
+use Rattle.w2c_base.specs.Lookup.{numbered}
+use Rattle.wasm_tree.specs.IndexSpaces.{is_func_import}
+use Rattle.wasm_meaning.specs.LinkedSet.{NamedModule}
+use Rattle.c_tree.specs.Tree as tree
+use Rattle.c_prelude.specs.Pieces as pieces
+use Rattle.c_unit.specs.Init as of
+use Rattle.c_unit.specs.InitParts.{making, writing, ending}
+
+regroup : {A : Type 0} (a b c d e f g h i j k l m : List A)
+    → ((((((((((((a ++ b) ++ c) ++ d) ++ e) ++ f) ++ g) ++ h) ++ i) ++ j) ++ k) ++ l) ++ m) ≡ a ++
+    (b ++ (c ++ (d ++ (e ++ (f ++ (g ++ (h ++ (i ++ (j ++ (k ++ (l ++ m)))))))))))
+regroup a b c d e f g h i j k l m = simp append_assoc
+
+pub in_parts : (m : NamedModule) → ending m (writing m (making m)) ≡ of.init_stmts m
+in_parts m =
+    regroup (tree.Null ∷ []) (of.takes_from m 0 (filter (λ i. not (is_func_import i)) m.tree.imports))
+    (map (λ t. of.make_table t.limits) m.tree.tables) (map (λ t. of.make_memory t.limits) m.tree.memories)
+    (map (of.make_global m.tree) (numbered m.tree.globals)) (flat_map (of.test_elements m.tree) m.tree.elements)
+    (flat_map (of.test_data m.tree) m.tree.segments) (flat_map (of.write_elements m.tree) m.tree.elements)
+    (flat_map (of.write_data m.tree) (numbered m.tree.segments)) (of.start_stmts m m.tree.start) (tree.ReturnNone ∷ [])
+    (of.trap_if (of.tests_limits m.tree) of.limits_label (pieces.trap trap.ImportLimits))
+    (of.trap_if (of.tests_bounds m.tree) of.bounds_label (pieces.trap trap.SegmentOut))

@@ -1,0 +1,90 @@
+-- What the init function does for imports.
+use Rattle.std.proofs.Common.{◌≡◌, ℕ, zero, suc, ◌+◌, ◌<◌, ◌≤◌, Bool, true, false, not, if◌then◌else◌, List, [], ◌∷◌, ◌++◌, append_assoc, append-nil, length, get_or, drop, filter, Some, None, refl, sym, ap, ◌∙◌, arith}
+use Rattle.std.proofs.lemmas.List.{drop_all}
+use Rattle.wasm_tree.specs.declared.entries.Import.{Import}
+use Rattle.wasm_tree.specs.declared.entries.ImportKind.{ImportKind}
+use Rattle.wasm_tree.specs.declared.entries.ImportKind.TheVariants.{Func as ImportFunc, Table as ImportTable, Memory as ImportMemory, Global as ImportGlobal}
+use Rattle.wasm_tree.specs.IndexSpaces.{is_func_import, is_global_import}
+use Rattle.wasm_meaning.specs.LinkedSet.{NamedModule}
+use Rattle.c_tree.specs.Tree as tree
+use Rattle.c_tree.specs.Scope.{Name}
+use Rattle.c_tree.specs.declared.tree.COp.TheVariants as op
+use Rattle.c_tree.proofs.Tested.{at_front}
+use Rattle.c_body.specs.Names.{label_name, pointer_name}
+use Rattle.c_body.specs.Reached.{usable_symbol}
+use Rattle.c_body.specs.Symbols.{is_usable, import_symbol}
+use Rattle.c_unit.specs.Init.{test_min, primitive, size_name, n64, limits_label, set_pointer, take_stmts, takes_from}
+use Rattle.c_unit.specs.Pointers.{pointer_set}
+
+pub least_there : (object len_of : Name) (unit min : ℕ) → 0 < min
+    → primitive (Some size_name) len_of (tree.Value (tree.Name (pointer_name object)) ∷ []) ∷ tree.If op.Lt
+    (tree.Op op.Div (tree.Name size_name) (n64 unit)) (n64 min) (label_name limits_label) ∷ []
+    ≡ test_min object len_of unit min
+least_there object len_of unit zero h = absurd (omega (arith, h))
+least_there object len_of unit (suc min) h = refl
+
+pub least_none : (object len_of : Name) (unit min : ℕ) → min ≤ 0 → [] ≡ test_min object len_of unit min
+least_none object len_of unit zero h = refl
+least_none object len_of unit (suc min) h = absurd (omega (arith, h))
+
+pub pointer_is_set : (m : NamedModule) (i : Import) (object : Name) → pointer_set (usable_symbol m i) object ≡ set_pointer m i object
+pointer_is_set m i object = at (is_usable m i)
+  where
+    at : (b : Bool) → pointer_set (if b then Some (import_symbol i) else None)
+        object ≡ (if b then tree.Call (Some (pointer_name object)) (tree.Called (import_symbol i)) [] else tree.Null)
+    at true = refl
+    at false = refl
+
+-- imported functions take nothing, and have no number
+func_takes_nothing : (m : NamedModule) (number : ℕ) (i : Import) → is_func_import i ≡ true → take_stmts m number i ≡ []
+func_takes_nothing m number i is = at i.kind refl is
+  where
+    at : (k : ImportKind) → i.kind ≡ k → is_func_import i ≡ true → take_stmts m number i ≡ []
+    at (ImportFunc t) e h = rw e refl
+    at (ImportTable l) e h = let off : is_func_import i ≡ false = rw e refl in cc
+    at (ImportMemory l) e h = let off : is_func_import i ≡ false = rw e refl in cc
+    at (ImportGlobal t mutable) e h = let off : is_func_import i ≡ false = rw e refl in cc
+
+func_is_no_global : (i : Import) → is_func_import i ≡ true → is_global_import i ≡ false
+func_is_no_global i is = at i.kind refl is
+  where
+    at : (k : ImportKind) → i.kind ≡ k → is_func_import i ≡ true → is_global_import i ≡ false
+    at (ImportFunc t) e h = rw e refl
+    at (ImportTable l) e h = rw e refl
+    at (ImportMemory l) e h = rw e refl
+    at (ImportGlobal t mutable) e h = let off : is_func_import i ≡ false = rw e refl in cc
+
+pub takes_all : (m : NamedModule) (number : ℕ) (imports : List Import)
+    → takes_from m number (filter (λ i. not (is_func_import i)) imports) ≡ takes_from m number imports
+takes_all m number [] = refl
+takes_all m number (i ∷ imports) = at (is_func_import i) refl (λ n. takes_all m n imports)
+  where
+    at : (b : Bool) → is_func_import i ≡ b → ((n : ℕ)
+        → takes_from m n (filter (λ j. not (is_func_import j)) imports) ≡ takes_from m n imports)
+        → takes_from m number (if not b then i ∷ filter (λ j. not (is_func_import j)) imports else filter
+        (λ j. not (is_func_import j)) imports) ≡ takes_from m number (i ∷ imports)
+    at true e rest =
+        rest number
+        ∙ ap (λ g. takes_from m (if g then suc number else number) imports) (sym (func_is_no_global i e))
+        ∙ ap (λ ys. ys ++ takes_from m (if is_global_import i then suc number else number) imports) (sym (func_takes_nothing m number i e))
+    at false e rest = ap (λ ys. take_stmts m number i ++ ys) (rest (if is_global_import i then suc number else number))
+
+pub takes_next : (m : NamedModule) (before after whole : List tree.Stmt) (number : ℕ) (xs items : List Import) (i : ℕ) (x : Import)
+    → items ≡ xs → i < length items → x ≡ get_or items i x → after ≡ before ++ take_stmts m number x
+    → before ++ takes_from m number (drop i xs) ≡ whole
+    → after ++ takes_from m (if is_global_import x then suc number else number) (drop (i + 1) xs) ≡ whole
+takes_next m before after whole number xs items i x same less read grown so_far =
+    let within : i < length xs = omega (arith, less, ap length same) in
+    let item : x ≡ get_or xs i x = read ∙ ap (λ ys. get_or ys i x) same in
+    let rest = takes_from m (if is_global_import x then suc number else number) (drop (i + 1) xs) in
+    ap (λ ys. ys ++ rest) grown ∙ append_assoc before (take_stmts m number x) rest
+    ∙ ap (λ ys. before ++ takes_from m number ys) (sym (at_front xs i x within item)) ∙ so_far
+
+pub takes_end : (m : NamedModule) (before after : List tree.Stmt) (number : ℕ) (xs items : List Import) (i : ℕ) → items ≡ xs
+    → length items ≤ i
+    → after ++ takes_from m number (drop i xs) ≡ before ++ takes_from m 0 xs
+    → after ≡ before ++ takes_from m 0 (filter (λ j. not (is_func_import j)) xs)
+takes_end m before after number xs items i same past so_far =
+    let end : length xs ≤ i = omega (arith, past, ap length same) in
+    sym (append-nil after) ∙ ap (λ ys. after ++ takes_from m number ys) (sym (drop_all i xs end)) ∙ so_far
+    ∙ ap (λ ys. before ++ ys) (sym (takes_all m 0 xs))

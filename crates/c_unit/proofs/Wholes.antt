@@ -1,0 +1,83 @@
+-- The items of a unit one after the other.
+use Rattle.std.proofs.Common.{◌≡◌, ℕ, ◌+◌, List, [], ◌∷◌, ◌++◌, append_assoc, length, map, drop, Option, Some, None, refl, sym, ap, ◌∙◌}
+use Rattle.std.specs.Prelude.{slice_get, option_map, flat_map}
+use Rattle.w2c_base.specs.Lookup.{numbered}
+use Rattle.wasm_tree.specs.declared.entries.Import.{Import}
+use Rattle.wasm_tree.specs.declared.entries.SegmentEntry.{SegmentEntry}
+use Rattle.wasm_tree.specs.declared.entries.LimitsEntry.{LimitsEntry}
+use Rattle.wasm_meaning.specs.LinkedSet.{NamedModule}
+use Rattle.alike.specs.Alike.{memory_name, table_name, global_name}
+use Rattle.c_tree.specs.declared.tree.CType.{CType}
+use Rattle.c_tree.specs.declared.tree.CType.TheVariants as c_type
+use Rattle.c_tree.specs.Tree as tree
+use Rattle.c_tree.specs.Scope.{Name}
+use Rattle.c_body.specs.Names.{pointer_name}
+use Rattle.c_body.specs.Symbols.{table_imports, memory_imports, global_imports, import_type}
+use Rattle.c_body.specs.Objects.{pointers_of}
+use Rattle.c_unit.specs.Items.{variable, global_item, data_item, data_of, items}
+use Rattle.c_unit.specs.Arrays.{array_of, byte_segments, bytes_if}
+use Rattle.c_unit.specs.Tails.{from_tables, from_pointers, from_data, from_declared, global_pointer}
+use Rattle.c_unit.proofs.Parted.{past_all}
+
+map_append : {A B : Type 0} (f : A → B) (xs ys : List A) → map f (xs ++ ys) ≡ map f xs ++ map f ys
+map_append f [] ys = refl
+map_append f (x ∷ xs) ys = ap (λ zs. f x ∷ zs) (map_append f xs ys)
+
+map_twice : {A B C : Type 0} (g : B → C) (f : A → B) (xs : List A) → map g (map f xs) ≡ map (λ x. g (f x)) xs
+map_twice g f [] = refl
+map_twice g f (x ∷ xs) = ap (λ zs. g (f x) ∷ zs) (map_twice g f xs)
+
+arrays : (ds : List (ℕ × SegmentEntry)) → map array_of (flat_map bytes_if ds) ≡ flat_map data_item ds
+arrays [] = refl
+arrays (d ∷ ds) = map_append array_of (bytes_if d) (flat_map bytes_if ds) ∙ ap (λ xs. map array_of (bytes_if d) ++ xs) (arrays ds)
+    ∙ ap (λ xs. xs ++ flat_map data_item ds) (one d.1.bytes)
+  where
+    one : (bytes : List ℕ) → map array_of (elim bytes [ [] ↦ [] | b ∷ rest ↦ (d.0, d.1.bytes) ∷ [] ]) ≡
+        (elim bytes [ [] ↦ [] | b ∷ rest ↦ array_of (d.0, d.1.bytes) ∷ [] ])
+    one [] = refl
+    one (b ∷ rest) = refl
+
+abbrev as_variable : CType × Name → tree.Item
+as_variable p = variable p.0 p.1
+
+pointers : (m : NamedModule) (rest : List tree.Item) → map as_variable (pointers_of m.tree) ++ rest
+    ≡ map (λ (i : Import). variable c_type.PtrMem (pointer_name memory_name)) (memory_imports m.tree)
+    ++ (map (λ (i : Import). variable c_type.PtrTab (pointer_name table_name)) (table_imports m.tree)
+    ++ (map (global_pointer m) (numbered (global_imports m.tree)) ++ rest))
+pointers m rest =
+    let memories : List (CType × Name) = map (λ (i : Import). (c_type.PtrMem, pointer_name memory_name)) (memory_imports m.tree) in
+    let tables : List (CType × Name) = map (λ (i : Import). (c_type.PtrTab, pointer_name table_name)) (table_imports m.tree) in
+    let globals : List (CType × Name) = map (λ (i : ℕ × Import). ((import_type m.tree i.1).result, pointer_name (global_name i.0)))
+    (numbered (global_imports m.tree)) in
+    three memories tables globals
+    ∙ ap (λ xs. xs ++ (map as_variable tables ++ (map as_variable globals ++ rest))) (map_twice as_variable _ (memory_imports m.tree))
+    ∙ ap (λ xs. map (λ (i : Import). variable c_type.PtrMem (pointer_name memory_name)) (memory_imports m.tree) ++
+    (xs ++ (map as_variable globals ++ rest))) (map_twice as_variable _ (table_imports m.tree))
+    ∙ ap (λ xs. map (λ (i : Import). variable c_type.PtrMem (pointer_name memory_name)) (memory_imports m.tree) ++
+    (map (λ (i : Import). variable c_type.PtrTab (pointer_name table_name)) (table_imports m.tree) ++ (xs ++ rest)))
+    (map_twice as_variable _ (numbered (global_imports m.tree)))
+  where
+    three : (a b c : List (CType × Name)) → map as_variable (a ++ (b ++ c)) ++ rest ≡ map as_variable a ++
+        (map as_variable b ++ (map as_variable c ++ rest))
+    three a b c =
+        ap (λ xs. xs ++ rest) (map_append as_variable a (b ++ c) ∙ ap (λ xs. map as_variable a ++ xs) (map_append as_variable b c))
+        ∙ append_assoc (map as_variable a) (map as_variable b ++ map as_variable c) rest
+        ∙ ap (λ xs. map as_variable a ++ xs) (append_assoc (map as_variable b) (map as_variable c) rest)
+
+-- all items are those from the tables on
+pub all_tails : (m : NamedModule) → from_tables m ≡ items m
+all_tails m =
+    let tables : List tree.Item = map (λ (t : LimitsEntry). variable c_type.Tab table_name) m.tree.tables in
+    let memories : List tree.Item = map (λ (t : LimitsEntry). variable c_type.Mem memory_name) m.tree.memories in
+    let globals : List tree.Item = map (global_item m.tree) (numbered m.tree.globals) in
+    sym (four tables memories globals (map as_variable (pointers_of m.tree)) (data_of m.tree ++ from_declared m)
+    ∙ ap (λ xs. tables ++ (memories ++ (globals ++ xs)))
+    (ap (λ xs. map as_variable (pointers_of m.tree) ++ (xs ++ from_declared m)) (sym (arrays (numbered m.tree.segments)))
+    ∙ pointers m (from_data m)))
+  where
+    four : (a b c d e : List tree.Item) → (a ++ (b ++ (c ++ d))) ++ e ≡ a ++ (b ++ (c ++ (d ++ e)))
+    four a b c d e =
+        append_assoc a (b ++ (c ++ d)) e ∙ ap (λ xs. a ++ xs) (append_assoc b (c ++ d) e ∙ ap (λ xs. b ++ xs) (append_assoc c d e))
+
+pub gives_none : (all : List tree.Item) (n : ℕ) → None ≡ slice_get all n → drop n all ≡ []
+gives_none all n is = past_all all n (sym is)

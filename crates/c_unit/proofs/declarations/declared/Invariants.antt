@@ -1,0 +1,9 @@
+use Rattle.std.proofs.Common.{◌≡◌, drop, map}
+use Rattle.c_body.specs.Symbols.{import_symbol}
+use Rattle.c_unit.specs.Named.{named_of, pair_of}
+use Rattle.c_unit.proofs.SeenNames.{DeclaresSoFar}
+use Rattle.c_unit.proofs.declarations.declared.Given as goal
+
+abbrev pub invariant-loop-import : goal.invariant-loop-import
+invariant-loop-import l =
+    DeclaresSoFar (named_of l.symbols.indexes) l.seen (map pair_of l.list.items) (drop l.import-index l.symbols.indexes.tree.now.imports)

@@ -1,0 +1,9 @@
+use Rattle.std.proofs.Common.{◌≡◌, ◌++◌, drop, map, filter}
+use Rattle.wasm_tree.specs.IndexSpaces.{is_global_import}
+use Rattle.c_body.specs.Symbols.{global_imports}
+use Rattle.c_unit.specs.Pointers.{pointed}
+use Rattle.c_unit.proofs.global_pointers.global_pointers.Given as goal
+
+abbrev pub invariant-loop-import : goal.invariant-loop-import
+invariant-loop-import l = l.types.items ++ map (pointed l.m) (filter is_global_import (drop l.import-index l.m.imports)) ≡ map
+    (pointed l.m) (global_imports l.m)

@@ -1,0 +1,8 @@
+use Rattle.std.proofs.Common.{◌≡◌, ◌++◌, drop, map, filter}
+use Rattle.wasm_tree.specs.IndexSpaces.{is_func_import}
+use Rattle.c_body.specs.Symbols.{func_imports, import_symbol}
+use Rattle.c_unit.proofs.import_symbols.func_symbols.Given as goal
+
+abbrev pub invariant-loop-import : goal.invariant-loop-import
+invariant-loop-import l = l.names.items ++ map import_symbol
+    (filter is_func_import (drop l.import-index l.indexes.tree.now.imports)) ≡ map import_symbol (func_imports l.indexes.tree.now)

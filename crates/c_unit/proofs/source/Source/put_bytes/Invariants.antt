@@ -1,0 +1,14 @@
+use Rattle.std.proofs.Common.{◌≡◌, ◌++◌, drop, map}
+use Rattle.std.specs.List.{flat_map}
+use Rattle.w2c_base.specs.Lookup.{numbered}
+use Rattle.c_tree.specs.View.{stmt_of}
+use Rattle.c_unit.specs.Init.{write_data}
+use Rattle.c_unit.proofs.source.Source.put_bytes.Given as goal
+
+abbrev pub invariant-loop-segment : goal.invariant-loop-segment
+invariant-loop-segment l = record {
+  at : l.number ≡ l.segment-index;
+  so_far : map stmt_of l.stmts ++ flat_map (write_data l.self.tree.now)
+      (drop l.segment-index (numbered l.self.tree.now.segments)) ≡ map stmt_of l.fn.stmts ++ flat_map (write_data l.self.tree.now)
+      (numbered l.self.tree.now.segments);
+}

@@ -1,0 +1,21 @@
+use Rattle.std.proofs.Common.{◌≡◌, ℕ, ◌+◌, ◌-◌, ◌<◌, ◌≤◌, length, slice_get, option_map, IfOk, subst, ap, ◌∙◌, arith}
+use Rattle.c_tree.specs.Tree.{Function}
+use Rattle.c_tree.specs.View.{item_of}
+use Rattle.c_unit.specs.Sources.{module_of}
+use Rattle.c_unit.specs.Tails.{from_exports}
+use Rattle.c_unit.proofs.Standing.{body_there, body_past}
+use Rattle.c_unit.proofs.unit_items.UnitItems.at_bodies.Goals as goal
+
+pub returns-in_ok-body : goal.returns-in_ok-body
+returns-in_ok-body c =
+    let less : c.args.n < length c.args.self.now.source.tree.now.funcs = omega (arith, c.len-count.ensures, c.if-n-count.true) in
+    body_there (module_of c.args.self.now.source) c.args.n _ less (ap Function c.in_ok-body.ensures)
+
+pub returns-else-n-count : goal.returns-else-n-count
+returns-else-n-count c =
+    let past : length c.args.self.now.source.tree.now.funcs ≤ c.args.n = omega (arith, c.len-count.ensures, c.if-n-count.false) in
+    subst (λ there. IfOk c.at_exports.result (λ item. option_map item_of item ≡ there))
+    (ap (λ k. slice_get (from_exports (module_of c.args.self.now.source)) k)
+    (c.saturating_sub.ensures ∙ ap (λ k. c.args.n - k) c.len-count.ensures)
+    ∙ body_past (module_of c.args.self.now.source) c.args.n past)
+    c.at_exports.ensures

@@ -1,0 +1,20 @@
+use Rattle.std.proofs.Common.{◌≡◌, ℕ, ◌+◌, ◌-◌, ◌<◌, ◌≤◌, length, slice_get, option_map, IfOk, subst, ap, ◌∙◌, arith}
+use Rattle.c_tree.specs.View.{item_of}
+use Rattle.c_unit.specs.Sources.{module_of}
+use Rattle.c_unit.specs.Tails.{from_helpers}
+use Rattle.c_unit.proofs.Standing.{prototype_there, prototype_past}
+use Rattle.c_unit.proofs.unit_items.UnitItems.at_prototypes.Goals as goal
+
+pub returns-in_ok-prototype : goal.returns-in_ok-prototype
+returns-in_ok-prototype c =
+    let less : c.args.n < length c.args.self.now.source.tree.now.funcs = omega (arith, c.len-count.ensures, c.if-n-count.true) in
+    prototype_there (module_of c.args.self.now.source) c.args.n _ less c.in_ok-prototype.ensures
+
+pub returns-else-n-count : goal.returns-else-n-count
+returns-else-n-count c =
+    let past : length c.args.self.now.source.tree.now.funcs ≤ c.args.n = omega (arith, c.len-count.ensures, c.if-n-count.false) in
+    subst (λ there. IfOk c.at_helpers.result (λ item. option_map item_of item ≡ there))
+    (ap (λ k. slice_get (from_helpers (module_of c.args.self.now.source)) k)
+    (c.saturating_sub.ensures ∙ ap (λ k. c.args.n - k) c.len-count.ensures)
+    ∙ prototype_past (module_of c.args.self.now.source) c.args.n past)
+    c.at_helpers.ensures

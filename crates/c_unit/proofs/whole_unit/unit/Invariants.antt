@@ -1,0 +1,11 @@
+use Rattle.std.proofs.Common.{◌≡◌, ◌++◌, length}
+use Rattle.c_tree.specs.View.{unit_of}
+use Rattle.c_unit.specs.Items.{items_of}
+use Rattle.c_unit.specs.Tails.{left_of}
+use Rattle.c_unit.proofs.whole_unit.unit.Given as goal
+
+abbrev pub invariant-more : goal.invariant-more
+invariant-more l = unit_of l.unit ++ left_of l.items ≡ items_of l.m l.name
+
+abbrev pub decreases-more : goal.decreases-more
+decreases-more l = length (left_of l.items)

@@ -1,0 +1,73 @@
+-- The items of a unit from each kind of them on, and what is left of them behind those that were given.
+use Rattle.std.specs.Prelude.{◌≡◌, ℕ, List, [], ◌∷◌, ◌++◌, map, drop, Option, Some, None}
+use Rattle.w2c_base.specs.Lookup.{numbered}
+use Rattle.wasm_tree.specs.declared.entries.Import.{Import}
+use Rattle.wasm_tree.specs.declared.entries.LimitsEntry.{LimitsEntry}
+use Rattle.wasm_meaning.specs.LinkedSet.{NamedModule}
+use Rattle.c_tree.specs.declared.tree.CType.{CType}
+use Rattle.c_tree.specs.declared.tree.CType.TheVariants as c_type
+use Rattle.c_tree.specs.Tree as tree
+use Rattle.c_tree.specs.Scope.{Name}
+use Rattle.c_prelude.specs.Helpers.{helper_of}
+use Rattle.alike.specs.Alike.{memory_name, table_name, global_name}
+use Rattle.c_body.specs.Names.{pointer_name}
+use Rattle.c_body.specs.Symbols.{table_imports, memory_imports, global_imports, import_type, declared_symbols}
+use Rattle.c_body.specs.Needs.{helpers_of}
+use Rattle.c_unit.specs.declared.unit_items.UnitItems.{UnitItems}
+use Rattle.c_unit.specs.Arrays.{array_of, byte_segments}
+use Rattle.c_unit.specs.Init.{init_func}
+use Rattle.c_unit.specs.Exports.{export_func}
+use Rattle.c_unit.specs.Items.{variable, global_item, declaration, prototype, bodies, items}
+use Rattle.c_unit.specs.Sources.{module_of}
+
+abbrev pub from_init : NamedModule → List tree.Item
+from_init m = tree.Function (init_func m) ∷ []
+
+abbrev pub from_exports : NamedModule → List tree.Item
+from_exports m = map (λ e. tree.Function (export_func m e)) m.tree.exports ++ from_init m
+
+abbrev pub from_bodies : NamedModule → List tree.Item
+from_bodies m = map tree.Function (bodies m) ++ from_exports m
+
+abbrev pub from_helpers : NamedModule → List tree.Item
+from_helpers m = map (λ which. tree.Function (helper_of which)) (helpers_of m.tree) ++ from_bodies m
+
+abbrev pub from_prototypes : NamedModule → List tree.Item
+from_prototypes m = map prototype (bodies m) ++ from_helpers m
+
+abbrev pub from_declared : NamedModule → List tree.Item
+from_declared m = map declaration (declared_symbols m) ++ from_prototypes m
+
+abbrev pub from_data : NamedModule → List tree.Item
+from_data m = map array_of (byte_segments m.tree) ++ from_declared m
+
+abbrev pub global_pointer : NamedModule → ℕ × Import → tree.Item
+global_pointer m i = variable (import_type m.tree i.1).result (pointer_name (global_name i.0))
+
+abbrev pub from_global_pointers : NamedModule → List tree.Item
+from_global_pointers m = map (global_pointer m) (numbered (global_imports m.tree)) ++ from_data m
+
+abbrev pub from_table_pointers : NamedModule → List tree.Item
+from_table_pointers m = map (λ (i : Import). variable c_type.PtrTab (pointer_name table_name)) (table_imports m.tree) ++
+    from_global_pointers m
+
+abbrev pub from_pointers : NamedModule → List tree.Item
+from_pointers m = map (λ (i : Import). variable c_type.PtrMem (pointer_name memory_name)) (memory_imports m.tree) ++ from_table_pointers m
+
+abbrev pub from_globals : NamedModule → List tree.Item
+from_globals m = map (global_item m.tree) (numbered m.tree.globals) ++ from_pointers m
+
+abbrev pub from_memories : NamedModule → List tree.Item
+from_memories m = map (λ (t : LimitsEntry). variable c_type.Mem memory_name) m.tree.memories ++ from_globals m
+
+abbrev pub from_tables : NamedModule → List tree.Item
+from_tables m = map (λ (t : LimitsEntry). variable c_type.Tab table_name) m.tree.tables ++ from_memories m
+
+-- what was not given yet
+abbrev pub left_of : UnitItems → List tree.Item
+left_of u = drop u.number (items (module_of u.source))
+
+-- the next of what was left, and what is left then
+abbrev pub Given : Option tree.Item → List tree.Item → List tree.Item → Type 0
+Given None before after = (before ≡ []) × (after ≡ [])
+Given (Some item) before after = before ≡ item ∷ after

@@ -1,0 +1,54 @@
+// The header of a module.
+ghost use Rattle.std.specs.Prelude.{◌≡◌, IfOk};
+ghost use Rattle.c_unit.specs.Items.{header_of};
+ghost use Rattle.c_unit.specs.Lines.{line_of};
+ghost use Rattle.c_unit.specs.Named.{named_of};
+
+use crate::indexes::Indexes;
+use c_body::c_types;
+use c_tree::{CType, CTypes, Header, HeaderLines, Name};
+use std::alloc::Global;
+use w2c_base::{Bytes, Memory};
+use w2c_mangle::init_symbol;
+use wasm_tree::Export;
+use wasm_valid::ValidModule;
+
+/// The header of a module under a name: it declares the init function, and then the function of each
+/// export.
+pub fn header(alloc: Global, m: &ValidModule, name: &[u8]) -> Result<Header, Memory>
+    ensures { IfOk result (λ header. header ≡ header_of m.now name.now) }
+{
+    let indexes = Indexes::new(alloc, m.module(), name)?;
+    header_by(alloc, &indexes)
+}
+
+/// The same by the module's index spaces.
+pub(crate) fn header_by(alloc: Global, indexes: &Indexes) -> Result<Header, Memory>
+    ensures { IfOk result (λ header. header ≡ header_of indexes.now.tree.now indexes.now.name.now) }
+{
+    let lines = header_lines(alloc, indexes)?;
+    let mut module = Bytes::new(alloc);
+    module.extend(indexes.name)?;
+    Ok(Header { module, lines })
+}
+
+fn header_lines(alloc: Global, indexes: &Indexes) -> Result<HeaderLines, Memory>
+    ensures { IfOk result (λ lines. lines ≡ (header_of indexes.now.tree.now indexes.now.name.now).lines) }
+{
+    let mut lines = HeaderLines::new(alloc);
+    let init = init_symbol(alloc, indexes.name)?;
+    lines.push((CType::Void, init, CTypes::new(alloc)))?;
+    for export in indexes.tree.exports.as_slice() {
+        lines.push(line(alloc, indexes, export)?)?;
+    }
+    Ok(lines)
+}
+
+#[tactic(auto, using(crate::proofs::SameTypes::proper_params))]
+fn line(alloc: Global, indexes: &Indexes, export: &Export) -> Result<(CType, Name, CTypes), Memory>
+    ensures { IfOk result (λ line. line ≡ line_of (named_of indexes.now) export.now) }
+{
+    let symbol = indexes.export(alloc, export)?;
+    let types = c_types(alloc, symbol.ty.params)?;
+    Ok((symbol.ty.result, symbol.name, types))
+}

@@ -1,0 +1,153 @@
+// The init function takes what is imported: a pointer is set, and a table's or a memory's limits are
+// tested.
+ghost use Rattle.std.specs.Prelude.{◌≡◌, ◌∷◌, [], Some, ◌<◌, ◌-◌, ◌^◌, ◌++◌, suc, not, if◌then◌else◌, codes, filter, map, IfOk, OnOk};
+ghost use Rattle.wasm_tree.specs.IndexSpaces.{is_func_import, is_global_import};
+ghost use Rattle.alike.specs.Alike.{memory_name, table_name};
+ghost use Rattle.c_tree.specs.View.{stmt_of};
+ghost use Rattle.c_tree.specs.Tree as tree;
+ghost use Rattle.c_tree.specs.declared.tree.COp.TheVariants as op;
+ghost use Rattle.c_body.specs.Names.{label_name, pointer_name as pointer_name_of};
+ghost use Rattle.c_unit.specs.Init as of;
+ghost use Rattle.c_unit.specs.Pointers.{pointer_set};
+
+use crate::source::Source;
+use crate::statements::{jump, n64, pointer_arg, pointer_name, reading, size};
+use c_body::{operation, with_number};
+use c_tree::{Args, COp, Callee, Name, Stmt, Stmts};
+use std::alloc::Global;
+use w2c_base::Memory;
+use wasm_tree::{Import, ImportKind, Limits};
+
+fn put_least(
+    alloc: Global,
+    stmts: &mut Stmts,
+    object: &[u8],
+    len_of: &[u8],
+    unit: u64,
+    min: u32,
+) -> Result<(), Memory>
+    ensures { OnOk result (map stmt_of stmts.new ≡ map stmt_of stmts.old ++ of.primitive (Some of.size_name) len_of.now (tree.Value (tree.Name (pointer_name_of object.now)) ∷ [])
+        ∷ tree.If op.Lt (tree.Op op.Div (tree.Name of.size_name) (of.n64 unit)) (of.n64 min) (label_name of.limits_label) ∷ []) }
+{
+    stmts.push(reading(alloc, len_of, pointer_arg(alloc, object)?)?)?;
+    let units = operation(alloc, COp::Div, size(alloc)?, n64(unit))?;
+    stmts.push(jump(alloc, COp::Lt, units, n64(min as u64), 0)?)
+}
+
+#[tactic(auto, using(crate::proofs::Takes::least_none))]
+fn put_min(
+    alloc: Global,
+    stmts: &mut Stmts,
+    object: &[u8],
+    len_of: &[u8],
+    unit: u64,
+    min: u32,
+) -> Result<(), Memory>
+    ensures { OnOk result (map stmt_of stmts.new ≡ map stmt_of stmts.old ++ of.test_min object.now len_of.now unit min) }
+{
+    if min > 0 {
+        put_least(alloc, stmts, object, len_of, unit, min)
+    } else {
+        Ok(())
+    }
+}
+
+fn put_max(
+    alloc: Global,
+    stmts: &mut Stmts,
+    object: &[u8],
+    max_of: &[u8],
+    max: Option<u32>,
+) -> Result<(), Memory>
+    ensures { OnOk result (map stmt_of stmts.new ≡ map stmt_of stmts.old ++ of.test_max object.now max_of.now max) }
+{
+    match max {
+        None => Ok(()),
+        Some(max) => {
+            stmts.push(reading(alloc, max_of, pointer_arg(alloc, object)?)?)?;
+            stmts.push(jump(alloc, COp::Gt, size(alloc)?, n64(max as u64), 0)?)
+        }
+    }
+}
+
+fn set_pointer(alloc: Global, symbol: Option<Name>, object: &[u8]) -> Result<Stmt, Memory>
+    ensures { IfOk result (λ s. stmt_of s ≡ pointer_set symbol object.now) }
+{
+    match symbol {
+        None => Ok(Stmt::Null),
+        Some(symbol) => {
+            let pointer = pointer_name(alloc, object)?;
+            Ok(Stmt::Call(Some(pointer), Callee::Named(symbol), Args::new(alloc)))
+        }
+    }
+}
+
+fn put_table(alloc: Global, stmts: &mut Stmts, limits: Limits) -> Result<(), Memory>
+    ensures { OnOk result (map stmt_of stmts.new ≡ map stmt_of stmts.old ++ of.test_limits table_name (codes "w2c_tab_len") (codes "w2c_tab_max") 1 limits) }
+{
+    put_min(alloc, stmts, b"t0", b"w2c_tab_len", 1, limits.min)?;
+    put_max(alloc, stmts, b"t0", b"w2c_tab_max", limits.max)
+}
+
+fn put_memory(alloc: Global, stmts: &mut Stmts, limits: Limits) -> Result<(), Memory>
+    ensures { OnOk result (map stmt_of stmts.new ≡ map stmt_of stmts.old ++ of.test_limits memory_name (codes "w2c_mem_len") (codes "w2c_mem_max") 65536 limits) }
+{
+    put_min(alloc, stmts, b"m0", b"w2c_mem_len", 65_536, limits.min)?;
+    put_max(alloc, stmts, b"m0", b"w2c_mem_max", limits.max)
+}
+
+// The number of the next imported global.
+fn next_number(number: usize, import: &Import) -> usize
+    requires { number < 2 ^ 64 - 1 }
+    ensures { result ≡ (if is_global_import import.now then suc number else number) }
+{
+    match import.kind {
+        ImportKind::Global(_, _) => 1 + number,
+        _ => number,
+    }
+}
+
+impl<'a> Source<'a> {
+    ghost use Rattle.c_unit.specs.Sources.{module_of};
+
+    fn pointer(&self, import: &Import, object: &[u8]) -> Result<Stmt, Memory>
+        ensures { IfOk result (λ s. stmt_of s ≡ of.set_pointer (module_of self.now) import.now object.now) }
+    {
+        let symbol = self.symbols.usable(self.alloc, import)?;
+        let stmt = set_pointer(self.alloc, symbol, object)?;
+        Ok(stmt)
+    }
+
+    fn put_take(&self, stmts: &mut Stmts, number: usize, import: &Import) -> Result<(), Memory>
+        ensures { OnOk result (map stmt_of stmts.new ≡ map stmt_of stmts.old ++ of.take_stmts (module_of self.now) number import.now) }
+    {
+        let alloc = self.alloc;
+        match import.kind {
+            ImportKind::Func(_) => Ok(()),
+            ImportKind::Table(limits) => {
+                stmts.push(self.pointer(import, b"t0")?)?;
+                put_table(alloc, stmts, limits)
+            }
+            ImportKind::Memory(limits) => {
+                stmts.push(self.pointer(import, b"m0")?)?;
+                put_memory(alloc, stmts, limits)
+            }
+            ImportKind::Global(_, _) => {
+                let name = with_number(alloc, b"g", number)?;
+                stmts.push(self.pointer(import, name.as_slice())?)
+            }
+        }
+    }
+
+    /// The imports in order.
+    pub(crate) fn put_takes(&self, stmts: &mut Stmts) -> Result<(), Memory>
+        ensures { OnOk result (map stmt_of stmts.new ≡ map stmt_of stmts.old ++ of.takes_from (module_of self.now) 0 (filter (λ i. not (is_func_import i)) self.now.tree.now.imports)) }
+    {
+        let mut number = 0usize;
+        for import in self.tree.imports.as_slice() {
+            self.put_take(stmts, number, import)?;
+            number = next_number(number, import);
+        }
+        Ok(())
+    }
+}

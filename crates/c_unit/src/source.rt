@@ -1,0 +1,104 @@
+// What the items of a unit are made of.
+ghost use Rattle.std.specs.Prelude.{◌≡◌, map, IfOk};
+ghost use Rattle.c_body.specs.Around as around;
+ghost use Rattle.c_body.specs.Reached.{usable_symbol};
+ghost use Rattle.c_body.specs.Symbols.{import_symbol, func_imports, table_imports, memory_imports, global_imports};
+ghost use Rattle.c_unit.specs.Named.{named_of};
+
+use crate::import_symbols::{Reached, func_symbols};
+use crate::items::prototype_if;
+use crate::symbols::Symbols;
+use crate::values::sum;
+use c_body::IndexSpaces;
+use c_tree::{Func, Item, Name};
+use std::alloc::Global;
+use w2c_base::Memory;
+use wasm_tree::Module;
+use wasm_valid::ValidModule;
+
+/// A module under its name, with its symbols and what its bodies read of it.
+#[derive(Drop)]
+pub(crate) struct Source<'a> {
+    pub(crate) alloc: Global,
+    pub(crate) tree: &'a Module,
+    pub(crate) name: &'a [u8],
+    pub(crate) symbols: Symbols<'a>,
+    pub(crate) spaces: IndexSpaces<'a>,
+    /// The symbols of the imported functions.
+    pub(crate) func_symbols: Vec<Name>,
+    /// The symbols of the imported objects, where they may be used.
+    pub(crate) tables: Vec<Option<Name>>,
+    pub(crate) memories: Vec<Option<Name>>,
+    pub(crate) globals: Vec<Option<Name>>,
+    ghost symbols_are: { named_of symbols.indexes ≡ record { name = name.now; tree = tree.now } },
+    ghost spaces_are: { around.named_of spaces ≡ record { name = name.now; tree = tree.now } },
+    ghost func_symbols_are: { func_symbols.items ≡ map import_symbol (func_imports tree.now) },
+    ghost tables_are: { tables.items ≡ map (usable_symbol (record { name = name.now; tree = tree.now })) (table_imports tree.now) },
+    ghost memories_are: { memories.items ≡ map (usable_symbol (record { name = name.now; tree = tree.now })) (memory_imports tree.now) },
+    ghost globals_are: { globals.items ≡ map (usable_symbol (record { name = name.now; tree = tree.now })) (global_imports tree.now) },
+}
+
+impl<'a> Source<'a> {
+    ghost use Rattle.std.specs.Prelude.{◌+◌};
+    ghost use Rattle.wasm_tree.specs.IndexSpaces.{imported_funcs};
+    ghost use Rattle.c_tree.specs.View.{func_of, item_of};
+    ghost use Rattle.c_body.specs.Body.{body_of};
+    ghost use Rattle.c_unit.specs.Items.{prototype};
+    ghost use Rattle.c_unit.specs.Sources.{module_of};
+
+    /// What a module's unit is made of.
+    #[tactic(auto, using(crate::proofs::Counts::counted))]
+    pub(crate) fn new(alloc: Global, m: &'a ValidModule, name: &'a [u8]) -> Result<Self, Memory>
+        ensures { IfOk result (λ source. module_of source ≡ record { name = name.now; tree = m.now }) }
+    {
+        let tree = m.module();
+        let symbols = Symbols::new(alloc, tree, name)?;
+        let Reached {
+            tables,
+            memories,
+            globals,
+            ..
+        } = Reached::new(alloc, &symbols)?;
+        let func_symbols = func_symbols(alloc, &symbols.indexes)?;
+        let spaces = IndexSpaces::new(alloc, m, name)?;
+        Ok(Source {
+            alloc,
+            tree,
+            name,
+            symbols,
+            spaces,
+            func_symbols,
+            tables,
+            memories,
+            globals,
+        })
+    }
+
+    // The index of the function that the module defines with a number. One past the indexes of 32 bits has no room.
+    fn own_index(&self, number: usize) -> Result<u32, Memory>
+        ensures { IfOk result (λ index. index ≡ imported_funcs self.now.tree.now + number) }
+    {
+        let index = sum(self.spaces.imported_funcs(), number)?;
+        match u32::try_from(index) {
+            Ok(index) => Ok(index),
+            Err(_) => Err(Memory),
+        }
+    }
+
+    /// The function of an own function's body.
+    pub(crate) fn body(&self, number: usize) -> Result<Func, Memory>
+        ensures { IfOk result (λ f. func_of f ≡ body_of self.now.tree.now self.now.name.now (imported_funcs self.now.tree.now + number)) }
+    {
+        let index = self.own_index(number)?;
+        self.spaces.function(self.alloc, index)
+    }
+
+    /// Its declaration.
+    pub(crate) fn prototype(&self, number: usize) -> Result<Item, Memory>
+        ensures { IfOk result (λ item. item_of item ≡ prototype (body_of self.now.tree.now self.now.name.now (imported_funcs self.now.tree.now + number))) }
+    {
+        let index = self.own_index(number)?;
+        let ty = self.spaces.defined_type(index);
+        prototype_if(self.alloc, self.tree, self.name, index, ty)
+    }
+}

@@ -1,0 +1,116 @@
+// The statements of which the init function is made.
+ghost use Rattle.std.specs.Prelude.{◌≡◌, ◌++◌, ◌∷◌, [], map, IfOk, OnOk, Some};
+ghost use Rattle.c_tree.specs.Tree as tree;
+ghost use Rattle.c_tree.specs.View.{arg_of, expr_of, stmt_of};
+ghost use Rattle.c_body.specs.Names as names;
+ghost use Rattle.c_prelude.specs.Pieces.{trap as trap_of};
+ghost use Rattle.c_unit.specs.Init as of;
+
+use c_body::{label, label_name, name_of, one_arg};
+use c_prelude::trap;
+use c_tree::{Arg, Args, COp, Callee, Expr, Name, Num, Stmt, Stmts};
+use std::alloc::Global;
+use w2c_base::{Memory, TrapKind};
+
+pub(crate) fn n32(n: u32) -> Expr
+    ensures { expr_of result ≡ of.n32 n }
+{
+    Expr::Num(Num::N32(n))
+}
+
+pub(crate) fn n64(n: u64) -> Expr
+    ensures { expr_of result ≡ of.n64 n }
+{
+    Expr::Num(Num::N64(n))
+}
+
+/// A maximum, or 2 to the power of 32 where there is none.
+pub(crate) fn max_number(max: Option<u32>) -> u64
+    ensures { result ≡ of.max_number max }
+{
+    match max {
+        None => 4_294_967_296,
+        Some(max) => max as u64,
+    }
+}
+
+/// The pointer to an imported object.
+pub(crate) fn pointer_name(alloc: Global, object: &[u8]) -> Result<Name, Memory>
+    ensures { IfOk result (λ name. name ≡ names.pointer_name object.now) }
+{
+    let mut name = name_of(alloc, b"p")?;
+    name.extend(object)?;
+    Ok(name)
+}
+
+/// The same as an argument.
+pub(crate) fn pointer_arg(alloc: Global, object: &[u8]) -> Result<Arg, Memory>
+    ensures { IfOk result (λ a. arg_of a ≡ tree.Value (tree.Name (names.pointer_name object.now))) }
+{
+    Ok(Arg::Value(Expr::Name(pointer_name(alloc, object)?)))
+}
+
+/// A call of a function of the runtime.
+pub(crate) fn primitive(
+    alloc: Global,
+    target: Option<Name>,
+    name: &[u8],
+    args: Args,
+) -> Result<Stmt, Memory>
+    ensures { IfOk result (λ s. stmt_of s ≡ of.primitive target name.now (map arg_of args)) }
+{
+    Ok(Stmt::Call(target, Callee::Named(name_of(alloc, name)?), args))
+}
+
+/// An assignment.
+pub(crate) fn set(name: Name, e: Expr) -> Stmt
+    ensures { stmt_of result ≡ of.set name (expr_of e) }
+{
+    Stmt::Set(name, Arg::Value(e))
+}
+
+/// A length or a maximum is read from an object.
+pub(crate) fn reading(alloc: Global, read: &[u8], object: Arg) -> Result<Stmt, Memory>
+    ensures { IfOk result (λ s. stmt_of s ≡ of.primitive (Some of.size_name) read.now (arg_of object ∷ [])) }
+{
+    let args = one_arg(alloc, object)?;
+    let target = name_of(alloc, b"n")?;
+    primitive(alloc, Some(target), read, args)
+}
+
+/// A jump to a label where two expressions compare so.
+pub(crate) fn jump(
+    alloc: Global,
+    op: COp,
+    left: Expr,
+    right: Expr,
+    label: usize,
+) -> Result<Stmt, Memory>
+    ensures { IfOk result (λ s. stmt_of s ≡ tree.If op (expr_of left) (expr_of right) (names.label_name label)) }
+{
+    Ok(Stmt::If(op, left, right, label_name(alloc, label)?))
+}
+
+/// The length or maximum that was read.
+pub(crate) fn size(alloc: Global) -> Result<Expr, Memory>
+    ensures { IfOk result (λ e. expr_of e ≡ tree.Name of.size_name) }
+{
+    Ok(Expr::Name(name_of(alloc, b"n")?))
+}
+
+/// A label and a trap behind it, where something goes there.
+pub(crate) fn put_trap(
+    alloc: Global,
+    stmts: &mut Stmts,
+    named: bool,
+    number: usize,
+    kind: TrapKind,
+) -> Result<(), Memory>
+    ensures { OnOk result (map stmt_of stmts.new ≡ map stmt_of stmts.old ++ of.trap_if named number (trap_of kind)) }
+{
+    if named {
+        stmts.push(label(alloc, number)?)?;
+        stmts.push(trap(alloc, kind)?)?;
+    }
+    Ok(())
+}

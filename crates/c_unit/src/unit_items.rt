@@ -1,0 +1,269 @@
+// The items of a unit, one at a time.
+ghost use Rattle.std.specs.Prelude.{◌≡◌, ◌+◌, map, slice_get, option_map, IfOk, OnErr};
+ghost use Rattle.c_tree.specs.View.{item_of};
+ghost use Rattle.alike.specs.Alike.{global_name};
+ghost use Rattle.c_body.specs.Symbols.{declared_symbols, global_imports};
+ghost use Rattle.c_body.specs.Needs.{helpers_of};
+ghost use Rattle.c_body.specs.Names.{pointer_name as pointer_name_of};
+ghost use Rattle.c_unit.specs.Items as of;
+ghost use Rattle.c_unit.specs.Named.{pair_of};
+ghost use Rattle.c_unit.specs.Sources.{module_of};
+ghost use Rattle.c_unit.specs.Pointers.{pointed};
+ghost use Rattle.c_unit.specs.Arrays.{bytes_of, byte_segments};
+
+use crate::declarations::declared;
+use crate::global_pointers::global_pointers;
+use crate::heading::header_by;
+use crate::indexes::Symbol;
+use crate::items::{array, declaration, helper_item, memory, table, variable};
+use crate::source::Source;
+use crate::statements::pointer_name;
+use crate::values::sum;
+use crate::with_bytes::with_bytes;
+use c_body::{helpers, with_number};
+use c_prelude::Helper;
+use c_tree::{CType, Header, Item};
+use std::alloc::Global;
+use w2c_base::Memory;
+use wasm_tree::SegmentEntry;
+use wasm_valid::ValidModule;
+
+/// The items of a module's unit that were not given yet.
+#[derive(Drop)]
+pub struct UnitItems<'a> {
+    source: Source<'a>,
+    pointers: Vec<CType>,
+    arrays: Vec<(usize, &'a SegmentEntry)>,
+    declared: Vec<Symbol<'a>>,
+    helpers: Vec<Helper>,
+    number: usize,
+    ghost pointers_are: { pointers.items ≡ map (pointed source.tree.now) (global_imports source.tree.now) },
+    ghost arrays_are: { map bytes_of arrays.items ≡ byte_segments source.tree.now },
+    ghost declared_are: { map pair_of declared.items ≡ declared_symbols (module_of source) },
+    ghost helpers_are: { helpers.items ≡ helpers_of source.tree.now },
+}
+
+fn pointer(alloc: Global, ty: CType, object: &[u8]) -> Result<Item, Memory>
+    ensures { IfOk result (λ item. item_of item ≡ of.variable ty (pointer_name_of object.now)) }
+{
+    Ok(variable(ty, pointer_name(alloc, object)?))
+}
+
+fn global_pointer(alloc: Global, ty: CType, number: usize) -> Result<Item, Memory>
+    ensures { IfOk result (λ item. item_of item ≡ of.variable ty (pointer_name_of (global_name number))) }
+{
+    Ok(variable(ty, with_number(alloc, b"pg", number)?))
+}
+
+fn declared_item(alloc: Global, symbol: &Symbol) -> Result<Item, Memory>
+    ensures { IfOk result (λ item. item_of item ≡ of.declaration (pair_of symbol.now)) }
+{
+    let name = symbol.name.copy(alloc)?;
+    let symbol = Symbol {
+        name,
+        ty: symbol.ty,
+    };
+    declaration(alloc, symbol)
+}
+
+impl<'a> UnitItems<'a> {
+    ghost use Rattle.c_unit.specs.Items.{items};
+    ghost use Rattle.c_unit.specs.Tails as tail;
+
+    /// The items of the unit of a module under a name. What all of them are made of is looked up here, once.
+    pub fn new(alloc: Global, m: &'a ValidModule, name: &'a [u8]) -> Result<UnitItems<'a>, Memory>
+        ensures module { IfOk result (λ u. module_of u.source ≡ record { name = name.now; tree = m.now }) }
+        ensures left { IfOk result (λ u. tail.left_of u ≡ of.items_of m.now name.now) }
+    {
+        let source = Source::new(alloc, m, name)?;
+        let pointers = global_pointers(alloc, source.tree)?;
+        let arrays = with_bytes(alloc, source.tree)?;
+        let declared = declared(alloc, &source.symbols)?;
+        let helpers = helpers(alloc, source.tree)?;
+        Ok(UnitItems {
+            source,
+            pointers,
+            arrays,
+            declared,
+            helpers,
+            number: 0,
+        })
+    }
+
+    /// The module's header.
+    pub fn header(&self) -> Result<Header, Memory>
+        ensures { IfOk result (λ header. header ≡ of.header_of (module_of self.now.source).tree (module_of self.now.source).name) }
+    {
+        header_by(self.source.alloc, &self.source.symbols.indexes)
+    }
+
+    #[tactic(auto, using(crate::proofs::Parted::found, crate::proofs::Parted::passed))]
+    fn at_tables(&self, n: usize) -> Result<Option<Item>, Memory>
+        ensures { IfOk result (λ item. option_map item_of item ≡ slice_get (tail.from_tables (module_of self.now.source)) n) }
+    {
+        let tables = self.source.tree.tables.as_slice();
+        match tables.get(n) {
+            Some(_) => Ok(Some(table(self.source.alloc)?)),
+            None => self.at_memories(n.saturating_sub(tables.len())),
+        }
+    }
+
+    #[tactic(auto, using(crate::proofs::Parted::found, crate::proofs::Parted::passed))]
+    fn at_memories(&self, n: usize) -> Result<Option<Item>, Memory>
+        ensures { IfOk result (λ item. option_map item_of item ≡ slice_get (tail.from_memories (module_of self.now.source)) n) }
+    {
+        let memories = self.source.tree.memories.as_slice();
+        match memories.get(n) {
+            Some(_) => Ok(Some(memory(self.source.alloc)?)),
+            None => self.at_globals(n.saturating_sub(memories.len())),
+        }
+    }
+
+    #[tactic(auto, using(crate::proofs::Standing::global_there, crate::proofs::Standing::global_past))]
+    fn at_globals(&self, n: usize) -> Result<Option<Item>, Memory>
+        ensures { IfOk result (λ item. option_map item_of item ≡ slice_get (tail.from_globals (module_of self.now.source)) n) }
+    {
+        let globals = self.source.tree.globals.as_slice();
+        match globals.get(n) {
+            Some(global) => Ok(Some(self.source.global_item(n, global)?)),
+            None => self.at_pointers(n.saturating_sub(globals.len())),
+        }
+    }
+
+    #[tactic(auto, using(crate::proofs::Standing::memory_there, crate::proofs::Standing::memory_past))]
+    fn at_pointers(&self, n: usize) -> Result<Option<Item>, Memory>
+        ensures { IfOk result (λ item. option_map item_of item ≡ slice_get (tail.from_pointers (module_of self.now.source)) n) }
+    {
+        let alloc = self.source.alloc;
+        let memories = self.source.memories.as_slice();
+        match memories.get(n) {
+            Some(_) => Ok(Some(pointer(alloc, CType::PtrMem, b"m0")?)),
+            None => self.at_table_pointers(n.saturating_sub(memories.len())),
+        }
+    }
+
+    #[tactic(auto, using(crate::proofs::Standing::table_there, crate::proofs::Standing::table_past))]
+    fn at_table_pointers(&self, n: usize) -> Result<Option<Item>, Memory>
+        ensures { IfOk result (λ item. option_map item_of item ≡ slice_get (tail.from_table_pointers (module_of self.now.source)) n) }
+    {
+        let alloc = self.source.alloc;
+        let tables = self.source.tables.as_slice();
+        match tables.get(n) {
+            Some(_) => Ok(Some(pointer(alloc, CType::PtrTab, b"t0")?)),
+            None => self.at_global_pointers(n.saturating_sub(tables.len())),
+        }
+    }
+
+    #[tactic(auto, using(crate::proofs::Standing::global_pointer_there, crate::proofs::Standing::global_pointer_past))]
+    fn at_global_pointers(&self, n: usize) -> Result<Option<Item>, Memory>
+        ensures { IfOk result (λ item. option_map item_of item ≡ slice_get (tail.from_global_pointers (module_of self.now.source)) n) }
+    {
+        let pointers = self.pointers.as_slice();
+        match pointers.get(n) {
+            Some(ty) => Ok(Some(global_pointer(self.source.alloc, *ty, n)?)),
+            None => self.at_data(n.saturating_sub(pointers.len())),
+        }
+    }
+
+    #[tactic(auto, using(crate::proofs::Standing::array_there, crate::proofs::Standing::array_past))]
+    fn at_data(&self, n: usize) -> Result<Option<Item>, Memory>
+        ensures { IfOk result (λ item. option_map item_of item ≡ slice_get (tail.from_data (module_of self.now.source)) n) }
+    {
+        let arrays = self.arrays.as_slice();
+        match arrays.get(n) {
+            Some(entry) => Ok(Some(array(self.source.alloc, entry.0, entry.1)?)),
+            None => self.at_declared(n.saturating_sub(arrays.len())),
+        }
+    }
+
+    #[tactic(auto, using(crate::proofs::Standing::declared_there, crate::proofs::Standing::declared_past))]
+    fn at_declared(&self, n: usize) -> Result<Option<Item>, Memory>
+        ensures { IfOk result (λ item. option_map item_of item ≡ slice_get (tail.from_declared (module_of self.now.source)) n) }
+    {
+        let declared = self.declared.as_slice();
+        match declared.get(n) {
+            Some(symbol) => Ok(Some(declared_item(self.source.alloc, symbol)?)),
+            None => self.at_prototypes(n.saturating_sub(declared.len())),
+        }
+    }
+
+    #[tactic(auto, using(crate::proofs::Standing::prototype_there, crate::proofs::Standing::prototype_past))]
+    fn at_prototypes(&self, n: usize) -> Result<Option<Item>, Memory>
+        ensures { IfOk result (λ item. option_map item_of item ≡ slice_get (tail.from_prototypes (module_of self.now.source)) n) }
+    {
+        let count = self.source.tree.funcs.len();
+        if n < count {
+            Ok(Some(self.source.prototype(n)?))
+        } else {
+            self.at_helpers(n.saturating_sub(count))
+        }
+    }
+
+    #[tactic(auto, using(crate::proofs::Standing::helper_there, crate::proofs::Standing::helper_past))]
+    fn at_helpers(&self, n: usize) -> Result<Option<Item>, Memory>
+        ensures { IfOk result (λ item. option_map item_of item ≡ slice_get (tail.from_helpers (module_of self.now.source)) n) }
+    {
+        let helpers = self.helpers.as_slice();
+        match helpers.get(n) {
+            Some(which) => Ok(Some(helper_item(self.source.alloc, *which)?)),
+            None => self.at_bodies(n.saturating_sub(helpers.len())),
+        }
+    }
+
+    #[tactic(auto, using(crate::proofs::Standing::body_there, crate::proofs::Standing::body_past))]
+    fn at_bodies(&self, n: usize) -> Result<Option<Item>, Memory>
+        ensures { IfOk result (λ item. option_map item_of item ≡ slice_get (tail.from_bodies (module_of self.now.source)) n) }
+    {
+        let count = self.source.tree.funcs.len();
+        if n < count {
+            Ok(Some(Item::Func(self.source.body(n)?)))
+        } else {
+            self.at_exports(n.saturating_sub(count))
+        }
+    }
+
+    #[tactic(auto, using(crate::proofs::Parted::found, crate::proofs::Parted::passed))]
+    fn at_exports(&self, n: usize) -> Result<Option<Item>, Memory>
+        ensures { IfOk result (λ item. option_map item_of item ≡ slice_get (tail.from_exports (module_of self.now.source)) n) }
+    {
+        let exports = self.source.tree.exports.as_slice();
+        match exports.get(n) {
+            Some(export) => Ok(Some(self.source.export_item(export)?)),
+            None => self.at_init(n.saturating_sub(exports.len())),
+        }
+    }
+
+    fn at_init(&self, n: usize) -> Result<Option<Item>, Memory>
+        ensures { IfOk result (λ item. option_map item_of item ≡ slice_get (tail.from_init (module_of self.now.source)) n) }
+    {
+        if n == 0 {
+            Ok(Some(Item::Func(self.source.init_func()?)))
+        } else {
+            Ok(None)
+        }
+    }
+
+    // The item with a number.
+    fn at(&self, n: usize) -> Result<Option<Item>, Memory>
+        ensures { IfOk result (λ item. option_map item_of item ≡ slice_get (items (module_of self.now.source)) n) }
+    {
+        self.at_tables(n)
+    }
+
+    /// The next item, None exactly where all were given. Where memory was wanting, it can be asked for again.
+    #[tactic(auto, using(crate::proofs::Standing::gives_next, crate::proofs::Wholes::gives_none))]
+    pub fn next(&mut self) -> Result<Option<Item>, Memory>
+        ensures given { IfOk result (λ item. tail.Given (option_map item_of item) (tail.left_of self.old) (tail.left_of self.new)) }
+        ensures module { module_of self.new.source ≡ module_of self.old.source }
+        ensures err { OnErr result (tail.left_of self.new ≡ tail.left_of self.old) }
+    {
+        match self.at(self.number)? {
+            None => Ok(None),
+            Some(item) => {
+                let number = sum(self.number, 1)?;
+                self.number = number;
+                Ok(Some(item))
+            }
+        }
+    }
+}

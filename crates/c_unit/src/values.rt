@@ -1,0 +1,127 @@
+// The init function makes what the module defines: tables, memories and globals.
+ghost use Rattle.std.specs.Prelude.{◌≡◌, option_map, ◌+◌, None, ◌++◌, ◌∷◌, [], map, IfOk, OnOk};
+ghost use Rattle.c_tree.specs.Tree as tree;
+ghost use Rattle.c_tree.specs.View.{arg_of, expr_of, stmt_of};
+ghost use Rattle.alike.specs.Alike.{global_name};
+ghost use Rattle.w2c_base.specs.Lookup.{numbered};
+ghost use Rattle.wasm_tree.specs.IndexSpaces.{imported_globals};
+ghost use Rattle.std.specs.Option.{option_copied};
+ghost use Rattle.wasm_tree.specs.Views.{kind_tree};
+ghost use Rattle.c_unit.specs.Init as of;
+ghost use Rattle.c_unit.specs.Single.{single_of};
+
+use crate::source::Source;
+use crate::statements::{max_number, n32, n64, primitive, set};
+use c_body::{name_of, operation, pattern_32, pattern_64, three_args, to_64, with_number};
+use c_tree::{Arg, COp, Expr, Name, Stmt, Stmts};
+use std::alloc::Global;
+use w2c_base::Memory;
+use wasm_tree::{Code, Kind, Limits};
+
+// A new table or memory.
+fn made(alloc: Global, maker: &[u8], object: &[u8], limits: Limits) -> Result<Stmt, Memory>
+    ensures { IfOk result (λ s. stmt_of s ≡ of.primitive None maker.now (tree.Address object.now ∷ tree.Value (of.n32 limits.min) ∷ tree.Value (of.n64 (of.max_number limits.max)) ∷ [])) }
+{
+    let address = Arg::Address(name_of(alloc, object)?);
+    let least = Arg::Value(n32(limits.min));
+    let most = Arg::Value(n64(max_number(limits.max)));
+    let args = three_args(alloc, address, least, most)?;
+    primitive(alloc, None, maker, args)
+}
+
+/// Where two numbers have no sum there is no room for what they count.
+pub(crate) fn sum(one: usize, other: usize) -> Result<usize, Memory>
+    ensures { IfOk result (λ all. all ≡ one + other) }
+{
+    match one.checked_add(other) {
+        None => Err(Memory),
+        Some(all) => Ok(all),
+    }
+}
+
+// The one instruction of an expression.
+#[tactic(auto, using(crate::proofs::Constants::one_instruction, crate::proofs::Constants::other_lengths))]
+fn only(code: &Code) -> Option<&Kind>
+    ensures { option_map kind_tree (option_copied result) ≡ single_of code.now }
+{
+    if code.len() == 1 {
+        Some(&code.at(0).kind)
+    } else {
+        None
+    }
+}
+
+impl<'a> Source<'a> {
+    ghost use Rattle.c_unit.specs.Single.{constant_by};
+    ghost use Rattle.c_unit.specs.Sources.{module_of};
+
+    /// The tables.
+    pub(crate) fn put_tables(&self, stmts: &mut Stmts) -> Result<(), Memory>
+        ensures { OnOk result (map stmt_of stmts.new ≡ map stmt_of stmts.old ++ map (λ t. of.make_table t.limits) self.now.tree.now.tables) }
+    {
+        for table in self.tree.tables.as_slice() {
+            stmts.push(made(self.alloc, b"w2c_tab_new", b"t0", table.limits)?)?;
+        }
+        Ok(())
+    }
+
+    /// The memories.
+    pub(crate) fn put_memories(&self, stmts: &mut Stmts) -> Result<(), Memory>
+        ensures { OnOk result (map stmt_of stmts.new ≡ map stmt_of stmts.old ++ map (λ t. of.make_memory t.limits) self.now.tree.now.memories) }
+    {
+        for memory in self.tree.memories.as_slice() {
+            stmts.push(made(self.alloc, b"w2c_mem_new", b"m0", memory.limits)?)?;
+        }
+        Ok(())
+    }
+
+    fn constant_of(&self, only: Option<&Kind>) -> Result<Expr, Memory>
+        ensures { IfOk result (λ e. expr_of e ≡ constant_by self.now.tree.now (option_map kind_tree (option_copied only.entry))) }
+    {
+        match only {
+            None => Ok(n32(0)),
+            Some(Kind::I32Const(number)) => Ok(n32(pattern_32(*number))),
+            Some(Kind::I64Const(number)) => Ok(n64(pattern_64(*number))),
+            Some(Kind::GlobalGet(index)) => self.spaces.global_value(self.alloc, *index),
+            Some(_) => Ok(n32(0)),
+        }
+    }
+
+    /// The value of an initial or offset expression.
+    #[tactic(auto, using(crate::proofs::Constants::by_single))]
+    pub(crate) fn constant(&self, code: &Code) -> Result<Expr, Memory>
+        ensures { IfOk result (λ e. expr_of e ≡ of.constant_expr self.now.tree.now code.now) }
+    {
+        let e = self.constant_of(only(code))?;
+        Ok(e)
+    }
+
+    /// A place in a segment, as a u64.
+    pub(crate) fn place(&self, offset: &Code, number: Expr) -> Result<Expr, Memory>
+        ensures { IfOk result (λ e. expr_of e ≡ of.place_expr self.now.tree.now offset.now (expr_of number)) }
+    {
+        let start = to_64(self.alloc, self.constant(offset)?)?;
+        operation(self.alloc, COp::Add, start, number)
+    }
+
+    /// The name of the own global with a number.
+    pub(crate) fn own_global(&self, number: usize) -> Result<Name, Memory>
+        ensures { IfOk result (λ name. name ≡ global_name (imported_globals self.now.tree.now + number)) }
+    {
+        let index = sum(self.globals.len(), number)?;
+        with_number(self.alloc, b"g", index)
+    }
+
+    /// The globals that the module defines.
+    pub(crate) fn put_globals(&self, stmts: &mut Stmts) -> Result<(), Memory>
+        ensures { OnOk result (map stmt_of stmts.new ≡ map stmt_of stmts.old ++ map (of.make_global self.now.tree.now) (numbered self.now.tree.now.globals)) }
+    {
+        let mut number = 0usize;
+        for global in self.tree.globals.as_slice() {
+            let value = self.constant(&global.code)?;
+            stmts.push(set(self.own_global(number)?, value))?;
+            number += 1;
+        }
+        Ok(())
+    }
+}

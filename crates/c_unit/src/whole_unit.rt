@@ -1,0 +1,25 @@
+// The unit of a module, whole.
+ghost use Rattle.std.specs.Prelude.{◌≡◌, IfOk};
+ghost use Rattle.c_tree.specs.View.{unit_of};
+ghost use Rattle.c_unit.specs.Items.{header_of, items_of};
+
+use crate::unit_items::UnitItems;
+use c_tree::{Header, Unit};
+use std::alloc::Global;
+use w2c_base::Memory;
+use wasm_valid::ValidModule;
+
+/// The unit of a module under a name, and its header. `UnitItems` gives the same an item at a time.
+#[tactic(auto, using(crate::proofs::AllGiven::fewer))]
+pub fn unit(alloc: Global, m: &ValidModule, name: &[u8]) -> Result<(Unit, Header), Memory>
+    ensures unit { IfOk result (λ made. unit_of made.0 ≡ items_of m.now name.now) }
+    ensures header { IfOk result (λ made. made.1 ≡ header_of m.now name.now) }
+{
+    let mut items = UnitItems::new(alloc, m, name)?;
+    let header = items.header()?;
+    let mut unit = Unit::new(alloc);
+    'more: while let Some(item) = items.next()? {
+        unit.push(item)?;
+    }
+    Ok((unit, header))
+}
