@@ -1,6 +1,6 @@
 #!/bin/sh
 # Times wasm2c on modules of nearly 8,388,608 bytes that modules.py writes: processor time and most memory of the whole
-# program, which reads the file, reads the module, checks it where it is one, and refuses it. Where Debian's wabt is installed, its
+# program, which reads the file, reads the module, checks it where it is one, and writes its unit or refuses it. Where Debian's wabt is installed, its
 # wasm-validate stands beside it on the same files. Needs the Rattle kit's command rt where the program is not built
 # yet, and python3.
 set -e

@@ -1,0 +1,48 @@
+// The texts of a file's module, or why there are none, in the words of the program's lines.
+use std::alloc::{AllocError, Global};
+use w2c_base::MODULE_BYTES;
+use w2c_sim::{Refusal, Texts, translate};
+
+/// The text of the unit and that of the header, or the line of the refusal without the file's name.
+pub fn texts_of(alloc: Global, name: &str, bytes: &[u8]) -> Result<String, AllocError> {
+    if bytes.len() > MODULE_BYTES {
+        return format!(in alloc; "limit at {MODULE_BYTES}: module bytes");
+    }
+    if name.is_empty() || name.len() > 1024 {
+        return String::from_str(alloc, "no module name");
+    }
+    match translate(alloc, bytes, name.as_bytes()) {
+        Ok(texts) => both_texts(alloc, &texts),
+        Err(refusal) => text_of_refusal(alloc, refusal),
+    }
+}
+
+fn both_texts(alloc: Global, texts: &Texts) -> Result<String, AllocError> {
+    let mut text = String::from_str(alloc, "\n")?;
+    for part in [&texts.unit, &texts.header] {
+        match str::from_utf8(part.as_slice()) {
+            Ok(part) => text.push_str(part)?,
+            Err(_) => text.push_str("no text")?,
+        }
+    }
+    Ok(text)
+}
+
+fn text_of_refusal(alloc: Global, refusal: Refusal) -> Result<String, AllocError> {
+    match refusal {
+        Refusal::Malformed(place, cause) => {
+            let text = cause.text();
+            format!(in alloc; "malformed at {place}: {text}")
+        }
+        Refusal::Float(place) => format!(in alloc; "float at {place}"),
+        Refusal::Limit(place, which) => {
+            let text = which.text();
+            format!(in alloc; "limit at {place}: {text}")
+        }
+        Refusal::Invalid(place, cause) => {
+            let text = cause.text();
+            format!(in alloc; "invalid at {place}: {text}")
+        }
+        Refusal::Memory => String::from_str(alloc, "want of memory"),
+    }
+}
