@@ -1,6 +1,6 @@
 // The items of a unit, one at a time: objects, constant arrays, declarations, helpers and the functions of
 // exports.
-ghost use Rattle.std.specs.Prelude.{◌≡◌, ◌∷◌, [], length, map, None, IfOk};
+ghost use Rattle.std.specs.Prelude.{◌≡◌, ◌<◌, ◌∷◌, [], length, map, None, IfOk};
 ghost use Rattle.std.specs.Option.{option_copied};
 ghost use Rattle.w2c_base.specs.Lookup.{if_found};
 ghost use Rattle.wasm_tree.specs.IndexSpaces.{type_in};
@@ -144,6 +144,7 @@ impl<'a> Source<'a> {
 
     /// The variable of an own global.
     pub(crate) fn global_item(&self, number: usize, global: &GlobalEntry) -> Result<Item, Memory>
+        requires { number < length self.now.tree.now.globals }
         ensures { IfOk result (λ item. item_of item ≡ of.global_item self.now.tree.now (number, global.now)) }
     {
         Ok(variable(c_type(global.ty), self.own_global(number)?))

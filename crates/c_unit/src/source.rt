@@ -1,14 +1,14 @@
 // What the items of a unit are made of.
-ghost use Rattle.std.specs.Prelude.{◌≡◌, map, IfOk};
+ghost use Rattle.std.specs.Prelude.{◌≡◌, ◌<◌, ◌^◌, map, IfOk};
 ghost use Rattle.c_body.specs.Around as around;
 ghost use Rattle.c_body.specs.Reached.{usable_symbol};
 ghost use Rattle.c_body.specs.Symbols.{import_symbol, func_imports, table_imports, memory_imports, global_imports};
+ghost use Rattle.c_unit.specs.Entries.{entries};
 ghost use Rattle.c_unit.specs.Named.{named_of};
 
 use crate::import_symbols::{Reached, func_symbols};
 use crate::items::prototype_if;
 use crate::symbols::Symbols;
-use crate::values::sum;
 use c_body::IndexSpaces;
 use c_tree::{Func, Item, Name};
 use std::alloc::Global;
@@ -30,6 +30,7 @@ pub(crate) struct Source<'a> {
     pub(crate) tables: Vec<Option<Name>>,
     pub(crate) memories: Vec<Option<Name>>,
     pub(crate) globals: Vec<Option<Name>>,
+    ghost few_entries: { entries tree.now < 2 ^ 32 },
     ghost symbols_are: { named_of symbols.indexes ≡ record { name = name.now; tree = tree.now } },
     ghost spaces_are: { around.named_of spaces ≡ record { name = name.now; tree = tree.now } },
     ghost func_symbols_are: { func_symbols.items ≡ map import_symbol (func_imports tree.now) },
@@ -39,7 +40,7 @@ pub(crate) struct Source<'a> {
 }
 
 impl<'a> Source<'a> {
-    ghost use Rattle.std.specs.Prelude.{◌+◌};
+    ghost use Rattle.std.specs.Prelude.{◌+◌, length};
     ghost use Rattle.wasm_tree.specs.IndexSpaces.{imported_funcs};
     ghost use Rattle.c_tree.specs.View.{func_of, item_of};
     ghost use Rattle.c_body.specs.Body.{body_of};
@@ -74,30 +75,29 @@ impl<'a> Source<'a> {
         })
     }
 
-    // The index of the function that the module defines with a number. One past the indexes of 32 bits has no room.
-    fn own_index(&self, number: usize) -> Result<u32, Memory>
-        ensures { IfOk result (λ index. index ≡ imported_funcs self.now.tree.now + number) }
+    // The index of the function that the module defines with a number.
+    #[tactic(auto, using(crate::proofs::Countable::few_funcs))]
+    fn own_index(&self, number: usize) -> u32
+        requires { number < length self.now.tree.now.funcs }
+        ensures { result ≡ imported_funcs self.now.tree.now + number }
     {
-        let index = sum(self.spaces.imported_funcs(), number)?;
-        match u32::try_from(index) {
-            Ok(index) => Ok(index),
-            Err(_) => Err(Memory),
-        }
+        (self.spaces.imported_funcs() + number) as u32
     }
 
     /// The function of an own function's body.
     pub(crate) fn body(&self, number: usize) -> Result<Func, Memory>
+        requires { number < length self.now.tree.now.funcs }
         ensures { IfOk result (λ f. func_of f ≡ body_of self.now.tree.now self.now.name.now (imported_funcs self.now.tree.now + number)) }
     {
-        let index = self.own_index(number)?;
-        self.spaces.function(self.alloc, index)
+        self.spaces.function(self.alloc, self.own_index(number))
     }
 
     /// Its declaration.
     pub(crate) fn prototype(&self, number: usize) -> Result<Item, Memory>
+        requires { number < length self.now.tree.now.funcs }
         ensures { IfOk result (λ item. item_of item ≡ prototype (body_of self.now.tree.now self.now.name.now (imported_funcs self.now.tree.now + number))) }
     {
-        let index = self.own_index(number)?;
+        let index = self.own_index(number);
         let ty = self.spaces.defined_type(index);
         prototype_if(self.alloc, self.tree, self.name, index, ty)
     }

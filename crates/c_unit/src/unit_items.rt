@@ -18,7 +18,6 @@ use crate::indexes::Symbol;
 use crate::items::{array, declaration, helper_item, memory, table, variable};
 use crate::source::Source;
 use crate::statements::pointer_name;
-use crate::values::sum;
 use crate::with_bytes::with_bytes;
 use c_body::{helpers, with_number};
 use c_prelude::Helper;
@@ -251,7 +250,7 @@ impl<'a> UnitItems<'a> {
     }
 
     /// The next item, None exactly where all were given. Where memory was wanting, it can be asked for again.
-    #[tactic(auto, using(crate::proofs::Standing::gives_next, crate::proofs::Wholes::gives_none))]
+    #[tactic(auto, using(crate::proofs::Countable::next_number, crate::proofs::Standing::gives_next, crate::proofs::Wholes::gives_none))]
     pub fn next(&mut self) -> Result<Option<Item>, Memory>
         ensures given { IfOk result (λ item. tail.Given (option_map item_of item) (tail.left_of self.old) (tail.left_of self.new)) }
         ensures module { module_of self.new.source ≡ module_of self.old.source }
@@ -260,8 +259,7 @@ impl<'a> UnitItems<'a> {
         match self.at(self.number)? {
             None => Ok(None),
             Some(item) => {
-                let number = sum(self.number, 1)?;
-                self.number = number;
+                self.number += 1;
                 Ok(Some(item))
             }
         }

@@ -1,5 +1,5 @@
 // The init function makes what the module defines: tables, memories and globals.
-ghost use Rattle.std.specs.Prelude.{◌≡◌, option_map, ◌+◌, None, ◌++◌, ◌∷◌, [], map, IfOk, OnOk};
+ghost use Rattle.std.specs.Prelude.{◌≡◌, ◌<◌, option_map, ◌+◌, length, None, ◌++◌, ◌∷◌, [], map, IfOk, OnOk};
 ghost use Rattle.c_tree.specs.Tree as tree;
 ghost use Rattle.c_tree.specs.View.{arg_of, expr_of, stmt_of};
 ghost use Rattle.alike.specs.Alike.{global_name};
@@ -27,16 +27,6 @@ fn made(alloc: Global, maker: &[u8], object: &[u8], limits: Limits) -> Result<St
     let most = Arg::Value(n64(max_number(limits.max)));
     let args = three_args(alloc, address, least, most)?;
     primitive(alloc, None, maker, args)
-}
-
-/// Where two numbers have no sum there is no room for what they count.
-pub(crate) fn sum(one: usize, other: usize) -> Result<usize, Memory>
-    ensures { IfOk result (λ all. all ≡ one + other) }
-{
-    match one.checked_add(other) {
-        None => Err(Memory),
-        Some(all) => Ok(all),
-    }
 }
 
 // The one instruction of an expression.
@@ -105,11 +95,12 @@ impl<'a> Source<'a> {
     }
 
     /// The name of the own global with a number.
+    #[tactic(auto, using(crate::proofs::Countable::few_globals, crate::proofs::Counts::counted))]
     pub(crate) fn own_global(&self, number: usize) -> Result<Name, Memory>
+        requires { number < length self.now.tree.now.globals }
         ensures { IfOk result (λ name. name ≡ global_name (imported_globals self.now.tree.now + number)) }
     {
-        let index = sum(self.globals.len(), number)?;
-        with_number(self.alloc, b"g", index)
+        with_number(self.alloc, b"g", self.globals.len() + number)
     }
 
     /// The globals that the module defines.

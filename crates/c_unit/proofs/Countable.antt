@@ -1,0 +1,172 @@
+-- What the unit of a checked module counts has room in its numbers: indexes, parameters and items.
+use Rattle.std.proofs.Common.{◌≡◌, ℕ, suc, ◌+◌, ◌<◌, ◌≤◌, ◌^◌, Bool, true, false, if◌then◌else◌, List, [], ◌∷◌, ◌++◌, length, length-append, map, flat_map, zip, slice_get, Option, Some, None, refl, sym, ap, ◌∙◌, arith}
+use Rattle.std.proofs.lemmas.Option.{slice_get_within, slice_get-map}
+use Rattle.std.proofs.lemmas.List.FromFn.{length-map-range_with_len}
+use Rattle.std.specs.List.{list_any, range_with_len}
+use Rattle.w2c_base.specs.declared.signature.FuncType.{FuncType}
+use Rattle.w2c_base.specs.Lookup.{if_found, numbered}
+use Rattle.wasm_tree.specs.declared.tree.Module.{Module}
+use Rattle.wasm_tree.specs.declared.entries.TypeEntry.{TypeEntry}
+use Rattle.wasm_tree.specs.declared.entries.BodyEntry.{BodyEntry}
+use Rattle.wasm_tree.specs.declared.entries.LimitsEntry.{LimitsEntry}
+use Rattle.wasm_tree.specs.declared.entries.SegmentEntry.{SegmentEntry}
+use Rattle.wasm_tree.specs.IndexSpaces.{is_func_import, is_table_import, is_memory_import, is_global_import, imported_funcs, imported_globals, type_in, func_space, func_type_in, table_of_import, memory_of_import}
+use Rattle.wasm_spelling.specs.Places.{IsFormed}
+use Rattle.wasm_spelling.specs.Within.{IsWithin}
+use Rattle.wasm_spelling.proofs.WithinPlaces.{formed_is_within}
+use Rattle.wasm_valid.specs.Verdict.{IsValid}
+use Rattle.wasm_meaning.specs.LinkedSet.{NamedModule}
+use Rattle.c_tree.specs.Tree as tree
+use Rattle.c_tree.specs.Scope.{Name, is_among}
+use Rattle.c_prelude.specs.declared.operation.TheConstants.{HELPERS}
+use Rattle.c_body.specs.Body.{body_of}
+use Rattle.c_body.specs.Labels.{any_in}
+use Rattle.c_body.specs.Needs.{calls_helper, helpers_of}
+use Rattle.c_body.specs.Objects.{pointers_of}
+use Rattle.c_body.specs.Ready.{HaveFewParams}
+use Rattle.c_body.specs.Symbols.{import_symbol, global_imports, memory_imports, table_imports, firsts, declared_symbols, declared_type, symbol_type}
+use Rattle.c_body.proofs.Lists.{filter_few}
+use Rattle.c_unit.specs.Entries.{entries}
+use Rattle.c_unit.specs.Items.{objects_of, data_item, data_of, bodies, items}
+use Rattle.c_unit.proofs.Counts.{map_length}
+use Rattle.c_unit.proofs.Sections.{few_tables, few_memories}
+
+-- ---- entries
+
+behind_few : {A B : Type 0} (xs : List A) (f : B → A) (ys : List B) → length (xs ++ map f ys) ≤ 1 → length ys ≤ 1
+behind_few xs f ys few =
+    let e = length-append xs (map f ys) in
+    let n = map_length f ys in
+    omega (arith, e, n, few)
+
+pub few_entries : (m : Module) → IsValid m → IsFormed m → entries m < 2 ^ 32
+few_entries m valid formed =
+    let within : IsWithin m = formed_is_within m formed in
+    let imports = within.imports in
+    let funcs = within.funcs in
+    let globals = within.globals in
+    let segments = within.segments in
+    let exports = within.exports in
+    let tables = behind_few (flat_map table_of_import m.imports) (λ (t : LimitsEntry). t.limits) m.tables (few_tables m valid.no_faults) in
+    let memories = behind_few (flat_map memory_of_import m.imports) (λ (t : LimitsEntry). t.limits) m.memories
+    (few_memories m valid.no_faults) in
+    omega (arith, imports, funcs, globals, segments, exports, tables, memories)
+
+pub few_funcs : (m : Module) (number : ℕ) → entries m < 2 ^ 32 → number < length m.funcs → imported_funcs m + number < 2 ^ 32
+few_funcs m number few less = omega (arith, few, less, filter_few is_func_import m.imports)
+
+pub few_globals : (m : Module) (number : ℕ) → entries m < 2 ^ 32 → number < length m.globals → imported_globals m + number < 2 ^ 32
+few_globals m number few less = omega (arith, few, less, filter_few is_global_import m.imports)
+
+-- ---- parameters
+
+pub few_params_at : (m around indexes : NamedModule) (func : ℕ) (ty : FuncType) → around ≡ m → indexes ≡ m → HaveFewParams around.tree
+    → Some ty ≡ func_type_in indexes.tree func → length ty.params ≤ 60
+few_params_at m around indexes func ty same also few is =
+    at (slice_get (func_space around.tree) func) (is ∙ ap (λ (n : NamedModule). func_type_in n.tree func) (also ∙ sym same))
+  where
+    at : (o : Option ℕ) → Some ty ≡ if_found o (type_in around.tree) → length ty.params ≤ 60
+    at None e = cc
+    at (Some t) e = few t ty (e ∙ sym (slice_get-map (λ (t : TypeEntry). t.ty) around.tree.types t))
+
+-- ---- items
+
+joined : {A : Type 0} (xs ys : List A) (a b : ℕ) → length xs ≤ a → length ys ≤ b → length (xs ++ ys) ≤ a + b
+joined xs ys a b few others = let e = length-append xs ys in omega (arith, e, few, others)
+
+mapped : {A B : Type 0} (f : A → B) (xs : List A) (a : ℕ) → length xs ≤ a → length (map f xs) ≤ a
+mapped f xs a few = let e = map_length f xs in omega (arith, e, few)
+
+-- each brings one at most
+one_each : {A B : Type 0} (brings : A → List B) → ((x : A) → length (brings x) ≤ 1) → (xs : List A)
+    → length (flat_map brings xs) ≤ length xs
+one_each brings one [] = omega arith
+one_each brings one (x ∷ xs) =
+    let e = length-append (brings x) (flat_map brings xs) in omega (arith, e, one x, one_each brings one xs)
+
+zip_few : {A B : Type 0} (ks : List A) (xs : List B) → length (zip ks xs) ≤ length xs
+zip_few [] xs = omega arith
+zip_few (k ∷ ks) [] = omega arith
+zip_few (k ∷ ks) (x ∷ xs) = let e = zip_few ks xs in omega (arith, e)
+
+numbered_few : {A : Type 0} (xs : List A) → length (numbered xs) ≤ length xs
+numbered_few xs = zip_few (range_with_len 0 (length xs)) xs
+
+one_array : (d : ℕ × SegmentEntry) → length (data_item d) ≤ 1
+one_array d = at d.1.bytes
+  where
+    at : (bytes : List ℕ) → length (data_item (d.0, record d.1 { bytes = bytes })) ≤ 1
+    at [] = omega arith
+    at (b ∷ rest) = omega arith
+
+firsts_few : (seen names : List Name) → length (firsts seen names) ≤ length names
+firsts_few seen [] = omega arith
+firsts_few seen (name ∷ names) = go (is_among name seen) (firsts_few seen names) (firsts_few (name ∷ seen) names)
+  where
+    go : (b : Bool) → length (firsts seen names) ≤ length names → length (firsts (name ∷ seen) names) ≤ length names
+        → length (if b then firsts seen names else (name ∷ firsts (name ∷ seen) names)) ≤ suc (length names)
+    go true skipped kept = omega (arith, skipped)
+    go false skipped kept = omega (arith, kept)
+
+fifty_helpers : length HELPERS ≡ 50
+fifty_helpers = refl
+
+data_few : (m : Module) → length (data_of m) ≤ length m.segments
+data_few m =
+    let ones = one_each data_item one_array (numbered m.segments) in
+    let few = numbered_few m.segments in
+    omega (arith, ones, few)
+
+declared_few : (m : NamedModule) → length (declared_symbols m) ≤ length m.tree.imports
+declared_few m =
+    let names = map import_symbol m.tree.imports in
+    mapped (λ name. (name, declared_type (symbol_type m name))) (firsts [] names) (length m.tree.imports)
+    (let few = firsts_few [] names in let e = map_length import_symbol m.tree.imports in omega (arith, few, e))
+
+helpers_few : (m : Module) → length (helpers_of m) ≤ 50
+helpers_few m =
+    let few = filter_few (λ which. list_any (λ (b : BodyEntry). any_in (calls_helper which) b.code) m.bodies) HELPERS in
+    let e = fifty_helpers in
+    omega (arith, few, e)
+
+pointers_few : (m : Module) → length (pointers_of m) ≤ length m.imports + (length m.imports + length m.imports)
+pointers_few m =
+    let n = length m.imports in
+    joined _ _ n (n + n) (mapped _ (memory_imports m) n (filter_few is_memory_import m.imports))
+    (joined _ _ n n (mapped _ (table_imports m) n (filter_few is_table_import m.imports))
+    (mapped _ (numbered (global_imports m)) n
+    (let few = numbered_few (global_imports m) in let some = filter_few is_global_import m.imports in omega (arith, few, some))))
+
+objects_few : (m : Module) → length (objects_of m (pointers_of m)) ≤ length m.tables + (length m.memories + (length m.globals
+    + (length m.imports + (length m.imports + length m.imports))))
+objects_few m =
+    joined _ _ (length m.tables) _ (mapped _ m.tables _ (omega arith))
+    (joined _ _ (length m.memories) _ (mapped _ m.memories _ (omega arith))
+    (joined _ _ (length m.globals) _ (mapped _ (numbered m.globals) (length m.globals) (numbered_few m.globals))
+    (mapped _ (pointers_of m) _ (pointers_few m))))
+
+bodies_few : (m : NamedModule) → length (bodies m) ≤ length m.tree.funcs
+bodies_few m = let e = length-map-range_with_len (body_of m.tree m.name) (imported_funcs m.tree) (length m.tree.funcs) in omega (arith, e)
+
+few_items : (n : NamedModule) → entries n.tree < 2 ^ 32 → length (items n) < 2 ^ 64
+few_items n few =
+    let m = n.tree in
+    let i = length m.imports in
+    let all : length (items n) ≤ (length m.tables + (length m.memories + (length m.globals + (i + (i + i))))) + (length m.segments + (i
+    + (length m.funcs + (50 + (length m.funcs + (length m.exports + 1)))))) =
+    joined _ _ _ _ (objects_few m)
+    (joined _ _ _ _ (data_few m)
+    (joined _ _ _ _ (mapped _ (declared_symbols n) _ (declared_few n))
+    (joined _ _ _ _ (mapped _ (bodies n) _ (bodies_few n))
+    (joined _ _ _ _ (mapped _ (helpers_of m) _ (helpers_few m))
+    (joined _ _ _ _ (mapped _ (bodies n) _ (bodies_few n))
+    (joined _ _ _ _ (mapped _ m.exports _ (omega arith)) (omega arith))))))) in
+    omega (arith, all, few)
+
+-- behind an item is a number
+pub next_number : (n : NamedModule) (number : ℕ) (item : tree.Item) → entries n.tree < 2 ^ 32 → Some item ≡ slice_get (items n) number
+    → number + 1 < 2 ^ 64
+next_number n number item few is =
+    let there = slice_get_within (items n) number item (sym is) in
+    let all = few_items n few in
+    omega (arith, all, there)

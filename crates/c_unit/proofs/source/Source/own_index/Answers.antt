@@ -1,0 +1,12 @@
+use Rattle.std.proofs.Common.{ap, ◌∙◌, arith}
+use Rattle.wasm_tree.specs.IndexSpaces.{imported_funcs}
+use Rattle.wasm_meaning.specs.LinkedSet.{NamedModule}
+use Rattle.c_unit.proofs.Countable.{few_funcs}
+use Rattle.c_unit.proofs.source.Source.own_index.Goals as goal
+
+pub overflow_cast-result : goal.overflow_cast-result
+overflow_cast-result c =
+    let source = c.args.self.now in
+    let few = few_funcs source.tree.now c.args.number source.few_entries c.requires in
+    let imported = c.imported_funcs.ensures ∙ ap (λ (m : NamedModule). imported_funcs m.tree) source.spaces_are in
+    omega (arith, few, imported)
