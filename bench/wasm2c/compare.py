@@ -166,4 +166,5 @@ def main():
         compare(work, wasm2c, "written", {"loop": small})
 
 
-main()
+if __name__ == "__main__":
+    main()

@@ -48,7 +48,8 @@ LARGE = b"\0\x20\0" + b"\x41\x03\x6a\x41\x07\x6e" * 250_000 + b"\x0b"
 
 
 def measure(command):
-    child = subprocess.Popen(command)
+    # A run of more than a minute is ended.
+    child = subprocess.Popen(["timeout", "60", *command])
     _, status, use = os.wait4(child.pid, 0)
     return f"{use.ru_utime + use.ru_stime:.2f} s, {use.ru_maxrss // 1024} MB, status {os.waitstatus_to_exitcode(status)}"
 
@@ -66,8 +67,8 @@ def main():
             for _ in range(3):
                 print("    wasm2c", measure([wasm2c, f"{name}.wasm", "-o", f"{name}.c"]), f"{os.path.getsize(name + '.c')} bytes of C")
             if shutil.which("wasm2c"):
-                for _ in range(3):
-                    print("    wabt", measure(["wasm2c", f"{name}.wasm", "-o", "wabt.c"]), f"{os.path.getsize('wabt.c')} bytes of C")
+                print("    wabt", measure(["wasm2c", f"{name}.wasm", "-o", "wabt.c"]))
 
 
-main()
+if __name__ == "__main__":
+    main()
