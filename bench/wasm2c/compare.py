@@ -1,7 +1,8 @@
 #!/usr/bin/env python3
 """Compares what units that wasm2c wrote do with what node does with their modules.
 
-compiled.c is compiled to WebAssembly by clang, written.wat is assembled by wat2wasm. wasm2c translates both. The units are
+compiled.c is compiled to WebAssembly by clang, written.wat is assembled by wat2wasm, and so is a module with a function for each
+numeric instruction, load and store. wasm2c translates all three. The units are
 compiled by gcc and clang, with -O0 and -O2, and with -fsanitize=undefined, and linked with the runtime's files. Each export is
 called with edge values and random ones, in one order, by the unit and by node; results, traps and calls of hosts are compared.
 A trap ends a call and not the program here: w2c_trap of the runtime gives way to one that jumps back to the call.
@@ -100,7 +101,38 @@ def main_of(name, sigs, calls):
     return "\n".join(lines) + "\nreturn 0;\n}\n"
 
 
-def compare(work, wasm2c, name, given):
+def operators():
+    """A module with a function for each numeric instruction on integers, and for each load and store."""
+    lines = ['(module (memory 1) (data (i32.const 0) "' + "".join(f"\\{37 * i % 256:02x}" for i in range(64)) + '")']
+
+    def add(name, params, result, *code):
+        tell = "".join(f" (param {ty})" for ty in params) + (f" (result {result})" if result else "")
+        lines.append(f'(func (export "{name}"){tell} {" ".join(code)})')
+
+    def of(instruction, params, result):
+        add(instruction.replace(".", "_"), params, result, *[f"local.get {i}" for i in range(len(params))], instruction)
+
+    for ty in C_TYPES:
+        for operator in "clz ctz popcnt".split():
+            of(f"{ty}.{operator}", [ty], ty)
+        for operator in "add sub mul div_s div_u rem_s rem_u and or xor shl shr_s shr_u rotl rotr".split():
+            of(f"{ty}.{operator}", [ty, ty], ty)
+        for operator in "eq ne lt_s lt_u gt_s gt_u le_s le_u ge_s ge_u".split():
+            of(f"{ty}.{operator}", [ty, ty], "i32")
+        of(f"{ty}.eqz", [ty], "i32")
+        widths = ["8_s", "8_u", "16_s", "16_u", ""] + (["32_s", "32_u"] if ty == "i64" else [])
+        for width in widths:
+            add(f"{ty}_load{width}", ["i32"], ty, f"local.get 0 {ty}.load{width} offset=5")
+        for width in ["8", "16", ""] + (["32"] if ty == "i64" else []):
+            code = f"local.get 0 local.get 1 {ty}.store{width} offset=3 align=1 local.get 0 {ty}.load offset=1"
+            add(f"{ty}_store{width}", ["i32", ty], ty, code)
+    of("i32.wrap_i64", ["i64"], "i32")
+    of("i64.extend_i32_s", ["i32"], "i64")
+    of("i64.extend_i32_u", ["i32"], "i64")
+    return "\n".join(lines) + ")\n"
+
+
+def compare(wasm2c, name, given):
     module = f"{name}.wasm"
     sigs = signatures(module)
     calls = plan(sigs, given)
@@ -148,7 +180,6 @@ def main():
         run("wat2wasm", os.path.join(HERE, "written.wat"), "-o", "written.wasm")
         small = [[n] for n in (0, 1, 2, 10, 1000)]
         compare(
-            work,
             wasm2c,
             "compiled",
             {
@@ -163,7 +194,11 @@ def main():
                 "poke": [[3 * 65536, 0xDEADBEEF], [4 * 65536 - 2, 7], [0xFFFFFFFC, 1]],
             },
         )
-        compare(work, wasm2c, "written", {"loop": small})
+        compare(wasm2c, "written", {"loop": small})
+        with open("operators.wat", "w") as file:
+            file.write(operators())
+        run("wat2wasm", "operators.wat", "-o", "operators.wasm")
+        compare(wasm2c, "operators", {})
 
 
 if __name__ == "__main__":
