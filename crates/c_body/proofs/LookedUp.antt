@@ -31,7 +31,9 @@ at_index_map {A} {B} f xs i = ap (λ found. if_found found (λ entry. entry)) (s
 -- an imported function is reached by what stands in the list of symbols, an own one by its name
 pub callee_imported : (m : NamedModule) (names : List (Option Name)) (index : ℕ) (name : Option Name) → names ≡ map (usable_symbol m) (func_imports m.tree)
     → slice_get names index ≡ Some name → callee m index ≡ name
-callee_imported m names index name is found = by_case (slice_get (func_imports m.tree) index) (sym (slice_get-map (usable_symbol m) (func_imports m.tree) index) ∙ ap (λ (ns : List (Option Name)). slice_get ns index) (sym is) ∙ found)
+callee_imported m names index name is found = by_case (slice_get (func_imports m.tree) index)
+    (sym (slice_get-map (usable_symbol m) (func_imports m.tree) index) ∙ ap (λ (ns : List (Option Name)). slice_get ns index) (sym is)
+    ∙ found)
   where
     by_case : (o : Option Import) → option_map (usable_symbol m) o ≡ Some name → (elim o [ None ↦ Some (func_name index) | Some i ↦ usable_symbol m i ]) ≡ name
     by_case None h = cc
@@ -39,9 +41,12 @@ callee_imported m names index name is found = by_case (slice_get (func_imports m
 
 pub callee_own : (m : NamedModule) (names : List (Option Name)) (index : ℕ) → names ≡ map (usable_symbol m) (func_imports m.tree)
     → slice_get names index ≡ None → callee m index ≡ Some (func_name index)
-callee_own m names index is found = by_case (slice_get (func_imports m.tree) index) (sym (slice_get-map (usable_symbol m) (func_imports m.tree) index) ∙ ap (λ (ns : List (Option Name)). slice_get ns index) (sym is) ∙ found)
+callee_own m names index is found = by_case (slice_get (func_imports m.tree) index)
+    (sym (slice_get-map (usable_symbol m) (func_imports m.tree) index) ∙ ap (λ (ns : List (Option Name)). slice_get ns index) (sym is)
+    ∙ found)
   where
-    by_case : (o : Option Import) → option_map (usable_symbol m) o ≡ None → (elim o [ None ↦ Some (func_name index) | Some i ↦ usable_symbol m i ]) ≡ Some (func_name index)
+    by_case : (o : Option Import) → option_map (usable_symbol m) o ≡ None
+        → (elim o [ None ↦ Some (func_name index) | Some i ↦ usable_symbol m i ]) ≡ Some (func_name index)
     by_case None h = refl
     by_case (Some i) h = cc
 

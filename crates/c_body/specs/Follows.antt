@@ -44,7 +44,8 @@ SameStop (exec.Trapped kind) other = other ≡ state.Trapped kind
 SameStop exec.Asks other = other ≡ state.Asks
 SameStop _ other = ⊥
 
-pub record EndsAlike (p : Program) (s : link.LinkedSet) (pending : Pending) (spare : ℕ) (from : Progress) (n : ℕ) (why : exec.Stop) (made : store.Store) (trail : Trail) : Type 0 where
+pub record EndsAlike (p : Program) (s : link.LinkedSet) (pending : Pending) (spare : ℕ) (from : Progress) (n : ℕ) (why : exec.Stop)
+    (made : store.Store) (trail : Trail) : Type 0 where
   pub machine : state.Machine
   pub reason : state.Stop
   pub same : SameStop why reason
@@ -70,7 +71,8 @@ StopsAlike p s pending spare from n why made trail = EndsAlike p s pending spare
 -- ---- calls
 
 -- the value goes to those who wait, at the depth at which the call was made
-pub record ComesBack (p : Program) (s : link.LinkedSet) (count depth : ℕ) (pending : Pending) (below : List state.Frame) (ty : FuncType) (from : Progress) (n left : ℕ) (value : Option Value) (made : store.Store) (trail : Trail) : Type 0 where
+pub record ComesBack (p : Program) (s : link.LinkedSet) (count depth : ℕ) (pending : Pending) (below : List state.Frame) (ty : FuncType)
+    (from : Progress) (n left : ℕ) (value : Option Value) (made : store.Store) (trail : Trail) : Type 0 where
   pub machine : state.Machine
   pub together : Together p s count depth machine made trail
   pub typed : is_result ty.result value ≡ true

@@ -29,7 +29,8 @@ distinct_end (n ∷ numbers) (suc j) e = go (list_any (λ m. m == n) numbers) (d
     go true h = refl
     go false h = h
 
-module _ (numbers : List ℕ) (i j : ℕ) (n : ℕ) (at : slice_get numbers j ≡ Some n) (next : i ≡ j + 1) (keys : List ℕ) (known : (m : ℕ) → list_any (nat_eq m) keys ≡ list_any (λ k. k == m) (drop i numbers)) where
+module _ (numbers : List ℕ) (i j : ℕ) (n : ℕ) (at : slice_get numbers j ≡ Some n) (next : i ≡ j + 1) (keys : List ℕ)
+    (known : (m : ℕ) → list_any (nat_eq m) keys ≡ list_any (λ k. k == m) (drop i numbers)) where
   front : drop j numbers ≡ n ∷ drop i numbers
   front = drop_front numbers j n at ∙ ap (λ k. n ∷ drop k numbers) (sym next)
 
@@ -39,7 +40,8 @@ module _ (numbers : List ℕ) (i j : ℕ) (n : ℕ) (at : slice_get numbers j �
   pub distinct_stops : true ≡ list_any (nat_eq n) keys → false ≡ are_distinct_numbers numbers
   distinct_stops twice = sym (distinct_end numbers j (ap are_distinct_numbers front ∙ ap (λ b. not b && are_distinct_numbers (drop i numbers)) (sym (twice ∙ known n))))
 
-  pub knows_before : (after : List ℕ) → false ≡ list_any (nat_eq n) keys → after ≡ cond (list_any (nat_eq n) keys) keys (keys ++ n ∷ []) → (m : ℕ) → list_any (nat_eq m) after ≡ list_any (λ k. k == m) (drop j numbers)
+  pub knows_before : (after : List ℕ) → false ≡ list_any (nat_eq n) keys → after ≡ cond (list_any (nat_eq n) keys) keys (keys ++ n ∷ [])
+      → (m : ℕ) → list_any (nat_eq m) after ≡ list_any (λ k. k == m) (drop j numbers)
   knows_before after fresh grown m =
       ap (list_any (nat_eq m)) (grown ∙ ap (λ b. cond b keys (keys ++ n ∷ [])) (sym fresh)) ∙ any_push (nat_eq m) keys n ∙ ap (λ b. nat_eq m n || b) (known m)
       ∙ ap (λ b. b || list_any (λ k. k == m) (drop i numbers)) (either_way m n) ∙ sym (ap (list_any (λ k. k == m)) front)

@@ -11,7 +11,10 @@ pub first_broken_of : {P : Type 0} (rules : List (ℕ × (P → Bool))) (p : P) 
 first_broken_of [] p = refl
 first_broken_of {P} (r ∷ rules) p = go (r.1 p) (first_broken_of rules p)
   where
-    go : (b : Bool) → slice_get (broken_of rules p) 0 ≡ first_rule rules p → slice_get (map (λ (x : ℕ × (P → Bool)). x.0) (if not b then r ∷ filter (λ (x : ℕ × (P → Bool)). not (x.1 p)) rules else filter (λ (x : ℕ × (P → Bool)). not (x.1 p)) rules)) 0 ≡ (if b then first_rule rules p else Some r.0)
+    go : (b : Bool) → slice_get (broken_of rules p) 0 ≡ first_rule rules p
+        → slice_get (map (λ (x : ℕ × (P → Bool)). x.0)
+        (if not b then r ∷ filter (λ (x : ℕ × (P → Bool)). not (x.1 p)) rules
+        else filter (λ (x : ℕ × (P → Bool)). not (x.1 p)) rules)) 0 ≡ (if b then first_rule rules p else Some r.0)
     go true behind = behind
     go false behind = refl
 
@@ -34,7 +37,8 @@ pub numbered_front : {A B : Type 0} (view : A → B) (k : ℕ) (xs : List A) (i 
 numbered_front view k [] i x lt is = absurd (omega arith)
 numbered_front view k (y ∷ xs) zero x lt is =
     let e : k ≡ k + 0 = omega arith in
-    ap (λ z. (k, view z) ∷ zip (range_with_len (k + 1) (length (map view xs))) (map view xs)) (sym is) ∙ ap (λ n. (n, view x) ∷ zip (range_with_len (k + 1) (length (map view xs))) (map view xs)) e
+    ap (λ z. (k, view z) ∷ zip (range_with_len (k + 1) (length (map view xs))) (map view xs)) (sym is)
+    ∙ ap (λ n. (n, view x) ∷ zip (range_with_len (k + 1) (length (map view xs))) (map view xs)) e
 numbered_front view k (y ∷ xs) (suc i) x lt is =
     let e : (k + 1) + i ≡ k + suc i = omega arith in
     let next : suc (i + 1) ≡ suc i + 1 = omega arith in
@@ -58,7 +62,8 @@ module _ {A B C : Type 0} (view : A → B) (gives : ℕ × B → List C) (xs : L
         let e : 0 + i ≡ i = omega arith in
         ap (flat_map gives) (numbered_front view 0 xs i x lt is) ∙ ap (λ n. gives (n, view x) ++ flat_map gives (drop (i + 1) (numbered (map view xs)))) e
 
-    pub first_more : slice_get (gives (i, view x)) 0 ≡ None → slice_get (flat_map gives (drop i (numbered (map view xs)))) 0 ≡ whole → slice_get (flat_map gives (drop (i + 1) (numbered (map view xs)))) 0 ≡ whole
+    pub first_more : slice_get (gives (i, view x)) 0 ≡ None → slice_get (flat_map gives (drop i (numbered (map view xs)))) 0 ≡ whole
+        → slice_get (flat_map gives (drop (i + 1) (numbered (map view xs)))) 0 ≡ whole
     first_more none so_far = sym (ap (λ ys. slice_get ys 0) front ∙ first_right (gives (i, view x)) _ none) ∙ so_far
 
     pub first_stops : (c : C) → slice_get (gives (i, view x)) 0 ≡ Some c → slice_get (flat_map gives (drop i (numbered (map view xs)))) 0 ≡ whole → Some c ≡ whole

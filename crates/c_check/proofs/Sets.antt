@@ -23,17 +23,22 @@ all_mapped p view [] = refl
 all_mapped p view (x ∷ xs) = ap (λ b. p (view x) && b) (all_mapped p view xs)
 
 -- a set behind one more item that may name something, and behind all
-pub knows_put : {A B C : Type 0} (view : A → B) (of : B → Option (List ℕ)) (xs : List A) (i : ℕ) (x : A) → i < length xs → x ≡ get_or xs i x → (before after : List (List ℕ × C)) (o : Option (List ℕ)) → o ≡ of (view x)
+pub knows_put : {A B C : Type 0} (view : A → B) (of : B → Option (List ℕ)) (xs : List A) (i : ℕ) (x : A) → i < length xs
+    → x ≡ get_or xs i x → (before after : List (List ℕ × C)) (o : Option (List ℕ)) → o ≡ of (view x)
     → ((q : List ℕ) → is_some (named q after) ≡ (is_some (named q before) || list_any (bytes_eq q) (filter_map (λ (m : Option (List ℕ)). m) (o ∷ []))))
     → ((q : List ℕ) → is_some (named q before) ≡ list_any (bytes_eq q) (filter_map of (take i (map view xs))))
     → (q : List ℕ) → is_some (named q after) ≡ list_any (bytes_eq q) (filter_map of (take (i + 1) (map view xs)))
 knows_put view of xs i x lt is before after o e grown so_far =
-    knows_next view of xs i x lt is before after (λ q. grown q ∙ ap (λ (m : Option (List ℕ)). is_some (named q before) || list_any (bytes_eq q) (filter_map (λ (m' : Option (List ℕ)). m') (m ∷ []))) e) so_far
+    knows_next view of xs i x lt is before after
+    (λ q. grown q ∙ ap (λ (m : Option (List ℕ)). is_some (named q before)
+    || list_any (bytes_eq q) (filter_map (λ (m' : Option (List ℕ)). m') (m ∷ []))) e) so_far
 
 pub knows_all : {A B C : Type 0} (view : A → B) (of : B → Option (List ℕ)) (xs : List A) (i : ℕ) (set : List (List ℕ × C)) → length xs ≤ i
     → ((q : List ℕ) → is_some (named q set) ≡ list_any (bytes_eq q) (filter_map of (take i (map view xs))))
     → (q : List ℕ) → is_some (named q set) ≡ list_any (bytes_eq q) (filter_map of (map view xs))
-knows_all view of xs i set past so_far q = so_far q ∙ ap (λ ys. list_any (bytes_eq q) (filter_map of ys)) (whole (map view xs) i (let e : length (map view xs) ≡ length xs = simp length-map in omega arith))
+knows_all view of xs i set past so_far q = so_far q
+    ∙ ap (λ ys. list_any (bytes_eq q) (filter_map of ys))
+    (whole (map view xs) i (let e : length (map view xs) ≡ length xs = simp length-map in omega arith))
   where
     whole : {B : Type 0} (ys : List B) (n : ℕ) → length ys ≤ n → take n ys ≡ ys
     whole [] zero le = refl
@@ -51,14 +56,19 @@ pub names_of_pairs : (vs : List Variable) → map (λ (v : Variable). v.name.now
 names_of_pairs [] = refl
 names_of_pairs (v ∷ vs) = ap (λ zs. v.name.now ∷ zs) (names_of_pairs vs)
 
-pub defined_front : (q : List ℕ) (x : tree.Item) (items : List tree.Item) → list_any (bytes_eq q) (defined_of (x ∷ items)) ≡ ((bytes_eq (name_of x) q && has_body x) || list_any (bytes_eq q) (defined_of items))
+pub defined_front : (q : List ℕ) (x : tree.Item) (items : List tree.Item)
+    → list_any (bytes_eq q) (defined_of (x ∷ items))
+    ≡ ((bytes_eq (name_of x) q && has_body x) || list_any (bytes_eq q) (defined_of items))
 defined_front q x items = go (has_body x) (bytes_eq (name_of x) q) (either_way q (name_of x))
   where
-    front : (b : Bool) → bytes_eq q (name_of x) ≡ b → (bytes_eq q (name_of x) || list_any (bytes_eq q) (defined_of items)) ≡ ((b && true) || list_any (bytes_eq q) (defined_of items))
+    front : (b : Bool) → bytes_eq q (name_of x) ≡ b
+        → (bytes_eq q (name_of x) || list_any (bytes_eq q) (defined_of items)) ≡ ((b && true) || list_any (bytes_eq q) (defined_of items))
     front true e = ap (λ c. c || list_any (bytes_eq q) (defined_of items)) e
     front false e = ap (λ c. c || list_any (bytes_eq q) (defined_of items)) e
 
-    go : (h b : Bool) → bytes_eq q (name_of x) ≡ b → list_any (bytes_eq q) (cons_option (if h then Some (name_of x) else None) (defined_of items)) ≡ ((b && h) || list_any (bytes_eq q) (defined_of items))
+    go : (h b : Bool) → bytes_eq q (name_of x) ≡ b
+        → list_any (bytes_eq q) (cons_option (if h then Some (name_of x) else None) (defined_of items))
+        ≡ ((b && h) || list_any (bytes_eq q) (defined_of items))
     go true b e = front b e
     go false true e = refl
     go false false e = refl
@@ -72,7 +82,8 @@ names_listed [] = refl
 names_listed (x ∷ items) = ap (λ zs. name_of x ∷ zs) (names_listed items)
 
 -- names that are in no set of a unit's names hide none of it
-pub hides : {C : Type 0} (set : List (List ℕ × C)) (unit : List tree.Item) (own : List Variable) (names : List (List ℕ)) → ((q : List ℕ) → is_some (named q set) ≡ list_any (bytes_eq q) (names_of unit))
+pub hides : {C : Type 0} (set : List (List ℕ × C)) (unit : List tree.Item) (own : List Variable) (names : List (List ℕ))
+    → ((q : List ℕ) → is_some (named q set) ≡ list_any (bytes_eq q) (names_of unit))
     → map (λ (v : Variable). v.name.now) own ≡ names → list_all (λ (v : Variable). not (is_some (named v.name.now set))) own ≡ hides_none unit names
 hides set unit own names knows same =
     all_same (λ (v : Variable). not (is_some (named v.name.now set))) (λ (v : Variable). not (list_any (bytes_eq v.name.now) (map name_of unit))) own

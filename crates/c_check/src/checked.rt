@@ -9,6 +9,7 @@ use crate::pass::first_broken;
 use c_tree::Unit;
 use std::alloc::Global;
 use std::marker::Model;
+use std::rc::Rc;
 use w2c_base::Memory;
 
 /// Why a unit is refused.
@@ -30,10 +31,10 @@ impl From<Memory> for CheckRefusal {
     }
 }
 
-/// A unit that some text spells, and that keeps every rule of the subset.
+/// A unit that some text spells, and that keeps every rule of the subset. It can be shared.
 #[derive(Drop)]
 pub struct CheckedUnit {
-    unit: Unit,
+    unit: Rc<Unit>,
 }
 
 impl Model for CheckedUnit {
@@ -49,9 +50,9 @@ impl Model for CheckedUnit {
 
     ghost coded = { Prim.hlevel (codes, expr.the_row.coded) };
 
-    ghost view = { λ checked. checked.unit };
+    ghost view = { λ checked. checked.unit.value };
 
-    ghost invariant = { λ checked. Formed (unit_of checked.unit) × KeepsRules (unit_of checked.unit) };
+    ghost invariant = { λ checked. Formed (unit_of checked.unit.value) × KeepsRules (unit_of checked.unit.value) };
 }
 
 impl CheckedUnit {
@@ -65,7 +66,10 @@ impl CheckedUnit {
     {
         match first_broken(alloc, u.as_slice())? {
             Some(broken) => Err(CheckRefusal::Rule(broken.item, broken.statement, broken.rule)),
-            None => Ok(CheckedUnit { unit: u }),
+            None => {
+                let unit = to_share(alloc, u)?;
+                Ok(CheckedUnit { unit })
+            }
         }
     }
 
@@ -76,5 +80,21 @@ impl CheckedUnit {
         ensures kept { KeepsRules (unit_of self.now) }
     {
         &self.unit
+    }
+
+    /// The same unit, not copied, to be kept beside this one.
+    pub fn shared(&self) -> Result<Rc<Unit>, Memory>
+        ensures { IfOk result (λ shared. shared.value ≡ self.now) }
+    {
+        Ok(Rc::clone(&self.unit)?)
+    }
+}
+
+fn to_share(alloc: Global, unit: Unit) -> Result<Rc<Unit>, Memory>
+    ensures { IfOk result (λ shared. shared.value ≡ unit) }
+{
+    match Rc::new(alloc, unit) {
+        Ok(shared) => Ok(shared),
+        Err(_) => Err(Memory),
     }
 }

@@ -25,14 +25,17 @@ pub record Defines (items : List tree.Item) (i : ℕ) (d : Definition) : Type 0 
   pub names : names_at items i ≡ local_names d.func d.body
   pub numbers : IsNumberUnit items → IsNumberBody (Some d.body)
 
-pub number_item : (items : List tree.Item) (i : ℕ) (item : tree.Item) → slice_get items i ≡ Some item → IsNumberUnit items → IsNumberItem item
+pub number_item : (items : List tree.Item) (i : ℕ) (item : tree.Item) → slice_get items i ≡ Some item → IsNumberUnit items
+    → IsNumberItem item
 number_item [] i item at all = absurd cc
 number_item (x ∷ items) zero item at all = let e : x ≡ item = cc in subst IsNumberItem e all.0
 number_item (x ∷ items) (suc i) item at all = number_item items i item at all.1
 
-function_is : (items : List tree.Item) (i : ℕ) (is_static : Bool) (result : CType) (name : Name) (params : List tree.Param) (o : Option tree.Body) (d : Definition)
+function_is : (items : List tree.Item) (i : ℕ) (is_static : Bool) (result : CType) (name : Name) (params : List tree.Param)
+    (o : Option tree.Body) (d : Definition)
     → slice_get items i ≡ Some (tree.Function (record { is_static = is_static; result = result; name = name; params = params; body = o }))
-    → definition_of (i, tree.Function (record { is_static = is_static; result = result; name = name; params = params; body = o })) ≡ Some d → Defines items i d
+    → definition_of (i, tree.Function (record { is_static = is_static; result = result; name = name; params = params; body = o }))
+    ≡ Some d → Defines items i d
 function_is items i is_static result name params None d at e = absurd cc
 function_is items i is_static result name params (Some body) d at e =
     let f : tree.Func = record { is_static = is_static; result = result; name = name; params = params; body = Some body } in
@@ -45,7 +48,8 @@ function_is items i is_static result name params (Some body) d at e =
       numbers = λ all. number_item items i (tree.Function f) at all;
     })
 
-by_item : (items : List tree.Item) (i : ℕ) (item : tree.Item) (d : Definition) → slice_get items i ≡ Some item → definition_of (i, item) ≡ Some d → Defines items i d
+by_item : (items : List tree.Item) (i : ℕ) (item : tree.Item) (d : Definition) → slice_get items i ≡ Some item
+    → definition_of (i, item) ≡ Some d → Defines items i d
 by_item items i (tree.Array name count bytes) d at e = absurd cc
 by_item items i (tree.Var ty name number) d at e = absurd cc
 by_item items i (tree.Function f) d at e = function_is items i f.is_static f.result f.name f.params f.body d at e
@@ -91,19 +95,19 @@ named_types [] = refl
 named_types ((ty, None) ∷ params) = named_types params
 named_types ((ty, Some name) ∷ params) = ap suc (named_types params)
 
-fitting : (params : List tree.Param) (values : List Value) → are_of_types (param_types params) (map Number values) ≡ true
-    → length (param_names params) ≡ length values
-fitting params values fit =
-    sym (named_types params) ∙ count_fits (param_types params) (map Number values) fit ∙ length-map values Number
+pub fitting : {V : Type 0} (view : V → CValue) (params : List tree.Param) (values : List V)
+    → are_of_types (param_types params) (map view values) ≡ true → length (param_names params) ≡ length values
+fitting view params values fit =
+    sym (named_types params) ∙ count_fits (param_types params) (map view values) fit ∙ length-map values view
 
 -- what was put behind arguments that fit
-pub behind_params : {V : Type 0} (items_of : V → List Value) (params : List tree.Param) (values : List Value)
-    (locals these : List tree.Local) (result all : Option V)
-    → locals ≡ these → result ≡ all → are_of_types (param_types params) (map Number values) ≡ true
-    → ((names : List Name) → length names ≡ length values → WithLocals names values locals (option_map items_of result))
-    → WithLocals (param_names params) values these (option_map items_of all)
-behind_params items_of params values locals these result all are is fits with =
-    rw (sym are, sym is) (with (param_names params) (fitting params values fits))
+pub behind_params : {V L : Type 0} (view : V → CValue) (items_of : L → List V) (params : List tree.Param) (values : List V)
+    (locals these : List tree.Local) (result all : Option L)
+    → locals ≡ these → result ≡ all → are_of_types (param_types params) (map view values) ≡ true
+    → ((names : List Name) → length names ≡ length values → WithLocals view names values locals (option_map items_of result))
+    → WithLocals view (param_names params) values these (option_map items_of all)
+behind_params view items_of params values locals these result all are is fits with =
+    rw (sym are, sym is) (with (param_names params) (fitting view params values fits))
 
 -- the variables of a function whose arguments fit
 abbrev guarded : Definition → List Value → Bool → Option Vars
@@ -116,16 +120,17 @@ module _ (items : List tree.Item) (i : ℕ) (d : Definition) (values : List Valu
   begins_with fit fits = ap (λ o. begin o 0 m (map Number values) below) is ∙ ap (λ b. with_vars d m below (guarded d values b)) fits
 
   bound : are_of_types (param_types d.func.params) (map Number values) ≡ true → (all : Option (List Value))
-      → WithLocals (param_names d.func.params) values d.body.locals all
+      → WithLocals Number (param_names d.func.params) values d.body.locals all
       → begin (definition_in items i) 0 m (map Number values) below
       ≡ with_vars d m below (option_map (λ vs. vars_of (param_names d.func.params ++ map local_name d.body.locals) vs) all)
   bound fits all locals =
       begins_with true fits
-      ∙ ap (λ o. with_vars d m below (with_params d o)) (bind_all (param_names d.func.params) values (fitting d.func.params values fits))
+      ∙ ap (λ o. with_vars d m below (with_params d o))
+      (bind_all Number (param_names d.func.params) values (fitting Number d.func.params values fits))
       ∙ ap (with_vars d m below) locals
 
   pub begins_without : are_of_types (param_types d.func.params) (map Number values) ≡ true
-      → WithLocals (param_names d.func.params) values d.body.locals None
+      → WithLocals Number (param_names d.func.params) values d.body.locals None
       → begin (definition_in items i) 0 m (map Number values) below ≡ Stops m Stuck
   begins_without fits locals = bound fits None locals
 
@@ -137,7 +142,7 @@ module _ (items : List tree.Item) (i : ℕ) (d : Definition) (values : List Valu
 pub begins : (items : List tree.Item) (f : Frame) (d : Definition) (values : List Value) (m : Machine) (below : List Waiting)
     → definition_in items f.item ≡ Some d → f.at ≡ 0
     → are_of_types (param_types d.func.params) (map Number values) ≡ true
-    → WithLocals (param_names d.func.params) values d.body.locals (Some f.values.items)
+    → WithLocals Number (param_names d.func.params) values d.body.locals (Some f.values.items)
     → begin (definition_in items f.item) 0 m (map Number values) below ≡ next m (running_of items f) below
 begins items f d values m below is first fits locals =
     let de = defines items f.item d is in

@@ -3,79 +3,103 @@ use Rattle.std.proofs.Common.{◌≡◌, ℕ, zero, suc, ◌+◌, ◌≤◌, Lis
 use Rattle.std.specs.Prelude.{slice_get, option_map, zip}
 use Rattle.std.specs.List.{AllByRecursion}
 use Rattle.std.proofs.lemmas.List.{append-nil, map_push, length-map, drop_all, take_all}
-use Rattle.w2c_base.specs.declared.value.Value.{Value}
 use Rattle.w2c_base.specs.Lookup.{if_found}
 use Rattle.c_tree.specs.Tree as tree
-use Rattle.c_meaning.specs.State.{Name, CValue, Number, Vars}
+use Rattle.c_meaning.specs.State.{Name, CValue, Vars}
 use Rattle.c_meaning.specs.Machine.{initial_of}
 use Rattle.c_meaning.specs.Step.{locals_of, bind}
 use Rattle.c_machine.specs.Names.{local_name}
 use Rattle.c_machine.specs.Numbers.{IsNumberLocal, IsNumberType}
-use Rattle.c_machine.specs.Threads.{vars_of, WithLocals}
+use Rattle.c_machine.specs.Threads.{WithLocals}
 use Rattle.c_machine.proofs.NameTables.{drop_front}
 use Rattle.c_machine.proofs.Variables.{zip-push, length-push}
 
--- the values so far are those of the parameters and the first i locals
-pub record Grows (params : List Name) (values : List Value) (locals : List tree.Local) (i : ℕ) (so_far : List Value) : Type 0 where
-  pub count : length (params ++ map local_name (take i locals)) ≡ length so_far
-  pub same : option_map (λ ls. vars_of params values ++ ls) (locals_of locals)
-      ≡ option_map (λ ls. vars_of (params ++ map local_name (take i locals)) so_far ++ ls) (locals_of (drop i locals))
+abbrev vars_in : {V : Type 0} → (V → CValue) → List Name → List V → Vars
+vars_in view names values = zip names (map view values)
 
-pub grows_first : (params : List Name) (values : List Value) (locals : List tree.Local) → length params ≡ length values → Grows params values locals 0 values
-grows_first params values locals e = record {
+-- the values so far are those of the parameters and the first i locals
+pub record Grows {V : Type 0} (view : V → CValue) (params : List Name) (values : List V) (locals : List tree.Local) (i : ℕ)
+    (so_far : List V) : Type 0 where
+  pub count : length (params ++ map local_name (take i locals)) ≡ length so_far
+  pub same : option_map (λ ls. vars_in view params values ++ ls) (locals_of locals)
+      ≡ option_map (λ ls. vars_in view (params ++ map local_name (take i locals)) so_far ++ ls) (locals_of (drop i locals))
+
+pub grows_first : {V : Type 0} (view : V → CValue) (params : List Name) (values : List V) (locals : List tree.Local)
+    → length params ≡ length values → Grows view params values locals 0 values
+grows_first view params values locals e = record {
   count = ap length (append-nil params) ∙ e;
-  same = ap (λ ps. option_map (λ ls. vars_of ps values ++ ls) (locals_of locals)) (sym (append-nil params));
+  same = ap (λ ps. option_map (λ ls. vars_in view ps values ++ ls) (locals_of locals)) (sym (append-nil params));
 }
 
-take_push : (locals : List tree.Local) (i : ℕ) (l : tree.Local) → slice_get locals i ≡ Some l → take (i + 1) locals ≡ take i locals ++ l ∷ []
+take_push : (locals : List tree.Local) (i : ℕ) (l : tree.Local) → slice_get locals i ≡ Some l
+    → take (i + 1) locals ≡ take i locals ++ l ∷ []
 take_push [] i l at = absurd cc
 take_push (x ∷ locals) zero l at = let e : x ≡ l = cc in ap (λ y. y ∷ []) e
-take_push (x ∷ locals) (suc i) l at = let one : suc i + 1 ≡ suc (i + 1) = omega arith in ap (λ n. take n (x ∷ locals)) one ∙ ap (λ ls. x ∷ ls) (take_push locals i l at)
+take_push (x ∷ locals) (suc i) l at = let one : suc i + 1 ≡ suc (i + 1) = omega arith in ap (λ n. take n (x ∷ locals)) one
+    ∙ ap (λ ls. x ∷ ls) (take_push locals i l at)
 
-more : (before : Vars) (l : tree.Local) (v : CValue) (rest : Option Vars) → option_map (λ ls. before ++ ls) (option_map (λ vars. (l.1, v) ∷ vars) rest) ≡ option_map (λ ls. (before ++ (l.1, v) ∷ []) ++ ls) rest
+more : (before : Vars) (l : tree.Local) (v : CValue) (rest : Option Vars)
+    → option_map (λ ls. before ++ ls) (option_map (λ vars. (l.1, v) ∷ vars) rest)
+    ≡ option_map (λ ls. (before ++ (l.1, v) ∷ []) ++ ls) rest
 more before l v None = refl
 more before l v (Some vars) = ap Some (sym (append_assoc before ((l.1, v) ∷ []) vars))
 
-pub grows_next : (params : List Name) (values : List Value) (locals : List tree.Local) (i : ℕ) (so_far : List Value) (l : tree.Local) (v : Value) → slice_get locals i ≡ Some l
-    → Some (Number v) ≡ initial_of l.0 l.2 → Grows params values locals i so_far → Grows params values locals (i + 1) (so_far ++ v ∷ [])
-grows_next params values locals i so_far l v at is g =
+pub grows_next : {V : Type 0} (view : V → CValue) (params : List Name) (values : List V) (locals : List tree.Local) (i : ℕ)
+    (so_far : List V) (l : tree.Local) (v : V) → slice_get locals i ≡ Some l
+    → Some (view v) ≡ initial_of l.0 l.2 → Grows view params values locals i so_far
+    → Grows view params values locals (i + 1) (so_far ++ v ∷ [])
+grows_next view params values locals i so_far l v at is g =
     let names = params ++ map local_name (take i locals) in
     let more_names : params ++ map local_name (take (i + 1) locals) ≡ names ++ local_name l ∷ [] =
-    ap (λ ls. params ++ map local_name ls) (take_push locals i l at) ∙ ap (λ ns. params ++ ns) (map_push local_name (take i locals) l) ∙ sym (append_assoc params (map local_name (take i locals)) (local_name l ∷ [])) in
-    let numbers : length names ≡ length (map Number so_far) = g.count ∙ sym (length-map so_far Number) in
-    let pushed : vars_of (params ++ map local_name (take (i + 1) locals)) (so_far ++ v ∷ []) ≡ vars_of names so_far ++ (l.1, Number v) ∷ [] =
-    ap (λ ns. zip ns (map Number (so_far ++ v ∷ []))) more_names ∙ ap (zip (names ++ local_name l ∷ [])) (map_push Number so_far v) ∙ zip-push names (map Number so_far) (local_name l) (Number v) numbers in
+    ap (λ ls. params ++ map local_name ls) (take_push locals i l at)
+    ∙ ap (λ ns. params ++ ns) (map_push local_name (take i locals) l)
+    ∙ sym (append_assoc params (map local_name (take i locals)) (local_name l ∷ [])) in
+    let numbers : length names ≡ length (map view so_far) = g.count ∙ sym (length-map so_far view) in
+    let pushed : vars_in view (params ++ map local_name (take (i + 1) locals)) (so_far ++ v ∷ []) ≡ vars_in view names so_far
+    ++ (l.1, view v) ∷ [] =
+    ap (λ ns. zip ns (map view (so_far ++ v ∷ []))) more_names ∙ ap (zip (names ++ local_name l ∷ [])) (map_push view so_far v)
+    ∙ zip-push names (map view so_far) (local_name l) (view v) numbers in
     record {
       count = ap length more_names ∙ length-push names (local_name l) ∙ ap (λ n. n + 1) g.count ∙ sym (length-push so_far v);
       same = g.same
-          ∙ ap (λ ls. option_map (λ rest. vars_of names so_far ++ rest) (locals_of ls)) (drop_front locals i l at)
-          ∙ ap (λ o. option_map (λ rest. vars_of names so_far ++ rest) (if_found o (λ w. option_map (λ vars. (l.1, w) ∷ vars) (locals_of (drop (i + 1) locals))))) (sym is)
-          ∙ more (vars_of names so_far) l (Number v) (locals_of (drop (i + 1) locals))
+          ∙ ap (λ ls. option_map (λ rest. vars_in view names so_far ++ rest) (locals_of ls)) (drop_front locals i l at)
+          ∙ ap (λ o. option_map (λ rest. vars_in view names so_far ++ rest)
+          (if_found o (λ w. option_map (λ vars. (l.1, w) ∷ vars) (locals_of (drop (i + 1) locals))))) (sym is)
+          ∙ more (vars_in view names so_far) l (view v) (locals_of (drop (i + 1) locals))
           ∙ ap (λ before. option_map (λ ls. before ++ ls) (locals_of (drop (i + 1) locals))) (sym pushed);
     }
 
-pub grows_none : (params : List Name) (values : List Value) (locals : List tree.Local) (i : ℕ) (so_far : List Value) (l : tree.Local) → slice_get locals i ≡ Some l
-    → None ≡ initial_of l.0 l.2 → Grows params values locals i so_far → WithLocals params values locals None
-grows_none params values locals i so_far l at is g =
+pub grows_none : {V : Type 0} (view : V → CValue) (params : List Name) (values : List V) (locals : List tree.Local) (i : ℕ)
+    (so_far : List V) (l : tree.Local) → slice_get locals i ≡ Some l
+    → None ≡ initial_of l.0 l.2 → Grows view params values locals i so_far → WithLocals view params values locals None
+grows_none view params values locals i so_far l at is g =
     let names = params ++ map local_name (take i locals) in
     g.same
-    ∙ ap (λ ls. option_map (λ rest. vars_of names so_far ++ rest) (locals_of ls)) (drop_front locals i l at)
-    ∙ ap (λ o. option_map (λ rest. vars_of names so_far ++ rest) (if_found o (λ w. option_map (λ vars. (l.1, w) ∷ vars) (locals_of (drop (i + 1) locals))))) (sym is)
+    ∙ ap (λ ls. option_map (λ rest. vars_in view names so_far ++ rest) (locals_of ls)) (drop_front locals i l at)
+    ∙ ap (λ o. option_map (λ rest. vars_in view names so_far ++ rest)
+    (if_found o (λ w. option_map (λ vars. (l.1, w) ∷ vars) (locals_of (drop (i + 1) locals))))) (sym is)
 
-pub grows_all : (params : List Name) (values : List Value) (locals : List tree.Local) (i : ℕ) (so_far : List Value) → length locals ≤ i → Grows params values locals i so_far → WithLocals params values locals (Some so_far)
-grows_all params values locals i so_far past g =
+pub grows_all : {V : Type 0} (view : V → CValue) (params : List Name) (values : List V) (locals : List tree.Local) (i : ℕ)
+    (so_far : List V) → length locals ≤ i → Grows view params values locals i so_far
+    → WithLocals view params values locals (Some so_far)
+grows_all view params values locals i so_far past g =
     g.same
-    ∙ ap (λ ls. option_map (λ rest. vars_of (params ++ map local_name (take i locals)) so_far ++ rest) (locals_of ls)) (drop_all i locals past)
-    ∙ ap Some (append-nil (vars_of (params ++ map local_name (take i locals)) so_far) ∙ ap (λ ls. vars_of (params ++ map local_name ls) so_far) (take_all i locals past))
+    ∙ ap (λ ls. option_map (λ rest. vars_in view (params ++ map local_name (take i locals)) so_far ++ rest) (locals_of ls))
+    (drop_all i locals past)
+    ∙ ap Some (append-nil (vars_in view (params ++ map local_name (take i locals)) so_far)
+    ∙ ap (λ ls. vars_in view (params ++ map local_name ls) so_far) (take_all i locals past))
 
-pub number_local : (locals : List tree.Local) (i : ℕ) (l : tree.Local) → slice_get locals i ≡ Some l → AllByRecursion IsNumberLocal locals → IsNumberType l.0
+pub number_local : (locals : List tree.Local) (i : ℕ) (l : tree.Local) → slice_get locals i ≡ Some l
+    → AllByRecursion IsNumberLocal locals → IsNumberType l.0
 number_local [] i l at all = absurd cc
 number_local (x ∷ locals) zero l at all = let e : x ≡ l = cc in subst IsNumberLocal e all.0
 number_local (x ∷ locals) (suc i) l at all = number_local locals i l at all.1
 
 -- parameters are bound in order
-pub bind_all : (names : List Name) (values : List Value) → length names ≡ length values → bind names (map Number values) ≡ Some (vars_of names values)
-bind_all [] [] e = refl
-bind_all [] (v ∷ values) e = absurd (omega (arith, e))
-bind_all (n ∷ names) [] e = absurd (omega (arith, e))
-bind_all (n ∷ names) (v ∷ values) e = ap (λ (o : Option Vars). option_map (λ vars. (n, Number v) ∷ vars) o) (bind_all names values (omega (arith, e)))
+pub bind_all : {V : Type 0} (view : V → CValue) (names : List Name) (values : List V) → length names ≡ length values
+    → bind names (map view values) ≡ Some (vars_in view names values)
+bind_all view [] [] e = refl
+bind_all view [] (v ∷ values) e = absurd (omega (arith, e))
+bind_all view (n ∷ names) [] e = absurd (omega (arith, e))
+bind_all view (n ∷ names) (v ∷ values) e =
+    ap (λ (o : Option Vars). option_map (λ vars. (n, view v) ∷ vars) o) (bind_all view names values (omega (arith, e)))

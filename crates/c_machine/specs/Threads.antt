@@ -7,7 +7,7 @@ use Rattle.w2c_base.specs.Run.{Trail}
 use Rattle.c_tree.specs.declared.tree.CType.{CType}
 use Rattle.c_tree.specs.declared.tree.CType.TheVariants.{Void}
 use Rattle.c_tree.specs.Tree as tree
-use Rattle.c_meaning.specs.State.{Name, Number, Vars, Machine, Running, Frame as Waiting, State, Place, Trapped, Undefined, Stuck}
+use Rattle.c_meaning.specs.State.{Name, CValue, Number, Vars, Machine, Running, Frame as Waiting, State, Place, Trapped, Undefined, Stuck}
 use Rattle.c_meaning.specs.Linking.{Program, Definition, definition_of}
 use Rattle.c_meaning.specs.Machine.{objects_of}
 use Rattle.c_meaning.specs.Step.{Step, Next, Back, Stops, next, locals_of, value_of}
@@ -107,10 +107,10 @@ begun_of items m None below = Stops m Stuck
 begun_of items m (Some f) below = next m (running_of items f) below
 
 -- parameters with values, and locals behind them, are these values
-abbrev pub WithLocals : List Name → List Value → List tree.Local → Option (List Value) → Type 0
-WithLocals params values locals all =
-    option_map (λ ls. vars_of params values ++ ls) (locals_of locals)
-    ≡ option_map (λ vs. vars_of (params ++ map local_name locals) vs) all
+abbrev pub WithLocals : {V : Type 0} → (V → CValue) → List Name → List V → List tree.Local → Option (List V) → Type 0
+WithLocals view params values locals all =
+    option_map (λ ls. zip params (map view values) ++ ls) (locals_of locals)
+    ≡ option_map (λ vs. zip (params ++ map local_name locals) (map view vs)) all
 
 -- a function that waits, and the name that the value goes to
 abbrev pub waits : Option Name → List tree.Item → Frame → Waiting

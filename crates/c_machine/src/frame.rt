@@ -67,8 +67,8 @@ impl Frame {
     }
 }
 
-// The function that an item defines, and its body.
-fn definition(unit: &Unit, item: usize) -> Option<(&Func, &Body)>
+/// The function that an item defines, and its body.
+pub fn definition(unit: &Unit, item: usize) -> Option<(&Func, &Body)>
     ensures { option_map (λ x. record { item = item; func = func_of x.0.now; body = body_of x.1.now }) result ≡ definition_in (unit_of unit.now) item }
 {
     match unit.as_slice().get(item)? {
@@ -86,7 +86,7 @@ fn with_locals(
     values: Vec<Value>,
 ) -> Result<Option<Vec<Value>>, Memory>
     requires { AllByRecursion IsNumberLocal locals.now }
-    ensures { IfOk result (λ o. (params : List (List ℕ)) → length params ≡ length values.items → WithLocals params values.items locals.now (option_map (λ vs. vs.items) o)) }
+    ensures { IfOk result (λ o. (params : List (List ℕ)) → length params ≡ length values.items → WithLocals Number params values.items locals.now (option_map (λ vs. vs.items) o)) }
 {
     let mut values = values;
     for local in locals {

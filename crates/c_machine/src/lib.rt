@@ -13,7 +13,9 @@ mod tables;
 mod tests;
 mod types;
 
-pub use frame::{Frame, Thread};
+pub use evaluation::{Fault, constant, is_depth, low_half, widened};
+pub use frame::{Frame, Thread, definition};
 pub use names::NameTable;
-pub use step::Stepped;
-pub use tables::{FunctionTable, Tables};
+pub use operators::operate;
+pub use step::{Stepped, label_for};
+pub use tables::{Function, FunctionTable, Tables, function_numbers, number_all};

@@ -290,8 +290,8 @@ fn compare(scope: Scope<'_>, op: COp, left: &Expr, right: &Expr) -> Result<bool,
     }
 }
 
-// The label of the case that the value is, else the default label (6.8.4.2).
-fn label_for<'a>(value: Value, cases: &'a [(Num, Name)], default: &'a [u8]) -> &'a [u8]
+/// The label of the case that the value is, else the default label (6.8.4.2).
+pub fn label_for<'a>(value: Value, cases: &'a [(Num, Name)], default: &'a [u8]) -> &'a [u8]
     ensures { result.now ≡ label_of value cases.now default.now }
 {
     for case in cases {

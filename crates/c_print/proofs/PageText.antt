@@ -29,3 +29,8 @@ items_text page (i ∷ is) e =
     ∙ ap (λ text. (text ++ 10 ∷ []) ++ each print_item_of is) (onto_text page (Fixed tok.Include) (item_tokens i) e)
     ∙ ap (λ text. text ++ each print_item_of is) (append_assoc page.text line (10 ∷ []))
     ∙ append_assoc page.text (line ++ 10 ∷ []) (each print_item_of is)
+
+-- the text of one item on a page of its own
+pub item_text : (item : Item) → (ended (printed_onto (record { text = []; last = kind.Fixed tok.Include }) (item_tokens item))).text ≡ print_item_of item
+unfolding ended
+item_text item = ap (λ text. text ++ 10 ∷ []) (onto_text (record { text = []; last = kind.Fixed tok.Include }) (Fixed tok.Include) (item_tokens item) refl)

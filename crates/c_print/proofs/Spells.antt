@@ -1,4 +1,5 @@
 -- The text that is printed of a unit spells it.
+use Rattle.std.proofs.lemmas.List.{append-nil}
 use Rattle.std.proofs.Common.{◌≡◌, ℕ, ◌+◌, Bool, true, false, cond, ◌&&◌, List, [], ◌∷◌, ◌++◌, map, refl, sym, ap, ◌∙◌, append_assoc}
 use Rattle.std.specs.List.{AllByRecursion}
 use Rattle.c_tree.specs.declared.token.Tok.TheVariants as tok
@@ -7,11 +8,13 @@ use Rattle.c_tree.specs.Tokens.{Token, Fixed, Named, Number, Wrong, token_text, 
 use Rattle.c_tree.specs.Text.{lexeme, lexemes}
 use Rattle.c_tree.specs.Layout.{laid}
 use Rattle.c_tree.specs.Trees.{each, item_tokens, unit_tokens}
-use Rattle.c_tree.specs.Spelled.{CSpells, Formed}
+use Rattle.c_tree.specs.Spelled.{CSpells, FitsItem, Formed, depth_limit}
+use Rattle.c_tree.proofs.OfEach.{of_contained}
 use Rattle.c_tree.proofs.Proper.{both_true, IsProper, EndsToken, IsReadAnywhere, reads, include_read, left_paren_read, left_bracket_read}
 use Rattle.c_tree.proofs.Laid.{tokens_from, KeepsApart, laid_tokens}
 use Rattle.c_tree.proofs.TextIsProper.{tokens_proper}
 use Rattle.c_tree.proofs.TreeIsProper.{AllProper, each_of}
+use Rattle.c_print.specs.ItemText.{IsItemOfUnit, SpellsItem}
 use Rattle.c_print.specs.Print.{opens, ends_line, closes, ends_block, is_named, begins_list, gap_between, print_item_of, print_of}
 
 -- ---- what stands between two tokens keeps them apart
@@ -85,12 +88,25 @@ items_read (i ∷ is) all place =
     let h = item_read (item_tokens i) all.0 (each print_item_of is) place in
     h.1 ∙ ap (λ ts. item_tokens i ++ ts) (items_read is all.1 h.0) ∙ sym (append_assoc (item_tokens i) (each item_tokens is) (Fixed tok.End ∷ []))
 
+items_proper : (u : List Item) → Formed u → AllByRecursion (λ i. AllProper (item_tokens i)) u
+items_proper u formed =
+    let proper = tokens_proper formed.0 (unit_tokens u) formed.1.in_order in
+    each_of item_tokens (λ i. AllProper (item_tokens i)) (λ i all. all) u proper.1
+
 pub spells : (u : List Item) → Formed u → CSpells u (print_of u)
 spells u formed =
-    let proper = tokens_proper formed.0 (unit_tokens u) formed.1.in_order in
-    let items = each_of item_tokens (λ i. AllProper (item_tokens i)) (λ i all. all) u proper.1 in
+    let items = items_proper u formed in
     let h = include_read (each print_item_of u) 0 in
     record {
       in_order = ap (map (λ l. l.token)) h.1 ∙ ap (λ ts. Fixed tok.Include ∷ ts) (items_read u items h.0);
       fits = formed.1.fits;
+    }
+
+pub spells_item : (item : Item) → IsItemOfUnit item → SpellsItem item (print_item_of item)
+spells_item item (unit, formed, there) =
+    let proper = of_contained (λ i. AllProper (item_tokens i)) unit item (items_proper unit formed) there in
+    let h = item_read (item_tokens item) proper [] 0 in
+    record {
+      in_order = ap (tokens_from 0 0) (sym (append-nil (print_item_of item))) ∙ h.1;
+      fits = of_contained (FitsItem depth_limit) unit item formed.1.fits there;
     }

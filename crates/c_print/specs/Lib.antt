@@ -1,3 +1,4 @@
 pub mod Print
+pub mod ItemText
 pub mod Page
 pub mod Header

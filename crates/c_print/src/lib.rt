@@ -1,9 +1,10 @@
-//! Units of the C subset and their headers as text.
+//! Units of the C subset and their headers as text, and units an item at a time into a file.
 #![tactic(auto)]
 
 mod expression;
 mod function;
 mod header;
+mod item;
 mod laws;
 mod page;
 mod pieces;
@@ -11,5 +12,6 @@ mod statement;
 mod unit;
 
 pub use header::print_header;
+pub use item::print_item_to;
 pub use laws::printed_units_are_read_again;
 pub use unit::print_unit;

@@ -35,6 +35,16 @@ impl Page {
         })
     }
 
+    /// No text yet. What is put stands behind an include line that is printed elsewhere.
+    pub fn behind_include(alloc: Global) -> Page
+        ensures { result ≡ record { text = []; last = kind.Fixed tok.Include } }
+    {
+        Page {
+            text: Bytes::new(alloc),
+            last: Kind::Fixed(Tok::Include),
+        }
+    }
+
     fn put(&mut self, next: Kind, text: &[u8]) -> Result<(), Memory>
         ensures { OnOk result (self.new ≡ record { text = (self.old.text ++ gap self.old.last next) ++ text.now; last = next }) }
     {

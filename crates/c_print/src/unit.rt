@@ -1,81 +1,21 @@
-// Items, and the whole unit.
-ghost use Rattle.std.specs.Prelude.{◌≡◌, [], ◌∷◌, ◌++◌, OnOk, IfOk, map};
-ghost use Rattle.c_tree.specs.declared.token.Tok.TheVariants as tok;
-ghost use Rattle.c_tree.specs.declared.tree.Num.TheVariants.{Plain};
-ghost use Rattle.c_tree.specs.Tokens.{Fixed, Named};
-ghost use Rattle.c_tree.specs.Trees.{separated, num_token, value_tokens, item_tokens};
+// The whole unit.
+ghost use Rattle.std.specs.Prelude.{◌≡◌, OnOk, IfOk, map};
 ghost use Rattle.c_tree.specs.Spelled.{CSpells, Formed};
 ghost use Rattle.c_tree.specs.View.{item_of, unit_of};
-ghost use Rattle.c_print.specs.Page.{printed_onto, items_onto};
+ghost use Rattle.c_print.specs.Page.{items_onto};
 ghost use Rattle.c_print.specs.Print.{print_of};
 
-use crate::function::put_function;
+use crate::item::put_line;
 use crate::page::Page;
-use crate::pieces::{Piece, put_separated};
-use c_tree::{Item, Name, Num, Tok, Unit};
+use c_tree::{Item, Unit};
 use std::alloc::Global;
 use w2c_base::{Bytes, Memory};
-
-impl Piece for u8 {
-    ghost tokens = { λ byte. num_token (Plain byte) ∷ [] };
-
-    fn put(&self, page: &mut Page) -> Result<(), Memory> {
-        page.number(Num::Plain(*self as u64))
-    }
-}
-
-#[tactic(auto, using(crate::proofs::Onto::onto_append))]
-fn put_array(page: &mut Page, name: &Name, count: u64, bytes: &Bytes) -> Result<(), Memory>
-    ensures { OnOk result (page.new ≡ printed_onto page.old (Fixed tok.WordStatic ∷ Fixed tok.WordConst ∷ Fixed tok.WordU8 ∷ Named name.now
-        ∷ Fixed tok.LeftBracket ∷ num_token (Plain count) ∷ Fixed tok.RightBracket ∷ Fixed tok.Assign ∷ Fixed tok.LeftBrace
-        ∷ (separated (λ byte. num_token (Plain byte) ∷ []) bytes.now ++ Fixed tok.RightBrace ∷ Fixed tok.Semicolon ∷ []))) }
-{
-    page.fixed(Tok::WordStatic)?;
-    page.fixed(Tok::WordConst)?;
-    page.fixed(Tok::WordU8)?;
-    page.name(name)?;
-    page.fixed(Tok::LeftBracket)?;
-    page.number(Num::Plain(count))?;
-    page.fixed(Tok::RightBracket)?;
-    page.fixed(Tok::Assign)?;
-    page.fixed(Tok::LeftBrace)?;
-    put_separated(page, bytes.as_slice())?;
-    page.fixed(Tok::RightBrace)?;
-    page.fixed(Tok::Semicolon)
-}
-
-fn put_value(page: &mut Page, value: &Option<Num>) -> Result<(), Memory>
-    ensures { OnOk result (page.new ≡ printed_onto page.old (value_tokens value.now)) }
-{
-    if let Some(n) = value {
-        page.fixed(Tok::Assign)?;
-        page.number(*n)?;
-    }
-    page.fixed(Tok::Semicolon)
-}
-
-#[tactic(auto, using(crate::proofs::Onto::onto_append))]
-fn put_item(page: &mut Page, item: &Item) -> Result<(), Memory>
-    ensures { OnOk result (page.new ≡ printed_onto page.old (item_tokens (item_of item.now))) }
-{
-    match item {
-        Item::Array(name, count, bytes) => put_array(page, name, *count, bytes),
-        Item::Var(ty, name, value) => {
-            page.fixed(Tok::WordStatic)?;
-            ty.put(page)?;
-            page.name(name)?;
-            put_value(page, value)
-        }
-        Item::Func(func) => put_function(page, func),
-    }
-}
 
 fn put_items(page: &mut Page, items: &[Item]) -> Result<(), Memory>
     ensures { OnOk result (page.new ≡ items_onto page.old (map item_of items.now)) }
 {
     for item in items {
-        put_item(page, item)?;
-        page.end()?;
+        put_line(page, item)?;
     }
     Ok(())
 }

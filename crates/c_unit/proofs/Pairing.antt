@@ -487,25 +487,25 @@ no_stuck_module c.Ended h = h
 no_stuck_module (c.Stopped why) h = h
 no_stuck_module c.OutOfSteps h = h
 
-forward : (s : link.LinkedSet) → Pairing s → Forward s
+forward : (s : link.LinkedSet) → Pairing s → Forward (program_of s) s
 forward s paired calls replies n listing over = go (paired calls replies n listing)
   where
-    go : Paired s calls replies n → (m : ℕ) × (m ≤ 400 * n + 400) × Alike s (wasm.wasm_run s calls n replies) (c_run_of s calls m replies)
+    go : Paired s calls replies n → (m : ℕ) × (m ≤ 400 * n + 400) × Alike s (wasm.wasm_run s calls n replies) (c_run_of (program_of s) calls m replies)
     go (inl alike) = (400 * n + 400, omega arith, alike)
     go (inr out) = absurd (over out.0)
 
 -- the pair of a unit's run that is over
 pair_of : (s : link.LinkedSet) → Pairing s → (calls : List wasm.ListedCall) (replies : List Reply) (m : ℕ) → IsListing s calls
-    → (c_run_of s calls m replies).outcome ≢ c.OutOfSteps
-    → Alike s (wasm.wasm_run s calls m replies) (c_run_of s calls m replies)
+    → (c_run_of (program_of s) calls m replies).outcome ≢ c.OutOfSteps
+    → Alike s (wasm.wasm_run s calls m replies) (c_run_of (program_of s) calls m replies)
 pair_of s paired calls replies m listing over = go (paired calls replies m listing)
   where
-    go : Paired s calls replies m → Alike s (wasm.wasm_run s calls m replies) (c_run_of s calls m replies)
+    go : Paired s calls replies m → Alike s (wasm.wasm_run s calls m replies) (c_run_of (program_of s) calls m replies)
     go (inl alike) = subst (Alike s (wasm.wasm_run s calls m replies))
         (run_longer (program_of s) (map symbol_call calls) replies m (400 * m + 400) (omega arith) over) alike
     go (inr out) = absurd (over out.1)
 
-never_stops : (s : link.LinkedSet) → Pairing s → NeverStops s
+never_stops : (s : link.LinkedSet) → Pairing s → NeverStops (program_of s) s
 never_stops s paired = record {
   never_undefined = λ calls replies m kind place listing stopped.
       let alike = pair_of s paired calls replies m listing
@@ -521,8 +521,8 @@ never_stops s paired = record {
     module_never_stuck : (calls : List wasm.ListedCall) (replies : List Reply) (n : ℕ)
         → (wasm.wasm_run s calls n replies).outcome ≡ wasm.Stopped exec.Stuck → Paired s calls replies n → ⊥
     module_never_stuck calls replies n stopped (inl alike) =
-        no_stuck_module (c_run_of s calls (400 * n + 400) replies).outcome
-        (subst (λ (o : wasm.Outcome). OutcomesAlike o (c_run_of s calls (400 * n + 400) replies).outcome) stopped alike.outcome)
+        no_stuck_module (c_run_of (program_of s) calls (400 * n + 400) replies).outcome
+        (subst (λ (o : wasm.Outcome). OutcomesAlike o (c_run_of (program_of s) calls (400 * n + 400) replies).outcome) stopped alike.outcome)
     module_never_stuck calls replies n stopped (inr out) = let wrong : wasm.Stopped exec.Stuck ≡ wasm.Stopped exec.OutOfSteps = sym stopped
         ∙ out.0 in grind arith
 

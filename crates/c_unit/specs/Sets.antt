@@ -42,8 +42,8 @@ pub record IsAcceptedSet (s : LinkedSet) : Type 0 where
 abbrev pub symbol_call : ListedCall → SymbolCall
 symbol_call call = record { symbol = export_symbol_of call.module_name Func call.export_name; args = call.args }
 
-abbrev pub c_run_of : LinkedSet → List ListedCall → ℕ → List Reply → CRun
-c_run_of s calls m replies = c_run (program_of s) (map symbol_call calls) m replies
+abbrev pub c_run_of : Program → List ListedCall → ℕ → List Reply → CRun
+c_run_of p calls m replies = c_run p (map symbol_call calls) m replies
 
 -- the calls name exported functions and have arguments of their types
 abbrev pub IsListing : LinkedSet → List ListedCall → Type 0
@@ -53,43 +53,43 @@ IsListing s calls = AllByRecursion (Fits s) calls
 -- are out of steps with n.
 abbrev pub Paired : LinkedSet → List ListedCall → List Reply → ℕ → Type 0
 Paired s calls replies n =
-    Alike s (wasm_run s calls n replies) (c_run_of s calls (400 * n + 400) replies)
-    ⊎ ((wasm_run s calls n replies).outcome ≡ wasm.Stopped exec.OutOfSteps) × ((c_run_of s calls n replies).outcome ≡ c.OutOfSteps)
+    Alike s (wasm_run s calls n replies) (c_run_of (program_of s) calls (400 * n + 400) replies)
+    ⊎ ((wasm_run s calls n replies).outcome ≡ wasm.Stopped exec.OutOfSteps) × ((c_run_of (program_of s) calls n replies).outcome ≡ c.OutOfSteps)
 
 abbrev pub Pairing : LinkedSet → Type 0
 Pairing s = (calls : List ListedCall) (replies : List Reply) (n : ℕ) → IsListing s calls → Paired s calls replies n
 
 -- a run of the modules that ends in n steps has a run of the units that ends alike within 400 n + 400
 -- statements
-abbrev pub Forward : LinkedSet → Type 0
-Forward s = (calls : List ListedCall) (replies : List Reply) (n : ℕ) → IsListing s calls
+abbrev pub Forward : Program → LinkedSet → Type 0
+Forward p s = (calls : List ListedCall) (replies : List Reply) (n : ℕ) → IsListing s calls
     → (wasm_run s calls n replies).outcome ≢ wasm.Stopped exec.OutOfSteps
-    → (m : ℕ) × (m ≤ 400 * n + 400) × Alike s (wasm_run s calls n replies) (c_run_of s calls m replies)
+    → (m : ℕ) × (m ≤ 400 * n + 400) × Alike s (wasm_run s calls n replies) (c_run_of p calls m replies)
 
 -- a run of the units that ends in m statements has a run of the modules that ends alike within m steps
-abbrev pub Backward : LinkedSet → Type 0
-Backward s = (calls : List ListedCall) (replies : List Reply) (m : ℕ) → IsListing s calls
-    → (c_run_of s calls m replies).outcome ≢ c.OutOfSteps
-    → (n : ℕ) × (n ≤ m) × Alike s (wasm_run s calls n replies) (c_run_of s calls m replies)
+abbrev pub Backward : Program → LinkedSet → Type 0
+Backward p s = (calls : List ListedCall) (replies : List Reply) (m : ℕ) → IsListing s calls
+    → (c_run_of p calls m replies).outcome ≢ c.OutOfSteps
+    → (n : ℕ) × (n ≤ m) × Alike s (wasm_run s calls n replies) (c_run_of p calls m replies)
 
 -- no run of the units is undefined or stuck, and none of the modules is stuck
-pub record NeverStops (s : LinkedSet) : Type 0 where
+pub record NeverStops (p : Program) (s : LinkedSet) : Type 0 where
   pub never_undefined : (calls : List ListedCall) (replies : List Reply) (m kind : ℕ) (place : Place) → IsListing s calls
-      → (c_run_of s calls m replies).outcome ≢ c.Stopped (Undefined kind place)
+      → (c_run_of p calls m replies).outcome ≢ c.Stopped (Undefined kind place)
   pub never_stuck : (calls : List ListedCall) (replies : List Reply) (m : ℕ) → IsListing s calls
-      → (c_run_of s calls m replies).outcome ≢ c.Stopped Stuck
+      → (c_run_of p calls m replies).outcome ≢ c.Stopped Stuck
   pub modules_never_stuck : (calls : List ListedCall) (replies : List Reply) (n : ℕ) → IsListing s calls
       → (wasm_run s calls n replies).outcome ≢ wasm.Stopped exec.Stuck
 
-pub record DoTheSame (s : LinkedSet) : Type 0 where
-  pub forward : Forward s
-  pub backward : Backward s
-  pub never_stops : NeverStops s
+pub record DoTheSame (p : Program) (s : LinkedSet) : Type 0 where
+  pub forward : Forward p s
+  pub backward : Backward p s
+  pub never_stops : NeverStops p s
 
 -- ---- the theorem, and what it goes through
 
 abbrev pub UnitsDoTheSame : Type 0
-UnitsDoTheSame = (s : LinkedSet) → IsAcceptedSet s → DoTheSame s
+UnitsDoTheSame = (s : LinkedSet) → IsAcceptedSet s → DoTheSame (program_of s) s
 
 abbrev pub UnitsArePaired : Type 0
 UnitsArePaired = (s : LinkedSet) → IsAcceptedSet s → Pairing s

@@ -1,9 +1,10 @@
 //! Rows of translations. Each line of the input is a module's name, a colon and the bytes of a file in hexadecimal, apart by
-//! blanks; the answer is the name, and below it the text of the unit and the header's, or why there are none. Empty lines and
-//! lines that begin with `#` are passed over.
+//! blanks; the answer is the name, and below it the text of the unit and the header's, or why there are none; the same texts
+//! are written an item at a time. Empty lines and lines that begin with `#` are passed over.
 #![tactic(auto)]
 
 mod texts;
+mod written;
 
 use std::alloc::{AllocError, Global};
 use std::io;

@@ -1,4 +1,5 @@
 // The texts of a file's module, or why there are none, in the words of the program's lines.
+use crate::written::writes_these;
 use std::alloc::{AllocError, Global};
 use w2c_base::MODULE_BYTES;
 use w2c_sim::{Refusal, Texts, translate};
@@ -12,7 +13,10 @@ pub fn texts_of(alloc: Global, name: &str, bytes: &[u8]) -> Result<String, Alloc
         return String::from_str(alloc, "no module name");
     }
     match translate(alloc, bytes, name.as_bytes()) {
-        Ok(texts) => both_texts(alloc, &texts),
+        Ok(texts) => match writes_these(alloc, bytes, name.as_bytes(), &texts) {
+            Ok(true) => both_texts(alloc, &texts),
+            _ => String::from_str(alloc, "other texts are written"),
+        },
         Err(refusal) => text_of_refusal(alloc, refusal),
     }
 }

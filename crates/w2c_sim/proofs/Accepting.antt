@@ -1,24 +1,30 @@
 -- A file's module is one that c_unit accepts: it is valid, and has a file.
-use Rattle.std.proofs.Common.{◌≡◌, ◌<◌, ℕ, List, refl}
+use Rattle.std.proofs.Common.{◌≡◌, ◌<◌, ◌≤◌, ℕ, List, length, refl}
 use Rattle.std.proofs.lemmas.List.Elements.{All-from_recursion}
 use Rattle.wasm_tree.specs.declared.tree.Module.{Module}
-use Rattle.wasm_spelling.specs.ModuleFields.{Spells}
 use Rattle.wasm_spelling.proofs.Whole.{one_tree}
 use Rattle.wasm_valid.specs.Verdict.{IsValid}
 use Rattle.wasm_valid.proofs.Verdicts.{valid}
 use Rattle.wasm_spelling.specs.Bytes.{AreBytes}
+use Rattle.wasm_spelling.specs.Places.{IsFormed}
 use Rattle.c_unit.specs.Sets.{IsAccepted}
 use Rattle.w2c_sim.specs.Translation.{IsModuleOf}
 
+-- a valid module that has a file, under a name
+pub named_is_accepted : (name : List ℕ) (tree : Module) → IsValid tree → IsFormed tree → 1 ≤ length name → length name ≤ 1024
+    → AreBytes name → IsAccepted (record { name = name; tree = tree })
+named_is_accepted name tree is_valid is_formed named short are_bytes = record {
+  valid = is_valid;
+  formed = is_formed;
+  named = named;
+  short = short;
+  bytes = All-from_recursion (λ b. b < 256) name are_bytes;
+}
+
 pub module_is_accepted : (bytes name : List ℕ) (tree : Module) → IsModuleOf bytes name tree
     → IsAccepted (record { name = name; tree = tree })
-module_is_accepted bytes name tree is = record {
-  valid = valid tree is.accepted.1;
-  formed = (bytes, is.are_bytes, (tree, refl, is.accepted.0));
-  named = is.named;
-  short = is.short;
-  bytes = All-from_recursion (λ b. b < 256) name is.name_bytes;
-}
+module_is_accepted bytes name tree is =
+    named_is_accepted name tree (valid tree is.accepted.1) (bytes, is.are_bytes, (tree, refl, is.accepted.0)) is.named is.short is.name_bytes
 
 -- a file has one module
 pub one_module : (bytes name : List ℕ) (tree other : Module) → IsModuleOf bytes name tree → IsModuleOf bytes name other → tree ≡ other

@@ -1,12 +1,11 @@
 -- A selection of translated files: its modules are accepted, and its units are those of c_unit.
-use Rattle.std.proofs.Common.{◌≡◌, ◌<◌, ℕ, List, [], ◌∷◌, map, refl, sym, ◌∙◌, ap, subst}
+use Rattle.std.proofs.Common.{◌≡◌, ◌<◌, List, [], ◌∷◌, map, refl, sym, subst}
 use Rattle.std.specs.List.{All, AllByRecursion}
 use Rattle.std.proofs.lemmas.List.Elements.{All-from_recursion}
 use Rattle.w2c_base.specs.Run.{Host}
 use Rattle.wasm_tree.specs.declared.tree.Module.{Module}
 use Rattle.wasm_spelling.proofs.Whole.{one_tree}
-use Rattle.wasm_meaning.specs.LinkedSet.{LinkedSet, NamedModule, IsLinked}
-use Rattle.c_tree.specs.Tree as tree
+use Rattle.wasm_meaning.specs.LinkedSet.{LinkedSet, NamedModule}
 use Rattle.c_tree.specs.Spelled.{CSpells}
 use Rattle.c_tree.proofs.OfEach.{of_contained}
 use Rattle.c_print.specs.Print.{print_of}
@@ -14,10 +13,9 @@ use Rattle.c_meaning.specs.Linking.{Program}
 use Rattle.wasm_spelling.specs.Bytes.{AreBytes}
 use Rattle.c_unit.specs.Items.{items}
 use Rattle.c_unit.specs.Sets as sets
+use Rattle.c_unit.specs.Sets.{UnitsDoTheSame}
 use Rattle.c_unit.proofs.Linking.{units_link}
-use Rattle.w2c_sim.specs.Translation.{IsModuleOf, text_of}
-use Rattle.w2c_sim.specs.Selections as selection
-use Rattle.w2c_sim.specs.Selections.{File, IsTranslated, Chosen, ComesFrom, ComesFromOne, set_of, program_of}
+use Rattle.w2c_sim.specs.Selections.{File, IsTranslated, Chosen, ComesFrom, ComesFromOne, LinkAndDoTheSame, TranslationTheorem, set_of, program_of}
 use Rattle.w2c_sim.proofs.Accepting.{module_is_accepted}
 use Rattle.w2c_sim.proofs.Spelling.{spells_no_other}
 use Rattle.w2c_sim.proofs.Wiring.{calls_fit}
@@ -68,21 +66,13 @@ named_hosts (h ∷ hosts) (of_one, of_all) = (All-from_recursion (λ b. b < 256)
 
 -- ---- the theorem, of the units of c_unit and of others that are equal to them
 
-of_set : sets.UnitsDoTheSame → (s : LinkedSet) → sets.IsAcceptedSet s → selection.DoTheSame (sets.program_of s) s
-of_set same s accepted =
-    let does : sets.DoTheSame s = same s accepted in
-    record {
-      wired = record { link = units_link s accepted; calls = calls_fit s accepted };
-      forward = does.forward;
-      backward = does.backward;
-      never_stops = record {
-        never_undefined = does.never_stops.never_undefined;
-        never_stuck = does.never_stops.never_stuck;
-        modules_never_stuck = does.never_stops.modules_never_stuck;
-      };
-    }
+of_set : UnitsDoTheSame → (s : LinkedSet) → sets.IsAcceptedSet s → LinkAndDoTheSame (sets.program_of s) s
+of_set same s accepted = record {
+  wired = record { link = units_link s accepted; calls = calls_fit s accepted };
+  same = same s accepted;
+}
 
-pub translation_theorem : sets.UnitsDoTheSame → selection.TranslationTheorem
+pub translation_theorem : UnitsDoTheSame → TranslationTheorem
 translation_theorem same files translated chosen hosts from named linked =
     let of_all : AllByRecursion IsOfItself chosen = all_from_files files translated chosen from in
     let s : LinkedSet = set_of chosen hosts in
@@ -92,4 +82,4 @@ translation_theorem same files translated chosen hosts from named linked =
       host_bytes = named_hosts hosts named;
     } in
     let program : sets.program_of s ≡ program_of chosen hosts = λ i. record { units = units_are_items chosen of_all i; hosts = hosts } in
-    subst (λ (p : Program). selection.DoTheSame p s) program (of_set same s accepted)
+    subst (λ (p : Program). LinkAndDoTheSame p s) program (of_set same s accepted)

@@ -3,3 +3,4 @@ pub mod Spelling
 pub mod Wiring
 pub mod Choosing
 pub mod Refusing
+pub mod ItemsWritten

@@ -1,18 +1,16 @@
 -- Refusals are verdicts: each comes where its verdict does, and there is one at most.
-use Rattle.std.proofs.Common.{◌≡◌, ◌≢◌, ℕ, List, Result, Ok, Err, IfOk, IfErr, IsOk, refl, sym, ◌∙◌, ap, subst}
+use Rattle.std.proofs.Common.{◌≡◌, ◌≢◌, ℕ, List, Result, Ok, Err, IfOk, IfErr, IsOk, refl, sym, ◌∙◌, ap}
 use Rattle.wasm_tree.specs.declared.tree.Module.{Module}
 use Rattle.wasm_spelling.specs.declared.fault.ReadFault.TheVariants as fault
 use Rattle.wasm_spelling.specs.ModuleFields.{Spells}
 use Rattle.wasm_valid.specs.declared.fault.Fault.{Fault}
 use Rattle.wasm_valid.specs.declared.fault.ValidRefusal.{ValidRefusal}
 use Rattle.wasm_valid.specs.declared.fault.ValidRefusal.TheVariants as rule
-use Rattle.wasm_valid.specs.Verdict.{Outcome, Verdict, Accepted, Invalid as is_invalid}
+use Rattle.wasm_valid.specs.Verdict.{Verdict, Accepted, Invalid as is_invalid}
 use Rattle.wasm_valid.specs.FileVerdict.{FileVerdict, Unread, Read, IsVerdictOn}
 use Rattle.wasm_valid.proofs.Files.{one_file_verdict}
 use Rattle.w2c_sim.specs.declared.refusal.Refusal.{Refusal}
 use Rattle.w2c_sim.specs.declared.refusal.Refusal.TheVariants.{Malformed, Float, Limit, Invalid, Memory}
-use Rattle.w2c_sim.specs.declared.translation.Texts.{Texts}
-use Rattle.w2c_sim.specs.Translation.{IsTranslation}
 use Rattle.w2c_sim.specs.Refusals.{IsRefused, IsRefusal, refusal_of, invalid_of}
 
 -- ---- what the checker says
@@ -78,16 +76,22 @@ refused_for bytes (Limit place which) no_memory is = is
 refused_for bytes (Invalid place cause) no_memory is = is
 refused_for bytes Memory no_memory is = absurd (no_memory refl)
 
--- ---- the answers of a translation
+-- ---- the answers where an accepted file gives something, and a refused one its verdict
 
-pub accepted_is_translated : (bytes name : List ℕ) (result : Result Texts Refusal) → IfErr result (IsRefusal bytes)
+pub accepted_is_given : {A : Type 0} (bytes : List ℕ) (result : Result A Refusal) → IfErr result (IsRefusal bytes)
     → (tree : Module) → IsVerdictOn bytes (Read tree Accepted) → result ≢ Err Memory → IsOk result
-accepted_is_translated bytes name (Ok texts) refused tree accepted no_memory = refl
-accepted_is_translated bytes name (Err r) refused tree accepted no_memory =
+accepted_is_given bytes (Ok given) refused tree accepted no_memory = refl
+accepted_is_given bytes (Err r) refused tree accepted no_memory =
     absurd (accepted_is_not_refused bytes tree r accepted (refused_for bytes r (λ e. no_memory (ap Err e)) refused))
 
-pub refused_is_given : (bytes name : List ℕ) (result : Result Texts Refusal) → IfOk result (IsTranslation bytes name) → IfErr result (IsRefusal bytes)
-    → (r : Refusal) → IsRefused bytes r → result ≢ Err Memory → result ≡ Err r
-refused_is_given bytes name (Ok texts) made refused r is no_memory = absurd (accepted_is_not_refused bytes made.0 r made.1.accepted is)
-refused_is_given bytes name (Err other) made refused r is no_memory =
+-- the bytes have an accepted module
+abbrev pub AreAccepted : List ℕ → Type 0
+AreAccepted bytes = (tree : Module) × IsVerdictOn bytes (Read tree Accepted)
+
+pub refused_is_given : {A : Type 0} (bytes : List ℕ) (result : Result A Refusal) (P : A → Type 0) → ((x : A) → P x → AreAccepted bytes)
+    → IfOk result P → IfErr result (IsRefusal bytes) → (r : Refusal) → IsRefused bytes r → result ≢ Err Memory → result ≡ Err r
+refused_is_given bytes (Ok given) P accepts made refused r is no_memory =
+    let (tree, accepted) = accepts given made in
+    absurd (accepted_is_not_refused bytes tree r accepted is)
+refused_is_given bytes (Err other) P accepts made refused r is no_memory =
     ap Err (one_refusal bytes other r (refused_for bytes other (λ e. no_memory (ap Err e)) refused) is)

@@ -1,24 +1,18 @@
 -- The theorem of linked sets over files and texts: units that texts of files spell, in any selection and
 -- order that links with any hosts, do what the files' modules do (WebAssembly Core 1.0, 4.5.4 and 4.5.5;
 -- C11, 5.1.2.3).
-use Rattle.std.specs.Prelude.{◌≡◌, ◌≢◌, ℕ, ◌+◌, ◌*◌, ◌≤◌, List, map, None, IsTrue}
+use Rattle.std.specs.Prelude.{◌≡◌, ℕ, List, map, None, IsTrue}
 use Rattle.std.specs.List.{AllByRecursion, Contains}
-use Rattle.w2c_base.specs.Run.{Host, Reply}
+use Rattle.w2c_base.specs.Run.{Host}
 use Rattle.wasm_tree.specs.declared.tree.Module.{Module}
 use Rattle.wasm_spelling.specs.ModuleFields.{Spells}
 use Rattle.wasm_meaning.specs.LinkedSet.{LinkedSet, NamedModule, IsLinked}
-use Rattle.wasm_meaning.specs.Execution as exec
-use Rattle.wasm_meaning.specs.Run.{ListedCall, Fits, WasmRun, wasm_run}
-use Rattle.wasm_meaning.specs.Run as wasm
+use Rattle.wasm_meaning.specs.Run.{ListedCall, Fits}
 use Rattle.c_tree.specs.Tree as tree
 use Rattle.c_tree.specs.Spelled.{CSpells}
-use Rattle.c_meaning.specs.State.{Place, Undefined, Stuck}
 use Rattle.c_meaning.specs.Linking.{Program, fits, link_refusal}
-use Rattle.c_meaning.specs.Run.{CRun, c_run}
-use Rattle.c_meaning.specs.Run as c
-use Rattle.alike.specs.Alike.{Alike}
 use Rattle.wasm_spelling.specs.Bytes.{AreBytes}
-use Rattle.c_unit.specs.Sets.{IsListing, symbol_call}
+use Rattle.c_unit.specs.Sets.{DoTheSame, symbol_call}
 use Rattle.w2c_sim.specs.Translation.{IsModuleOf, text_of}
 
 -- ---- files, and what is linked of them
@@ -54,43 +48,14 @@ set_of chosen hosts = record { modules = map (λ c. c.«module») chosen; hosts 
 abbrev pub program_of : List Chosen → List Host → Program
 program_of chosen hosts = record { units = map (λ c. c.unit) chosen; hosts = hosts }
 
--- ---- runs with one list of calls, by the exports' names and by their symbols
-
-abbrev pub c_run_of : Program → List ListedCall → ℕ → List Reply → CRun
-c_run_of p calls m replies = c_run p (map symbol_call calls) m replies
-
--- a run of the modules that ends in n steps has a run of the units that ends alike within 400 n + 400
--- statements
-abbrev pub Forward : Program → LinkedSet → Type 0
-Forward p s = (calls : List ListedCall) (replies : List Reply) (n : ℕ) → IsListing s calls
-    → (wasm_run s calls n replies).outcome ≢ wasm.Stopped exec.OutOfSteps
-    → (m : ℕ) × (m ≤ 400 * n + 400) × Alike s (wasm_run s calls n replies) (c_run_of p calls m replies)
-
--- a run of the units that ends in m statements has a run of the modules that ends alike within m steps
-abbrev pub Backward : Program → LinkedSet → Type 0
-Backward p s = (calls : List ListedCall) (replies : List Reply) (m : ℕ) → IsListing s calls
-    → (c_run_of p calls m replies).outcome ≢ c.OutOfSteps
-    → (n : ℕ) × (n ≤ m) × Alike s (wasm_run s calls n replies) (c_run_of p calls m replies)
-
--- no run of the units is undefined or stuck, and none of the modules is stuck
-pub record NeverStops (p : Program) (s : LinkedSet) : Type 0 where
-  pub never_undefined : (calls : List ListedCall) (replies : List Reply) (m kind : ℕ) (place : Place) → IsListing s calls
-      → (c_run_of p calls m replies).outcome ≢ c.Stopped (Undefined kind place)
-  pub never_stuck : (calls : List ListedCall) (replies : List Reply) (m : ℕ) → IsListing s calls
-      → (c_run_of p calls m replies).outcome ≢ c.Stopped Stuck
-  pub modules_never_stuck : (calls : List ListedCall) (replies : List Reply) (n : ℕ) → IsListing s calls
-      → (wasm_run s calls n replies).outcome ≢ wasm.Stopped exec.Stuck
-
 -- the units link, and a listed call that fits the modules fits them under its symbol
 pub record AreWired (p : Program) (s : LinkedSet) : Type 0 where
   pub link : link_refusal p ≡ None
   pub calls : (call : ListedCall) → Fits s call → IsTrue (fits p (symbol_call call))
 
-pub record DoTheSame (p : Program) (s : LinkedSet) : Type 0 where
+pub record LinkAndDoTheSame (p : Program) (s : LinkedSet) : Type 0 where
   pub wired : AreWired p s
-  pub forward : Forward p s
-  pub backward : Backward p s
-  pub never_stops : NeverStops p s
+  pub same : DoTheSame p s
 
 -- ---- the theorem
 
@@ -99,7 +64,7 @@ SelectionsDoTheSame files =
     (chosen : List Chosen) (hosts : List Host) → AllByRecursion (ComesFromOne files) chosen
     -- hosts' names are bytes, too
     → AllByRecursion (λ (h : Host). AreBytes h.name) hosts
-    → IsLinked (set_of chosen hosts) → DoTheSame (program_of chosen hosts) (set_of chosen hosts)
+    → IsLinked (set_of chosen hosts) → LinkAndDoTheSame (program_of chosen hosts) (set_of chosen hosts)
 
 abbrev pub TranslationTheorem : Type 0
 TranslationTheorem = (files : List File) → AllByRecursion IsTranslated files → SelectionsDoTheSame files

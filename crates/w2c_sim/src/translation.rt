@@ -9,12 +9,12 @@ ghost use Rattle.w2c_sim.specs.Refusals.{IsRefusal, IsRefused};
 ghost use Rattle.c_unit.specs.Sets.{IsAccepted};
 ghost use Rattle.w2c_sim.specs.Translation.{AreTextsOf, IsTranslation};
 
+use crate::file_verdict::accept;
 use crate::refusal::Refusal;
 use c_print::{print_header, print_unit};
 use c_unit::unit;
 use std::alloc::Global;
 use w2c_base::{Bytes, Memory};
-use wasm_binary::read_module;
 use wasm_valid::ValidModule;
 
 /// The text of a unit, and that of the header beside it.
@@ -58,17 +58,6 @@ fn translation(alloc: Global, bytes: &[u8], name: &[u8]) -> Result<Texts, Refusa
     let module = accept(alloc, bytes)?;
     let texts = print_texts(alloc, &module, name)?;
     Ok(texts)
-}
-
-// The module that bytes spell, where it is valid.
-fn accept(alloc: Global, bytes: &[u8]) -> Result<ValidModule, Refusal>
-    requires { length bytes.now ≤ 8388608 }
-    ensures found { IfOk result (λ m. IsVerdictOn bytes.now (Read m Accepted)) }
-    ensures refused { IfErr result (IsRefusal bytes.now) }
-{
-    let tree = read_module(alloc, bytes)?;
-    let module = ValidModule::check(alloc, tree)?;
-    Ok(module)
 }
 
 fn print_texts(alloc: Global, m: &ValidModule, name: &[u8]) -> Result<Texts, Memory>

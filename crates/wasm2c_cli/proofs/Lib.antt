@@ -1,8 +1,9 @@
-pub mod HeaderName
-pub mod ModuleName
-pub mod ReasonLaws
-pub mod WriteLaws
-pub mod WorkLaws
+pub mod FileStops
 pub mod JobLaws
-pub mod WrittenLaws
+pub mod LineStops
+pub mod ModuleFiles
+pub mod Passed
+pub mod ReasonLaws
+pub mod Taken
 pub mod TopLaws
+pub mod Translated

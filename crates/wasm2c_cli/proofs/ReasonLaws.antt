@@ -1,88 +1,109 @@
--- Bytes are refused for at most one reason, and those of a valid module for none.
-use Rattle.std.proofs.Common.{◌≡◌, ◌⊎◌, ℕ, ◌<◌, ◌≤◌, List, length, Option, Some, refl, sym, ap, ◌∙◌, subst, inl, inr, arith}
+-- Bytes are refused for at most one reason, and those of a valid module for none; so the first file that is refused is one, and so
+-- is the one that passes a limit.
+use Rattle.std.proofs.Common.{◌≡◌, ℕ, List, [], ◌∷◌, Option, Some, None, refl, sym, ap, ◌∙◌, subst, inl, inr}
+use Rattle.w2c_io.specs.Contents.{Name, Contents}
+use Rattle.w2c_files.specs.Reading.{StopsReading, Unreadable, Missing, TooLong, Past}
+use Rattle.w2c_files.proofs.Stops.{one_stop}
 use Rattle.wasm_tree.specs.declared.tree.Module.{Module}
-use Rattle.wasm_valid.specs.Verdict.{Accepted, Invalid as is_invalid}
-use Rattle.wasm_valid.specs.FileVerdict.{FileVerdict, Unread, Read, IsVerdictOn}
-use Rattle.wasm_valid.proofs.Files.{one_file_verdict}
-use Rattle.wasm_spelling.specs.declared.fault.ReadFault.{ReadFault}
-use Rattle.wasm_spelling.specs.declared.fault.ReadFault.TheVariants as fault
-use Rattle.wasm_spelling.specs.declared.fault.Which.TheVariants.{ModuleBytes}
+use Rattle.wasm_spelling.specs.declared.fault.Which.TheVariants.{ModuleBytes, SetBytes}
 use Rattle.wasm_spelling.specs.Limits.{most_module_bytes}
-use Rattle.w2c_sim.specs.declared.refusal.Refusal.{Refusal}
-use Rattle.w2c_sim.specs.declared.refusal.Refusal.TheVariants as refusals
-use Rattle.w2c_sim.specs.Refusals.{IsRefusal}
+use Rattle.wasm_spelling.proofs.Whole.{one_tree}
+use Rattle.wasm_valid.specs.Verdict.{Accepted}
+use Rattle.wasm_valid.specs.FileVerdict.{Read}
+use Rattle.wasm_valid.proofs.Files.{one_file_verdict}
 use Rattle.wasm2c_cli.specs.declared.stop.Reason.{Reason}
-use Rattle.wasm2c_cli.specs.declared.stop.Reason.TheVariants.{Malformed, Float, Limit, Invalid}
-use Rattle.wasm2c_cli.specs.Reasons.{FirstFault, IsRefused, reason_of}
+use Rattle.wasm2c_cli.specs.declared.stop.Reason.TheVariants.{Limit}
+use Rattle.wasm2c_cli.specs.Job.{AreAccepted}
+use Rattle.wasm2c_cli.specs.Plan.{most_set_bytes}
+use Rattle.wasm2c_cli.specs.Reasons.{IsAccepted, IsFirstRefused, IsRefused, PassesLimit, reason_for}
 
--- ---- a file's reason: that it is too long, or its verdict
-
-abbrev reason_for : FileVerdict → Reason
-reason_for (Unread (fault.Malformed place cause)) = Malformed place cause
-reason_for (Unread (fault.Float place)) = Float place
-reason_for (Unread (fault.Limit place which)) = Limit place which
-reason_for (Unread fault.Memory) = Float 0
-reason_for (Read tree Accepted) = Float 0
-reason_for (Read tree (is_invalid f)) = Invalid f.place f.cause
-
-abbrev too_long : Reason
-too_long = Limit most_module_bytes ModuleBytes
-
-abbrev HasLength : List ℕ → Reason → Type 0
-HasLength bytes reason = (most_module_bytes < length bytes) × (reason ≡ too_long)
-
-abbrev HasVerdict : List ℕ → Reason → Type 0
-HasVerdict bytes reason = (v : FileVerdict) × (length bytes ≤ most_module_bytes) × IsVerdictOn bytes v × (reason ≡ reason_for v)
-
-of_fault : (bytes : List ℕ) (f : ReadFault) (reason : Reason) → reason_for (Unread f) ≡ reason → FirstFault bytes f
-    → HasLength bytes reason ⊎ HasVerdict bytes reason
-of_fault bytes f reason is (inl (long, e)) = inl (long, sym is ∙ ap (λ g. reason_for (Unread g)) e)
-of_fault bytes f reason is (inr (short, first)) = inr (Unread f, short, first, sym is)
-
-seen : (bytes : List ℕ) (reason : Reason) → IsRefused bytes reason → HasLength bytes reason ⊎ HasVerdict bytes reason
-seen bytes (Malformed place cause) r = of_fault bytes (fault.Malformed place cause) (Malformed place cause) refl r
-seen bytes (Float place) r = of_fault bytes (fault.Float place) (Float place) refl r
-seen bytes (Limit place which) r = of_fault bytes (fault.Limit place which) (Limit place which) refl r
-seen bytes (Invalid place cause) r =
-    inr (Read r.0 (is_invalid (record { place = place; cause = cause })), r.1.0.1, r.1, refl)
-
-pub one_reason : (bytes : List ℕ) (reason other : Reason) → IsRefused bytes reason → IsRefused bytes other → reason ≡ other
-one_reason bytes reason other r s = meet (seen bytes reason r) (seen bytes other s)
-  where
-    meet : HasLength bytes reason ⊎ HasVerdict bytes reason → HasLength bytes other ⊎ HasVerdict bytes other → reason ≡ other
-    meet (inl (long, e)) (inl (_, e')) = e ∙ sym e'
-    meet (inl (long, _)) (inr (v, short, is, e)) = absurd (omega (arith, long, short))
-    meet (inr (v, short, is, _)) (inl (long, _)) = absurd (omega (arith, long, short))
-    meet (inr (v, short, is, e)) (inr (w, _, is', e')) = e ∙ ap reason_for (one_file_verdict bytes v w is is') ∙ sym e'
-
--- ---- a valid module is not refused
-
-accepted_is_no_fault : (bytes : List ℕ) (tree : Module) (f : ReadFault) → IsVerdictOn bytes (Read tree Accepted) → FirstFault bytes f → ⊥
-accepted_is_no_fault bytes tree f is (inl (long, e)) = omega (arith, long, is.0.1)
-accepted_is_no_fault bytes tree f is (inr (short, first)) =
-    let apart : Read tree Accepted ≡ Unread f = one_file_verdict bytes (Read tree Accepted) (Unread f) is first in cc
-
-pub accepted_not_refused : (bytes : List ℕ) (tree : Module) (reason : Reason) → IsVerdictOn bytes (Read tree Accepted) → IsRefused bytes reason → ⊥
-accepted_not_refused bytes tree (Malformed place cause) is r = accepted_is_no_fault bytes tree (fault.Malformed place cause) is r
-accepted_not_refused bytes tree (Float place) is r = accepted_is_no_fault bytes tree (fault.Float place) is r
-accepted_not_refused bytes tree (Limit place which) is r = accepted_is_no_fault bytes tree (fault.Limit place which) is r
-accepted_not_refused bytes tree (Invalid place cause) is r =
-    let apart : Read tree Accepted ≡ Read r.0 (is_invalid (record { place = place; cause = cause })) =
-    one_file_verdict bytes (Read tree Accepted) (Read r.0 (is_invalid (record { place = place; cause = cause }))) is r.1 in
-    cc
-
--- ---- the refusal of a translation
+-- ---- bytes
 
 some_same : {A : Type 0} (a b : A) → ◌≡◌ {A = Option A} (Some a) (Some b) → a ≡ b
 some_same a b e = cc
 
--- a refusal that has a reason
-pub refused_so : (bytes : List ℕ) (refusal : Refusal) (reason : Reason) → length bytes ≤ most_module_bytes → reason_of refusal ≡ Some reason
-    → IsRefusal bytes refusal → IsRefused bytes reason
-refused_so bytes (refusals.Malformed place cause) reason short is r =
-    subst (IsRefused bytes) (some_same (Malformed place cause) reason is) (inr (short, r))
-refused_so bytes (refusals.Float place) reason short is r = subst (IsRefused bytes) (some_same (Float place) reason is) (inr (short, r))
-refused_so bytes (refusals.Limit place which) reason short is r =
-    subst (IsRefused bytes) (some_same (Limit place which) reason is) (inr (short, r))
-refused_so bytes (refusals.Invalid place cause) reason short is r = subst (IsRefused bytes) (some_same (Invalid place cause) reason is) r
-refused_so bytes refusals.Memory reason short is r = absurd cc
+no_reason : (reason : Reason) → ◌≡◌ {A = Option Reason} None (Some reason) → ⊥
+no_reason reason e = cc
+
+pub one_reason : (bytes : List ℕ) (reason other : Reason) → IsRefused bytes reason → IsRefused bytes other → reason ≡ other
+one_reason bytes reason other (v, is, for) (w, is', for') =
+    some_same reason other (sym for ∙ ap reason_for (one_file_verdict bytes v w is is') ∙ for')
+
+pub accepted_not_refused : (bytes : List ℕ) (reason : Reason) → IsAccepted bytes → IsRefused bytes reason → ⊥
+accepted_not_refused bytes reason (tree, is) (w, is', for) =
+    no_reason reason (ap reason_for (one_file_verdict bytes (Read tree Accepted) w is is') ∙ for)
+
+-- ---- the bytes of all files
+
+pub one_first_refused : (names : List Name) (sources : List (List ℕ)) (file other : Name) (reason r : Reason)
+    → IsFirstRefused names sources file reason → IsFirstRefused names sources other r → (file ≡ other) × (reason ≡ r)
+one_first_refused [] sources file other reason r first first' = absurd first
+one_first_refused (name ∷ names) [] file other reason r first first' = absurd first
+one_first_refused (name ∷ names) (bytes ∷ sources) file other reason r (inl (same, is)) (inl (same', is')) =
+    (same ∙ sym same', one_reason bytes reason r is is')
+one_first_refused (name ∷ names) (bytes ∷ sources) file other reason r (inl (same, is)) (inr (accepted, first')) =
+    absurd (accepted_not_refused bytes reason accepted is)
+one_first_refused (name ∷ names) (bytes ∷ sources) file other reason r (inr (accepted, first)) (inl (same', is')) =
+    absurd (accepted_not_refused bytes r accepted is')
+one_first_refused (name ∷ names) (bytes ∷ sources) file other reason r (inr (accepted, first)) (inr (accepted', first')) =
+    one_first_refused names sources file other reason r first first'
+
+pub accepted_not_first : (names : List Name) (sources : List (List ℕ)) (modules : List Module) (file : Name) (reason : Reason)
+    → AreAccepted sources modules → IsFirstRefused names sources file reason → ⊥
+accepted_not_first [] sources modules file reason accepted first = absurd first
+accepted_not_first (name ∷ names) [] modules file reason accepted first = absurd first
+accepted_not_first (name ∷ names) (bytes ∷ sources) [] file reason accepted first = absurd accepted
+accepted_not_first (name ∷ names) (bytes ∷ sources) (m ∷ modules) file reason accepted (inl (same, is)) =
+    accepted_not_refused bytes reason (m, accepted.0) is
+accepted_not_first (name ∷ names) (bytes ∷ sources) (m ∷ modules) file reason accepted (inr (other, first)) =
+    accepted_not_first names sources modules file reason accepted.1 first
+
+modules_of : (sources : List (List ℕ)) (modules others : List Module) → AreAccepted sources modules → AreAccepted sources others
+    → modules ≡ others
+modules_of [] [] [] a b = refl
+modules_of [] [] (n ∷ others) a b = absurd b
+modules_of [] (m ∷ modules) others a b = absurd a
+modules_of (bytes ∷ sources) [] others a b = absurd a
+modules_of (bytes ∷ sources) (m ∷ modules) [] a b = absurd b
+modules_of (bytes ∷ sources) (m ∷ modules) (n ∷ others) a b =
+    let first = one_tree bytes m n a.0.0 b.0.0 in
+    let rest = modules_of sources modules others a.1 b.1 in
+    λ i. first i ∷ rest i
+
+-- the same bytes have the same modules
+pub one_modules : (sources more : List (List ℕ)) (modules others : List Module) → sources ≡ more → AreAccepted sources modules
+    → AreAccepted more others → modules ≡ others
+one_modules sources more modules others same a b =
+    modules_of sources modules others a (subst (λ (all : List (List ℕ)). AreAccepted all others) (sym same) b)
+
+-- ---- limits of bytes
+
+abbrev limit_of : Unreadable → Option Reason
+limit_of Missing = None
+limit_of TooLong = Some (Limit most_module_bytes ModuleBytes)
+limit_of (Past place) = Some (Limit place SetBytes)
+
+-- reading stops at a file for a limit
+abbrev StopsOver : Contents → List Name → Name → Reason → Type 0
+StopsOver contents names file reason =
+    (why : Unreadable) × StopsReading most_module_bytes most_set_bytes contents names file why × (limit_of why ≡ Some reason)
+
+over : (contents : Contents) (names : List Name) (file : Name) (reason : Reason) → PassesLimit contents names file reason
+    → StopsOver contents names file reason
+over contents names file reason (inl (s, is)) = (TooLong, s, ap Some (sym is))
+over contents names file reason (inr (place, s, is)) = (Past place, s, ap Some (sym is))
+
+pub one_limit : (contents : Contents) (names : List Name) (file other : Name) (reason r : Reason) → PassesLimit contents names file reason
+    → PassesLimit contents names other r → (file ≡ other) × (reason ≡ r)
+one_limit contents names file other reason r limit limit' =
+    let (why, s, for) = over contents names file reason limit in
+    let (why', s', for') = over contents names other r limit' in
+    let same = one_stop most_module_bytes most_set_bytes contents names file other why why' s s' in
+    (same.0, some_same reason r (sym for ∙ ap limit_of same.1 ∙ for'))
+
+pub limit_not_missing : (contents : Contents) (names : List Name) (file other : Name) (reason : Reason)
+    → PassesLimit contents names file reason → StopsReading most_module_bytes most_set_bytes contents names other Missing → ⊥
+limit_not_missing contents names file other reason limit s' =
+    let (why, s, for) = over contents names file reason limit in
+    let same = one_stop most_module_bytes most_set_bytes contents names file other why Missing s s' in
+    no_reason reason (ap limit_of (sym same.1) ∙ for)

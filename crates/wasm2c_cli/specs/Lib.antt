@@ -1,10 +1,11 @@
-pub mod CommandLine
-pub mod Job
-pub mod Lines
+-- promised: what the words ask for, the lines, and what the clauses of the top call say
+pub mod Plan
 pub mod Reasons
 pub mod Runtime
-pub mod Seen
-pub mod SeenOutputs
-pub mod Standing
+pub mod Job
+pub mod Lines
+pub mod Units
 pub mod Stops
 pub mod Top
+-- of the code alone
+pub mod Parts

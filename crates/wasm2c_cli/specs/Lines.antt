@@ -1,5 +1,5 @@
 -- The one line on the error stream, and the status that goes with it.
-use Rattle.std.specs.Prelude.{ℕ, List, ◌++◌, codes, decimal, string_bytes}
+use Rattle.std.specs.Prelude.{◌≡◌, ◌⊎◌, ℕ, List, ◌++◌, codes, decimal, string_bytes}
 use Rattle.w2c_io.specs.Contents.{Name}
 use Rattle.wasm_spelling.specs.FaultTexts.{cause_text, which_text}
 use Rattle.wasm_valid.specs.CauseTexts.{cause_text as rule_text}
@@ -29,12 +29,21 @@ write_line name = codes "wasm2c: " ++ name ++ codes ": write fault\n"
 abbrev pub memory_line : List ℕ
 memory_line = codes "wasm2c: want of memory\n"
 
+-- what was generated: so many functions, whose module's file has so many bytes
+abbrev pub summary_line : ℕ → ℕ → List ℕ
+summary_line count bytes =
+    codes "wasm2c: gen " ++ decimal count ++ codes ": " ++ decimal bytes ++ codes " bytes, " ++ decimal count ++ codes " functions\n"
+
 abbrev pub line_for : Stop → List ℕ
 line_for stops.Usage = usage_line
 line_for (stops.Refused name reason) = refused_line (string_bytes name) reason
 line_for (stops.Unread name) = read_line (string_bytes name)
 line_for (stops.Unwritten name) = write_line (string_bytes name)
 line_for stops.Memory = memory_line
+
+-- one of the lines that the program has
+abbrev pub IsLine : List ℕ → Type 0
+IsLine line = ((stop : Stop) × (line ≡ line_for stop)) ⊎ ((count : ℕ) × (bytes : ℕ) × (line ≡ summary_line count bytes))
 
 abbrev pub status_of : Stop → ℕ
 status_of stops.Usage = 2

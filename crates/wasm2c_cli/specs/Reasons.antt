@@ -1,33 +1,49 @@
--- Why the bytes of a file are refused: by their first reading fault, or as a module that is not valid by its first fault.
-use Rattle.std.specs.Prelude.{◌≡◌, ◌⊎◌, ℕ, ◌<◌, ◌≤◌, List, length, Option, Some, None, MatchOption}
+-- Why a file is refused: it passes a limit of bytes, or the verdict on its bytes refuses it (WebAssembly Core 1.0, chapter 5
+-- and 3.4.10).
+use Rattle.std.specs.Prelude.{◌≡◌, ◌⊎◌, ℕ, List, [], ◌∷◌, Option, Some, None}
+use Rattle.w2c_io.specs.Contents.{Name, Contents}
 use Rattle.wasm_tree.specs.declared.tree.Module.{Module}
-use Rattle.wasm_spelling.specs.declared.fault.ReadFault.{ReadFault}
 use Rattle.wasm_spelling.specs.declared.fault.ReadFault.TheVariants as fault
-use Rattle.wasm_spelling.specs.declared.fault.Which.TheVariants.{ModuleBytes}
+use Rattle.wasm_spelling.specs.declared.fault.Which.TheVariants.{ModuleBytes, SetBytes}
 use Rattle.wasm_spelling.specs.Limits.{most_module_bytes}
-use Rattle.wasm_spelling.specs.Table.{Upto}
 use Rattle.wasm_valid.specs.Verdict.{Accepted, Invalid as is_invalid}
-use Rattle.wasm_valid.specs.FileVerdict.{Read, IsVerdictOn}
+use Rattle.wasm_valid.specs.FileVerdict.{FileVerdict, Unread, Read, IsVerdictOn}
+use Rattle.w2c_files.specs.Reading.{StopsReading, TooLong, Past}
 use Rattle.w2c_sim.specs.declared.refusal.Refusal.{Refusal}
 use Rattle.w2c_sim.specs.declared.refusal.Refusal.TheVariants as refusals
+use Rattle.wasm2c_cli.specs.Plan.{most_set_bytes}
 use Rattle.wasm2c_cli.specs.declared.stop.Reason.{Reason}
 use Rattle.wasm2c_cli.specs.declared.stop.Reason.TheVariants.{Malformed, Float, Limit, Invalid}
+
+-- the reason of a verdict that refuses
+abbrev pub reason_for : FileVerdict → Option Reason
+reason_for (Unread (fault.Malformed place cause)) = Some (Malformed place cause)
+reason_for (Unread (fault.Float place)) = Some (Float place)
+reason_for (Unread (fault.Limit place which)) = Some (Limit place which)
+reason_for (Unread fault.Memory) = None
+reason_for (Read tree Accepted) = None
+reason_for (Read tree (is_invalid f)) = Some (Invalid f.place f.cause)
 
 -- the bytes spell a valid module
 abbrev pub IsAccepted : List ℕ → Type 0
 IsAccepted bytes = (tree : Module) × IsVerdictOn bytes (Read tree Accepted)
 
--- the first reading fault of a file: that it has too many bytes, or else that of its bytes
-abbrev pub FirstFault : List ℕ → ReadFault → Type 0
-FirstFault bytes f =
-    ((most_module_bytes < length bytes) × (f ≡ fault.Limit most_module_bytes ModuleBytes)) ⊎ ((length bytes ≤ most_module_bytes) × Upto bytes f)
-
--- the bytes are refused for this reason
+-- the verdict on the bytes refuses them for this reason
 abbrev pub IsRefused : List ℕ → Reason → Type 0
-IsRefused bytes (Malformed place cause) = FirstFault bytes (fault.Malformed place cause)
-IsRefused bytes (Float place) = FirstFault bytes (fault.Float place)
-IsRefused bytes (Limit place which) = FirstFault bytes (fault.Limit place which)
-IsRefused bytes (Invalid place cause) = (tree : Module) × IsVerdictOn bytes (Read tree (is_invalid (record { place = place; cause = cause })))
+IsRefused bytes reason = (verdict : FileVerdict) × IsVerdictOn bytes verdict × (reason_for verdict ≡ Some reason)
+
+-- reading stops at the file, since it has too many bytes for a module, or too many behind those of the files in front of it
+abbrev pub PassesLimit : Contents → List Name → Name → Reason → Type 0
+PassesLimit contents names file reason =
+    (StopsReading most_module_bytes most_set_bytes contents names file TooLong × (reason ≡ Limit most_module_bytes ModuleBytes))
+    ⊎ ((place : ℕ) × StopsReading most_module_bytes most_set_bytes contents names file (Past place) × (reason ≡ Limit place SetBytes))
+
+-- the first of the files that is refused: those in front of it are accepted
+abbrev pub IsFirstRefused : List Name → List (List ℕ) → Name → Reason → Type 0
+IsFirstRefused [] sources file reason = ⊥
+IsFirstRefused (name ∷ names) [] file reason = ⊥
+IsFirstRefused (name ∷ names) (bytes ∷ sources) file reason =
+    ((file ≡ name) × IsRefused bytes reason) ⊎ (IsAccepted bytes × IsFirstRefused names sources file reason)
 
 -- the reason of a refusal, where it was not for want of memory
 abbrev pub reason_of : Refusal → Option Reason

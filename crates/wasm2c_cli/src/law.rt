@@ -1,9 +1,8 @@
-// Laws of the job, and what it means that files are written.
-ghost use Rattle.std.specs.Prelude.{◌≡◌, List, ℕ, Some};
-ghost use Rattle.std.specs.FinMap.{get};
+// Laws of the job.
+ghost use Rattle.std.specs.Prelude.{◌≡◌, List, ℕ};
 ghost use Rattle.w2c_io.specs.Contents.{Name, Contents};
+ghost use Rattle.w2c_files.specs.Standing.{file_names, AreDistinct};
 ghost use Rattle.wasm2c_cli.specs.Job.{IsJob, Job, Write};
-ghost use Rattle.wasm2c_cli.specs.Standing.{file_names, written, AreDistinct, HasText, IsOneOf};
 
 /// The law that words ask for at most one job over what the files hold.
 pub fn one_job()
@@ -11,19 +10,8 @@ pub fn one_job()
         → IsJob words contents job → IsJob words contents other → job ≡ other }
 {}
 
-/// The law that the files of a job have distinct names.
+/// The law that the files of a job have distinct names, so that each stands whole when all are written (`w2c_files::written_files`).
 pub fn distinct_files()
     ensures { (words : List Name) (contents : Contents) (files : List (Name × List ℕ))
         → IsJob words contents (Write files) → AreDistinct (file_names files) }
-{}
-
-/// The law that files of distinct names that are written stand whole, and that no other file has
-/// changed.
-pub fn written_files()
-    ensures whole { (files : List (Name × List ℕ)) (before after : Contents)
-        → AreDistinct (file_names files) → written (Some before) files ≡ Some after
-        → (name : Name) (text : List ℕ) → HasText name text files → get after name ≡ Some text }
-    ensures others { (files : List (Name × List ℕ)) (before after : Contents)
-        → written (Some before) files ≡ Some after
-        → (name : Name) → (IsOneOf name (file_names files) → ⊥) → get after name ≡ get before name }
 {}

@@ -1,8 +1,9 @@
 //! Translates WebAssembly modules to C.
 #![tactic(auto)]
 
+mod accepting;
 mod law;
-mod module_name;
+mod plan;
 mod reading;
 mod report;
 mod runtime;
@@ -10,11 +11,11 @@ mod stop;
 #[cfg(test)]
 mod tests;
 mod top;
-mod words;
+mod translating;
 mod work;
 mod writing;
 
-pub use law::{distinct_files, one_job, written_files};
+pub use law::{distinct_files, one_job};
 use std::env;
 use std::io::ErrorKind;
 use std::process::ExitCode;

@@ -1,71 +1,61 @@
-// Reads the file that a line names, and translates what it spells.
-ghost use Rattle.std.specs.Prelude.{◌≡◌, ◌≤◌, ℕ, List, Some, IfOk, IfErr, length, string_bytes};
-ghost use Rattle.std.specs.FinMap.{get};
+// Reads the files that a line names.
+ghost use Rattle.std.specs.Prelude.{◌≡◌, ◌<◌, ◌≤◌, length, slice_get, Some, IfOk, IfErr, string_bytes};
+ghost use Rattle.std.specs.List.{AllByRecursion};
 ghost use Rattle.w2c_io.specs.Telling.{Tells};
-ghost use Rattle.wasm_spelling.specs.declared.fault.Which.TheVariants.{ModuleBytes};
-ghost use Rattle.wasm2c_cli.specs.declared.stop.Reason.TheVariants.{Limit};
-ghost use Rattle.wasm2c_cli.specs.Stops.{StopsReading};
-ghost use Rattle.w2c_sim.specs.Translation.{IsTranslation};
+ghost use Rattle.w2c_files.specs.Reading.{AreRead};
+ghost use Rattle.w2c_files.specs.Words.{names_of};
+ghost use Rattle.wasm_spelling.specs.declared.fault.Which.TheVariants.{ModuleBytes, SetBytes};
+ghost use Rattle.wasm_spelling.specs.Limits.{most_module_bytes};
+ghost use Rattle.wasm2c_cli.specs.Parts.{StopsReading};
+ghost use Rattle.wasm2c_cli.specs.Plan.{most_set_bytes};
 
 use crate::stop::{Reason, Stop};
-use std::alloc::Global;
-use w2c_base::{Bytes, MODULE_BYTES};
-use w2c_io::{Files, ReadAnswer};
-use w2c_sim::{Texts, translate};
+use std::alloc::{AllocError, Global};
+use w2c_base::{Bytes, MODULE_BYTES, SET_BYTES};
+use w2c_files::{Limits, ReadStop, read_files};
+use w2c_io::Files;
 use wasm_spelling::Which;
 
-/// The texts of the module that a file spells, under a name.
-pub fn read_texts<F: Files>(
+/// The bytes of each file. Each has the limit of a module, and all together that of a set.
+pub fn read_modules<F: Files>(
     alloc: Global,
-    file: &String,
-    name: &[u8],
+    inputs: &[&str],
     files: &mut F,
-) -> Result<Texts, Stop>
-    requires named { 1 ≤ length name.now }
-    requires short { length name.now ≤ 1024 }
+) -> Result<Vec<Bytes>, Stop>
     ensures told { F.told files.new ≡ F.told files.old }
     ensures current { F.current files.new ≡ F.current files.old }
     ensures writes { F.write_faults files.new ≡ F.write_faults files.old }
     ensures later { F.read_faults files.old ≤ F.read_faults files.new }
-    ensures found { IfOk result (λ texts. Tells (F.told files.old) (λ contents. (bytes : List ℕ)
-        × (get contents (string_bytes file.now) ≡ Some bytes) × IsTranslation bytes name.now texts)) }
-    ensures stop { IfErr result (StopsReading (F.told files.old) (string_bytes file.now)
+    ensures read { IfOk result (λ all. Tells (F.told files.old)
+        (λ contents. AreRead most_module_bytes most_set_bytes contents (names_of inputs.now) all.items)) }
+    ensures many { IfOk result (λ all. length all.items ≡ length inputs.now) }
+    ensures fit { IfOk result (λ all. AllByRecursion (λ bytes. length bytes ≤ most_module_bytes) all.items) }
+    ensures stop { IfErr result (StopsReading (F.told files.old) (names_of inputs.now)
         (F.read_faults files.old) (F.read_faults files.new) (F.fault_name files.new)) }
 {
-    let bytes = match read_file(alloc, file, files) {
-        Ok(bytes) => bytes,
-        Err(stop) => return Err(stop),
+    let limits = Limits {
+        each: MODULE_BYTES,
+        all: SET_BYTES,
     };
-    match translate(alloc, bytes.as_slice(), name) {
-        Ok(texts) => Ok(texts),
-        Err(refusal) => match Reason::of(refusal) {
-            Some(reason) => Err(Stop::Refused(file.clone()?, reason)),
-            None => Err(Stop::Memory),
-        },
+    match read_files(alloc, inputs, limits, files) {
+        Ok(all) => Ok(all),
+        Err(ReadStop::Unread(k)) => Err(Stop::Unread(named(alloc, inputs, k)?)),
+        Err(ReadStop::TooLong(k)) => {
+            let reason = Reason::Limit(MODULE_BYTES as u32, Which::ModuleBytes);
+            Err(Stop::Refused(named(alloc, inputs, k)?, reason))
+        }
+        Err(ReadStop::Past(k, place)) => {
+            let reason = Reason::Limit(place as u32, Which::SetBytes);
+            Err(Stop::Refused(named(alloc, inputs, k)?, reason))
+        }
+        Err(ReadStop::Memory) => Err(Stop::Memory),
     }
 }
 
-fn read_file<F: Files>(alloc: Global, name: &String, files: &mut F) -> Result<Bytes, Stop>
-    ensures told { F.told files.new ≡ F.told files.old }
-    ensures current { F.current files.new ≡ F.current files.old }
-    ensures writes { F.write_faults files.new ≡ F.write_faults files.old }
-    ensures later { F.read_faults files.old ≤ F.read_faults files.new }
-    ensures bytes { IfOk result (λ bytes. Tells (F.told files.old) (λ contents. get contents (string_bytes name.now) ≡ Some bytes)) }
-    ensures fits { IfOk result (λ bytes. length bytes ≤ 8388608) }
-    ensures stop { IfErr result (StopsReading (F.told files.old) (string_bytes name.now)
-        (F.read_faults files.old) (F.read_faults files.new) (F.fault_name files.new)) }
+/// The name of the file with a number, counted from 0.
+pub fn named(alloc: Global, inputs: &[&str], k: usize) -> Result<String, AllocError>
+    requires { k < length inputs.now }
+    ensures { IfOk result (λ name. slice_get (names_of inputs.now) k ≡ Some (string_bytes name)) }
 {
-    match files.read(alloc, name.as_str(), MODULE_BYTES) {
-        Ok(bytes) => Ok(bytes),
-        Err(ReadAnswer::Absent) => Err(Stop::Unread(name.clone()?)),
-        Err(ReadAnswer::Failed) => Err(Stop::Unread(name.clone()?)),
-        Err(ReadAnswer::TooLong) => Err(Stop::Refused(name.clone()?, too_long())),
-        Err(ReadAnswer::Memory) => Err(Stop::Memory),
-    }
-}
-
-fn too_long() -> Reason
-    ensures { result ≡ Limit 8388608 ModuleBytes }
-{
-    Reason::Limit(MODULE_BYTES as u32, Which::ModuleBytes)
+    String::from_str(alloc, inputs[k])
 }

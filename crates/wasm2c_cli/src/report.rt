@@ -1,9 +1,11 @@
 // The line on the error stream, and the status.
 ghost use Rattle.std.specs.Prelude.{◌≡◌, ◌⊎◌, ◌++◌, codes, decimal, IfOk, OnOk, string_bytes};
 ghost use Rattle.w2c_io.specs.Telling.{Says, SaysPart};
-ghost use Rattle.wasm2c_cli.specs.Lines.{line_for, reason_text, refused_line, status_of};
+ghost use Rattle.wasm2c_cli.specs.Lines.{line_for, reason_text, refused_line, status_of, summary_line};
+ghost use Rattle.wasm2c_cli.specs.Parts.{SumsUp, SumsUpPart};
 
 use crate::stop::{Reason, Stop};
+use crate::work::Finished;
 use itoa::Buffer;
 use std::alloc::{AllocError, Global};
 use w2c_io::{Sink, WriteAnswer};
@@ -21,6 +23,38 @@ pub fn report<E: Sink>(alloc: Global, stop: &Stop, err: &mut E) -> u8
         Ok(()) | Err(WriteAnswer::Failed) => status(stop),
         Err(WriteAnswer::Memory) => 5,
     }
+}
+
+/// Says what was generated, where a module was, and gives the status.
+pub fn summarize<E: Sink>(alloc: Global, finished: Finished, err: &mut E) -> u8
+    ensures status { (result ≡ 0) ⊎ (result ≡ 5) }
+    ensures says { result ≡ 0 → SumsUp (E.told err.old) (E.told err.new) (E.faults err.old) (E.faults err.new) finished }
+    ensures part { SumsUpPart (E.told err.old) (E.told err.new) finished }
+{
+    let Finished::Generated(count, bytes) = finished else {
+        return 0;
+    };
+    let Ok(line) = summary(alloc, count, bytes) else {
+        return 5;
+    };
+    match err.put(line.as_bytes()) {
+        Ok(()) | Err(WriteAnswer::Failed) => 0,
+        Err(WriteAnswer::Memory) => 5,
+    }
+}
+
+fn summary(alloc: Global, count: u32, bytes: usize) -> Result<String, AllocError>
+    ensures { IfOk result (λ line. string_bytes line ≡ summary_line count bytes) }
+{
+    let mut buffer = Buffer::new();
+    let mut line = String::from_str(alloc, "wasm2c: gen ")?;
+    line.push_str(buffer.format(count))?;
+    line.push_str(": ")?;
+    line.push_str(buffer.format(bytes))?;
+    line.push_str(" bytes, ")?;
+    line.push_str(buffer.format(count))?;
+    line.push_str(" functions\n")?;
+    Ok(line)
 }
 
 fn status(stop: &Stop) -> u8

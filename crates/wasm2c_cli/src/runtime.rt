@@ -1,31 +1,62 @@
 // The two files of the runtime that units are compiled with.
-ghost use Rattle.std.specs.Prelude.{◌≡◌, ◌++◌, codes, IfOk, string_bytes};
+ghost use Rattle.std.specs.Prelude.{◌≡◌, ◌++◌, ◌<◌, ◌≤◌, codes, length, slice_get, IfErr, IfOk, OnOk, Some, string_bytes};
 ghost use Rattle.wasm2c_cli.specs.Runtime.{runtime_files, runtime_header, runtime_source};
-ghost use Rattle.wasm2c_cli.specs.SeenOutputs.{seen_outputs};
+ghost use Rattle.w2c_files.specs.Standing.{file_names, written};
+ghost use Rattle.w2c_files.specs.Stopping.{seen_outputs};
+ghost use Rattle.wasm2c_cli.specs.Parts.{StopsWriting};
 
-use crate::writing::Output;
+use crate::stop::Stop;
 use std::alloc::{AllocError, Global};
 use w2c_base::{Bytes, Memory};
+use w2c_files::{Output, WriteStop, write_files};
+use w2c_io::Files;
 
-/// The header and the source of the runtime, in a directory.
-pub fn runtime_outputs(alloc: Global, dir: &String) -> Result<[Output; 2], Memory>
-    ensures { IfOk result (λ outputs. seen_outputs outputs ≡ runtime_files (string_bytes dir.now)) }
+/// Writes the header and the source of the runtime into a directory.
+pub fn write_runtime<F: Files>(alloc: Global, dir: &str, files: &mut F) -> Result<(), Stop>
+    ensures whole { OnOk result (F.told files.new ≡ written (F.told files.old) (runtime_files dir.now)) }
+    ensures reads { F.read_faults files.new ≡ F.read_faults files.old }
+    ensures later { F.write_faults files.old ≤ F.write_faults files.new }
+    ensures stop { IfErr result (StopsWriting (F.told files.old) (F.told files.new) (runtime_files dir.now)
+        (F.write_faults files.old) (F.write_faults files.new) (F.fault_name files.new)) }
+{
+    let outputs = runtime_outputs(alloc, dir)?;
+    match write_files(&outputs, files) {
+        Ok(()) => Ok(()),
+        Err(WriteStop::Memory) => Err(Stop::Memory),
+        Err(WriteStop::Unwritten(k)) => {
+            let name = output_name(&outputs, k);
+            Err(Stop::Unwritten(String::from_str(alloc, name)?))
+        }
+    }
+}
+
+// The name of the file with a number.
+fn output_name(outputs: &[Output], k: usize) -> &str
+    requires { k < length outputs.now }
+    ensures { slice_get (file_names (seen_outputs outputs.now)) k ≡ Some result.now }
+{
+    outputs[k].name.as_str()
+}
+
+// The header and the source of the runtime, in a directory.
+fn runtime_outputs(alloc: Global, dir: &str) -> Result<[Output; 2], Memory>
+    ensures { IfOk result (λ outputs. seen_outputs outputs ≡ runtime_files dir.now) }
 {
     let header = Output {
-        name: name_in(dir, "/w2c_rt.h")?,
+        name: name_in(alloc, dir, "/w2c_rt.h")?,
         text: bytes_of(alloc, header())?,
     };
     let source = Output {
-        name: name_in(dir, "/w2c_rt.c")?,
+        name: name_in(alloc, dir, "/w2c_rt.c")?,
         text: bytes_of(alloc, source())?,
     };
     Ok([header, source])
 }
 
-fn name_in(dir: &String, name: &str) -> Result<String, AllocError>
-    ensures { IfOk result (λ path. string_bytes path ≡ string_bytes dir.now ++ name.now) }
+fn name_in(alloc: Global, dir: &str, name: &str) -> Result<String, AllocError>
+    ensures { IfOk result (λ path. string_bytes path ≡ dir.now ++ name.now) }
 {
-    let mut path = dir.clone()?;
+    let mut path = String::from_str(alloc, dir)?;
     path.push_str(name)?;
     Ok(path)
 }

@@ -1,6 +1,7 @@
 // Why the work stopped.
 ghost use Rattle.std.specs.Prelude.{◌≡◌};
 ghost use Rattle.wasm2c_cli.specs.declared.stop.Stop.TheVariants.{Memory as WantOfMemory};
+ghost use Rattle.wasm2c_cli.specs.Parts.{stop_for};
 ghost use Rattle.wasm2c_cli.specs.Reasons.{reason_of};
 
 use std::alloc::{AllocError, AllocFailed};
@@ -8,6 +9,7 @@ use w2c_base::Memory;
 use w2c_sim::Refusal;
 use wasm_spelling::{Cause, Which};
 use wasm_valid::ValidCause;
+use wasm2c_words::NoLine;
 
 /// Why a file is refused.
 #[derive(Clone, Copy, Debug, PartialEq, Eq)]
@@ -37,7 +39,7 @@ impl Reason {
     }
 }
 
-/// Why the work stopped, with the file's name.
+/// Why the work stopped, with the file's name where there is one.
 #[derive(Drop)]
 pub enum Stop {
     Usage,
@@ -68,5 +70,16 @@ impl From<Memory> for Stop {
 
     fn from(_: Memory) -> Self {
         Stop::Memory
+    }
+}
+
+impl From<NoLine> for Stop {
+    ghost from_gives = { λ why e. e ≡ stop_for why };
+
+    fn from(why: NoLine) -> Self {
+        match why {
+            NoLine::Usage => Stop::Usage,
+            NoLine::Memory => Stop::Memory,
+        }
     }
 }

@@ -1,6 +1,5 @@
 // The program over files in memory: what it accepts, a refusal of each kind, and faults of the outside. Rows say what is
 // said of other files (crates/module_rows).
-use crate::module_name::module_name;
 use crate::top::{sure_top, wasm2c_top};
 use std::alloc::Global;
 use std::test::Fail;
@@ -204,7 +203,7 @@ fn bad_command_lines(rt: HostRuntime) -> Result<(), Fail> {
     let other_end = words(alloc, &["a.wasm", "-o", "a.h"])?;
     let no_name = words(alloc, &["in/", "-o", "a.c"])?;
     let empty_name = words(alloc, &["a.wasm", "-o", "a.c", "-n", ""])?;
-    let name_first = words(alloc, &["a.wasm", "-n", "a", "-o", "a.c"])?;
+    let twice = words(alloc, &["a.wasm", "-o", "a.c", "-o", "a.c"])?;
     assert_eq!(rt; wasm2c_top(alloc, one.as_slice(), &mut files, &mut err), 2);
     assert_eq!(rt; err.bytes(), b"wasm2c: bad command line\n".as_slice());
     assert_eq!(rt;
@@ -220,7 +219,7 @@ fn bad_command_lines(rt: HostRuntime) -> Result<(), Fail> {
         2
     );
     assert_eq!(rt;
-        wasm2c_top(alloc, name_first.as_slice(), &mut files, &mut err),
+        wasm2c_top(alloc, twice.as_slice(), &mut files, &mut err),
         2
     );
     let mut absent = MemSink::new(alloc);
@@ -280,7 +279,7 @@ fn a_fault_at_the_header_leaves_the_c_file(rt: HostRuntime) -> Result<(), Fail> 
     assert_eq!(rt; files.get("two.c"), Some(TWO_C.as_bytes()));
     assert!(rt; files.get("two.h").is_none());
     let mut files = MemFiles::new(alloc);
-    assert_eq!(rt; status_with_fault(alloc, FileCall::Put, 2, &mut files)?, 4);
+    assert_eq!(rt; status_with_fault(alloc, FileCall::Put, 6, &mut files)?, 4);
     assert_eq!(rt; files.get("two.c"), Some(TWO_C.as_bytes()));
     assert!(rt;
         files
@@ -290,10 +289,98 @@ fn a_fault_at_the_header_leaves_the_c_file(rt: HostRuntime) -> Result<(), Fail> 
     Ok(())
 }
 
+// The files of a set, which come to memory with a name each.
+fn with_files(alloc: Global, files: &[(&str, &[u8])]) -> Result<MemFiles, Fail> {
+    let mut held = MemFiles::new(alloc);
+    for file in files {
+        held.add(file.0, file.1)?;
+    }
+    Ok(held)
+}
+
 #[test]
-fn names_of_modules(rt: HostRuntime) -> Result<(), Fail> {
-    assert_eq!(rt; module_name(b"a/b.c/two.tar.wasm"), b"two.tar".as_slice());
-    assert_eq!(rt; module_name(b"a/.wasm"), b".wasm".as_slice());
-    assert_eq!(rt; module_name(b"two"), b"two".as_slice());
+fn a_set(rt: HostRuntime) -> Result<(), Fail> {
+    let alloc = rt.alloc();
+    let words = words(alloc, &["in/two.wasm", "--dir", "out", "add.wasm"])?;
+    let mut files = with_files(alloc, &[("in/two.wasm", &TWO), ("add.wasm", ADD)])?;
+    let mut err = MemSink::new(alloc);
+    assert_eq!(rt;
+        wasm2c_top(alloc, words.as_slice(), &mut files, &mut err),
+        0
+    );
+    assert!(rt;
+        files
+            .get("out/two.c")
+            .is_some_and(|text| text == TWO_C.as_bytes())
+    );
+    assert!(rt;
+        files
+            .get("out/two.h")
+            .is_some_and(|text| text == TWO_H.as_bytes())
+    );
+    assert!(rt; files.get("out/add.c").is_some());
+    assert!(rt;
+        files
+            .get("out/add.h")
+            .is_some_and(|text| text == ADD_H.as_bytes())
+    );
+    assert_eq!(rt; err.bytes(), b"".as_slice());
+    Ok(())
+}
+
+#[test]
+fn a_refused_set_leaves_no_file(rt: HostRuntime) -> Result<(), Fail> {
+    let alloc = rt.alloc();
+    let words = words(alloc, &["--dir", "out", "two.wasm", "add.wasm"])?;
+    let mut files = with_files(alloc, &[("two.wasm", &TWO), ("add.wasm", &ADD[..40])])?;
+    let mut err = MemSink::new(alloc);
+    assert_eq!(rt;
+        wasm2c_top(alloc, words.as_slice(), &mut files, &mut err),
+        1
+    );
+    assert!(rt; files.get("out/two.c").is_none());
+    assert_eq!(rt;
+        err.bytes(),
+        b"wasm2c: add.wasm: malformed at 31: size past end\n".as_slice()
+    );
+    Ok(())
+}
+
+#[test]
+fn too_many_bytes_together(rt: HostRuntime) -> Result<(), Fail> {
+    let alloc = rt.alloc();
+    let words = words(alloc, &["--dir", "out", "a.wasm", "b.wasm", "two.wasm"])?;
+    let most = zeros(alloc, 8_388_608)?;
+    let mut files = with_files(
+        alloc,
+        &[("a.wasm", &most), ("b.wasm", &most), ("two.wasm", &TWO)],
+    )?;
+    let mut err = MemSink::new(alloc);
+    assert_eq!(rt;
+        wasm2c_top(alloc, words.as_slice(), &mut files, &mut err),
+        1
+    );
+    assert_eq!(rt;
+        err.bytes(),
+        b"wasm2c: two.wasm: limit at 0: set bytes\n".as_slice()
+    );
+    Ok(())
+}
+
+#[test]
+fn a_generated_module(rt: HostRuntime) -> Result<(), Fail> {
+    let alloc = rt.alloc();
+    let words = words(alloc, &["--gen", "1", "-o", "g.c"])?;
+    let mut files = MemFiles::new(alloc);
+    let mut err = MemSink::new(alloc);
+    assert_eq!(rt;
+        wasm2c_top(alloc, words.as_slice(), &mut files, &mut err),
+        0
+    );
+    assert!(rt; files.get("g.c").is_some());
+    assert_eq!(rt;
+        err.bytes(),
+        b"wasm2c: gen 1: 44 bytes, 1 functions\n".as_slice()
+    );
     Ok(())
 }

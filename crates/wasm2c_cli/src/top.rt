@@ -1,27 +1,29 @@
 // The top call: all that the program does.
-ghost use Rattle.std.specs.Prelude.{◌≡◌, ◌⊎◌, ◌≤◌, List, ℕ, Some, None};
+ghost use Rattle.std.specs.Prelude.{◌≡◌, ◌⊎◌, ◌≤◌, List, ℕ, length, Some, None};
 ghost use Rattle.w2c_io.specs.Contents.{Name, Contents};
 ghost use Rattle.w2c_io.specs.Causes.{Rose, Faulted};
 ghost use Rattle.w2c_io.specs.Telling.{Tells, Says, SaysPart};
+ghost use Rattle.w2c_files.specs.Standing.{StandsAt};
+ghost use Rattle.w2c_files.specs.Words.{texts};
+ghost use Rattle.w2c_gen.specs.GeneratedFile.{IsGeneratedFile};
+ghost use Rattle.wasm2c_words.specs.CommandLine.{Generation as Generated, line_of};
 ghost use Rattle.wasm2c_cli.specs.declared.stop.Reason.{Reason};
-ghost use Rattle.wasm2c_cli.specs.declared.stop.Stop.{Stop as AnyStop};
-ghost use Rattle.wasm2c_cli.specs.CommandLine.{line_of, runtime_of, texts};
 ghost use Rattle.wasm2c_cli.specs.Job.{IsJob, Job, Missing, Refused, Write};
-ghost use Rattle.wasm2c_cli.specs.Lines.{line_for, read_line, refused_line, usage_line, write_line};
-ghost use Rattle.wasm2c_cli.specs.Standing.{StandsAt};
-ghost use Rattle.wasm2c_cli.specs.Stops.{Done, IsInput, IsOutput, StandsOfJob, WritesLinkedUnit, WritesUnit};
-ghost use Rattle.wasm2c_cli.specs.Top.{Answers};
+ghost use Rattle.wasm2c_cli.specs.Lines.{IsLine, read_line, refused_line, summary_line, usage_line, write_line};
+ghost use Rattle.wasm2c_cli.specs.Stops.{Done, Generates, IsInput, IsOutput, StandsOfJob};
+ghost use Rattle.wasm2c_cli.specs.Top.{Answers, NamesModules};
+ghost use Rattle.wasm2c_cli.specs.Units.{WritesLinkedUnits, WritesUnits};
 
-use crate::report::report;
+use crate::report::{report, summarize};
 use crate::work::work;
 use std::alloc::Global;
 use w2c_io::{Files, Sink, SureFiles, SureSink};
 use w2c_sim::linked_units_do_what_modules_do;
 
-/// Does what the words ask for, and gives the exit status: 0 where the C file and the header
-/// stand, or the runtime's two files, 1 for a file that is refused, 2 for words without a reading,
-/// 3 and 4 for a file that cannot be read or written, 5 for want of memory. `words` leaves out the
-/// program's name.
+/// Does what the words ask for, and gives the exit status: 0 where the C file and the header of each
+/// module stand, or the runtime's two files, 1 for a file that is refused, 2 for words without a
+/// reading, 3 and 4 for a file that cannot be read or written, 5 for want of memory. `words` leaves
+/// out the program's name.
 pub fn wasm2c_top<F: Files, E: Sink>(
     alloc: Global,
     words: &[String],
@@ -33,27 +35,30 @@ pub fn wasm2c_top<F: Files, E: Sink>(
         → (Rose (F.write_faults files.old) (F.write_faults files.new) → ⊥)
         → (result ≡ 5) ⊎ ((job : Job) × IsJob (texts words.now) m job × Answers job result)) }
 
-    // Status 0: the job's files stand whole, and nothing else has changed. Where a module was asked
-    // for, the output holds the text of its unit, and the header stands beside it.
+    // Status 0: the job's files stand whole, and nothing else has changed. Where modules were asked for, each C file
+    // holds the text of its module's unit, and the header stands beside it.
     ensures done { result ≡ 0 → Done (texts words.now) (F.told files.old) (F.told files.new) }
-    ensures unit { result ≡ 0 → runtime_of (texts words.now) ≡ None → WritesUnit (texts words.now) (F.told files.old) (F.told files.new) }
-    // The translation theorem: what is linked of this unit, and of units that other calls have made, with any hosts,
-    // does what the modules do, both ways, and nothing that is undefined.
-    ensures linked { result ≡ 0 → runtime_of (texts words.now) ≡ None → WritesLinkedUnit (texts words.now) (F.told files.old) (F.told files.new) }
-    ensures silent { result ≡ 0 → E.told err.new ≡ E.told err.old }
+    ensures units { result ≡ 0 → NamesModules (texts words.now) → WritesUnits (texts words.now) (F.told files.old) (F.told files.new) }
+    // The translation theorem: what is linked of these units, and of units that other calls have made, in any selection
+    // and order and with any hosts, does what the modules do, both ways, and nothing that is undefined.
+    ensures linked { result ≡ 0 → NamesModules (texts words.now) → WritesLinkedUnits (texts words.now) (F.told files.old) (F.told files.new) }
+    // A generated module is summed up; else nothing is said.
+    ensures summary { result ≡ 0 → (g : Generated) → Generates (texts words.now) g → (bytes : List ℕ) × IsGeneratedFile g.count bytes
+        × Says (E.told err.old) (E.told err.new) (E.faults err.old) (E.faults err.new) (summary_line g.count (length bytes)) }
+    ensures silent { result ≡ 0 → ((g : Generated) → Generates (texts words.now) g → ⊥) → E.told err.new ≡ E.told err.old }
 
     // Status 1 to 4: when each comes, and the line on the error stream.
     ensures refused { result ≡ 1 → (file : Name) × (reason : Reason) × IsInput file (line_of (texts words.now))
         × Tells (F.told files.old) (λ m. IsJob (texts words.now) m (Refused file reason))
         × Says (E.told err.old) (E.told err.new) (E.faults err.old) (E.faults err.new) (refused_line file reason) }
-    ensures usage { result ≡ 2 → (line_of (texts words.now) ≡ None) × (runtime_of (texts words.now) ≡ None)
+    ensures usage { result ≡ 2 → (line_of (texts words.now) ≡ None)
         × Says (E.told err.old) (E.told err.new) (E.faults err.old) (E.faults err.new) usage_line }
-    ensures usage_always { line_of (texts words.now) ≡ None → runtime_of (texts words.now) ≡ None → (result ≡ 2) ⊎ (result ≡ 5) }
+    ensures usage_always { line_of (texts words.now) ≡ None → (result ≡ 2) ⊎ (result ≡ 5) }
     ensures read_fault { result ≡ 3 → (file : Name) × IsInput file (line_of (texts words.now))
         × (Faulted file (F.read_faults files.old) (F.read_faults files.new) (F.fault_name files.new)
         ⊎ ((m : Contents) × (F.told files.old ≡ Some m) × IsJob (texts words.now) m (Missing file)))
         × Says (E.told err.old) (E.told err.new) (E.faults err.old) (E.faults err.new) (read_line file) }
-    ensures write_fault { result ≡ 4 → (file : Name) × IsOutput file (line_of (texts words.now)) (runtime_of (texts words.now))
+    ensures write_fault { result ≡ 4 → (file : Name) × IsOutput file (line_of (texts words.now))
         × Faulted file (F.write_faults files.old) (F.write_faults files.new) (F.fault_name files.new)
         × Tells (F.told files.old) (λ m. (all : List (Name × List ℕ)) × IsJob (texts words.now) m (Write all)
         × StandsAt (F.told files.old) (F.told files.new) all file)
@@ -63,12 +68,12 @@ pub fn wasm2c_top<F: Files, E: Sink>(
     ensures untouched { (result ≡ 1) ⊎ (result ≡ 2) ⊎ (result ≡ 3) → F.told files.new ≡ F.told files.old }
     ensures current { (result ≡ 1) ⊎ (result ≡ 2) ⊎ (result ≡ 3) → F.current files.new ≡ F.current files.old }
     ensures stands { result ≡ 5 → Tells (F.told files.old) (λ m. StandsOfJob (texts words.now) m (F.told files.old) (F.told files.new)) }
-    ensures part { result ≡ 5 → (stop : AnyStop) × SaysPart (E.told err.old) (E.told err.new) (line_for stop) }
+    ensures part { result ≡ 5 → (line : List ℕ) × IsLine line × SaysPart (E.told err.old) (E.told err.new) line }
     ensures status { result ≤ 5 }
 {
     linked_units_do_what_modules_do();
     match work(alloc, words, files) {
-        Ok(()) => 0,
+        Ok(finished) => summarize(alloc, finished, err),
         Err(stop) => report(alloc, &stop, err),
     }
 }

@@ -1,62 +1,127 @@
-// The texts are written in order.
-ghost use Rattle.std.specs.Prelude.{◌≡◌, ◌≤◌, ◌⊎◌, List, map, OnOk, OnErr, IfOk, IfErr, IsErrOf, Some, Option, string_bytes};
+// Writes the files of modules, in order.
+ghost use Rattle.std.specs.Prelude.{◌≡◌, ◌≤◌, length, Some, OnOk, OnErr, IfErr, IsErrOf, string_bytes};
+ghost use Rattle.std.specs.List.{AllByRecursion};
 ghost use Rattle.w2c_io.specs.declared.answers.WriteAnswer.TheVariants as writing;
-ghost use Rattle.w2c_io.specs.Contents.{Told, holding};
-ghost use Rattle.w2c_io.specs.Causes.{WriteCause, name_after_write};
-ghost use Rattle.wasm2c_cli.specs.Standing.{written, IsBegun, Stands};
-ghost use Rattle.wasm2c_cli.specs.Stops.{StopsWriting};
-ghost use Rattle.wasm2c_cli.specs.SeenOutputs.{seen_outputs};
+ghost use Rattle.w2c_io.specs.Contents.{holding};
+ghost use Rattle.w2c_io.specs.Causes.{WriteCause};
+ghost use Rattle.w2c_files.specs.Standing.{written, IsBegun};
+ghost use Rattle.w2c_sim.specs.Translation.{text_of, header_text_of};
+ghost use Rattle.wasm_spelling.specs.Bytes.{AreBytes};
+ghost use Rattle.wasm2c_cli.specs.Job.{files_of, module_files};
+ghost use Rattle.wasm2c_cli.specs.Parts.{HasName, IsNamed, StopsAtFile, StopsWriting, seen_target, seen_targets};
 
+use crate::plan::Target;
 use crate::stop::Stop;
-use w2c_base::Bytes;
+use std::alloc::Global;
 use w2c_io::{Files, WriteAnswer};
+use w2c_sim::{write_header, write_unit};
+use wasm_valid::ValidModule;
 
-// How many bytes a put is given at most.
-const PIECE: usize = 4096;
-
-/// A file to write.
-#[derive(Drop)]
-pub struct Output {
-    pub name: String,
-    pub text: Bytes,
-}
-
-/// Writes the files in order.
-pub fn write_all<F: Files>(outputs: &[Output], files: &mut F) -> Result<(), Stop>
-    ensures whole { OnOk result (F.told files.new ≡ written (F.told files.old) (seen_outputs outputs.now)) }
+/// Writes the C file and the header of each module.
+pub fn write_modules<F: Files>(
+    alloc: Global,
+    targets: &[Target<'_>],
+    modules: &[ValidModule],
+    files: &mut F,
+) -> Result<(), Stop>
+    requires many { length modules.now ≡ length targets.now }
+    requires named { AllByRecursion HasName (seen_targets targets.now) }
+    ensures whole { OnOk result (F.told files.new ≡ written (F.told files.old) (files_of (seen_targets targets.now) modules.now)) }
+    ensures names { OnOk result (AllByRecursion IsNamed (seen_targets targets.now)) }
     ensures reads { F.read_faults files.new ≡ F.read_faults files.old }
     ensures later { F.write_faults files.old ≤ F.write_faults files.new }
-    ensures stop { IfErr result (StopsWriting (F.told files.old) (F.told files.new) (seen_outputs outputs.now)
+    ensures stop { IfErr result (StopsWriting (F.told files.old) (F.told files.new) (files_of (seen_targets targets.now) modules.now)
         (F.write_faults files.old) (F.write_faults files.new) (F.fault_name files.new)) }
 {
-    for output in outputs {
-        match write_one(output, files) {
+    for k in 0..targets.len() {
+        match write_module(alloc, &targets[k], &modules[k], files) {
             Ok(()) => {}
-            Err(WriteAnswer::Memory) => return Err(Stop::Memory),
-            Err(WriteAnswer::Failed) => match output.name.clone() {
-                Ok(name) => return Err(Stop::Unwritten(name)),
-                Err(_) => return Err(Stop::Memory),
-            },
+            Err(stop) => return Err(stop),
         }
     }
     Ok(())
 }
 
-// One file.
-fn write_one<F: Files>(output: &Output, files: &mut F) -> Result<(), WriteAnswer>
-    ensures whole { OnOk result (F.told files.new ≡ holding (F.told files.old) (string_bytes output.now.name) output.now.text) }
-    ensures begun { OnErr result (IsBegun (F.told files.old) (F.told files.new) (string_bytes output.now.name) output.now.text) }
+/// Writes the C file of a module, then its header.
+pub fn write_module<F: Files>(
+    alloc: Global,
+    target: &Target<'_>,
+    module: &ValidModule,
+    files: &mut F,
+) -> Result<(), Stop>
+    requires { HasName (seen_target target.now) }
+    ensures whole { OnOk result (F.told files.new ≡ written (F.told files.old) (module_files (seen_target target.now) module.now)) }
+    ensures names { IsNamed (seen_target target.now) }
+    ensures reads { F.read_faults files.new ≡ F.read_faults files.old }
+    ensures later { F.write_faults files.old ≤ F.write_faults files.new }
+    ensures stop { IfErr result (StopsWriting (F.told files.old) (F.told files.new) (module_files (seen_target target.now) module.now)
+        (F.write_faults files.old) (F.write_faults files.new) (F.fault_name files.new)) }
+{
+    let c_file = target.c_file.as_str();
+    let header = target.header.as_str();
+    if let Err(answer) = unit_to_file(alloc, c_file, target.module_name, module, files) {
+        return Err(stop_for(alloc, answer, c_file));
+    }
+    if let Err(answer) = header_to_file(alloc, header, target.module_name, module, files) {
+        return Err(stop_for(alloc, answer, header));
+    }
+    Ok(())
+}
+
+// Why the work stops at a file that is not written.
+fn stop_for(alloc: Global, answer: WriteAnswer, file: &str) -> Stop
+    ensures { StopsAtFile answer file.now result }
+{
+    match answer {
+        WriteAnswer::Memory => Stop::Memory,
+        WriteAnswer::Failed => match String::from_str(alloc, file) {
+            Ok(name) => Stop::Unwritten(name),
+            Err(_) => Stop::Memory,
+        },
+    }
+}
+
+// Writes a file with the text of a module's unit.
+fn unit_to_file<F: Files>(
+    alloc: Global,
+    file: &str,
+    module_name: &[u8],
+    module: &ValidModule,
+    files: &mut F,
+) -> Result<(), WriteAnswer>
+    requires some { 1 ≤ length module_name.now }
+    requires short { length module_name.now ≤ 1024 }
+    ensures whole { OnOk result (F.told files.new ≡ holding (F.told files.old) file.now (text_of module.now module_name.now)) }
+    ensures begun { OnErr result (IsBegun (F.told files.old) (F.told files.new) file.now (text_of module.now module_name.now)) }
     ensures reads { F.read_faults files.new ≡ F.read_faults files.old }
     ensures cause { WriteCause (F.write_faults files.old) (F.write_faults files.new) result }
-    ensures named { IsErrOf result writing.Failed → F.fault_name files.new ≡ Some (string_bytes output.now.name) }
+    ensures named { IsErrOf result writing.Failed → F.fault_name files.new ≡ Some file.now }
+    ensures bytes { AreBytes module_name.now }
 {
-    files.begin(output.name.as_str())?;
-    let mut rest = output.text.as_slice();
-    while !rest.is_empty() {
-        let (piece, after) = rest.split_at(rest.len().min(PIECE));
-        files.put(piece)?;
-        rest = after;
-    }
+    files.begin(file)?;
+    write_unit(alloc, module, module_name, files)?;
+    files.finish()?;
+    Ok(())
+}
+
+// Writes a file with the text of a module's header.
+fn header_to_file<F: Files>(
+    alloc: Global,
+    file: &str,
+    module_name: &[u8],
+    module: &ValidModule,
+    files: &mut F,
+) -> Result<(), WriteAnswer>
+    requires some { 1 ≤ length module_name.now }
+    requires short { length module_name.now ≤ 1024 }
+    ensures whole { OnOk result (F.told files.new ≡ holding (F.told files.old) file.now (header_text_of module.now module_name.now)) }
+    ensures begun { OnErr result (IsBegun (F.told files.old) (F.told files.new) file.now (header_text_of module.now module_name.now)) }
+    ensures reads { F.read_faults files.new ≡ F.read_faults files.old }
+    ensures cause { WriteCause (F.write_faults files.old) (F.write_faults files.new) result }
+    ensures named { IsErrOf result writing.Failed → F.fault_name files.new ≡ Some file.now }
+{
+    files.begin(file)?;
+    write_header(alloc, module, module_name, files)?;
     files.finish()?;
     Ok(())
 }

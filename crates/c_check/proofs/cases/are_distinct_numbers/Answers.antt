@@ -21,7 +21,8 @@ loop-i-preserved c =
     let n = c.value_at-number.result in (
       less,
       distinct_more numbers c.loop-i.i (c.loop-i.i - 1) n c.value_at-number.ensures next c.loop-i.behind.keys c.loop-i.invariant.2 c.if-contains.ensures c.loop-i.invariant.1,
-      knows_before numbers c.loop-i.i (c.loop-i.i - 1) n c.value_at-number.ensures next c.loop-i.behind.keys c.loop-i.invariant.2 c.insert.new.self.keys c.if-contains.ensures c.in_ok-insert.ensures.keys,
+      knows_before numbers c.loop-i.i
+          (c.loop-i.i - 1) n c.value_at-number.ensures next c.loop-i.behind.keys c.loop-i.invariant.2 c.insert.new.self.keys c.if-contains.ensures c.in_ok-insert.ensures.keys,
     )
 
 pub returns-then-contains : goal.returns-then-contains

@@ -5,7 +5,8 @@ use Rattle.c_tree.specs.Rules.{are_distinct_numbers, case_value}
 use Rattle.c_check.proofs.cases.are_distinct_numbers.Given as goal
 
 abbrev pub invariant-loop-i : goal.invariant-loop-i
-invariant-loop-i l = (l.i ≤ length l.cases) × (are_distinct_numbers (drop l.i (map case_value l.cases)) ≡ true) × ((m : ℕ) → list_any (nat_eq m) l.behind.keys ≡ list_any (λ k. k == m) (drop l.i (map case_value l.cases)))
+invariant-loop-i l = (l.i ≤ length l.cases) × (are_distinct_numbers (drop l.i (map case_value l.cases)) ≡ true)
+    × ((m : ℕ) → list_any (nat_eq m) l.behind.keys ≡ list_any (λ k. k == m) (drop l.i (map case_value l.cases)))
 
 abbrev pub decreases-loop-i : goal.decreases-loop-i
 decreases-loop-i l = l.i

@@ -21,13 +21,17 @@ stmt_rule-requires-clause-earlier c q =
 
 pub returns-in-Some : goal.returns-in-Some
 returns-in-Some c =
-    stmts_stop (scope_of c.args.s.now) c.as_slice-stmts.result.now (ap (map stmt_of) (sym c.as_slice-stmts.ensures)) c.args.item c.loop-i.i _ c.index-stmts-i.result c.loop-i-test.true c.index-stmts-i.is c.in-Some.rule (sym c.in_ok-rule.ensures ∙ c.in-Some.is) c.loop-i.invariant.0
+    stmts_stop (scope_of c.args.s.now) c.as_slice-stmts.result.now
+    (ap (map stmt_of) (sym c.as_slice-stmts.ensures)) c.args.item c.loop-i.i _ c.index-stmts-i.result c.loop-i-test.true c.index-stmts-i.is c.in-Some.rule
+    (sym c.in_ok-rule.ensures ∙ c.in-Some.is) c.loop-i.invariant.0
 
 pub loop-i-preserved : goal.loop-i-preserved
 loop-i-preserved c =
     let stmts = c.as_slice-stmts.result.now in
     let x = c.index-stmts-i.result in (
-      stmts_more (scope_of c.args.s.now) stmts (ap (map stmt_of) (sym c.as_slice-stmts.ensures)) c.args.item c.loop-i.i _ x c.loop-i-test.true c.index-stmts-i.is (sym c.in_ok-rule.ensures ∙ c.in-None.is) c.loop-i.invariant.0,
+      stmts_more (scope_of c.args.s.now) stmts (ap (map stmt_of)
+          (sym c.as_slice-stmts.ensures)) c.args.item c.loop-i.i _ x c.loop-i-test.true c.index-stmts-i.is (sym c.in_ok-rule.ensures
+          ∙ c.in-None.is) c.loop-i.invariant.0,
       knows_put stmt_of label_of stmts c.loop-i.i x c.loop-i-test.true c.index-stmts-i.is c.loop-i.earlier c.put.new.set _ c.label_name.ensures c.in_ok-put-in-None.ensures c.loop-i.invariant.1,
       c.loop-i.invariant.2,
     )

@@ -30,7 +30,9 @@ returns-in-Some-2 c =
     let file = c.loop-i.progress.file in
     items_stop_inside xs c.loop-i.i _ x c.loop-i-test.true c.index-items-i.is (broken_at c.in-Some-2.broken)
     (breaks_there xs file.items.now c.loop-i.i file.count x _ _ c.loop-i.invariant.1 c.loop-i.invariant.2 c.in_ok-rule.ensures c.in-None.is)
-    (ap (option_map broken_at) (sym c.in-Some-2.is) ∙ c.in_ok-broken.ensures ∙ ap (λ (ys : List Item). first_in_body (map item_of ys) c.loop-i.i (item_of x)) (c.in_ok-progress-2.ensures.items ∙ c.loop-i.invariant.1))
+    (ap (option_map broken_at) (sym c.in-Some-2.is) ∙ c.in_ok-broken.ensures
+    ∙ ap (λ (ys : List Item). first_in_body (map item_of ys) c.loop-i.i (item_of x))
+    (c.in_ok-progress-2.ensures.items ∙ c.loop-i.invariant.1))
     c.loop-i.invariant.0
 
 pub loop-i-preserved : goal.loop-i-preserved

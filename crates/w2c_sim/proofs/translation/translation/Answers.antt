@@ -1,5 +1,4 @@
 use Rattle.wasm_binary.proofs.Result.{slice_bytes}
-use Rattle.w2c_sim.specs.Translation.{IsModuleOf}
 use Rattle.w2c_sim.proofs.Accepting.{module_is_accepted}
 use Rattle.w2c_sim.proofs.translation.translation.Goals as goal
 

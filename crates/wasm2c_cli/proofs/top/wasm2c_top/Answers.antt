@@ -1,24 +1,108 @@
-use Rattle.wasm2c_cli.specs.CommandLine.{texts}
-use Rattle.wasm2c_cli.proofs.TopLaws.{is_linked, stop_complete, stop_refused, stop_stands}
+use Rattle.w2c_files.specs.Words.{texts}
+use Rattle.wasm2c_cli.proofs.Passed.{distinct_outputs}
+use Rattle.wasm2c_cli.proofs.TopLaws.{are_linked, finish_complete, finish_done, finish_part, finish_stands, finish_summary, finish_units}
+use Rattle.wasm2c_cli.proofs.TopLaws.{stop_complete, stop_part, stop_refused, stop_stands, stop_unread, stop_unwritten}
 use Rattle.wasm2c_cli.proofs.top.wasm2c_top.Goals as goal
+
+-- ---- work that was finished
+
+pub returns-in-Ok-clause-complete : goal.returns-in-Ok-clause-complete
+returns-in-Ok-clause-complete g c =
+    let files = g.F.Files in
+    finish_complete (texts c.args.words.now) (files.told c.args.files.now) (files.told c.work.new.files)
+    (files.read_faults c.args.files.now) (files.read_faults c.work.new.files)
+    (files.write_faults c.args.files.now) (files.write_faults c.work.new.files)
+    c.in-Ok.finished c.summarize.result c.in-Ok.ensures.done c.summarize.ensures.status
+
+pub returns-in-Ok-clause-done : goal.returns-in-Ok-clause-done
+returns-in-Ok-clause-done g c = λ zero.
+    let files = g.F.Files in
+    finish_done (texts c.args.words.now) (files.told c.args.files.now) (files.told c.work.new.files)
+    c.in-Ok.finished c.in-Ok.ensures.done
+
+pub returns-in-Ok-clause-units : goal.returns-in-Ok-clause-units
+returns-in-Ok-clause-units g c = λ zero names.
+    let files = g.F.Files in
+    finish_units distinct_outputs (texts c.args.words.now) (files.told c.args.files.now) (files.told c.work.new.files)
+    c.in-Ok.finished c.in-Ok.ensures.done names
+
+pub returns-in-Ok-clause-linked : goal.returns-in-Ok-clause-linked
+returns-in-Ok-clause-linked g c = λ zero names.
+    let files = g.F.Files in
+    are_linked c.linked_units_do_what_modules_do.ensures
+    (texts c.args.words.now) (files.told c.args.files.now) (files.told c.work.new.files)
+    (finish_units distinct_outputs (texts c.args.words.now) (files.told c.args.files.now) (files.told c.work.new.files)
+    c.in-Ok.finished c.in-Ok.ensures.done names)
+
+pub returns-in-Ok-clause-summary : goal.returns-in-Ok-clause-summary
+returns-in-Ok-clause-summary g c = λ zero.
+    let files = g.F.Files in
+    let err = g.E.Sink in
+    finish_summary (texts c.args.words.now) (files.told c.args.files.now) (files.told c.work.new.files)
+    c.in-Ok.finished c.in-Ok.ensures.done
+    (err.told c.args.err.now) (err.told c.summarize.new.err) (err.faults c.args.err.now) (err.faults c.summarize.new.err)
+    (c.summarize.ensures.says zero)
+
+pub returns-in-Ok-clause-stands : goal.returns-in-Ok-clause-stands
+returns-in-Ok-clause-stands g c = λ five.
+    let files = g.F.Files in
+    finish_stands (texts c.args.words.now) (files.told c.args.files.now) (files.told c.work.new.files)
+    c.in-Ok.finished c.in-Ok.ensures.done
+
+pub returns-in-Ok-clause-part : goal.returns-in-Ok-clause-part
+returns-in-Ok-clause-part g c = λ five.
+    let err = g.E.Sink in
+    finish_part c.in-Ok.finished (err.told c.args.err.now) (err.told c.summarize.new.err) c.summarize.ensures.part
+
+-- ---- work that stopped
 
 pub returns-in-Err-clause-complete : goal.returns-in-Err-clause-complete
 returns-in-Err-clause-complete g c =
     let files = g.F.Files in
-    stop_complete (texts c.args.words.now) (files.told c.args.files.now) (files.told c.work.new.files) (files.read_faults c.args.files.now) (files.read_faults c.work.new.files) (files.write_faults c.args.files.now) (files.write_faults c.work.new.files) (files.fault_name c.work.new.files) c.report.result c.in-Err.stop c.in-Err.ensures.stop c.report.ensures.status
+    stop_complete (texts c.args.words.now) (files.told c.args.files.now) (files.told c.work.new.files)
+    (files.read_faults c.args.files.now) (files.read_faults c.work.new.files)
+    (files.write_faults c.args.files.now) (files.write_faults c.work.new.files) (files.fault_name c.work.new.files)
+    c.report.result c.in-Err.stop c.in-Err.ensures.stop c.report.ensures.status
 
 pub returns-in-Err-clause-refused : goal.returns-in-Err-clause-refused
 returns-in-Err-clause-refused g c = λ one.
     let files = g.F.Files in
     let err = g.E.Sink in
-    stop_refused (err.told c.args.err.now) (err.told c.report.new.err) (err.faults c.args.err.now) (err.faults c.report.new.err) c.report.result one (texts c.args.words.now) (files.told c.args.files.now) (files.told c.work.new.files) (files.read_faults c.args.files.now) (files.read_faults c.work.new.files) (files.write_faults c.args.files.now) (files.write_faults c.work.new.files) (files.fault_name c.work.new.files) c.in-Err.stop c.in-Err.ensures.stop c.report.ensures.status c.report.ensures.says
+    stop_refused (err.told c.args.err.now) (err.told c.report.new.err) (err.faults c.args.err.now) (err.faults c.report.new.err)
+    c.report.result (texts c.args.words.now) (files.told c.args.files.now) (files.told c.work.new.files)
+    (files.read_faults c.args.files.now) (files.read_faults c.work.new.files)
+    (files.write_faults c.args.files.now) (files.write_faults c.work.new.files) (files.fault_name c.work.new.files)
+    one c.in-Err.stop c.in-Err.ensures.stop c.report.ensures.status c.report.ensures.says
+
+pub returns-in-Err-clause-read_fault : goal.returns-in-Err-clause-read_fault
+returns-in-Err-clause-read_fault g c = λ three.
+    let files = g.F.Files in
+    let err = g.E.Sink in
+    stop_unread (err.told c.args.err.now) (err.told c.report.new.err) (err.faults c.args.err.now) (err.faults c.report.new.err)
+    c.report.result (texts c.args.words.now) (files.told c.args.files.now) (files.told c.work.new.files)
+    (files.read_faults c.args.files.now) (files.read_faults c.work.new.files)
+    (files.write_faults c.args.files.now) (files.write_faults c.work.new.files) (files.fault_name c.work.new.files)
+    three c.in-Err.stop c.in-Err.ensures.stop c.report.ensures.status c.report.ensures.says
+
+pub returns-in-Err-clause-write_fault : goal.returns-in-Err-clause-write_fault
+returns-in-Err-clause-write_fault g c = λ four.
+    let files = g.F.Files in
+    let err = g.E.Sink in
+    stop_unwritten (err.told c.args.err.now) (err.told c.report.new.err) (err.faults c.args.err.now) (err.faults c.report.new.err)
+    c.report.result (texts c.args.words.now) (files.told c.args.files.now) (files.told c.work.new.files)
+    (files.read_faults c.args.files.now) (files.read_faults c.work.new.files)
+    (files.write_faults c.args.files.now) (files.write_faults c.work.new.files) (files.fault_name c.work.new.files)
+    four c.in-Err.stop c.in-Err.ensures.stop c.report.ensures.status c.report.ensures.says
 
 pub returns-in-Err-clause-stands : goal.returns-in-Err-clause-stands
 returns-in-Err-clause-stands g c = λ five.
     let files = g.F.Files in
-    stop_stands (texts c.args.words.now) (files.told c.args.files.now) (files.told c.work.new.files) (files.read_faults c.args.files.now) (files.read_faults c.work.new.files) (files.write_faults c.args.files.now) (files.write_faults c.work.new.files) (files.fault_name c.work.new.files) c.in-Err.stop c.in-Err.ensures.stop
+    stop_stands (texts c.args.words.now) (files.told c.args.files.now) (files.told c.work.new.files)
+    (files.read_faults c.args.files.now) (files.read_faults c.work.new.files)
+    (files.write_faults c.args.files.now) (files.write_faults c.work.new.files) (files.fault_name c.work.new.files)
+    c.in-Err.stop c.in-Err.ensures.stop
 
-pub returns-in-Ok-clause-linked : goal.returns-in-Ok-clause-linked
-returns-in-Ok-clause-linked g c = λ zero no_runtime.
-    is_linked c.linked_units_do_what_modules_do.ensures (texts c.args.words.now) (g.F.Files.told c.args.files.now) (g.F.Files.told c.work.new.files)
-    (c.in-Ok.ensures.unit no_runtime)
+pub returns-in-Err-clause-part : goal.returns-in-Err-clause-part
+returns-in-Err-clause-part g c = λ five.
+    let err = g.E.Sink in
+    stop_part c.in-Err.stop (err.told c.args.err.now) (err.told c.report.new.err) c.report.ensures.part

@@ -1,8 +1,9 @@
-use Rattle.std.proofs.Common.{◌≡◌, List, map, Option, sym, ap, ◌∙◌}
+use Rattle.std.proofs.Common.{◌≡◌, List, map, Option, sym, ap, ◌∙◌, subst}
 use Rattle.std.specs.Prelude.{option_map}
 use Rattle.c_tree.specs.declared.tree.Item.{Item}
 use Rattle.c_tree.specs.View.{item_of}
-use Rattle.c_tree.specs.FirstBroken.{first_broken}
+use Rattle.c_tree.specs.FirstBroken.{BrokenRule, KeepsRules, first_broken}
+use Rattle.c_tree.specs.Spelled.{Formed}
 use Rattle.c_tree.proofs.FirstBroken.{none_is_broken}
 use Rattle.c_tree.proofs.BrokenInOrder.{is_first}
 use Rattle.c_check.specs.declared.pass.Broken.{Broken}
@@ -25,8 +26,12 @@ pub returns-in-Some-clause-found : goal.returns-in-Some-clause-found
 returns-in-Some-clause-found c = found c.args.u c.as_slice.result.now _ _ c.as_slice.ensures c.in_ok-broken.ensures c.in-Some.is
 
 pub invariant_of-result : goal.invariant_of-result
-invariant_of-result c = (c.requires, found c.args.u c.as_slice.result.now _ _ c.as_slice.ensures c.in_ok-broken.ensures c.in-None.is)
+invariant_of-result c =
+    let keeps = found c.args.u c.as_slice.result.now _ _ c.as_slice.ensures c.in_ok-broken.ensures c.in-None.is in
+    subst (λ (u : List Item). Formed (map item_of u) × KeepsRules (map item_of u)) (sym c.in_ok-unit-in-None.ensures) (c.requires, keeps)
 
-pub returns-in-None-clause-kept : goal.returns-in-None-clause-kept
-returns-in-None-clause-kept c at =
-    none_is_broken (map item_of c.args.u) at (found c.args.u c.as_slice.result.now _ _ c.as_slice.ensures c.in_ok-broken.ensures c.in-None.is)
+pub returns-in_ok-unit-in-None-clause-kept : goal.returns-in_ok-unit-in-None-clause-kept
+returns-in_ok-unit-in-None-clause-kept c at =
+    let keeps = found c.args.u c.as_slice.result.now _ _ c.as_slice.ensures c.in_ok-broken.ensures c.in-None.is in
+    subst (λ (u : List Item). BrokenRule (map item_of u) at → ⊥) (sym c.in_ok-unit-in-None.ensures)
+    (none_is_broken (map item_of c.args.u) at keeps)

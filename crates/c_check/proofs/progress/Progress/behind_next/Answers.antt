@@ -33,5 +33,7 @@ returns-clause-first c q =
     let s = c.args.self in
     let xs = s.file.items.now in
     let i = s.file.count in
-    finds_next item_of by_name (λ (i : Bor Item). item_of i.now) xs i c.args.item.now c.requires.room c.requires.next s.earlier.first c.enter_first.new.first c.in_ok-enter_first.ensures c.requires.found q
-    ∙ ap (λ (items : List tree.Item). named q (by_names items)) (taken xs c.in_ok-file.file.items.now i c.in_ok-file.file.count c.in_ok-file.ensures.items c.in_ok-file.ensures.count)
+    finds_next item_of by_name (λ
+    (i : Bor Item). item_of i.now) xs i c.args.item.now c.requires.room c.requires.next s.earlier.first c.enter_first.new.first c.in_ok-enter_first.ensures c.requires.found q
+    ∙ ap (λ (items : List tree.Item). named q (by_names items))
+    (taken xs c.in_ok-file.file.items.now i c.in_ok-file.file.count c.in_ok-file.ensures.items c.in_ok-file.ensures.count)

@@ -25,7 +25,7 @@ returns-in-Some-2 c m below =
     let values = ap (λ vs. are_of_types (param_types c.as_slice.result.now) (map Number vs)) c.as_slice-2.ensures.value in
     let fits = sym params ∙ sym values ∙ sym c.fit_params.ensures ∙ c.if-not-fit_params.false in
     let all =
-    behind_params (λ vs. vs.items) c.in-Some.f.now.params c.args.values.items _ _ _ _ c.as_slice-3.ensures c.in-Some-2.is fits
+    behind_params Number (λ vs. vs.items) c.in-Some.f.now.params c.args.values.items _ _ _ _ c.as_slice-3.ensures c.in-Some-2.is fits
     c.in_ok-values.ensures in
     begins (unit_of c.args.unit.now) (record { item = c.args.item; at = 0; values = c.in-Some-2.values }) _ c.args.values.items m below
     (sym c.in-Some.ensures) refl fits all
@@ -36,6 +36,6 @@ returns-in-None c m below =
     let values = ap (λ vs. are_of_types (param_types c.as_slice.result.now) (map Number vs)) c.as_slice-2.ensures.value in
     let fits = sym params ∙ sym values ∙ sym c.fit_params.ensures ∙ c.if-not-fit_params.false in
     let all =
-    behind_params (λ vs. vs.items) c.in-Some.f.now.params c.args.values.items _ _ _ _ c.as_slice-3.ensures c.in-None.is fits
+    behind_params Number (λ vs. vs.items) c.in-Some.f.now.params c.args.values.items _ _ _ _ c.as_slice-3.ensures c.in-None.is fits
     c.in_ok-values.ensures in
     begins_without (unit_of c.args.unit.now) c.args.item _ c.args.values.items m below (sym c.in-Some.ensures) fits all

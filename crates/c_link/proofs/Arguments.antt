@@ -1,0 +1,48 @@
+-- Which arguments fit the parameters of a function.
+use Rattle.std.proofs.Common.{◌≡◌, ℕ, suc, ◌+◌, ◌<◌, ◌≤◌, length, get_or, drop, Bool, true, false, ◌&&◌, List, [], ◌∷◌, map, refl, sym, ap, ◌∙◌, arith}
+use Rattle.std.proofs.lemmas.List.{drop_all}
+use Rattle.w2c_base.specs.declared.value.Value.{Value}
+use Rattle.w2c_base.specs.Values.{type_of, types_of}
+use Rattle.c_tree.specs.declared.tree.CType.{CType}
+use Rattle.c_tree.specs.declared.tree.CType.TheVariants.{Void, U32, U64, PtrU32, PtrU64, Mem, PtrMem, Tab, PtrTab, FnPtr}
+use Rattle.c_tree.proofs.Tested.{at_front}
+use Rattle.c_tree.specs.Runtime.{same_type, same_types}
+use Rattle.c_meaning.specs.Linking.{c_type_of, c_params_of}
+
+-- ---- types of arguments
+
+pub arguments_typed : (args : List Value) → 0 < length args → c_params_of (types_of args) ≡ map c_type_of (types_of args)
+arguments_typed [] some = absurd (omega arith)
+arguments_typed (v ∷ args) some = refl
+
+-- parameters and arguments agree from the i-th on as they do on the whole
+abbrev pub Agree : ℕ → List CType → List Value → Type 0
+Agree i params args =
+    same_types (drop i params) (map c_type_of (types_of (drop i args))) ≡ same_types params (map c_type_of (types_of args))
+
+pub unequal : (params : List CType) (args : List Value) → (length params ≡ length args → ⊥)
+    → false ≡ same_types params (map c_type_of (types_of args))
+unequal [] [] not = absurd (not refl)
+unequal [] (v ∷ args) not = refl
+unequal (p ∷ params) [] not = refl
+unequal (p ∷ params) (v ∷ args) not = go (same_type p (c_type_of (type_of v))) (unequal params args (λ e. not (ap suc e)))
+  where
+    go : (b : Bool) → false ≡ same_types params (map c_type_of (types_of args))
+        → false ≡ (b && same_types params (map c_type_of (types_of args)))
+    go true e = e
+    go false e = refl
+
+-- ---- no arguments
+
+pub no_arguments : (args : List Value) → length args ≡ 0 → c_params_of (types_of args) ≡ Void ∷ []
+no_arguments [] none = refl
+no_arguments (v ∷ args) none = absurd (omega arith)
+
+pub not_one : (params : List CType) → (length params ≡ 1 → ⊥) → false ≡ same_types params (Void ∷ [])
+not_one [] not = refl
+not_one (p ∷ []) not = absurd (not refl)
+not_one (p ∷ q ∷ params) not = go (same_type p Void)
+  where
+    go : (b : Bool) → false ≡ (b && false)
+    go true = refl
+    go false = refl

@@ -1,0 +1,32 @@
+use Rattle.std.proofs.Common.{◌≡◌, ◌≤◌, [], ◌∷◌, take, length, Some, sym, ap, ◌∙◌}
+use Rattle.std.proofs.lemmas.List.{length-map, take_all}
+use Rattle.std.proofs.lemmas.Option.{slice_get-map}
+use Rattle.std.specs.Prelude.{slice_get, option_map}
+use Rattle.w2c_base.specs.Lookup.{numbered}
+use Rattle.c_link.specs.declared.offers.Owner.TheVariants as owner
+use Rattle.c_link.specs.Offers.{c_symbol, c_symbols, host_offer, host_offers}
+use Rattle.c_link.proofs.Walks.{mapped_at, numbered_at, numbered_many, take_next}
+use Rattle.c_link.proofs.Tables.{adds_said, holds_as, holds_more}
+use Rattle.c_link.proofs.offers.Offers.of_hosts.Goals as goal
+
+pub loop-k-preserved : goal.loop-k-preserved
+loop-k-preserved c =
+    let hosts = c.args.hosts.now in
+    let host = c.index-hosts-k.result in
+    let k = c.loop-k.k in
+    let entries = host_offers (c_symbols hosts) in
+    let at : slice_get entries k ≡ Some (host_offer (k, c_symbol host)) =
+    slice_get-map host_offer (numbered (c_symbols hosts)) k
+    ∙ ap (option_map host_offer) (numbered_at (c_symbols hosts) k (c_symbol host)
+    (mapped_at c_symbol hosts k host c.loop-k-test.true c.index-hosts-k.is)) in
+    holds_as c.enter.new.self _ _ (take_next entries k (host_offer (k, c_symbol host)) at)
+    (holds_more c.loop-k.table c.enter.new.self (take k entries) (host_offer (k, c_symbol host) ∷ []) c.loop-k.invariant
+    (adds_said c.loop-k.table c.enter.new.self _ _ (owner.Host k) _ _ c.as_slice.ensures c.in_ok-c_func_type.ensures
+    c.in_ok-enter.ensures))
+
+pub returns : goal.returns
+returns c =
+    let symbols = c_symbols c.args.hosts.now in
+    let past : length (host_offers symbols) ≤ c.loop-k.k =
+    rw length-map (rw (numbered_many 0 symbols) (rw length-map c.loop-k-test.false)) in
+    holds_as c.loop-k.table _ _ (sym (take_all c.loop-k.k (host_offers symbols) past)) c.loop-k.invariant

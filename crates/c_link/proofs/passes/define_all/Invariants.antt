@@ -1,0 +1,13 @@
+use Rattle.std.proofs.Common.{map, take}
+use Rattle.w2c_base.specs.Lookup.{numbered}
+use Rattle.c_tree.specs.View.{unit_of}
+use Rattle.c_link.specs.Offers.{Holds, c_symbols, offers}
+use Rattle.c_link.specs.Refusals.{twice_in}
+use Rattle.c_link.specs.Programs.{AllChecked}
+use Rattle.c_link.proofs.Walks.{Left}
+use Rattle.c_link.proofs.passes.define_all.Given as goal
+
+abbrev pub invariant-loop-u : goal.invariant-loop-u
+invariant-loop-u l = Holds l.table (offers (take l.u (map unit_of l.units)) (c_symbols l.hosts))
+    × Left (twice_in (map unit_of l.units) (c_symbols l.hosts)) (numbered (map unit_of l.units)) l.u
+    × AllChecked (take l.u (map unit_of l.units))

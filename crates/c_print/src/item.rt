@@ -1,0 +1,161 @@
+// Items, and the text of one that is written into a file.
+ghost use Rattle.std.specs.Prelude.{◌≡◌, [], ◌∷◌, ◌++◌, OnOk, OnErr, IfOk, IsSome};
+ghost use Rattle.w2c_io.specs.Contents.{appending, AppendsPart};
+ghost use Rattle.w2c_io.specs.Causes.{WriteCause, name_after_write};
+ghost use Rattle.c_tree.specs.declared.token.Tok.TheVariants as tok;
+ghost use Rattle.c_tree.specs.declared.tree.Num.TheVariants.{Plain};
+ghost use Rattle.c_tree.specs.Tokens.{Fixed, Named};
+ghost use Rattle.c_tree.specs.Trees.{separated, num_token, value_tokens, item_tokens};
+ghost use Rattle.c_tree.specs.View.{item_of};
+ghost use Rattle.c_print.specs.ItemText.{IsItemOfUnit, SpellsItem};
+ghost use Rattle.c_print.specs.Page.{printed_onto, ended};
+ghost use Rattle.c_print.specs.Print.{print_item_of};
+
+use crate::function::put_function;
+use crate::page::Page;
+use crate::pieces::{Piece, put_separated};
+use c_tree::{Item, Name, Num, Tok};
+use std::alloc::Global;
+use w2c_base::{Bytes, Memory};
+use w2c_io::{Files, WriteAnswer};
+
+impl Piece for u8 {
+    ghost tokens = { λ byte. num_token (Plain byte) ∷ [] };
+
+    fn put(&self, page: &mut Page) -> Result<(), Memory> {
+        page.number(Num::Plain(*self as u64))
+    }
+}
+
+#[tactic(auto, using(crate::proofs::Onto::onto_append))]
+fn put_array(page: &mut Page, name: &Name, count: u64, bytes: &Bytes) -> Result<(), Memory>
+    ensures { OnOk result (page.new ≡ printed_onto page.old (Fixed tok.WordStatic ∷ Fixed tok.WordConst ∷ Fixed tok.WordU8 ∷ Named name.now
+        ∷ Fixed tok.LeftBracket ∷ num_token (Plain count) ∷ Fixed tok.RightBracket ∷ Fixed tok.Assign ∷ Fixed tok.LeftBrace
+        ∷ (separated (λ byte. num_token (Plain byte) ∷ []) bytes.now ++ Fixed tok.RightBrace ∷ Fixed tok.Semicolon ∷ []))) }
+{
+    page.fixed(Tok::WordStatic)?;
+    page.fixed(Tok::WordConst)?;
+    page.fixed(Tok::WordU8)?;
+    page.name(name)?;
+    page.fixed(Tok::LeftBracket)?;
+    page.number(Num::Plain(count))?;
+    page.fixed(Tok::RightBracket)?;
+    page.fixed(Tok::Assign)?;
+    page.fixed(Tok::LeftBrace)?;
+    put_separated(page, bytes.as_slice())?;
+    page.fixed(Tok::RightBrace)?;
+    page.fixed(Tok::Semicolon)
+}
+
+fn put_value(page: &mut Page, value: &Option<Num>) -> Result<(), Memory>
+    ensures { OnOk result (page.new ≡ printed_onto page.old (value_tokens value.now)) }
+{
+    if let Some(n) = value {
+        page.fixed(Tok::Assign)?;
+        page.number(*n)?;
+    }
+    page.fixed(Tok::Semicolon)
+}
+
+#[tactic(auto, using(crate::proofs::Onto::onto_append))]
+fn put_item(page: &mut Page, item: &Item) -> Result<(), Memory>
+    ensures { OnOk result (page.new ≡ printed_onto page.old (item_tokens (item_of item.now))) }
+{
+    match item {
+        Item::Array(name, count, bytes) => put_array(page, name, *count, bytes),
+        Item::Var(ty, name, value) => {
+            page.fixed(Tok::WordStatic)?;
+            ty.put(page)?;
+            page.name(name)?;
+            put_value(page, value)
+        }
+        Item::Func(func) => put_function(page, func),
+    }
+}
+
+/// An item with its last line ended.
+pub fn put_line(page: &mut Page, item: &Item) -> Result<(), Memory>
+    ensures { OnOk result (page.new ≡ ended (printed_onto page.old (item_tokens (item_of item.now)))) }
+{
+    put_item(page, item)?;
+    page.end()
+}
+
+fn item_text(alloc: Global, item: &Item) -> Result<Bytes, Memory>
+    ensures { IfOk result (λ text. text ≡ print_item_of (item_of item.now)) }
+{
+    let mut page = Page::behind_include(alloc);
+    put_line(&mut page, item)?;
+    Ok(page.text)
+}
+
+/// Appends the text of one item of a unit to the current file. It spells the item; the unit's text is the include
+/// line and the texts of its items in order, so a unit can be written without being held whole.
+///
+/// # Errors
+///
+/// `Failed` where the file failed, `Memory` where memory was wanting. A prefix of the text was appended then, and
+/// the file stays current.
+pub fn print_item_to<F: Files>(alloc: Global, item: &Item, files: &mut F) -> Result<(), WriteAnswer>
+    requires formed { IsItemOfUnit (item_of item.now) }
+    requires current { IsSome (F.current files.old) }
+    ensures written { OnOk result (F.told files.new
+        ≡ appending (F.told files.old) (F.current files.old) (print_item_of (item_of item.now))) }
+    ensures spells { SpellsItem (item_of item.now) (print_item_of (item_of item.now)) }
+    ensures part { OnErr result (AppendsPart (F.told files.old) (F.told files.new) (F.current files.old)
+        (print_item_of (item_of item.now))) }
+    ensures current { F.current files.new ≡ F.current files.old }
+    ensures cause { WriteCause (F.write_faults files.old) (F.write_faults files.new) result }
+    ensures named { F.fault_name files.new ≡ name_after_write result (F.current files.old) (F.fault_name files.old) }
+    ensures reads { F.read_faults files.new ≡ F.read_faults files.old }
+{
+    let text = item_text(alloc, item)?;
+    files.put(text.as_slice())?;
+    Ok(())
+}
+
+#[cfg(test)]
+mod tests {
+    use crate::print_item_to;
+    use c_tree::{CType, Item, Name, Unit};
+    use std::alloc::Global;
+    use std::test::Fail;
+    use w2c_base::Memory;
+    use w2c_io::{FileCall, Files, MemFiles, WriteAnswer};
+
+    fn one_memory(alloc: Global) -> Result<Unit, Memory> {
+        let mut unit = Unit::new(alloc);
+        let name = Name::from_vec(b"m0".to_vec(alloc)?);
+        unit.push(Item::Var(CType::Mem, name, None))?;
+        Ok(unit)
+    }
+
+    fn append_first<F: Files>(alloc: Global, unit: &Unit, files: &mut F) -> Result<(), WriteAnswer>
+        requires { IsSome (F.current files.old) }
+        ensures { F.current files.new ≡ F.current files.old }
+    {
+        if !unit.formed() || unit.len() == 0 {
+            return Ok(());
+        }
+        print_item_to(alloc, unit.at(0), files)?;
+        Ok(())
+    }
+
+    #[test]
+    fn an_item_is_appended_and_a_half_of_it(rt: HostRuntime) -> Result<(), Fail> {
+        let alloc = rt.alloc();
+        let unit = one_memory(alloc)?;
+        let mut files = MemFiles::new(alloc);
+        files.fail(FileCall::Put, 2)?;
+        files.begin("a.c")?;
+        append_first(alloc, &unit, &mut files)?;
+        let again = append_first(alloc, &unit, &mut files);
+        assert!(rt; again.err() == Some(WriteAnswer::Failed));
+        assert_eq!(rt;
+            files.get("a.c"),
+            Some(b"static w2c_mem m0;\nstatic w2".as_slice())
+        );
+        files.finish()?;
+        Ok(())
+    }
+}

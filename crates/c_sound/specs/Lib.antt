@@ -1,0 +1,4 @@
+pub mod Events
+pub mod NeverStuck
+pub mod Samples
+pub mod Typed

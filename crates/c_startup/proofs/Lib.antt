@@ -1,0 +1,10 @@
+pub mod Collected
+pub mod Checked
+pub mod Externals
+pub mod SymbolsFound
+pub mod Arrays
+pub mod TablesFound
+pub mod TypesFound
+pub mod Apart
+pub mod First
+pub mod UnitsPush

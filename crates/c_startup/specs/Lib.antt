@@ -1,0 +1,4 @@
+pub mod Objects
+pub mod Names
+pub mod Entries
+pub mod Units

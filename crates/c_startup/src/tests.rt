@@ -1,0 +1,103 @@
+// Two units and a host at startup: what a name of one stands for in the other, types, and first values.
+use crate::start_up;
+use c_check::CheckedUnit;
+use c_link::{HostSymbol, Linked, link};
+use c_objects::{FuncId, Held, Object, ObjectId};
+use c_tree::{Arg, Body, CType, Expr, Func, Item, Locals, Name, Num, Params, Stmt, Stmts, Unit};
+use std::alloc::{AllocError, Global};
+use std::test::Fail;
+use w2c_base::{Bytes, FuncType, Memory, Types, ValType, Value};
+
+fn name(alloc: Global, text: &str) -> Result<Name, AllocError> {
+    Ok(Name::from_vec(text.as_bytes().to_vec(alloc)?))
+}
+
+fn u32_param(alloc: Global) -> Result<Params, Memory> {
+    let mut params = Params::new(alloc);
+    params.push((CType::U32, Some(name(alloc, "x")?)))?;
+    Ok(params)
+}
+
+// u32 NAME(u32 x);
+fn declares(alloc: Global, text: &str) -> Result<Item, Memory> {
+    Ok(Item::Func(Func {
+        is_static: false,
+        result: CType::U32,
+        name: name(alloc, text)?,
+        params: u32_param(alloc)?,
+        body: None,
+    }))
+}
+
+// u32 w2cZ_f(u32 x) { return x; }
+fn defines_f(alloc: Global) -> Result<Item, Memory> {
+    let mut stmts = Stmts::new(alloc);
+    stmts.push(Stmt::Return(Arg::Value(Expr::Name(name(alloc, "x")?))))?;
+    Ok(Item::Func(Func {
+        is_static: false,
+        result: CType::U32,
+        name: name(alloc, "w2cZ_f")?,
+        params: u32_param(alloc)?,
+        body: Some(Body {
+            locals: Locals::new(alloc),
+            stmts,
+        }),
+    }))
+}
+
+fn checked(alloc: Global, first: Item, second: Item) -> Result<CheckedUnit, Fail> {
+    let mut unit = Unit::new(alloc);
+    unit.push(first)?;
+    unit.push(second)?;
+    if !unit.formed() {
+        return Err(Fail::new("a text spells the unit"));
+    }
+    let unit = CheckedUnit::check(alloc, unit)
+        .ok()
+        .ok_or("the unit keeps the rules")?;
+    Ok(unit)
+}
+
+// static u32 g = 7u; u32 w2cZ_f(u32 x); and w2cZ_f with a declaration of w2cZ_h, which a host offers.
+fn linked(alloc: Global) -> Result<Linked, Fail> {
+    let global = Item::Var(CType::U32, name(alloc, "g")?, Some(Num::N32(7)));
+    let mut units = Vec::new(alloc);
+    units.push(checked(alloc, global, declares(alloc, "w2cZ_f")?)?)?;
+    units.push(checked(alloc, defines_f(alloc)?, declares(alloc, "w2cZ_h")?)?)?;
+    let mut params = Types::new(alloc);
+    params.push(ValType::I32)?;
+    let host = HostSymbol {
+        symbol: Bytes::from_vec(b"w2cZ_h".to_vec(alloc)?),
+        ty: FuncType {
+            params,
+            result: Some(ValType::I32),
+        },
+    };
+    let linked = link(alloc, units, &[host]).ok().ok_or("the units link")?;
+    Ok(linked)
+}
+
+#[test]
+fn two_units_and_a_host(rt: HostRuntime) -> Result<(), Fail> {
+    let alloc = rt.alloc();
+    let linked = linked(alloc)?;
+    let startup = start_up(alloc, &linked, &[1])?;
+    assert_eq!(rt; startup.units.len(), 2);
+    if startup.units.len() == 2 {
+        assert_eq!(rt;
+            startup.units[0].objects.func(b"w2cZ_f"),
+            Some(FuncId::Unit(1, 0))
+        );
+        assert_eq!(rt;
+            startup.units[1].objects.func(b"w2cZ_h"),
+            Some(FuncId::Host(0, 0))
+        );
+    }
+    assert!(rt; startup.types.find(FuncId::Host(0, 0)).is_some());
+    let g = ObjectId {
+        unit: 0,
+        object: Object::Variable(0),
+    };
+    assert_eq!(rt; startup.store.var(g), Some(Held::Number(Value::I32(7))));
+    Ok(())
+}

@@ -1,0 +1,22 @@
+-- One statement more on the way of a run.
+use Rattle.std.proofs.Common.{◌≡◌, ℕ, ◌+◌, ◌-◌, ◌<◌, ◌≤◌, subst, arith}
+use Rattle.c_meaning.specs.State.{State}
+use Rattle.c_meaning.specs.Linking.{Program}
+use Rattle.c_meaning.specs.Step.{Step, c_step}
+use Rattle.c_meaning.specs.Run.{Going, Pending, Progress, go_on}
+use Rattle.c_meaning.specs.Reaches.{Reaches}
+use Rattle.c_meaning.proofs.Ways.{join, step, stays}
+
+pub on_its_way : (p : Program) (pending : Pending) (start : Progress) (s : State) (o : Step) (first left : ℕ) → 0 < left
+    → left ≤ first → c_step p s ≡ o
+    → Reaches p (first - left) start (Going pending s) → Reaches p (first - (left - 1)) start (go_on p pending o)
+on_its_way p pending start s o first left some within is so_far =
+    let one = subst (λ o. Reaches p 1 (Going pending s) (go_on p pending o)) is (step p pending s) in
+    let count : (first - left) + 1 ≡ first - (left - 1) = omega (arith, some, within) in
+    subst (λ n. Reaches p n start (go_on p pending o)) count
+    (join p (first - left) 1 start (Going pending s) (go_on p pending o) so_far one)
+
+pub at_its_start : (p : Program) (pending : Pending) (s : State) (first : ℕ) → Reaches p (first - first) (Going pending s) (Going pending s)
+at_its_start p pending s first =
+    let none : 0 ≡ first - first = omega arith in
+    subst (λ n. Reaches p n (Going pending s) (Going pending s)) none (stays p (Going pending s))

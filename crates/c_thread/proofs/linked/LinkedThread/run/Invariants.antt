@@ -1,0 +1,23 @@
+use Rattle.std.proofs.Common.{◌-◌, ◌≤◌}
+use Rattle.w2c_base.specs.Run.{Trail}
+use Rattle.c_meaning.specs.Linking.{Program}
+use Rattle.c_meaning.specs.Run.{Going, Pending}
+use Rattle.c_meaning.specs.Reaches.{Reaches}
+use Rattle.c_objects.specs.Stores.{AreStored}
+use Rattle.c_objects.specs.Views.{Naming}
+use Rattle.c_thread.specs.FuncTypes.{AreFuncTypes}
+use Rattle.c_thread.specs.Linked.{state_in, IsLinked}
+use Rattle.c_thread.proofs.linked.LinkedThread.run.Given as goal
+
+abbrev pub invariant-loop-steps : goal.invariant-loop-steps
+invariant-loop-steps l = record {
+  fewer : l.steps ≤ l.initial.steps;
+  stored : (names : Naming) → AreStored names l.initial.self.store.units.items → AreStored names l.self.store.units.items;
+  reaches : (names : Naming) (p : Program) (trail : Trail) (pending : Pending) → IsLinked names p l.units
+      → AreFuncTypes names p l.types → AreStored names l.initial.self.store.units.items
+      → Reaches p (l.initial.steps - l.steps) (Going pending (state_in names p trail l.initial.self))
+      (Going pending (state_in names p trail l.self));
+}
+
+abbrev pub decreases-loop-steps : goal.decreases-loop-steps
+decreases-loop-steps l = l.steps

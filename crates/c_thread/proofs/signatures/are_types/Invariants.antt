@@ -1,0 +1,6 @@
+use Rattle.std.proofs.Common.{◌≡◌, drop}
+use Rattle.c_tree.specs.Runtime.{same_types}
+use Rattle.c_thread.proofs.signatures.are_types.Given as goal
+
+abbrev pub invariant-loop-i : goal.invariant-loop-i
+invariant-loop-i l = same_types (drop l.i l.types) (drop l.i l.others) ≡ same_types l.types l.others

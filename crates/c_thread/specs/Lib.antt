@@ -1,0 +1,3 @@
+pub mod FuncTypes
+pub mod Linked
+pub mod Sights

@@ -1,0 +1,21 @@
+use Rattle.std.proofs.Common.{◌≡◌, ◌≤◌, ◌+◌, length, take}
+use Rattle.std.specs.List.{AllByRecursion}
+use Rattle.w2c_io.specs.Telling.{Tells}
+use Rattle.w2c_files.specs.Reading.{AreHeld, total}
+use Rattle.w2c_files.specs.Words.{names_of}
+use Rattle.w2c_files.proofs.reading.read_files.Given as goal
+
+-- so many files are read
+abbrev pub invariant-loop-k : goal.invariant-loop-k
+invariant-loop-k g l =
+    let files = g.F.Files in
+    record {
+      told : files.told l.files ≡ files.told l.fn.files;
+      current : files.current l.files ≡ files.current l.fn.files;
+      writes : files.write_faults l.files ≡ files.write_faults l.fn.files;
+      later : files.read_faults l.fn.files ≤ files.read_faults l.files;
+      held : Tells (files.told l.fn.files) (λ contents. AreHeld contents (take l.k (names_of l.names)) l.all.items);
+      many : length l.all.items ≡ l.k;
+      fit : AllByRecursion (λ bytes. length bytes ≤ l.limits.each) l.all.items;
+      left : total l.all.items + l.left ≡ l.limits.all;
+    }

@@ -1,0 +1,17 @@
+use Rattle.std.proofs.Common.{◌≡◌, ◌≤◌, ◌++◌, List, ℕ, Some, length}
+use Rattle.w2c_io.specs.Contents.{holding}
+use Rattle.w2c_files.proofs.writing.write_file.Given as goal
+
+-- a part of the text is written
+abbrev pub invariant-loop-rest : goal.invariant-loop-rest
+invariant-loop-rest g l =
+    let files = g.F.Files in
+    record {
+      held : (part : List ℕ) × (l.text ≡ part ++ l.rest) × (files.told l.files ≡ holding (files.told l.fn.files) l.name part);
+      current : files.current l.files ≡ Some l.name;
+      reads : files.read_faults l.files ≡ files.read_faults l.fn.files;
+      later : files.write_faults l.fn.files ≤ files.write_faults l.files;
+    }
+
+abbrev pub decreases-loop-rest : goal.decreases-loop-rest
+decreases-loop-rest g l = length l.rest

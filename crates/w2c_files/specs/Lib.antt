@@ -1,0 +1,5 @@
+-- promised
+pub mod Words
+pub mod Reading
+pub mod Standing
+pub mod Stopping

@@ -1,0 +1,13 @@
+//! Files that are read one after another within limits, and written one after another: what was read,
+//! why it stopped, and what stands then.
+#![tactic(auto)]
+
+mod law;
+mod reading;
+#[cfg(test)]
+mod tests;
+mod writing;
+
+pub use law::{one_stop, written_files};
+pub use reading::{Limits, ReadStop, name_at, read_files};
+pub use writing::{Output, WriteStop, write_file, write_files};

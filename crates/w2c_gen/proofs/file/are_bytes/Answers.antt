@@ -1,0 +1,5 @@
+use Rattle.w2c_gen.proofs.Bytes.{slice_bytes}
+use Rattle.w2c_gen.proofs.file.are_bytes.Goals as goal
+
+pub returns : goal.returns
+returns c = slice_bytes c.args.bytes.now c.type_inv.bytes

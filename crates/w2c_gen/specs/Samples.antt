@@ -1,0 +1,43 @@
+-- The files of one and of two functions, byte by byte.
+use Rattle.std.specs.Prelude.{ℕ, List, [], ◌∷◌, ◌++◌}
+
+-- magic and version (WebAssembly Core 1.0, 5.5.15)
+abbrev pub head : List ℕ
+head = 0x00 ∷ 0x61 ∷ 0x73 ∷ 0x6D ∷ 0x01 ∷ 0x00 ∷ 0x00 ∷ 0x00 ∷ []
+
+-- one type, `[i32] → [i32]` (5.5.4)
+abbrev pub one_type : List ℕ
+one_type = 0x01 ∷ 0x60 ∷ 0x01 ∷ 0x7F ∷ 0x01 ∷ 0x7F ∷ []
+
+-- `run` is the function of an index below 128 (5.5.10)
+abbrev pub one_export : ℕ → List ℕ
+one_export index = 0x01 ∷ 0x03 ∷ 0x72 ∷ 0x75 ∷ 0x6E ∷ 0x00 ∷ index ∷ []
+
+-- `local.get 0`, `i32.const 1015568748`, `i32.add` (5.5.13)
+abbrev pub only_body : List ℕ
+only_body = 0x00 ∷ 0x20 ∷ 0x00 ∷ 0x41 ∷ 0xEC ∷ 0xB2 ∷ 0xA1 ∷ 0xE4 ∷ 0x03 ∷ 0x6A ∷ 0x0B ∷ []
+
+abbrev pub file_of_one : List ℕ
+file_of_one =
+    head
+    ++ (0x01 ∷ 0x06 ∷ one_type)
+    ++ (0x03 ∷ 0x02 ∷ 0x01 ∷ 0x00 ∷ [])
+    ++ (0x07 ∷ 0x07 ∷ one_export 0)
+    ++ (0x0A ∷ 0x0D ∷ 0x01 ∷ 0x0B ∷ only_body)
+
+-- `local.get 0`, `i32.const 1017233273`, `i32.sub`
+abbrev pub first_body : List ℕ
+first_body = 0x00 ∷ 0x20 ∷ 0x00 ∷ 0x41 ∷ 0xF9 ∷ 0xFE ∷ 0x86 ∷ 0xE5 ∷ 0x03 ∷ 0x6B ∷ 0x0B ∷ []
+
+-- `local.get 0`, `i32.const 1975575172`, `i32.add`, `call 0`
+abbrev pub second_body : List ℕ
+second_body = 0x00 ∷ 0x20 ∷ 0x00 ∷ 0x41 ∷ 0x84 ∷ 0xC5 ∷ 0x83 ∷ 0xAE ∷ 0x07 ∷ 0x6A ∷ 0x10 ∷ 0x00 ∷ 0x0B ∷ []
+
+abbrev pub file_of_two : List ℕ
+file_of_two =
+    head
+    ++ (0x01 ∷ 0x06 ∷ one_type)
+    ++ (0x03 ∷ 0x03 ∷ 0x02 ∷ 0x00 ∷ 0x00 ∷ [])
+    ++ (0x07 ∷ 0x07 ∷ one_export 1)
+    ++ (0x0A ∷ 0x1B ∷ 0x02 ∷ 0x0B ∷ first_body)
+    ++ (0x0D ∷ second_body)

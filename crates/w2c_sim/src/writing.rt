@@ -1,0 +1,147 @@
+// The texts of a module's unit and header, written into the current file.
+ghost use Rattle.std.specs.Prelude.{◌≡◌, ◌≤◌, length, IsSome, IfOk, OnOk, OnErr};
+ghost use Rattle.w2c_io.specs.Contents.{appending, AppendsPart};
+ghost use Rattle.w2c_io.specs.Causes.{WriteCause, name_after_write};
+ghost use Rattle.c_tree.specs.View.{item_of};
+ghost use Rattle.c_print.specs.ItemText.{IsItemOfUnit};
+ghost use Rattle.c_print.specs.Print.{print_item_of};
+ghost use Rattle.w2c_sim.specs.Translation.{text_of, header_text_of};
+
+use c_print::{print_header, print_item_to};
+use c_tree::{Item, Tok};
+use c_unit::{UnitItems, header};
+use std::alloc::Global;
+use w2c_base::{Bytes, Memory};
+use w2c_io::{Files, WriteAnswer};
+use wasm_valid::ValidModule;
+
+/// Appends the text of a module's unit under a name to the current file: the include line, then an item at a time, so
+/// that one function's tree and text are held at most. It is the text that `translate` gives.
+///
+/// # Errors
+///
+/// `Failed` where the file failed, `Memory` where memory was wanting. A prefix of the text was appended then, and the
+/// file stays current.
+pub fn write_unit<F: Files>(
+    alloc: Global,
+    m: &ValidModule,
+    name: &[u8],
+    files: &mut F,
+) -> Result<(), WriteAnswer>
+    requires named { 1 ≤ length name.now }
+    requires short { length name.now ≤ 1024 }
+    requires current { IsSome (F.current files.old) }
+    ensures written { OnOk result (F.told files.new
+        ≡ appending (F.told files.old) (F.current files.old) (text_of m.now name.now)) }
+    ensures part { OnErr result (AppendsPart (F.told files.old) (F.told files.new) (F.current files.old)
+        (text_of m.now name.now)) }
+    ensures current { F.current files.new ≡ F.current files.old }
+    ensures cause { WriteCause (F.write_faults files.old) (F.write_faults files.new) result }
+    ensures fault { F.fault_name files.new ≡ name_after_write result (F.current files.old) (F.fault_name files.old) }
+    ensures reads { F.read_faults files.new ≡ F.read_faults files.old }
+{
+    // It says that the module is valid and has a file, so that its unit is one that a text spells.
+    let _ = m.module();
+    let mut items = UnitItems::new(alloc, m, name)?;
+    files.put(Tok::Include.text())?;
+    'more: while let Some(item) = items.next()? {
+        write_item(alloc, item, files)?;
+    }
+    Ok(())
+}
+
+// Appends an item's text and drops the item.
+fn write_item<F: Files>(alloc: Global, item: Item, files: &mut F) -> Result<(), WriteAnswer>
+    requires formed { IsItemOfUnit (item_of item) }
+    requires current { IsSome (F.current files.old) }
+    ensures written { OnOk result (F.told files.new
+        ≡ appending (F.told files.old) (F.current files.old) (print_item_of (item_of item))) }
+    ensures part { OnErr result (AppendsPart (F.told files.old) (F.told files.new) (F.current files.old)
+        (print_item_of (item_of item))) }
+    ensures current { F.current files.new ≡ F.current files.old }
+    ensures cause { WriteCause (F.write_faults files.old) (F.write_faults files.new) result }
+    ensures fault { F.fault_name files.new ≡ name_after_write result (F.current files.old) (F.fault_name files.old) }
+    ensures reads { F.read_faults files.new ≡ F.read_faults files.old }
+{
+    print_item_to(alloc, &item, files)
+}
+
+/// Appends the text of a module's header under a name to the current file. It is the text that `translate` gives.
+///
+/// # Errors
+///
+/// Those of `write_unit`.
+pub fn write_header<F: Files>(
+    alloc: Global,
+    m: &ValidModule,
+    name: &[u8],
+    files: &mut F,
+) -> Result<(), WriteAnswer>
+    requires named { 1 ≤ length name.now }
+    requires short { length name.now ≤ 1024 }
+    requires current { IsSome (F.current files.old) }
+    ensures written { OnOk result (F.told files.new
+        ≡ appending (F.told files.old) (F.current files.old) (header_text_of m.now name.now)) }
+    ensures part { OnErr result (AppendsPart (F.told files.old) (F.told files.new) (F.current files.old)
+        (header_text_of m.now name.now)) }
+    ensures current { F.current files.new ≡ F.current files.old }
+    ensures cause { WriteCause (F.write_faults files.old) (F.write_faults files.new) result }
+    ensures fault { F.fault_name files.new ≡ name_after_write result (F.current files.old) (F.fault_name files.old) }
+    ensures reads { F.read_faults files.new ≡ F.read_faults files.old }
+{
+    let text = header_text(alloc, m, name)?;
+    files.put(text.as_slice())?;
+    Ok(())
+}
+
+fn header_text(alloc: Global, m: &ValidModule, name: &[u8]) -> Result<Bytes, Memory>
+    ensures { IfOk result (λ text. text ≡ header_text_of m.now name.now) }
+{
+    let header = header(alloc, m, name)?;
+    print_header(alloc, &header)
+}
+
+#[cfg(test)]
+mod tests {
+    use crate::{accept, write_header, write_unit};
+    use std::alloc::Global;
+    use std::test::Fail;
+    use w2c_io::{Files, SureFiles, WriteAnswer};
+    use wasm_valid::ValidModule;
+
+    const UNIT: &str = "#include \"w2c_rt.h\"\nvoid w2cZ_mZ_i(void) {\n;\nreturn;\n}\n";
+
+    const HEADER: &str =
+        "/* made by wasm2c; int has 32 bits and every character of a name counts */\n#ifndef W2CZ_mZ_H\n#define W2CZ_mZ_H\n#include \"w2c_rt.h\"\nvoid w2cZ_mZ_i(void);\n#endif\n";
+
+    fn write_both<F: Files>(
+        alloc: Global,
+        m: &ValidModule,
+        files: &mut F,
+    ) -> Result<(), WriteAnswer> {
+        files.begin("m.c")?;
+        write_unit(alloc, m, b"m", files)?;
+        files.finish()?;
+        files.begin("m.h")?;
+        write_header(alloc, m, b"m", files)?;
+        files.finish()?;
+        Ok(())
+    }
+
+    #[test]
+    fn texts_of_an_empty_module(rt: HostRuntime) -> Result<(), Fail> {
+        let alloc = rt.alloc();
+        let module = accept(alloc, b"\0asm\x01\0\0\0")
+            .ok()
+            .ok_or("the bytes are a module")?;
+        let mut files = SureFiles::new(alloc);
+        write_both(alloc, &module, &mut files)?;
+        assert!(rt; files.get("m.c").is_some_and(|text| text == UNIT.as_bytes()));
+        assert!(rt;
+            files
+                .get("m.h")
+                .is_some_and(|text| text == HEADER.as_bytes())
+        );
+        Ok(())
+    }
+}

@@ -1,0 +1,200 @@
+-- The files of modules, one module after another.
+use Rattle.std.proofs.Common.{◌≡◌, ◌<◌, ◌+◌, ◌≤◌, ℕ, zero, suc, List, [], ◌∷◌, ◌++◌, length, take, drop, map, add-one, refl, sym, ◌∙◌, ap, subst, arith, Option, Some, slice_get, slice_index_or, string_bytes, inl, inr}
+use Rattle.std.specs.List.{AllByRecursion}
+use Rattle.w2c_io.specs.Contents.{Name, Told, holding, appending, AppendsPart}
+use Rattle.w2c_io.specs.Causes.{Faulted}
+use Rattle.w2c_io.specs.declared.answers.WriteAnswer.{WriteAnswer}
+use Rattle.w2c_io.specs.declared.answers.WriteAnswer.TheVariants as answers
+use Rattle.w2c_io.proofs.Telling.{rose_from}
+use Rattle.w2c_files.specs.Standing.{IsOneOf, file_names, written, IsBegun, Stands, StandsAt}
+use Rattle.w2c_files.proofs.Loops.{next_at}
+use Rattle.w2c_files.proofs.Standing.{at_before, at_behind, at_first, put_more, part_begun, stands_before, stands_behind, written_joined}
+use Rattle.wasm_tree.specs.declared.tree.Module.{Module}
+use Rattle.wasm2c_cli.specs.declared.plan.Target.{Target}
+use Rattle.wasm2c_cli.specs.declared.stop.Stop.{Stop}
+use Rattle.wasm2c_cli.specs.declared.stop.Stop.TheVariants as stops
+use Rattle.wasm2c_cli.specs.Job.{files_of, module_files}
+use Rattle.wasm2c_cli.specs.Parts.{IsNamed, StopsAtFile, StopsWriting, seen_target, seen_targets}
+use Rattle.wasm2c_cli.specs.Plan as plan
+use Rattle.wasm2c_cli.specs.Plan.{names_of_targets}
+
+-- ---- one file
+
+pub put_whole : (old begun new : Told) (current : Option Name) (name : Name) (text : List ℕ) → begun ≡ holding old name []
+    → current ≡ Some name → new ≡ appending begun current text → new ≡ holding old name text
+put_whole old begun new current name text is_begun is_current put = put_more old begun new current name [] text is_begun is_current put
+
+pub put_part : (old begun new : Told) (current : Option Name) (name : Name) (text : List ℕ) → begun ≡ holding old name []
+    → current ≡ Some name → AppendsPart begun new current text → IsBegun old new name text
+put_part old begun new current name text is_begun is_current (inl same) =
+    part_begun old new name text [] text refl (same ∙ is_begun)
+put_part old begun new current name text is_begun is_current (inr (part, (rest, cut), put)) =
+    part_begun old new name text part rest cut (put_more old begun new current name [] part is_begun is_current put)
+
+-- ---- both files of a module
+
+module _ (old mid new : Told) (c_file header : Name) (text more : List ℕ) (first : mid ≡ holding old c_file text) where
+  pub second_at : IsBegun mid new header more → StandsAt old new ((c_file, text) ∷ (header, more) ∷ []) header
+  second_at begun = at_behind old mid new ((c_file, text) ∷ []) ((header, more) ∷ []) header first (at_first mid new header more [] begun)
+
+-- the stop at a file that stands in part
+pub stops_at : (old new : Told) (files : List (Name × List ℕ)) (before after : ℕ) (named : Option Name) (answer : WriteAnswer) (file : Name)
+    (stop : Stop) → StandsAt old new files file → (answer ≡ answers.Failed → Faulted file before after named) → StopsAtFile answer file stop
+    → StopsWriting old new files before after named stop
+stops_at old new files before after named answer file stops.Usage stands faulted is = absurd is
+stops_at old new files before after named answer file (stops.Refused name reason) stands faulted is = absurd is
+stops_at old new files before after named answer file (stops.Unread name) stands faulted is = absurd is
+stops_at old new files before after named answer file (stops.Unwritten name) stands faulted (failed, same) = (
+  subst (λ (n : Name). Faulted n before after named) (sym same) (faulted failed),
+  subst (StandsAt old new files) (sym same) stands,
+)
+stops_at old new files before after named answer file stops.Memory stands faulted is = inr (file, stands)
+
+-- ---- the files of all modules
+
+files_joined : (ts us : List plan.Target) (ms ns : List Module) → length ms ≡ length ts → files_of (ts ++ us) (ms ++ ns) ≡ files_of ts ms ++ files_of us ns
+files_joined [] us [] ns same = refl
+files_joined [] us (m ∷ ms) ns same = absurd (omega (arith, same))
+files_joined (t ∷ ts) us [] ns same = absurd (omega (arith, same))
+files_joined (t ∷ ts) us (m ∷ ms) ns same =
+    ap (λ (l : List (Name × List ℕ)). module_files t m ++ l) (files_joined ts us ms ns (omega (arith, same)))
+
+-- the modules at a place, and those in front of it
+module _ (targets : List plan.Target) (modules : List Module) (k : ℕ) (t : plan.Target) (m : Module)
+    (at : slice_get targets k ≡ Some t) (at' : slice_get modules k ≡ Some m) (many : length modules ≡ length targets) where
+  abbrev rest : List (Name × List ℕ)
+  rest = files_of (drop (suc k) targets) (drop (suc k) modules)
+
+  split : {A : Type 0} (xs : List A) (j : ℕ) (x : A) → slice_get xs j ≡ Some x → xs ≡ take j xs ++ x ∷ drop (suc j) xs
+  split [] j x is = cc
+  split (y ∷ ys) zero x is = let same : y ≡ x = cc in λ i. same i ∷ ys
+  split (y ∷ ys) (suc j) x is = ap (λ (l : List _). y ∷ l) (split ys j x is)
+
+  front : {A B : Type 0} (xs : List A) (ys : List B) (j : ℕ) → length xs ≡ length ys → length (take j xs) ≡ length (take j ys)
+  front [] [] zero same = refl
+  front [] [] (suc j) same = refl
+  front [] (y ∷ ys) j same = absurd (omega (arith, same))
+  front (x ∷ xs) [] j same = absurd (omega (arith, same))
+  front (x ∷ xs) (y ∷ ys) zero same = refl
+  front (x ∷ xs) (y ∷ ys) (suc j) same = ap suc (front xs ys j (omega (arith, same)))
+
+  all_files : files_of targets modules ≡ files_of (take k targets) (take k modules) ++ (module_files t m ++ rest)
+  all_files = (λ i. files_of (split targets k t at i) (split modules k m at' i))
+      ∙ files_joined (take k targets) (t ∷ drop (suc k) targets) (take k modules) (m ∷ drop (suc k) modules) (front modules targets k many)
+
+  next : {A : Type 0} (xs : List A) (j : ℕ) (x : A) → slice_get xs j ≡ Some x → take (suc j) xs ≡ take j xs ++ x ∷ []
+  next [] j x is = cc
+  next (y ∷ ys) zero x is = let same : y ≡ x = cc in λ i. same i ∷ []
+  next (y ∷ ys) (suc j) x is = ap (λ (l : List _). y ∷ l) (next ys j x is)
+
+  next_files : files_of (take (k + 1) targets) (take (k + 1) modules) ≡ files_of (take k targets) (take k modules) ++ module_files t m
+  next_files = (λ i. files_of (take (add-one k i) targets) (take (add-one k i) modules))
+      ∙ (λ i. files_of (next targets k t at i) (next modules k m at' i))
+      ∙ files_joined (take k targets) (t ∷ []) (take k modules) (m ∷ []) (front modules targets k many)
+
+  module _ (old before new : Told) (so_far : before ≡ written old (files_of (take k targets) (take k modules))) where
+    pub one_more : new ≡ written before (module_files t m) → new ≡ written old (files_of (take (k + 1) targets) (take (k + 1) modules))
+    one_more one = one ∙ ap (λ (told : Told). written told (module_files t m)) so_far
+        ∙ sym (written_joined old (files_of (take k targets) (take k modules)) (module_files t m))
+        ∙ ap (written old) (sym next_files)
+
+    pub stops_all : (start here after : ℕ) (named : Option Name) (stop : Stop) → start ≤ here
+        → StopsWriting before new (module_files t m) here after named stop
+        → StopsWriting old new (files_of targets modules) start after named stop
+    stops_all start here after named (stops.Unwritten name) later (faulted, stands) = (
+      record { rose = rose_from start here after later faulted.rose; named = faulted.named },
+      subst (λ (l : List (Name × List ℕ)). StandsAt old new l (string_bytes name)) (sym all_files)
+          (at_behind old before new (files_of (take k targets) (take k modules)) (module_files t m ++ rest) (string_bytes name) so_far
+          (at_before before new (module_files t m) rest (string_bytes name) stands)),
+    )
+    stops_all start here after named stops.Memory later stands =
+        subst (λ (l : List (Name × List ℕ)). Stands old new l) (sym all_files)
+        (stands_behind old before new (files_of (take k targets) (take k modules)) (module_files t m ++ rest) so_far
+        (stands_before before new (module_files t m) rest stands))
+    stops_all start here after named stops.Usage later why = absurd why
+    stops_all start here after named (stops.Refused name reason) later why = absurd why
+    stops_all start here after named (stops.Unread name) later why = absurd why
+
+pub all_files_written : (old : Told) (targets : List plan.Target) (modules : List Module) (k : ℕ) → k ≡ length targets
+    → length modules ≡ length targets
+    → written old (files_of (take k targets) (take k modules)) ≡ written old (files_of targets modules)
+all_files_written old targets modules k end many =
+    λ i. written old (files_of (whole targets k end i) (whole modules k (end ∙ sym many) i))
+  where
+    whole : {A : Type 0} (xs : List A) (j : ℕ) → j ≡ length xs → take j xs ≡ xs
+    whole [] j is = ap (λ n. take n []) is
+    whole (x ∷ xs) zero is = absurd (omega (arith, is))
+    whole (x ∷ xs) (suc j) is = ap (λ (l : List _). x ∷ l) (whole xs j (omega (arith, is)))
+
+-- ---- what code has at a place
+
+pub target_at : (ts : List Target) (k : ℕ) (t : Target) → k < length ts → t ≡ slice_index_or ts k t
+    → slice_get (seen_targets ts) k ≡ Some (seen_target t)
+target_at [] k t within is = absurd (omega arith)
+target_at (x ∷ ts) zero t within is = λ i. Some (seen_target (sym is i))
+target_at (x ∷ ts) (suc k) t within is = target_at ts k t (omega arith) is
+
+pub module_at : (ms : List Module) (k : ℕ) (m : Module) → k < length ms → m ≡ slice_index_or ms k m → slice_get ms k ≡ Some m
+module_at [] k m within is = absurd (omega arith)
+module_at (x ∷ ms) zero m within is = λ i. Some (sym is i)
+module_at (x ∷ ms) (suc k) m within is = module_at ms k m (omega arith) is
+
+pub length-targets : (ts : List Target) → length (seen_targets ts) ≡ length ts
+length-targets [] = refl
+length-targets (t ∷ ts) = ap suc (length-targets ts)
+
+pub target_has : (P : plan.Target → Type 0) (ts : List plan.Target) (k : ℕ) (t : plan.Target) → slice_get ts k ≡ Some t
+    → AllByRecursion P ts → P t
+target_has P [] k t at all = cc
+target_has P (x ∷ ts) zero t at all = let same : x ≡ t = cc in subst P same all.0
+target_has P (x ∷ ts) (suc k) t at all = target_has P ts k t at all.1
+
+named_joined : (ts : List plan.Target) (t : plan.Target) → AllByRecursion IsNamed ts → IsNamed t → AllByRecursion IsNamed (ts ++ t ∷ [])
+named_joined [] t all one = (one, tt)
+named_joined (x ∷ ts) t all one = (all.0, named_joined ts t all.1 one)
+
+pub named_more : (ts : List plan.Target) (k : ℕ) (t : plan.Target) → slice_get ts k ≡ Some t → AllByRecursion IsNamed (take k ts)
+    → IsNamed t → AllByRecursion IsNamed (take (k + 1) ts)
+named_more ts k t at all one =
+    subst (λ (l : List plan.Target). AllByRecursion IsNamed l) (sym (next_at ts k t at)) (named_joined (take k ts) t all one)
+
+-- ---- the names of the files
+
+pub one_of_targets : (ts : List plan.Target) (ms : List Module) (name : Name) → IsOneOf name (file_names (files_of ts ms))
+    → IsOneOf name (names_of_targets ts)
+one_of_targets [] ms name one = one
+one_of_targets (t ∷ ts) [] name one = absurd one
+one_of_targets (t ∷ ts) (m ∷ ms) name (inl same) = inl same
+one_of_targets (t ∷ ts) (m ∷ ms) name (inr (inl same)) = inr (inl same)
+one_of_targets (t ∷ ts) (m ∷ ms) name (inr (inr one)) = inr (inr (one_of_targets ts ms name one))
+
+-- ---- the targets of a set
+
+pub seen_more : (ts more : List Target) (t : Target) → more ≡ ts ++ t ∷ [] → seen_targets more ≡ seen_targets ts ++ seen_target t ∷ []
+seen_more ts more t same = ap seen_targets same ∙ joined ts
+  where
+    joined : (xs : List Target) → seen_targets (xs ++ t ∷ []) ≡ seen_targets xs ++ seen_target t ∷ []
+    joined [] = refl
+    joined (x ∷ xs) = ap (λ (l : List plan.Target). seen_target x ∷ l) (joined xs)
+
+pub mapped_at : (f : Name → plan.Target) (names : List Name) (k : ℕ) (name : Name) → slice_get names k ≡ Some name
+    → slice_get (map f names) k ≡ Some (f name)
+mapped_at f [] k name at = cc
+mapped_at f (n ∷ names) zero name at = let same : n ≡ name = cc in λ i. Some (f (same i))
+mapped_at f (n ∷ names) (suc k) name at = mapped_at f names k name at
+
+pub one_more_target : (f : Name → plan.Target) (names : List Name) (k : ℕ) (name : Name) (ts more : List Target) (t : Target)
+    → slice_get names k ≡ Some name → seen_targets ts ≡ take k (map f names) → seen_target t ≡ f name → more ≡ ts ++ t ∷ []
+    → seen_targets more ≡ take (k + 1) (map f names)
+one_more_target f names k name ts more t at so_far is same =
+    seen_more ts more t same ∙ (λ i. so_far i ++ is i ∷ [])
+    ∙ sym (next_at (map f names) k (f name) (mapped_at f names k name at))
+
+pub all_targets : (f : Name → plan.Target) (names : List Name) (k : ℕ) (ts : List Target) → k ≡ length names
+    → seen_targets ts ≡ take k (map f names) → seen_targets ts ≡ map f names
+all_targets f names k ts end so_far = so_far ∙ whole names k end
+  where
+    whole : (ns : List Name) (j : ℕ) → j ≡ length ns → take j (map f ns) ≡ map f ns
+    whole [] j is = ap (λ n. take n []) is
+    whole (n ∷ ns) zero is = absurd (omega (arith, is))
+    whole (n ∷ ns) (suc j) is = ap (λ (l : List plan.Target). f n ∷ l) (whole ns j (omega (arith, is)))

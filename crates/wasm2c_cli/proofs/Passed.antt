@@ -1,0 +1,209 @@
+-- What a line has passed, and what follows of the modules and files that it asks for.
+use Rattle.std.proofs.Common.{◌≡◌, ℕ, ◌≤◌, ◌&&◌, ◌||◌, nat_le, Bool, true, false, not, if◌then◌else◌, List, [], ◌∷◌, ◌++◌, length, map, get_or, codes, IsTrue, refl, sym, ap, ◌∙◌, subst, arith, Option, Some, None, unwrap_or, option_and_then, inl, inr}
+use Rattle.std.specs.List.{AllByRecursion, list_all, list_any}
+use Rattle.std.specs.Str.{bytes_eq}
+use Rattle.std.specs.Str.Parse.{digits_value}
+use Rattle.std.proofs.lemmas.Bool.{leb-true}
+use Rattle.std.proofs.lemmas.List.{append_cancel_left, length-map}
+use Rattle.std.proofs.lemmas.Slice.Eq.{bytes_eq-Decides}
+use Rattle.w2c_io.specs.Contents.{Name}
+use Rattle.w2c_files.specs.Standing.{IsOneOf, AreDistinct, file_names}
+use Rattle.wasm2c_words.specs.Command.{Values, values_of}
+use Rattle.wasm2c_words.specs.CommandLine.{Line, Translation, FileSet, Generation, translate, set, generate, runtime, are_names, is_set, is_count, in_range, count_of, translation, generation, line_with_output, line_with_dir, line_with_count, line_with_runtime, line_by, line_of_values, line_of}
+use Rattle.wasm2c_words.specs.Names.{are_distinct, header_name_of, is_c_file, is_module_name, module_name_of}
+use Rattle.wasm2c_words.specs.SetFiles.{files_of}
+use Rattle.wasm2c_words.proofs.HeaderName.{is_apart}
+use Rattle.wasm2c_words.proofs.SetFiles.{files_are_distinct}
+use Rattle.wasm2c_cli.specs.Parts.{HasName, HasPassed}
+use Rattle.wasm2c_cli.specs.Plan.{target_in, inputs_of, targets_of, names_of_targets, outputs_of}
+use Rattle.wasm2c_cli.specs.Runtime.{runtime_files}
+
+both_true : (a b : Bool) → (a && b) ≡ true → (a ≡ true) × (b ≡ true)
+both_true true b e = (refl, e)
+both_true false b e = absurd (cc)
+
+-- what is given where a test is passed, was given since it was
+given : {A : Type 0} (b : Bool) (x y : A) → ◌≡◌ {A = Option A} (if b then Some x else None) (Some y) → (b ≡ true) × (x ≡ y)
+given true x y e = (refl, cc)
+given false x y e = absurd (cc)
+
+-- ---- names of modules
+
+fit_name : (name : List ℕ) → is_module_name name ≡ true → (1 ≤ length name) × (length name ≤ 1024)
+fit_name name fits =
+    let parts = both_true _ _ fits in (leb-true 1 (length name) parts.0, leb-true (length name) 1024 parts.1)
+
+fit_names : (dir : Name) (inputs : List Name) → list_all is_module_name (map module_name_of inputs) ≡ true
+    → AllByRecursion HasName (map (target_in dir) inputs)
+fit_names dir [] fits = tt
+fit_names dir (input ∷ inputs) fits =
+    let parts = both_true _ _ fits in (fit_name (module_name_of input) parts.0, fit_names dir inputs parts.1)
+
+-- ---- the forms
+
+translation_passed : (input output : Name) (name : List ℕ) (line : Line) → translation input output name ≡ Some line → HasPassed line
+translation_passed input output name line is =
+    let t : Translation = record { input = input; output = output; module_name = name } in
+    let passed = given (are_names output name) (translate t) line is in
+    let parts = both_true _ _ passed.0 in
+    subst HasPassed passed.1 (parts.0, fit_name name parts.1)
+
+output_passed : (output : Name) (name : Option (List ℕ)) (files : List Name) (line : Line) → line_with_output output name files ≡ Some line
+    → HasPassed line
+output_passed output name [] line is = absurd (cc)
+output_passed output name (input ∷ []) line is = translation_passed input output (unwrap_or name (module_name_of input)) line is
+output_passed output name (input ∷ other ∷ files) line is = absurd (cc)
+
+dir_passed : (dir : Name) (name : Option (List ℕ)) (files : List Name) (line : Line) → line_with_dir dir name files ≡ Some line
+    → HasPassed line
+dir_passed dir (Some name) files line is = absurd (cc)
+dir_passed dir None files line is =
+    let s : FileSet = record { dir = dir; inputs = files } in
+    let passed = given (is_set files) (set s) line is in
+    let parts = both_true _ _ passed.0 in
+    let names = both_true _ _ parts.1 in
+    subst HasPassed passed.1 (fit_names dir files names.0, names.1)
+
+in_range_fits : (count n : ℕ) → in_range count ≡ Some n → (1 ≤ n) × (n ≤ 20000)
+in_range_fits count n is =
+    let passed = given (nat_le 1 count && nat_le count 20000) count n is in
+    let parts = both_true (nat_le 1 count) (nat_le count 20000) passed.0 in
+    let some : 1 ≤ count = leb-true 1 count parts.0 in
+    let few : count ≤ 20000 = leb-true count 20000 parts.1 in
+    (omega (arith, some, passed.1), omega (arith, few, passed.1))
+
+count_fits : (text : List ℕ) (n : ℕ) → count_of text ≡ Some n → (1 ≤ n) × (n ≤ 20000)
+count_fits text n is = by_test (is_count text) is
+  where
+    by_test : (b : Bool) → ◌≡◌ {A = Option ℕ} (if b then in_range (digits_value 10 text) else None) (Some n) → (1 ≤ n) × (n ≤ 20000)
+    by_test true e = in_range_fits (digits_value 10 text) n e
+    by_test false e = absurd (cc)
+
+generation_passed : (count : Option ℕ) (output : Name) (name : List ℕ) (line : Line)
+    → ((n : ℕ) → count ≡ Some n → (1 ≤ n) × (n ≤ 20000)) → generation count output name ≡ Some line → HasPassed line
+generation_passed None output name line fits is = absurd (cc)
+generation_passed (Some count) output name line fits is =
+    let g : Generation = record { count = count; output = output; module_name = name } in
+    let passed = given (are_names output name) (generate g) line is in
+    let parts = both_true _ _ passed.0 in
+    let fit = fits count refl in
+    subst HasPassed passed.1 (parts.0, fit_name name parts.1, fit.0, fit.1)
+
+count_passed : (count : List ℕ) (output : Name) (name : Option (List ℕ)) (files : List Name) (line : Line)
+    → line_with_count count output name files ≡ Some line → HasPassed line
+count_passed count output name [] line is =
+    generation_passed (count_of count) output (unwrap_or name (codes "gen")) line (count_fits count) is
+count_passed count output name (file ∷ files) line is = absurd (cc)
+
+runtime_passed : (dir : Name) (name : Option (List ℕ)) (files : List Name) (line : Line) → line_with_runtime dir name files ≡ Some line
+    → HasPassed line
+runtime_passed dir None [] line is = let same : runtime dir ≡ line = cc in subst HasPassed same tt
+runtime_passed dir None (file ∷ files) line is = absurd (cc)
+runtime_passed dir (Some name) files line is = absurd (cc)
+
+-- ---- the options
+
+options_passed : (output dir : Option Name) (count : Option (List ℕ)) (runs : Option Name) (name : Option (List ℕ)) (files : List Name)
+    (line : Line) → line_by output dir count runs name files ≡ Some line → HasPassed line
+options_passed (Some output) None None None name files line is = output_passed output name files line is
+options_passed None (Some dir) None None name files line is = dir_passed dir name files line is
+options_passed (Some output) None (Some count) None name files line is = count_passed count output name files line is
+options_passed None None None (Some dir) name files line is = runtime_passed dir name files line is
+options_passed None None None None name files line is = absurd (cc)
+options_passed None None (Some count) None name files line is = absurd (cc)
+options_passed None None (Some count) (Some runs) name files line is = absurd (cc)
+options_passed None (Some dir) None (Some runs) name files line is = absurd (cc)
+options_passed None (Some dir) (Some count) None name files line is = absurd (cc)
+options_passed None (Some dir) (Some count) (Some runs) name files line is = absurd (cc)
+options_passed (Some output) None None (Some runs) name files line is = absurd (cc)
+options_passed (Some output) None (Some count) (Some runs) name files line is = absurd (cc)
+options_passed (Some output) (Some dir) None None name files line is = absurd (cc)
+options_passed (Some output) (Some dir) None (Some runs) name files line is = absurd (cc)
+options_passed (Some output) (Some dir) (Some count) None name files line is = absurd (cc)
+options_passed (Some output) (Some dir) (Some count) (Some runs) name files line is = absurd (cc)
+
+values_passed : (values : Option Values) (line : Line) → option_and_then line_of_values values ≡ Some line → HasPassed line
+values_passed None line is = absurd (cc)
+values_passed (Some v) line is = options_passed v.output v.dir v.count v.runtime v.module_name v.files line is
+
+pub passed : (words : List Name) (line : Line) → line_of words ≡ Some line → HasPassed line
+passed words line is = values_passed (values_of words) line is
+
+-- ---- the modules of a line
+
+pub targets_fit : (line : Line) → HasPassed line → AllByRecursion HasName (targets_of line)
+targets_fit (translate t) p = (p.1, tt)
+targets_fit (set s) p = p.0
+targets_fit (generate g) p = (p.1, tt)
+targets_fit (runtime dir) p = tt
+
+pub many_of_translation : (t : Translation) → length (targets_of (translate t)) ≡ length (inputs_of (translate t))
+many_of_translation t = refl
+
+pub many_of_set : (s : FileSet) → length (targets_of (set s)) ≡ length (inputs_of (set s))
+many_of_set s = length-map s.inputs (target_in s.dir)
+
+-- ---- names that are distinct
+
+both_false : (a b : Bool) → (a || b) ≡ false → (a ≡ false) × (b ≡ false)
+both_false true b e = absurd (cc)
+both_false false b e = (refl, e)
+
+no_more : (a : Bool) → not a ≡ true → a ≡ false
+no_more true e = absurd (cc)
+no_more false e = refl
+
+equal_not : (name other : Name) → bytes_eq other name ≡ false → name ≡ other → ⊥
+equal_not name other differ same =
+    let yes : bytes_eq other name ≡ true = (bytes_eq-Decides other name).1 (sym same) in
+    let no : false ≡ true = sym differ ∙ yes in
+    cc
+
+is_no_other : (name : Name) (names : List Name) → list_any (λ other. bytes_eq other name) names ≡ false → IsOneOf name names → ⊥
+is_no_other name [] none one = absurd one
+is_no_other name (other ∷ names) none (inl same) = equal_not name other (both_false _ _ none).0 same
+is_no_other name (other ∷ names) none (inr one) = is_no_other name names (both_false _ _ none).1 one
+
+pub distinct_names : (names : List Name) → are_distinct names ≡ true → AreDistinct names
+distinct_names [] distinct = tt
+distinct_names (name ∷ names) distinct =
+    let parts = both_true _ _ distinct in
+    (is_no_other name names (no_more _ parts.0), distinct_names names parts.1)
+
+two_distinct : (name other : Name) → (name ≡ other → ⊥) → AreDistinct (name ∷ other ∷ [])
+two_distinct name other differ = (apart, ((λ none. absurd none), tt))
+  where
+    apart : IsOneOf name (other ∷ []) → ⊥
+    apart (inl same) = differ same
+    apart (inr none) = absurd none
+
+-- ---- the files of a line
+
+module_files_distinct : (output : Name) → IsTrue (is_c_file output) → AreDistinct (output ∷ header_name_of output ∷ [])
+module_files_distinct output ends = two_distinct output (header_name_of output) (is_apart output ends)
+
+set_names : (dir : Name) (inputs : List Name)
+    → names_of_targets (map (target_in dir) inputs) ≡ files_of dir (map module_name_of inputs)
+set_names dir [] = refl
+set_names dir (input ∷ inputs) =
+    ap (λ (names : List Name). (target_in dir input).c_file ∷ (target_in dir input).header ∷ names) (set_names dir inputs)
+
+set_files_distinct : (dir : Name) (inputs : List Name) → are_distinct (map module_name_of inputs) ≡ true
+    → AreDistinct (names_of_targets (map (target_in dir) inputs))
+set_files_distinct dir inputs distinct = subst AreDistinct (sym (set_names dir inputs))
+    (distinct_names (files_of dir (map module_name_of inputs)) (files_are_distinct dir (map module_name_of inputs) distinct))
+
+h_is_not_c : (dir : Name) → dir ++ codes "/w2c_rt.h" ≡ dir ++ codes "/w2c_rt.c" → ⊥
+h_is_not_c dir same =
+    let ends = append_cancel_left dir (codes "/w2c_rt.h") (codes "/w2c_rt.c") same in
+    let last : ◌≡◌ {A = ℕ} 104 99 = ap (λ (l : List ℕ). get_or l 8 0) ends in
+    omega (arith, last)
+
+runtime_files_distinct : (dir : Name) → AreDistinct (file_names (runtime_files dir))
+runtime_files_distinct dir = two_distinct (dir ++ codes "/w2c_rt.h") (dir ++ codes "/w2c_rt.c") (h_is_not_c dir)
+
+pub distinct_outputs : (line : Line) → HasPassed line → AreDistinct (outputs_of line)
+distinct_outputs (translate t) p = module_files_distinct t.output p.0
+distinct_outputs (set s) p = set_files_distinct s.dir s.inputs p.1
+distinct_outputs (generate g) p = module_files_distinct g.output p.0
+distinct_outputs (runtime dir) p = runtime_files_distinct dir

@@ -1,0 +1,122 @@
+-- Bytes that are accepted in order, and the first that are refused.
+use Rattle.std.proofs.Common.{◌≡◌, ◌<◌, ◌+◌, ℕ, zero, suc, List, [], ◌∷◌, ◌++◌, length, take, refl, sym, ap, subst, arith, Option, Some, None, slice_get, slice_index_or, string_bytes, MatchOption, inl, inr}
+use Rattle.std.specs.List.{AllByRecursion}
+use Rattle.w2c_io.specs.Contents.{Name}
+use Rattle.w2c_files.specs.Standing.{IsOneOf}
+use Rattle.w2c_files.proofs.Loops.{next_at}
+use Rattle.wasm_tree.specs.declared.tree.Module.{Module}
+use Rattle.wasm_spelling.specs.Bytes.{AreBytes}
+use Rattle.wasm_spelling.specs.declared.fault.ReadFault.TheVariants as fault
+use Rattle.wasm_valid.specs.Verdict.{Accepted, Invalid as is_invalid}
+use Rattle.wasm_valid.specs.FileVerdict.{Unread, Read, IsVerdictOn}
+use Rattle.w2c_sim.specs.declared.refusal.Refusal.{Refusal}
+use Rattle.w2c_sim.specs.declared.refusal.Refusal.TheVariants as refusals
+use Rattle.w2c_sim.specs.Refusals.{IsRefusal}
+use Rattle.wasm2c_cli.specs.declared.stop.Reason.{Reason}
+use Rattle.wasm2c_cli.specs.declared.stop.Stop.{Stop}
+use Rattle.wasm2c_cli.specs.declared.stop.Stop.TheVariants as stops
+use Rattle.wasm2c_cli.specs.declared.stop.Reason.TheVariants.{Malformed, Float, Limit, Invalid}
+use Rattle.wasm2c_cli.specs.Job.{AreAccepted}
+use Rattle.wasm2c_cli.specs.Parts.{AreTaken, StopsAccepting, StopsAtRefused}
+use Rattle.wasm2c_cli.specs.Reasons.{IsFirstRefused, IsRefused, reason_of}
+
+-- ---- the refusal of bytes
+
+-- what a refusal's reason says of the bytes
+pub refused_for : (bytes : List ℕ) (refusal : Refusal) → IsRefusal bytes refusal
+    → MatchOption (reason_of refusal) (Unit {0}) (IsRefused bytes)
+refused_for bytes (refusals.Malformed place cause) is = (Unread (fault.Malformed place cause), is, refl)
+refused_for bytes (refusals.Float place) is = (Unread (fault.Float place), is, refl)
+refused_for bytes (refusals.Limit place which) is = (Unread (fault.Limit place which), is, refl)
+refused_for bytes (refusals.Invalid place cause) is = (Read is.0 (is_invalid (record { place = place; cause = cause })), is.1, refl)
+refused_for bytes refusals.Memory is = tt
+
+-- ---- one more that is accepted
+
+taken_joined : (sources : List (List ℕ)) (modules : List Module) (bytes : List ℕ) (m : Module) → AreTaken sources modules
+    → AreBytes bytes → IsVerdictOn bytes (Read m Accepted) → AreTaken (sources ++ bytes ∷ []) (modules ++ m ∷ [])
+taken_joined [] [] bytes m taken are is = ((are, is), tt)
+taken_joined [] (n ∷ modules) bytes m taken are is = absurd taken
+taken_joined (b ∷ sources) [] bytes m taken are is = absurd taken
+taken_joined (b ∷ sources) (n ∷ modules) bytes m taken are is = (taken.0, taken_joined sources modules bytes m taken.1 are is)
+
+pub one_more_taken : (sources : List (List ℕ)) (k : ℕ) (bytes : List ℕ) (modules more : List Module) (m : Module)
+    → slice_get sources k ≡ Some bytes → AreTaken (take k sources) modules → AreBytes bytes → IsVerdictOn bytes (Read m Accepted)
+    → more ≡ modules ++ m ∷ [] → AreTaken (take (k + 1) sources) more
+one_more_taken sources k bytes modules more m at taken are is same =
+    subst (λ (l : List Module). AreTaken (take (k + 1) sources) l) (sym same)
+    (subst (λ (l : List (List ℕ)). AreTaken l (modules ++ m ∷ [])) (sym (next_at sources k bytes at))
+    (taken_joined (take k sources) modules bytes m taken are is))
+
+pub source_at : (sources : List (List ℕ)) (k : ℕ) (bytes : List ℕ) → k < length sources → bytes ≡ slice_index_or sources k bytes
+    → slice_get sources k ≡ Some bytes
+source_at [] k bytes within is = absurd (omega arith)
+source_at (b ∷ sources) zero bytes within is = λ i. Some (sym is i)
+source_at (b ∷ sources) (suc k) bytes within is = source_at sources k bytes (omega arith) is
+
+pub all_at : (P : List ℕ → Type 0) (sources : List (List ℕ)) (k : ℕ) (bytes : List ℕ) → slice_get sources k ≡ Some bytes
+    → AllByRecursion P sources → P bytes
+all_at P [] k bytes at all = cc
+all_at P (b ∷ sources) zero bytes at all = let same : b ≡ bytes = cc in subst P same all.0
+all_at P (b ∷ sources) (suc k) bytes at all = all_at P sources k bytes at all.1
+
+pub take_all : (sources : List (List ℕ)) (k : ℕ) → k ≡ length sources → take k sources ≡ sources
+take_all [] k end = ap (λ n. take n []) end
+take_all (b ∷ sources) zero end = absurd (omega arith)
+take_all (b ∷ sources) (suc k) end = ap (λ (l : List (List ℕ)). b ∷ l) (take_all sources k (omega (arith, end)))
+
+pub all_taken : (sources : List (List ℕ)) (k : ℕ) (modules : List Module) → k ≡ length sources → AreTaken (take k sources) modules
+    → AreTaken sources modules
+all_taken sources k modules end taken = subst (λ (l : List (List ℕ)). AreTaken l modules) (take_all sources k end) taken
+
+-- ---- the first that is refused
+
+pub first_refused : (names : List Name) (sources : List (List ℕ)) (modules : List Module) (k : ℕ) (name : Name) (bytes : List ℕ)
+    (reason : Reason) → slice_get names k ≡ Some name → slice_get sources k ≡ Some bytes → AreTaken (take k sources) modules
+    → IsRefused bytes reason → IsFirstRefused names sources name reason
+first_refused [] sources modules k name bytes reason at at' taken is = cc
+first_refused (n ∷ names) [] modules k name bytes reason at at' taken is = cc
+first_refused (n ∷ names) (b ∷ sources) modules zero name bytes reason at at' taken is =
+    let same : n ≡ name = cc in
+    let same' : b ≡ bytes = cc in
+    inl (sym same, subst (λ (l : List ℕ). IsRefused l reason) (sym same') is)
+first_refused (n ∷ names) (b ∷ sources) [] (suc k) name bytes reason at at' taken is = absurd taken
+first_refused (n ∷ names) (b ∷ sources) (m ∷ modules) (suc k) name bytes reason at at' taken is =
+    inr ((m, taken.0.1), first_refused names sources modules k name bytes reason at at' taken.1 is)
+
+pub refused_is_one : (names : List Name) (sources : List (List ℕ)) (name : Name) (reason : Reason)
+    → IsFirstRefused names sources name reason → IsOneOf name names
+refused_is_one [] sources name reason first = absurd first
+refused_is_one (n ∷ names) [] name reason first = absurd first
+refused_is_one (n ∷ names) (b ∷ sources) name reason (inl (same, is)) = inl same
+refused_is_one (n ∷ names) (b ∷ sources) name reason (inr (accepted, first)) = inr (refused_is_one names sources name reason first)
+
+-- ---- what is taken is accepted
+
+pub taken_accepted : (sources : List (List ℕ)) (modules : List Module) → AreTaken sources modules → AreAccepted sources modules
+taken_accepted [] [] taken = tt
+taken_accepted [] (m ∷ modules) taken = absurd taken
+taken_accepted (b ∷ sources) [] taken = absurd taken
+taken_accepted (b ∷ sources) (m ∷ modules) taken = (taken.0.1, taken_accepted sources modules taken.1)
+
+pub length-taken : (sources : List (List ℕ)) (modules : List Module) → AreTaken sources modules → length modules ≡ length sources
+length-taken [] [] taken = refl
+length-taken [] (m ∷ modules) taken = absurd taken
+length-taken (b ∷ sources) [] taken = absurd taken
+length-taken (b ∷ sources) (m ∷ modules) taken = ap suc (length-taken sources modules taken.1)
+
+some_reason : (bytes : List ℕ) (o : Option Reason) (reason : Reason) → o ≡ Some reason → MatchOption o (Unit {0}) (IsRefused bytes)
+    → IsRefused bytes reason
+some_reason bytes None reason is refused = cc
+some_reason bytes (Some r) reason is refused = let same : r ≡ reason = cc in subst (IsRefused bytes) same refused
+
+pub stops_accepting : (names : List Name) (sources : List (List ℕ)) (modules : List Module) (k : ℕ) (bytes : List ℕ) (refusal : Refusal)
+    (stop : Stop) → slice_get sources k ≡ Some bytes → AreTaken (take k sources) modules → IsRefusal bytes refusal
+    → StopsAtRefused refusal names k stop → StopsAccepting names sources stop
+stops_accepting names sources modules k bytes refusal stops.Usage at taken is why = absurd why
+stops_accepting names sources modules k bytes refusal (stops.Refused name reason) at taken is (because, named) =
+    first_refused names sources modules k (string_bytes name) bytes reason named at taken
+    (some_reason bytes (reason_of refusal) reason because (refused_for bytes refusal is))
+stops_accepting names sources modules k bytes refusal (stops.Unread name) at taken is why = absurd why
+stops_accepting names sources modules k bytes refusal (stops.Unwritten name) at taken is why = absurd why
+stops_accepting names sources modules k bytes refusal stops.Memory at taken is why = tt

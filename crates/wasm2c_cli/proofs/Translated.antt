@@ -1,0 +1,62 @@
+-- What reading, accepting and writing say of a translation.
+use Rattle.std.proofs.Common.{◌≡◌, ℕ, List, ◌∙◌, ap, subst, Option, string_bytes, inl, inr}
+use Rattle.std.specs.List.{AllByRecursion}
+use Rattle.w2c_io.specs.Contents.{Name, Told}
+use Rattle.w2c_io.specs.Causes.{Rose}
+use Rattle.w2c_io.specs.Telling.{Tells}
+use Rattle.w2c_files.specs.Reading.{AreRead}
+use Rattle.w2c_files.specs.Standing.{written, Stands, StandsAt}
+use Rattle.w2c_files.proofs.Standing.{is_one}
+use Rattle.wasm_tree.specs.declared.tree.Module.{Module}
+use Rattle.wasm_spelling.specs.Limits.{most_module_bytes}
+use Rattle.wasm2c_cli.specs.declared.stop.Stop.{Stop}
+use Rattle.wasm2c_cli.specs.declared.stop.Stop.TheVariants as stops
+use Rattle.wasm2c_cli.specs.Job.{files_of}
+use Rattle.wasm2c_cli.specs.Parts.{AreTaken, IsNamed, IsTranslated, StopsAccepting, StopsTranslating, StopsWriting}
+use Rattle.wasm2c_cli.specs.Plan as plan
+use Rattle.wasm2c_cli.specs.Plan.{most_set_bytes}
+use Rattle.wasm2c_cli.proofs.ModuleFiles.{one_of_targets}
+use Rattle.wasm2c_cli.proofs.Taken.{refused_is_one, taken_accepted}
+
+module _ (inputs : List Name) (targets : List plan.Target) (old mid : Told) (sources : List (List ℕ)) (same : mid ≡ old)
+    (read : Tells old (λ contents. AreRead most_module_bytes most_set_bytes contents inputs sources)) where
+  pub accepting_stops : (r r' w w' : ℕ) (named : Option Name) (stop : Stop) → StopsAccepting inputs sources stop
+      → StopsTranslating inputs targets old mid r r' w w' named stop
+  accepting_stops r r' w w' named stops.Usage why = absurd why
+  accepting_stops r r' w w' named (stops.Refused name reason) why =
+      (refused_is_one inputs sources (string_bytes name) reason why, λ contents tells. inr (sources, read contents tells, why), same)
+  accepting_stops r r' w w' named (stops.Unread name) why = absurd why
+  accepting_stops r r' w w' named (stops.Unwritten name) why = absurd why
+  accepting_stops r r' w w' named stops.Memory why = λ contents tells. inl same
+
+  module _ (modules : List Module) (taken : AreTaken sources modules) where
+    pub writing_stops : (new : Told) (r r' w0 w w' : ℕ) (named : Option Name) (stop : Stop) → w ≡ w0
+        → StopsWriting mid new (files_of targets modules) w w' named stop → StopsTranslating inputs targets old new r r' w0 w' named stop
+    writing_stops new r r' w0 w w' named stops.Usage count why = absurd why
+    writing_stops new r r' w0 w w' named (stops.Refused name reason) count why = absurd why
+    writing_stops new r r' w0 w w' named (stops.Unread name) count why = absurd why
+    writing_stops new r r' w0 w w' named (stops.Unwritten name) count (faulted, stands) = (
+      one_of_targets targets modules (string_bytes name) (is_one mid new (files_of targets modules) (string_bytes name) stands),
+      record { rose = subst (λ n. Rose n w') count faulted.rose; named = faulted.named },
+      λ contents tells. (
+        modules,
+        record { sources = sources; read = read contents tells; accepted = taken_accepted sources modules taken },
+        subst (λ (t : Told). StandsAt t new (files_of targets modules) (string_bytes name)) same stands,
+      ),
+    )
+    writing_stops new r r' w0 w w' named stops.Memory count why = λ contents tells. inr (
+      modules,
+      record { sources = sources; read = read contents tells; accepted = taken_accepted sources modules taken },
+      subst (λ (t : Told). Stands t new (files_of targets modules)) same why,
+    )
+
+    pub all_translated : (new : Told) → AllByRecursion IsNamed targets → new ≡ written mid (files_of targets modules)
+        → Tells old (λ contents. IsTranslated inputs targets contents old new)
+    all_translated new named stand = λ contents tells. record {
+      sources = sources;
+      modules = modules;
+      read = read contents tells;
+      taken = taken;
+      named = named;
+      stand = stand ∙ ap (λ (t : Told). written t (files_of targets modules)) same;
+    }

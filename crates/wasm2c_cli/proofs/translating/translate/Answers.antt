@@ -1,0 +1,57 @@
+use Rattle.std.proofs.Common.{◌≡◌, rules, arith, length, subst, ap}
+use Rattle.w2c_files.specs.Words.{names_of}
+use Rattle.wasm2c_cli.specs.Job.{files_of}
+use Rattle.wasm2c_cli.specs.Parts.{AreTaken, StopsAccepting, StopsWriting, seen_targets}
+use Rattle.wasm2c_cli.proofs.Taken.{length-taken}
+use Rattle.wasm2c_cli.proofs.Translated.{accepting_stops, all_translated, writing_stops}
+use Rattle.wasm2c_cli.proofs.translating.translate.Goals as goal
+
+pub returns-in-Err-accept_modules-clause-stop : goal.returns-in-Err-accept_modules-clause-stop
+returns-in-Err-accept_modules-clause-stop g c =
+    let files = g.F.Files in
+    let names = names_of c.args.inputs.now in
+    let seen : c.as_slice.result.now ≡ c.in-Ok.sources.items = search rules in
+    accepting_stops names (seen_targets c.args.targets.now) (files.told c.args.files.now) (files.told c.read_modules.new.files)
+    c.in-Ok.sources.items c.in-Ok.ensures.told c.in-Ok.ensures.read (files.read_faults c.args.files.now)
+    (files.read_faults c.read_modules.new.files) (files.write_faults c.args.files.now) (files.write_faults c.read_modules.new.files)
+    (files.fault_name c.read_modules.new.files) c.in-Err-accept_modules.stop
+    (subst (λ l. StopsAccepting names l c.in-Err-accept_modules.stop) seen c.in-Err-accept_modules.ensures.stop)
+
+pub write_modules-requires-clause-many : goal.write_modules-requires-clause-many
+write_modules-requires-clause-many g c =
+    let seen : c.as_slice.result.now ≡ c.in-Ok.sources.items = search rules in
+    let seen-2 : c.as_slice-2.result.now ≡ c.in-Ok-accept_modules.modules.items = search rules in
+    let one = length-taken c.as_slice.result.now c.in-Ok-accept_modules.modules.items c.in-Ok-accept_modules.ensures.taken in
+    let two : length c.as_slice.result.now ≡ length c.in-Ok.sources.items = ap length seen in
+    let three : length c.as_slice-2.result.now ≡ length c.in-Ok-accept_modules.modules.items = ap length seen-2 in
+    omega (arith, one, two, three, c.in-Ok.ensures.many, c.requires.many)
+
+pub returns-in-Ok-write_modules-clause-done : goal.returns-in-Ok-write_modules-clause-done
+returns-in-Ok-write_modules-clause-done g c =
+    let files = g.F.Files in
+    let names = names_of c.args.inputs.now in
+    let modules = c.in-Ok-accept_modules.modules.items in
+    let seen : c.as_slice.result.now ≡ c.in-Ok.sources.items = search rules in
+    let seen-2 : c.as_slice-2.result.now ≡ modules = search rules in
+    let taken : AreTaken c.in-Ok.sources.items modules = subst (λ l. AreTaken l modules) seen c.in-Ok-accept_modules.ensures.taken in
+    all_translated names (seen_targets c.args.targets.now) (files.told c.args.files.now) (files.told c.read_modules.new.files)
+    c.in-Ok.sources.items c.in-Ok.ensures.told c.in-Ok.ensures.read modules taken (files.told c.write_modules.new.files)
+    c.in-Ok-write_modules.ensures.names (search rules)
+
+pub returns-clause-stop : goal.returns-clause-stop
+returns-clause-stop g c =
+    let files = g.F.Files in
+    let names = names_of c.args.inputs.now in
+    let targets = seen_targets c.args.targets.now in
+    let modules = c.in-Ok-accept_modules.modules.items in
+    let seen : c.as_slice.result.now ≡ c.in-Ok.sources.items = search rules in
+    let seen-2 : c.as_slice-2.result.now ≡ modules = search rules in
+    let taken : AreTaken c.in-Ok.sources.items modules = subst (λ l. AreTaken l modules) seen c.in-Ok-accept_modules.ensures.taken in
+    writing_stops names targets (files.told c.args.files.now) (files.told c.read_modules.new.files)
+    c.in-Ok.sources.items c.in-Ok.ensures.told c.in-Ok.ensures.read modules taken (files.told c.write_modules.new.files)
+    (files.read_faults c.args.files.now) (files.read_faults c.write_modules.new.files) (files.write_faults c.args.files.now)
+    (files.write_faults c.read_modules.new.files) (files.write_faults c.write_modules.new.files) (files.fault_name c.write_modules.new.files)
+    c.in-Err-write_modules.stop c.in-Ok.ensures.writes
+    (subst (λ l. StopsWriting (files.told c.read_modules.new.files) (files.told c.write_modules.new.files) (files_of targets l)
+    (files.write_faults c.read_modules.new.files) (files.write_faults c.write_modules.new.files) (files.fault_name c.write_modules.new.files)
+    c.in-Err-write_modules.stop) seen-2 c.in-Err-write_modules.ensures.stop)

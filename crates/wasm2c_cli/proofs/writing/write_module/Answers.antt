@@ -1,0 +1,31 @@
+use Rattle.std.proofs.Common.{rules}
+use Rattle.w2c_sim.specs.Translation.{text_of, header_text_of}
+use Rattle.w2c_files.proofs.Standing.{at_first}
+use Rattle.wasm2c_cli.specs.Job.{module_files}
+use Rattle.wasm2c_cli.specs.Parts.{seen_target}
+use Rattle.wasm2c_cli.proofs.ModuleFiles.{second_at, stops_at}
+use Rattle.wasm2c_cli.proofs.writing.write_module.Goals as goal
+
+pub returns-in-Err-clause-stop : goal.returns-in-Err-clause-stop
+returns-in-Err-clause-stop g c =
+    let files = g.F.Files in
+    let t = seen_target c.args.target.now in
+    let m = c.args.module.now in
+    stops_at (files.told c.args.files.now) (files.told c.unit_to_file.new.files) (module_files t m) (files.write_faults c.args.files.now)
+    (files.write_faults c.unit_to_file.new.files) (files.fault_name c.unit_to_file.new.files) c.in-Err.answer t.c_file c.stop_for.result
+    (at_first (files.told c.args.files.now) (files.told c.unit_to_file.new.files) t.c_file (text_of m t.module_name) _ (search rules))
+    (λ failed. record { rose = search rules; named = search rules })
+    (search rules)
+
+pub returns-in-Err-header_to_file-clause-stop : goal.returns-in-Err-header_to_file-clause-stop
+returns-in-Err-header_to_file-clause-stop g c =
+    let files = g.F.Files in
+    let t = seen_target c.args.target.now in
+    let m = c.args.module.now in
+    stops_at (files.told c.args.files.now) (files.told c.header_to_file.new.files) (module_files t m) (files.write_faults c.args.files.now)
+    (files.write_faults c.header_to_file.new.files) (files.fault_name c.header_to_file.new.files) c.in-Err-header_to_file.answer t.header
+    c.stop_for-in-Err-header_to_file.result
+    (second_at (files.told c.args.files.now) (files.told c.unit_to_file.new.files) (files.told c.header_to_file.new.files) t.c_file t.header
+    (text_of m t.module_name) (header_text_of m t.module_name) (search rules) (search rules))
+    (λ failed. record { rose = search rules; named = search rules })
+    (search rules)

@@ -1,0 +1,17 @@
+use Rattle.std.proofs.Common.{◌≡◌, ◌≤◌, take}
+use Rattle.std.specs.List.{AllByRecursion}
+use Rattle.w2c_files.specs.Standing.{written}
+use Rattle.wasm2c_cli.specs.Job.{files_of}
+use Rattle.wasm2c_cli.specs.Parts.{IsNamed, seen_targets}
+use Rattle.wasm2c_cli.proofs.writing.write_modules.Given as goal
+
+-- the files of so many modules stand whole
+abbrev pub invariant-loop-k : goal.invariant-loop-k
+invariant-loop-k g l =
+    let files = g.F.Files in
+    record {
+      whole : files.told l.files ≡ written (files.told l.fn.files) (files_of (take l.k (seen_targets l.targets)) (take l.k l.modules));
+      names : AllByRecursion IsNamed (take l.k (seen_targets l.targets));
+      reads : files.read_faults l.files ≡ files.read_faults l.fn.files;
+      later : files.write_faults l.fn.files ≤ files.write_faults l.files;
+    }

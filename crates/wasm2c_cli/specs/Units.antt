@@ -1,0 +1,49 @@
+-- The units that are written, and that what is linked of them does what the modules do.
+use Rattle.std.specs.Prelude.{◌≡◌, ℕ, List, [], ◌∷◌, ◌++◌, Some}
+use Rattle.std.specs.List.{AllByRecursion}
+use Rattle.w2c_io.specs.Contents.{Name, Contents, Told, HasFile}
+use Rattle.w2c_io.specs.Telling.{Tells}
+use Rattle.wasm_tree.specs.declared.tree.Module.{Module}
+use Rattle.w2c_sim.specs.Translation.{IsModuleOf, SpellsUnit, text_of, header_text_of}
+use Rattle.w2c_sim.specs.Selections.{File, IsTranslated, SelectionsDoTheSame}
+use Rattle.wasm2c_words.specs.CommandLine.{Line, line_of}
+use Rattle.wasm2c_cli.specs.Job.{AreSources}
+use Rattle.wasm2c_cli.specs.Plan.{Target, targets_of}
+
+-- The C file holds the text of the unit of the module that the bytes spell, and the header stands beside it; the text spells one
+-- unit, which keeps the rules of the subset of C and has the module's shape.
+pub record HoldsUnit (new : Told) (t : Target) (bytes : List ℕ) (m : Module) : Type 0 where
+  pub is_module : IsModuleOf bytes t.module_name m
+  pub stands : HasFile new t.c_file (text_of m t.module_name)
+  pub header_stands : HasFile new t.header (header_text_of m t.module_name)
+  pub unit : SpellsUnit (record { name = t.module_name; tree = m }) (text_of m t.module_name)
+
+abbrev pub HoldUnits : Told → List Target → List (List ℕ) → List Module → Type 0
+HoldUnits new [] [] [] = Unit {0}
+HoldUnits new (t ∷ targets) (bytes ∷ sources) (m ∷ modules) = HoldsUnit new t bytes m × HoldUnits new targets sources modules
+HoldUnits new _ _ _ = ⊥
+
+-- the units of all modules that a line asks for stand
+pub record StandUnits (line : Line) (contents : Contents) (new : Told) : Type 0 where
+  pub sources : List (List ℕ)
+  pub modules : List Module
+  pub read : AreSources line contents sources
+  pub units : HoldUnits new (targets_of line) sources modules
+
+abbrev pub WritesUnits : List Name → Told → Told → Type 0
+WritesUnits words old new = Tells old (λ contents. (line : Line) × (line_of words ≡ Some line) × StandUnits line contents new)
+
+-- the texts that were made of bytes
+abbrev pub texts_made : List Target → List (List ℕ) → List Module → List File
+texts_made (t ∷ targets) (bytes ∷ sources) (m ∷ modules) =
+    record { bytes = bytes; name = t.module_name; text = text_of m t.module_name } ∷ texts_made targets sources modules
+texts_made _ _ _ = []
+
+-- what is linked of these units, and of any that other calls have made, does what the modules do
+abbrev pub DoTheSameWithOthers : List File → Type 0
+DoTheSameWithOthers files = (others : List File) → AllByRecursion IsTranslated others → SelectionsDoTheSame (files ++ others)
+
+abbrev pub WritesLinkedUnits : List Name → Told → Told → Type 0
+WritesLinkedUnits words old new = Tells old (λ contents. (line : Line) × (line_of words ≡ Some line)
+    × (stand : StandUnits line contents new)
+    × DoTheSameWithOthers (texts_made (targets_of line) stand.sources stand.modules))

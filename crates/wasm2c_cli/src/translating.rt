@@ -1,0 +1,75 @@
+// Translates the modules of files, and a module that is generated.
+ghost use Rattle.std.specs.Prelude.{◌≡◌, ◌≤◌, length, IfOk, IfErr, OnOk};
+ghost use Rattle.std.specs.List.{AllByRecursion};
+ghost use Rattle.w2c_io.specs.Telling.{Tells};
+ghost use Rattle.w2c_files.specs.Words.{names_of};
+ghost use Rattle.wasm2c_words.specs.Seen.{seen_generation};
+ghost use Rattle.wasm2c_cli.specs.Parts.{HasName, IsFitGeneration, IsGenerated, IsTranslated, StopsGenerating, StopsTranslating, seen_targets};
+ghost use Rattle.wasm2c_cli.specs.Stops.{KeepsCurrent};
+
+use crate::accepting::accept_modules;
+use crate::plan::Target;
+use crate::reading::read_modules;
+use crate::stop::Stop;
+use crate::writing::{write_module, write_modules};
+use std::alloc::Global;
+use w2c_gen::generate;
+use w2c_io::Files;
+use w2c_sim::accept;
+use wasm2c_words::Generation;
+
+/// Reads all files, accepts all, and then writes the C file and the header of each.
+pub fn translate<F: Files>(
+    alloc: Global,
+    inputs: &[&str],
+    targets: &[Target<'_>],
+    files: &mut F,
+) -> Result<(), Stop>
+    requires many { length targets.now ≡ length inputs.now }
+    requires named { AllByRecursion HasName (seen_targets targets.now) }
+    ensures done { OnOk result (Tells (F.told files.old)
+        (λ contents. IsTranslated (names_of inputs.now) (seen_targets targets.now) contents (F.told files.old) (F.told files.new))) }
+    ensures reads { F.read_faults files.old ≤ F.read_faults files.new }
+    ensures writes { F.write_faults files.old ≤ F.write_faults files.new }
+    ensures current { IfErr result (KeepsCurrent (F.current files.old) (F.current files.new)) }
+    ensures stop { IfErr result (StopsTranslating (names_of inputs.now) (seen_targets targets.now) (F.told files.old) (F.told files.new)
+        (F.read_faults files.old) (F.read_faults files.new) (F.write_faults files.old) (F.write_faults files.new) (F.fault_name files.new)) }
+{
+    let sources = match read_modules(alloc, inputs, files) {
+        Ok(sources) => sources,
+        Err(stop) => return Err(stop),
+    };
+    let modules = match accept_modules(alloc, inputs, sources.as_slice()) {
+        Ok(modules) => modules,
+        Err(stop) => return Err(stop),
+    };
+    match write_modules(alloc, targets, modules.as_slice(), files) {
+        Ok(()) => Ok(()),
+        Err(stop) => Err(stop),
+    }
+}
+
+/// Generates a module, and writes its C file and its header. It gives the length of the module's file.
+pub fn generate_module<F: Files>(
+    alloc: Global,
+    line: Generation<'_>,
+    files: &mut F,
+) -> Result<usize, Stop>
+    requires { IsFitGeneration (seen_generation line) }
+    ensures done { IfOk result (λ bytes. IsGenerated (seen_generation line.entry) bytes (F.told files.old) (F.told files.new)) }
+    ensures reads { F.read_faults files.new ≡ F.read_faults files.old }
+    ensures writes { F.write_faults files.old ≤ F.write_faults files.new }
+    ensures stop { IfErr result (StopsGenerating (seen_generation line.entry) (F.told files.old) (F.told files.new)
+        (F.write_faults files.old) (F.write_faults files.new) (F.fault_name files.new)) }
+{
+    let target = Target::beside(alloc, line.output, line.module_name)?;
+    let bytes = generate(alloc, line.count)?;
+    // A generated module is accepted, unless memory is wanting.
+    let Ok(module) = accept(alloc, bytes.as_slice()) else {
+        return Err(Stop::Memory);
+    };
+    match write_module(alloc, &target, &module, files) {
+        Ok(()) => Ok(bytes.len()),
+        Err(stop) => Err(stop),
+    }
+}
