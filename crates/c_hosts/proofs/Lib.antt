@@ -1,0 +1,6 @@
+mod Arguments
+mod Called
+mod Lasts
+mod Offers
+mod Replies
+mod Runs

@@ -1,0 +1,15 @@
+//! Functions of linked units that run with hosts: host modules, the asks that they answered, and the run of
+//! a function until it ends or its steps are spent.
+#![tactic(auto)]
+
+mod asking;
+mod host;
+mod journal;
+mod running;
+#[cfg(test)]
+mod tests;
+
+pub use asking::Hosts;
+pub use host::{BoxedHost, HostFunction, HostModule, HostReply};
+pub use journal::{Asked, Journal};
+pub use running::{Ending, run};
