@@ -1,0 +1,11 @@
+//! The lines that a run of linked units with hosts prints: calls of hosts, calls, what stopped the run,
+//! and the state of the units.
+#![tactic(auto)]
+
+mod calls;
+mod cases;
+mod hosts;
+mod words;
+
+pub use calls::{Phase, Stop, UndefinedAt, ended_line, last_line};
+pub use hosts::{Reply, host_line};
