@@ -12,7 +12,10 @@ use Rattle.crun_lines.specs.declared.calls.Stop.TheVariants as stop
 use Rattle.crun_lines.specs.declared.calls.UndefinedAt.{UndefinedAt}
 use Rattle.crun_lines.specs.declared.hosts.Reply.{Reply}
 use Rattle.crun_lines.specs.declared.hosts.Reply.TheVariants as reply
+use Rattle.crun_lines.specs.declared.objects.Function.{Function}
+use Rattle.crun_lines.specs.declared.objects.Function.TheVariants as function
 use Rattle.crun_lines.specs.CallLines.{place_text}
+use Rattle.crun_lines.specs.Words.{name_text}
 
 abbrev pub phase_of : Phase → run.Phase
 phase_of (phase.Init k) = run.Init k
@@ -40,3 +43,8 @@ stop_text stop.OutOfSteps = codes " out of steps\n"
 abbrev pub reply_of : Reply → run.Reply
 reply_of (reply.Gave value) = run.Gave value
 reply_of reply.Trapped = run.HostTrapped
+
+-- what stands for the function that an element names
+abbrev pub owned_text : Function → List ℕ
+owned_text (function.OfUnit unit name) = codes " unit " ++ decimal unit ++ codes " " ++ name.now
+owned_text (function.OfHost host name) = codes " host " ++ decimal host ++ codes " " ++ name_text name.now

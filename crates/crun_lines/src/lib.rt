@@ -5,7 +5,11 @@
 mod calls;
 mod cases;
 mod hosts;
+mod objects;
+mod rows;
 mod words;
 
 pub use calls::{Phase, Stop, UndefinedAt, ended_line, last_line};
 pub use hosts::{Reply, host_line};
+pub use objects::{Function, element_line, length_line, pages_line, variable_line};
+pub use rows::{row_count, row_line};
