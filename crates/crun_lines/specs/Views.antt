@@ -1,9 +1,10 @@
--- The phases, stops and replies that lines are made of, as those of the meaning of C.
-use Rattle.std.specs.Prelude.{ℕ, ◌+◌, ◌<◌, ◌^◌, List, ◌++◌, codes}
+-- The phases, stops, replies, functions and names that lines are made of, as those of the meaning of C.
+use Rattle.std.specs.Prelude.{ℕ, ◌+◌, ◌<◌, ◌^◌, List, ◌++◌, codes, map}
+use Rattle.std.specs.Borrow.{Bor}
 use Rattle.std.specs.Fmt.{decimal}
 use Rattle.w2c_base.specs.Run as run
 use Rattle.w2c_base.specs.Trap.{code_of, text_of}
-use Rattle.c_meaning.specs.State.{Place, Trapped, Undefined}
+use Rattle.c_meaning.specs.State.{Name, Place, Trapped, Undefined}
 use Rattle.c_meaning.specs.Run.{Outcome, Stopped, OutOfSteps}
 use Rattle.crun_lines.specs.declared.calls.Phase.{Phase}
 use Rattle.crun_lines.specs.declared.calls.Phase.TheVariants as phase
@@ -14,6 +15,7 @@ use Rattle.crun_lines.specs.declared.hosts.Reply.{Reply}
 use Rattle.crun_lines.specs.declared.hosts.Reply.TheVariants as reply
 use Rattle.crun_lines.specs.declared.objects.Function.{Function}
 use Rattle.crun_lines.specs.declared.objects.Function.TheVariants as function
+use Rattle.crun_lines.specs.declared.names.Numbered.{Numbered}
 use Rattle.crun_lines.specs.CallLines.{place_text}
 use Rattle.crun_lines.specs.Words.{name_text}
 
@@ -48,3 +50,10 @@ reply_of reply.Trapped = run.HostTrapped
 abbrev pub owned_text : Function → List ℕ
 owned_text (function.OfUnit unit name) = codes " unit " ++ decimal unit ++ codes " " ++ name.now
 owned_text (function.OfHost host name) = codes " host " ++ decimal host ++ codes " " ++ name_text name.now
+
+-- a name with its number
+abbrev pub entry_of : Numbered → Name × ℕ
+entry_of n = (n.name.now, n.number)
+
+abbrev pub texts : List (Bor (List ℕ)) → List Name
+texts names = map (λ (b : Bor (List ℕ)). b.now) names

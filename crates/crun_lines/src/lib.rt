@@ -5,11 +5,13 @@
 mod calls;
 mod cases;
 mod hosts;
+mod names;
 mod objects;
 mod rows;
 mod words;
 
 pub use calls::{Phase, Stop, UndefinedAt, ended_line, last_line};
 pub use hosts::{Reply, host_line};
+pub use names::{Numbered, names_in_order};
 pub use objects::{Function, element_line, length_line, pages_line, variable_line};
 pub use rows::{row_count, row_line};
