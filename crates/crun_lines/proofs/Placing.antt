@@ -26,7 +26,7 @@ TellsLength k = k.0 ≡ length k.1.now
 abbrev pub shown : Key × ℕ → Name × ℕ
 shown e = (e.0.1.now, e.1)
 
-map_matched : {A B : Type 0} (f : A → B) (o : Ordering) (x y z : A) → f (match_ordering o x y z) ≡ match_ordering o (f x) (f y) (f z)
+pub map_matched : {A B : Type 0} (f : A → B) (o : Ordering) (x y z : A) → f (match_ordering o x y z) ≡ match_ordering o (f x) (f y) (f z)
 map_matched f Less x y z = refl
 map_matched f Equal x y z = refl
 map_matched f Greater x y z = refl
