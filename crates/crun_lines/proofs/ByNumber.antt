@@ -1,6 +1,5 @@
 -- Objects by the numbers of their names.
-use Rattle.std.proofs.Common.{◌≡◌, ℕ, ◌+◌, ◌<◌, List, [], ◌∷◌, length, drop, get_or, map, zip, refl, sym, ap, ◌∙◌, arith, drop-cons, add-one}
-use Rattle.std.specs.declared.cmp.Ordering.{Ordering}
+use Rattle.std.proofs.Common.{◌≡◌, ℕ, ◌+◌, List, [], ◌∷◌, length, drop, get_or, map, zip, refl, sym, ap, ◌∙◌, arith, drop-cons, add-one}
 use Rattle.std.specs.Ordering.{match_ordering}
 use Rattle.std.specs.BTreeMap.{insert_entry}
 use Rattle.c_meaning.specs.State.{Name}
@@ -16,7 +15,8 @@ beside_insert : {A B : Type 0} (f : A → B) (entries : List (Name × A)) (k : N
 beside_insert f [] k v = refl
 beside_insert f (e ∷ entries) k v =
     map_matched (map (beside f)) (name_order k e.0) ((k, v) ∷ e ∷ entries) ((e.0, v) ∷ entries) (e ∷ insert_entry name_order entries k v)
-    ∙ ap (λ rest. match_ordering (name_order k e.0) ((k, f v) ∷ beside f e ∷ map (beside f) entries) ((e.0, f v) ∷ map (beside f) entries) (beside f e ∷ rest))
+    ∙ ap (λ rest. match_ordering (name_order k e.0) ((k, f v) ∷ beside f e ∷ map (beside f) entries)
+    ((e.0, f v) ∷ map (beside f) entries) (beside f e ∷ rest))
     (beside_insert f entries k v)
 
 beside_placed : {A B : Type 0} (f : A → B) (placed entries : List (Name × A))

@@ -1,5 +1,5 @@
 -- The lines of what happened.
-use Rattle.std.proofs.Common.{◌≡◌, ℕ, ◌+◌, List, [], ◌∷◌, ◌++◌, length, Option, Some, refl, sym, ap, ◌∙◌, append_assoc, arith}
+use Rattle.std.proofs.Common.{◌≡◌, ℕ, ◌+◌, List, [], ◌∷◌, ◌++◌, length, sym, ap, ◌∙◌, append_assoc, arith}
 use Rattle.w2c_base.specs.Run.{Event, Asked, CallEnded, Host, values_in}
 use Rattle.crun_lines.specs.CallLines.{ended_line}
 use Rattle.crun_lines.specs.HostLines.{host_line}

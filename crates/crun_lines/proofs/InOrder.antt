@@ -1,5 +1,5 @@
 -- Names in their order: each stands before those behind it, and none is lost where all differ.
-use Rattle.std.proofs.Common.{◌≡◌, ◌≢◌, ℕ, List, [], ◌∷◌, ◌++◌, length, map, refl, sym, ap, ◌∙◌, subst}
+use Rattle.std.proofs.Common.{◌≡◌, ◌≢◌, List, [], ◌∷◌, ◌++◌, length, refl, sym, ap, ◌∙◌, subst}
 use Rattle.std.specs.List.{AllByRecursion}
 use Rattle.std.specs.List.Sorted.{IsPermutation, IsStrictlySortedBy}
 use Rattle.std.specs.declared.cmp.Ordering.{Ordering}
@@ -10,7 +10,8 @@ use Rattle.std.specs.Cmp.Lexicographic.{nat_list_cmp_total, slice_cmp}
 use Rattle.std.specs.BTreeMap.{insert_entry}
 use Rattle.std.specs.Map.{keys_of}
 use Rattle.std.proofs.lemmas.List.{append-nil}
-use Rattle.std.proofs.lemmas.List.Sorted.{IsPermutation-append_right, IsPermutation-cons, IsPermutation-middle, IsPermutation-refl, IsPermutation-sym, IsPermutation-trans}
+use Rattle.std.proofs.lemmas.List.Sorted.{IsPermutation-append_right, IsPermutation-cons, IsPermutation-middle}
+use Rattle.std.proofs.lemmas.List.Sorted.{IsPermutation-refl, IsPermutation-sym, IsPermutation-trans}
 use Rattle.std.proofs.lemmas.Map.Lookups.{exact_bytes}
 use Rattle.w2c_base.specs.Lookup.{AreDistinct}
 use Rattle.c_meaning.specs.State.{Name}
@@ -31,12 +32,16 @@ all_map : {X : Type 0} (P Q : X → Type 0) → ((x : X) → P x → Q x) → (x
 all_map P Q f [] h = tt
 all_map P Q f (x ∷ xs) h = (f x h.0, all_map P Q f xs h.1)
 
+-- a name that is put in front of the first entry, in its place, or behind it
+abbrev put : {A : Type 0} → Ordering → Name → A → Name × A → List (Name × A) → List (Name × A)
+put o k v e entries = match_ordering o ((k, v) ∷ e ∷ entries) ((e.0, v) ∷ entries) (e ∷ insert_entry name_order entries k v)
+
 -- what holds of a name and of all names holds of all when it is put to its place
 all_insert : {A : Type 0} (P : Name → Type 0) (entries : List (Name × A)) (k : Name) (v : A) → P k
     → AllByRecursion P (keys_of entries) → AllByRecursion P (keys_of (insert_entry name_order entries k v))
 all_insert P [] k v p h = (p, tt)
 all_insert {A} P (e ∷ entries) k v p h = by (all_insert P entries k v p h.1) (name_order k e.0) where
-  by : AllByRecursion P (keys_of (insert_entry name_order entries k v)) → (o : Ordering) → AllByRecursion P (keys_of (match_ordering o ((k, v) ∷ e ∷ entries) ((e.0, v) ∷ entries) (e ∷ insert_entry name_order entries k v)))
+  by : AllByRecursion P (keys_of (insert_entry name_order entries k v)) → (o : Ordering) → AllByRecursion P (keys_of (put o k v e entries))
   by rest Less = (p, h)
   by rest Equal = h
   by rest Greater = (h.0, rest)
@@ -47,8 +52,12 @@ unfolding IsStrictlySortedBy
 insert_sorted [] k v s = (tt, tt)
 insert_sorted (e ∷ entries) k v s = by (insert_sorted entries k v s.1) (name_order k e.0) refl where
   by : IsStrictlySortedBy name_order (keys_of (insert_entry name_order entries k v)) → (o : Ordering) → name_order k e.0 ≡ o
-      → IsStrictlySortedBy name_order (keys_of (match_ordering o ((k, v) ∷ e ∷ entries) ((e.0, v) ∷ entries) (e ∷ insert_entry name_order entries k v)))
-  by rest Less q = ((q, all_map (λ y. name_order e.0 y ≡ Less) (λ y. name_order k y ≡ Less) (λ y h. names_total.trans k e.0 y q h) (keys_of entries) s.0), s)
+      → IsStrictlySortedBy name_order (keys_of (put o k v e entries))
+  by rest Less q =
+      let below : AllByRecursion (λ y. name_order k y ≡ Less) (keys_of entries) =
+      all_map (λ y. name_order e.0 y ≡ Less) (λ y. name_order k y ≡ Less)
+      (λ y h. names_total.trans k e.0 y q h) (keys_of entries) s.0 in
+      ((q, below), s)
   by rest Equal q = s
   by rest Greater q =
       (all_insert (λ y. name_order e.0 y ≡ Less) entries k v (names_total.antisymm e.0 k ∙ ap ordering_reverse q) s.0, rest)
@@ -67,7 +76,7 @@ insert_permutes : {A : Type 0} (entries : List (Name × A)) (k : Name) (v : A) �
 insert_permutes [] k v h = IsPermutation-refl ((k, v) ∷ [])
 insert_permutes {A} (e ∷ entries) k v h = by (insert_permutes entries k v h.1) (name_order k e.0) refl where
   by : IsPermutation ((k, v) ∷ entries) (insert_entry name_order entries k v) → (o : Ordering) → name_order k e.0 ≡ o
-      → IsPermutation ((k, v) ∷ e ∷ entries) (match_ordering o ((k, v) ∷ e ∷ entries) ((e.0, v) ∷ entries) (e ∷ insert_entry name_order entries k v))
+      → IsPermutation ((k, v) ∷ e ∷ entries) (put o k v e entries)
   by rest Less q = IsPermutation-refl ((k, v) ∷ e ∷ entries)
   by rest Equal q = absurd (h.0 (equal_names k e.0 q))
   by rest Greater q =
@@ -85,7 +94,8 @@ still_apart [] placed k v d h = tt
 still_apart (x ∷ names) placed k v d h =
     (all_insert (λ y. x ≢ y) placed k v (λ e. d.0 (sym e)) h.0, still_apart names placed k v d.1 h.1)
 
-put_permutes : {A : Type 0} (placed entries : List (Name × A)) → AreDistinct (keys_of entries) → AreApart (keys_of entries) (keys_of placed)
+put_permutes : {A : Type 0} (placed entries : List (Name × A)) → AreDistinct (keys_of entries)
+    → AreApart (keys_of entries) (keys_of placed)
     → IsPermutation (entries ++ placed) (put_in_order placed entries)
 put_permutes placed [] d h = IsPermutation-refl placed
 put_permutes placed (e ∷ entries) d h =

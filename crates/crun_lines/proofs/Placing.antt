@@ -41,9 +41,11 @@ pub shown_insert : (entries : List (Key × ℕ)) (k : Key) (v : ℕ) → TellsLe
 shown_insert [] k v e all = refl
 shown_insert (x ∷ entries) k v e all =
     map_matched (map shown) (key_order k x.0) ((k, v) ∷ x ∷ entries) ((x.0, v) ∷ entries) (x ∷ insert_entry key_order entries k v)
-    ∙ ap (λ o. match_ordering o ((k.1.now, v) ∷ shown x ∷ map shown entries) ((x.0.1.now, v) ∷ map shown entries) (shown x ∷ map shown (insert_entry key_order entries k v)))
+    ∙ ap (λ o. match_ordering o ((k.1.now, v) ∷ shown x ∷ map shown entries) ((x.0.1.now, v) ∷ map shown entries)
+    (shown x ∷ map shown (insert_entry key_order entries k v)))
     (same_order k x.0 e (All-head TellsLength x.0 (keys_of entries) all))
-    ∙ ap (λ rest. match_ordering (name_order k.1.now x.0.1.now) ((k.1.now, v) ∷ shown x ∷ map shown entries) ((x.0.1.now, v) ∷ map shown entries) (shown x ∷ rest))
+    ∙ ap (λ rest. match_ordering (name_order k.1.now x.0.1.now) ((k.1.now, v) ∷ shown x ∷ map shown entries)
+    ((x.0.1.now, v) ∷ map shown entries) (shown x ∷ rest))
     (shown_insert entries k v e (All-tail TellsLength x.0 (keys_of entries) all))
 
 -- the names that are left, the first of which is put next

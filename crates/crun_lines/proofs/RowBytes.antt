@@ -1,5 +1,6 @@
 -- Rows of bytes: in halves that are numbers, and one byte after another.
-use Rattle.std.proofs.Common.{◌≡◌, ℕ, ◌+◌, ◌*◌, ◌<◌, ◌≤◌, List, [], ◌∷◌, ◌++◌, length, take, drop, get_or, set, refl, sym, ap, ◌∙◌, suc, arith, length-drop, add-one, drop-cons, ◌-◌}
+use Rattle.std.proofs.Common.{◌≡◌, ℕ, ◌+◌, ◌*◌, ◌<◌, List, [], ◌∷◌, ◌++◌, length, take, drop, get_or, set}
+use Rattle.std.proofs.Common.{refl, sym, ap, ◌∙◌, suc, arith, length-drop, add-one, drop-cons, ◌-◌}
 use Rattle.std.specs.Prelude.{◌==◌, ◌&&◌}
 use Rattle.std.specs.List.{list_all, slice_range}
 use Rattle.std.proofs.Math.Seq.{take-add, take-length, take-suc, take-suc-set}
@@ -19,7 +20,8 @@ halves : (bytes : List ℕ) (at : ℕ) → bytes_at bytes at 16 ≡ bytes_at byt
 halves bytes at = take-add 8 8 (drop at bytes) ∙ ap (λ rest. take 8 (drop at bytes) ++ take 8 rest) (drop-drop 8 at bytes)
 
 row_is_zero : (bytes : List ℕ) (at : ℕ)
-    → ((little_endian (bytes_at bytes at 8) == 0) && (little_endian (bytes_at bytes (at + 8) 8) == 0)) ≡ list_all (λ b. b == 0) (bytes_at bytes at 16)
+    → ((little_endian (bytes_at bytes at 8) == 0) && (little_endian (bytes_at bytes (at + 8) 8) == 0))
+    ≡ list_all (λ b. b == 0) (bytes_at bytes at 16)
 row_is_zero bytes at =
     rw (number_is_zero (bytes_at bytes at 8), number_is_zero (bytes_at bytes (at + 8) 8), halves bytes at)
     (sym (list_all-append (λ b. b == 0) (bytes_at bytes at 8) (bytes_at bytes (at + 8) 8)))

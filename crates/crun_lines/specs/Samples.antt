@@ -1,9 +1,9 @@
 -- Hosts and objects, written by hand, whose lines closed cases compute.
-use Rattle.std.specs.Prelude.{ℕ, true, List, [], ◌∷◌, ◌++◌, codes, replicate, Option, Some, None}
+use Rattle.std.specs.Prelude.{ℕ, true, List, [], ◌∷◌, ◌++◌, codes, replicate, Some, None}
 use Rattle.w2c_base.specs.declared.value.ValType.TheVariants as type
 use Rattle.w2c_base.specs.declared.value.Value.TheVariants.{I32, I64}
 use Rattle.w2c_base.specs.Run.{Ask, Host}
-use Rattle.c_meaning.specs.State.{Number, Pointer, UnitFunc, HostFunc, Memory, Table, Objects}
+use Rattle.c_meaning.specs.State.{Number, Pointer, UnitFunc, HostFunc, Table, Objects}
 
 -- the hosts env, with tick and a function without a name, and one without a name and functions
 abbrev pub hosts : List Host

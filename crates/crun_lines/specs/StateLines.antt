@@ -1,6 +1,6 @@
 -- The lines of the objects of units: variables that hold numbers, memories with their rows of bytes, and
 -- tables with their elements.
-use Rattle.std.specs.Prelude.{ℕ, ◌*◌, ◌/◌, ◌==◌, if◌then◌else◌, List, [], ◌∷◌, ◌++◌, length, flat_map, codes, Option, Some, None}
+use Rattle.std.specs.Prelude.{ℕ, ◌*◌, ◌/◌, ◌==◌, if◌then◌else◌, List, [], ◌++◌, length, flat_map, codes, Option, Some, None}
 use Rattle.std.specs.Fmt.{decimal}
 use Rattle.std.specs.List.{list_all, range_with_len}
 use Rattle.hex.specs.Hex.{encode_lower}
@@ -9,7 +9,8 @@ use Rattle.w2c_base.specs.declared.value.Value.TheVariants.{I32, I64}
 use Rattle.w2c_base.specs.LittleEndian.{bytes_at}
 use Rattle.w2c_base.specs.Lookup.{numbered}
 use Rattle.w2c_base.specs.Run.{Host}
-use Rattle.c_meaning.specs.State.{Name, CValue, Number, Pointer, FuncPointer, FuncAddress, UnitFunc, HostFunc, Memory, Element, Table, Objects}
+use Rattle.c_meaning.specs.State.{Name, CValue, Number, Pointer, FuncPointer, FuncAddress, UnitFunc, HostFunc}
+use Rattle.c_meaning.specs.State.{Memory, Element, Table, Objects}
 use Rattle.crun_lines.specs.Words.{name_text}
 use Rattle.crun_lines.specs.HostLines.{function_name}
 use Rattle.crun_lines.specs.NameOrder.{in_order}

@@ -1,6 +1,5 @@
 // The lines of init functions and calls.
 ghost use Rattle.std.specs.Prelude.{◌≡◌, ◌+◌, ◌<◌, ◌^◌, ◌++◌, IfOk, OnOk};
-ghost use Rattle.w2c_base.specs.Run.{Call};
 ghost use Rattle.crun_lines.specs.CallLines.{ended_line, last_line, phase_text, place_text};
 ghost use Rattle.crun_lines.specs.Views.{outcome_of, phase_of, place_of, stop_text, IsCounted};
 

@@ -9,7 +9,7 @@ ghost use Rattle.crun_lines.specs.CallLines.{ended_line, last_line};
 ghost use Rattle.crun_lines.specs.HostLines.{host_line, replied_line};
 ghost use Rattle.crun_lines.specs.NameOrder.{in_order};
 ghost use Rattle.crun_lines.specs.RunLines.{event_lines, lines_of};
-ghost use Rattle.crun_lines.specs.StateLines.{element_lines, pages_line, row_line, unit_lines};
+ghost use Rattle.crun_lines.specs.StateLines.{row_line, unit_lines};
 ghost use Rattle.crun_lines.specs.Samples as sample;
 
 /// Lines of calls and init functions.

@@ -1,5 +1,5 @@
 // How numbers, values and names are put at the end of a line.
-ghost use Rattle.std.specs.Prelude.{◌≡◌, ◌<◌, ◌++◌, length, OnOk};
+ghost use Rattle.std.specs.Prelude.{◌≡◌, ◌++◌, OnOk};
 ghost use Rattle.std.specs.Fmt.{decimal};
 ghost use Rattle.crun_lines.specs.Words.{name_text, number_text, or_z, value_text, values_text};
 

@@ -11,8 +11,12 @@ loop-i-preserved c =
     let size : length c.loop-i.bytes ≡ 16 = c.loop-i.invariant.size in
     record {
       size = length-set c.loop-i.bytes c.loop-i.i c.load1.result ∙ size;
-      read = one_more c.args.memory.now.bytes c.loop-i.bytes c.args.at c.loop-i.i c.load1.result (omega arith) (omega arith) c.load1.ensures c.loop-i.invariant.read;
+      read =
+          one_more c.args.memory.now.bytes c.loop-i.bytes c.args.at c.loop-i.i c.load1.result (omega arith) (omega arith)
+          c.load1.ensures c.loop-i.invariant.read;
     }
 
 pub returns : goal.returns
-returns c = whole_row c.args.memory.now.bytes c.loop-i.bytes c.args.at c.loop-i.i (omega arith) c.loop-i.invariant.size c.loop-i.invariant.read
+returns c =
+    whole_row c.args.memory.now.bytes c.loop-i.bytes c.args.at c.loop-i.i (omega arith)
+    c.loop-i.invariant.size c.loop-i.invariant.read
