@@ -1,0 +1,157 @@
+// The lines of variables and of elements of tables, and the first lines of memories and tables.
+ghost use Rattle.std.specs.Prelude.{◌≡◌, ◌++◌, IfOk, OnOk};
+ghost use Rattle.crun_lines.specs.StateLines.{element_line, held_text, length_line, object_text, pages_line, variable_line};
+ghost use Rattle.crun_lines.specs.Views.{owned_text};
+
+use crate::words::{put_name, put_number};
+use lin_mem::LinMem;
+use std::alloc::Global;
+use w2c_base::{Bytes, Memory, Value};
+
+/// A function that an element of a table names: one of a unit by its name in C, or one of a host by its
+/// name, with the number of the unit or the host.
+#[derive(Clone, Copy)]
+pub enum Function<'a> {
+    OfUnit(usize, &'a [u8]),
+    OfHost(usize, &'a [u8]),
+}
+
+/// The line of a variable that holds a number.
+pub fn variable_line(alloc: Global, unit: usize, name: &[u8], value: Value) -> Result<Bytes, Memory>
+    ensures { IfOk result (λ line. line ≡ variable_line unit name.now value) }
+{
+    let mut line = Bytes::new(alloc);
+    put_object(&mut line, unit, name)?;
+    put_held(&mut line, value)?;
+    line.extend(b"\n")?;
+    Ok(line)
+}
+
+/// The first line of a memory, with the number of its pages.
+pub fn pages_line(alloc: Global, unit: usize, name: &[u8], memory: &LinMem) -> Result<Bytes, Memory>
+    ensures { IfOk result (λ line. line ≡ pages_line unit name.now memory.now.bytes) }
+{
+    let mut line = Bytes::new(alloc);
+    put_object(&mut line, unit, name)?;
+    line.extend(b"pages ")?;
+    put_number(&mut line, u64::from(memory.pages()))?;
+    line.extend(b"\n")?;
+    Ok(line)
+}
+
+/// The first line of a table, with the number of its elements.
+pub fn length_line(alloc: Global, unit: usize, name: &[u8], count: usize) -> Result<Bytes, Memory>
+    ensures { IfOk result (λ line. line ≡ length_line unit name.now count) }
+{
+    let mut line = Bytes::new(alloc);
+    put_object(&mut line, unit, name)?;
+    line.extend(b"length ")?;
+    put_number(&mut line, count as u64)?;
+    line.extend(b"\n")?;
+    Ok(line)
+}
+
+/// The line of an element that is not empty, by its place in the table, with the signature number.
+pub fn element_line(
+    alloc: Global,
+    unit: usize,
+    name: &[u8],
+    at: usize,
+    function: Function,
+    signature: u64,
+) -> Result<Bytes, Memory>
+    ensures { IfOk result (λ line. line ≡ element_line unit name.now at (owned_text function.entry) signature) }
+{
+    let mut line = Bytes::new(alloc);
+    put_object(&mut line, unit, name)?;
+    line.extend(b"at ")?;
+    put_number(&mut line, at as u64)?;
+    put_function(alloc, &mut line, function)?;
+    line.extend(b" ")?;
+    put_number(&mut line, signature)?;
+    line.extend(b"\n")?;
+    Ok(line)
+}
+
+pub(crate) fn put_object(line: &mut Bytes, unit: usize, name: &[u8]) -> Result<(), Memory>
+    ensures { OnOk result (line.new ≡ line.old ++ object_text unit name.now) }
+{
+    line.extend(b"state ")?;
+    put_number(line, unit as u64)?;
+    line.extend(b" ")?;
+    line.extend(name)?;
+    line.extend(b" ")
+}
+
+fn put_held(line: &mut Bytes, value: Value) -> Result<(), Memory>
+    ensures { OnOk result (line.new ≡ line.old ++ held_text value) }
+{
+    match value {
+        Value::I32(number) => {
+            line.extend(b"u32:")?;
+            put_number(line, u64::from(number))
+        }
+        Value::I64(number) => {
+            line.extend(b"u64:")?;
+            put_number(line, number)
+        }
+    }
+}
+
+fn put_function(alloc: Global, line: &mut Bytes, function: Function) -> Result<(), Memory>
+    ensures { OnOk result (line.new ≡ line.old ++ owned_text function.entry) }
+{
+    match function {
+        Function::OfUnit(unit, name) => {
+            line.extend(b" unit ")?;
+            put_number(line, unit as u64)?;
+            line.extend(b" ")?;
+            line.extend(name)
+        }
+        Function::OfHost(host, name) => {
+            line.extend(b" host ")?;
+            put_number(line, host as u64)?;
+            line.extend(b" ")?;
+            put_name(alloc, line, name)
+        }
+    }
+}
+
+#[cfg(test)]
+mod tests {
+    use crate::{Function, element_line, length_line, pages_line, variable_line};
+    use lin_mem::LinMem;
+    use std::test::Fail;
+    use w2c_base::Value;
+
+    #[test]
+    fn variables_and_memories(rt: HostRuntime) -> Result<(), Fail> {
+        let alloc = rt.alloc();
+        let line = variable_line(alloc, 0, b"g0", Value::I32(66_560))?;
+        assert_eq!(rt; line.as_slice(), b"state 0 g0 u32:66560\n".as_slice());
+        let line = variable_line(alloc, 1, b"g1", Value::I64(7))?;
+        assert_eq!(rt; line.as_slice(), b"state 1 g1 u64:7\n".as_slice());
+        let memory = LinMem::new(alloc, 2, None)?;
+        let line = pages_line(alloc, 0, b"m0", &memory)?;
+        assert_eq!(rt; line.as_slice(), b"state 0 m0 pages 2\n".as_slice());
+        Ok(())
+    }
+
+    #[test]
+    fn tables(rt: HostRuntime) -> Result<(), Fail> {
+        let alloc = rt.alloc();
+        let line = length_line(alloc, 0, b"t0", 1)?;
+        assert_eq!(rt; line.as_slice(), b"state 0 t0 length 1\n".as_slice());
+        let line = element_line(alloc, 0, b"t0", 2, Function::OfUnit(1, b"f3"), 13)?;
+        assert_eq!(rt;
+            line.as_slice(),
+            b"state 0 t0 at 2 unit 1 f3 13\n".as_slice()
+        );
+        let line = element_line(alloc, 0, b"t0", 3, Function::OfHost(0, b"a b"), 4)?;
+        assert_eq!(rt;
+            line.as_slice(),
+            b"state 0 t0 at 3 host 0 aZ20b 4\n".as_slice()
+        );
+        Ok(())
+    }
+}
