@@ -21,7 +21,7 @@ hosts =
 abbrev pub tick : Ask
 tick = record { host = 0; function = 0; args = [] }
 
--- three rows, of which the second has a byte 5 at its eighth place
+-- three rows, of which the second has a byte 5 at its place 8, counted from 0
 abbrev pub bytes : List ℕ
 bytes = replicate 24 0 ++ 5 ∷ replicate 23 0
 
