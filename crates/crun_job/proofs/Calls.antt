@@ -13,7 +13,7 @@ use Rattle.c_link.specs.Calls.{signature_of, takes, takes_if_any}
 use Rattle.c_link.proofs.FirstRefusal.{fits_says}
 use Rattle.crun_words.specs.Arguments.{AreArguments}
 use Rattle.crun_words.specs.CallLine.{Call, SaysCall}
-use Rattle.crun_words.proofs.CallLines.{one_call}
+use Rattle.crun_words.proofs.Said.{one_call}
 use Rattle.crun_job.specs.Calls.{Names, program_of}
 use Rattle.crun_job.proofs.Values.{all_numbers, same_values, types_same}
 
@@ -34,8 +34,8 @@ arguments_fit units call ty is fit =
     let types = and_parts (same_types ty.params (c_params_of (types_of call.args)))
     (list_any (same_type ty.result) (Void ∷ U32 ∷ U64 ∷ [])) parts.0 in
     record {
-      types = types_same ty.params (c_params_of (types_of call.args)) types.0;
-      numbers = refl;
+      types_are = types_same ty.params (c_params_of (types_of call.args)) types.0;
+      numbers_are = refl;
       fit = all_numbers call.args parts.1;
     }
 
@@ -66,7 +66,7 @@ module _ (units : List (List tree.Item)) (line : List ℕ) (said : Call) (says :
       → fits (program_of units) (record { symbol = said.symbol; args = args }) ≡ true
   has_fit ty args found are =
       let own = has_arguments ty found in
-      let same : call.args ≡ args = same_values call.args args (sym own.types ∙ are.types) (sym own.numbers ∙ are.numbers) in
+      let same : call.args ≡ args = same_values call.args args (sym own.types_are ∙ are.types_are) (sym own.numbers_are ∙ are.numbers_are) in
       ap (λ s. fits (program_of units) (record { symbol = s; args = args })) symbol_is
       ∙ ap (λ a. fits (program_of units) (record { symbol = call.symbol; args = a })) (sym same) ∙ names.fit
 
@@ -75,7 +75,7 @@ pub named : (units : List (List tree.Item)) (line : List ℕ) (said : Call) (ps 
     → AreArguments ps said.numbers args → fits (program_of units) (record { symbol = said.symbol; args = args }) ≡ true
     → Names units line (record { symbol = said.symbol; args = args })
 named units line said ps args says are fit = record {
-  said = subst (λ ns. SaysCall line (record { symbol = said.symbol; numbers = ns })) are.numbers says;
+  said = subst (λ ns. SaysCall line (record { symbol = said.symbol; numbers = ns })) are.numbers_are says;
   fit = fit;
 }
 
@@ -95,5 +95,5 @@ one_named units line a b first second = by_type (signature_of units a.symbol) re
     by_type (Some ty) found =
         let of_a = has_arguments units line said_of_a first.said a first ty found in
         let of_b = has_arguments units line said_of_a first.said b second ty found in
-        let args : a.args ≡ b.args = same_values a.args b.args (sym of_a.types ∙ of_b.types) (sym of_a.numbers ∙ of_b.numbers) in
+        let args : a.args ≡ b.args = same_values a.args b.args (sym of_a.types_are ∙ of_b.types_are) (sym of_a.numbers_are ∙ of_b.numbers_are) in
         (λ i. record { symbol = symbols i; args = args i })

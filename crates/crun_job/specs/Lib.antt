@@ -8,3 +8,4 @@ pub mod Each
 -- what the code keeps, and what its refusals say
 pub mod Seen
 pub mod Refusals
+pub mod Stopping

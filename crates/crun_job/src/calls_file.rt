@@ -1,7 +1,7 @@
 // From the lines of a calls file to calls of linked units' functions.
-ghost use Rattle.std.specs.Prelude.{◌≡◌, map, true, All, IfOk, IfErr, IfSome, IfNone};
+ghost use Rattle.std.specs.Prelude.{map, IfOk, IfErr, IfSome, IfNone};
 ghost use Rattle.c_tree.specs.View.{unit_of};
-ghost use Rattle.c_meaning.specs.Linking.{fits, Program, SymbolCall};
+ghost use Rattle.c_meaning.specs.Linking.{SymbolCall};
 ghost use Rattle.crun_words.specs.CallsFile.{call_lines_of};
 ghost use Rattle.crun_job.specs.Calls.{AreCalls, Names};
 ghost use Rattle.crun_job.specs.Refusals.{RefusesCalls};
@@ -34,10 +34,10 @@ pub fn read_calls(
     let lines = call_lines(alloc, text)?;
     let mut calls = Vec::new(alloc);
     for line in &lines {
-        let Some(call) = named_call(alloc, linked, line.text)? else {
-            return Err(CallsRefusal::Line(line.number));
-        };
-        calls.push(call)?;
+        match named_call(alloc, linked, line.text)? {
+            Some(call) => calls.push(call)?,
+            None => return Err(CallsRefusal::Line(line.number)),
+        }
     }
     Ok(calls)
 }

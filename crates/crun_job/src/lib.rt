@@ -3,17 +3,22 @@
 #![tactic(auto)]
 
 mod calls_file;
+mod checking;
+mod law;
 mod line;
 mod linking;
+mod prepare;
 mod refusal;
 mod stop;
+mod task;
 #[cfg(test)]
 mod tests;
-mod checking;
 
 pub use calls_file::{NamedCall, read_calls};
+pub use checking::check_units;
+pub use law::{one_job, refusals_are_those_of_the_meaning};
 pub use line::report;
 pub use linking::link_units;
 pub use refusal::{CallsRefusal, UnitsRefusal};
 pub use stop::{Cause, Stop};
-pub use checking::check_units;
+pub use task::Task;
