@@ -17,9 +17,12 @@ returns-in-Err-link-clause-first c =
     subst (RefusesUnits texts symbols) (sym c.refusal_of.ensures)
     (unlinked texts symbols (map unit_of c.in-Ok.units.items) c.in-Err-link.refusal c.in-Ok.ensures.units c.in-Err-link.ensures.first)
 
-pub returns-clause-units : goal.returns-clause-units
-returns-clause-units c =
+pub returns-in-Ok-link-clause-units : goal.returns-in-Ok-link-clause-units
+returns-in-Ok-link-clause-units c =
     let units = sym c.in-Ok-link.ensures.units in (
       subst (λ us. AreUnitTexts c.args.texts.now (map unit_of us)) units c.in-Ok.ensures.units,
       subst (λ us. first_refusal (map unit_of us) (c_symbols c.args.hosts.now) ≡ None) units c.in-Ok-link.ensures.resolved,
     )
+
+pub returns-in-Ok-link-clause-hosts : goal.returns-in-Ok-link-clause-hosts
+returns-in-Ok-link-clause-hosts c = c.in-Ok-link.ensures.hosts
