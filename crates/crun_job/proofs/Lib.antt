@@ -1,10 +1,3 @@
 pub mod Taken
 pub mod Each
 pub mod Texts
-pub mod Links
-pub mod Within
-pub mod Meaning
-pub mod Values
-pub mod Calls
-pub mod JobLaws
-pub mod Tasks
