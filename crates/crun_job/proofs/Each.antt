@@ -95,8 +95,9 @@ module _ {A B C : Type 0} (R : A → B → Type 0) (Refuses : A → C → Type 0
           (ap (λ n. suc n) more.0, more.1)
 
       -- one element is the first that is refused, for one reason
-      pub one_first : (xs : List A) (k n : ℕ) (why other : C) → IsFirst R Refuses xs k why → IsFirst R Refuses xs n other → (k ≡ n) × (why ≡ other)
+      pub one_first : (xs : List A) (k n : ℕ) (why other : C) → IsFirst R Refuses xs k why → IsFirst R Refuses xs n other
+          → (k ≡ n) × (why ≡ other)
       one_first xs k n why other a b =
-          let both = same_first a.front b.front a.first b.first a.rest b.rest a.found b.found why other (sym a.split ∙ b.split) a.before b.before
-          a.refused b.refused in
+          let both = same_first a.front b.front a.first b.first a.rest b.rest a.found b.found why other (sym a.split ∙ b.split)
+          a.before b.before a.refused b.refused in
           (a.number_is ∙ both.0 ∙ sym b.number_is, both.1)

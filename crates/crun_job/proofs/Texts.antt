@@ -18,7 +18,8 @@ use Rattle.crun_job.specs.Refusals.{RefusesText, RefusesTexts}
 use Rattle.crun_job.proofs.Each.{first_at}
 
 -- each text is short
-pub short_at : (texts : List (List ℕ)) (i : ℕ) (text : List ℕ) → AreShort texts → i < length texts → text ≡ get_or texts i text → length text ≤ most_unit_bytes
+pub short_at : (texts : List (List ℕ)) (i : ℕ) (text : List ℕ) → AreShort texts → i < length texts
+    → text ≡ get_or texts i text → length text ≤ most_unit_bytes
 short_at [] i text short less is = absurd (omega (arith, less))
 short_at (t ∷ texts) zero text short less is = (let e = ap length is in omega (arith, e, short.0))
 short_at (t ∷ texts) (suc i) text short less is = short_at texts i text short.1 (omega (arith, less)) is

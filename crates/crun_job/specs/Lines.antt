@@ -77,7 +77,8 @@ cause_text cause.TooLong = codes "unit too long"
 cause_text (cause.Unexpected place what) = codes "unexpected at " ++ decimal place ++ (codes ": wanted " ++ wanted_text what)
 cause_text (cause.NumberTooLarge place) = codes "number too large at " ++ decimal place
 cause_text (cause.TooDeep place) = codes "too deep at " ++ decimal place
-cause_text (cause.Rule item statement rule) = codes "rule " ++ decimal rule ++ (codes " item " ++ decimal item) ++ (codes " statement " ++ decimal statement)
+cause_text (cause.Rule item statement rule) =
+    codes "rule " ++ decimal rule ++ (codes " item " ++ decimal item) ++ (codes " statement " ++ decimal statement)
 cause_text (cause.Undefined symbol) = codes "undefined " ++ symbol
 cause_text (cause.Twice symbol) = codes "twice " ++ symbol
 cause_text (cause.TypeDiffers symbol) = codes "type differs " ++ symbol
