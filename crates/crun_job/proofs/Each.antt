@@ -1,6 +1,6 @@
 -- Lists of which each element has its own in another list: an element more, the first that is refused, and that there is one
 -- such list or one such element.
-use Rattle.std.proofs.Common.{◌≡◌, ℕ, suc, ◌+◌, ◌<◌, List, [], ◌∷◌, ◌++◌, length, length-append, take, drop, get_or, map, refl, sym, ap, ◌∙◌, subst, arith}
+use Rattle.std.proofs.Common.{◌≡◌, ℕ, suc, ◌<◌, List, [], ◌∷◌, ◌++◌, length, length-append, take, drop, get_or, map, refl, sym, ap, ◌∙◌, subst, arith}
 use Rattle.std.proofs.lemmas.List.{map_push}
 use Rattle.crun_job.specs.Each.{AreEach, IsFirst}
 use Rattle.crun_job.proofs.Taken.{split_at, in_front}

@@ -1,11 +1,10 @@
 -- Texts of units: a text comes to one thing, and the first that is refused.
 use Rattle.std.proofs.Common.{◌≡◌, ℕ, zero, suc, ◌<◌, ◌≤◌, List, [], ◌∷◌, length, take, get_or, Option, Some, None, refl, sym, ap, ◌∙◌, subst, arith}
-use Rattle.std.specs.List.{AllByRecursion}
 use Rattle.c_tree.specs.declared.token.CReadFault.{CReadFault}
 use Rattle.c_tree.specs.declared.token.CReadFault.TheVariants as fault
 use Rattle.c_tree.specs.Tree as tree
 use Rattle.c_tree.specs.Spelled.{CSpells, CUpto}
-use Rattle.c_tree.specs.FirstBroken.{first_broken, BrokenAt, KeepsRules}
+use Rattle.c_tree.specs.FirstBroken.{first_broken, BrokenAt}
 use Rattle.c_tree.proofs.OneUnit.{one_unit}
 use Rattle.c_tree.proofs.NoFault.{no_fault}
 use Rattle.c_read.proofs.Once.{stops_once}

@@ -1,4 +1,4 @@
-use Rattle.std.proofs.Common.{◌≤◌, ◌∷◌, ◌++◌, [], ◌+◌, List, ℕ, length, map, take, sym, subst}
+use Rattle.std.proofs.Common.{◌≤◌, ◌∷◌, ◌++◌, [], ◌+◌, length, map, take, sym, subst}
 use Rattle.std.proofs.lemmas.List.{take_all}
 use Rattle.c_tree.specs.View.{unit_of}
 use Rattle.crun_job.specs.Texts.{most_unit_bytes, AreUnitTexts, IsUnitText}
