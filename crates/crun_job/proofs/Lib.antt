@@ -4,7 +4,4 @@ pub mod Texts
 pub mod Links
 pub mod Within
 pub mod Meaning
-pub mod Values
-pub mod Calls
-pub mod JobLaws
-pub mod Tasks
+pub mod UnitLaws

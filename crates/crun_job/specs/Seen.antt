@@ -1,16 +1,8 @@
 -- What the program keeps, without where it lies in memory.
-use Rattle.std.specs.Prelude.{List, map, string_bytes}
-use Rattle.c_meaning.specs.Linking.{SymbolCall}
-use Rattle.crun_job.specs.declared.calls_file.NamedCall.{NamedCall}
+use Rattle.std.specs.Prelude.{string_bytes}
 use Rattle.crun_job.specs.declared.stop.Stop.{Stop}
 use Rattle.crun_job.specs.declared.stop.Stop.TheVariants as stop
 use Rattle.crun_job.specs.Lines as lines
-
-abbrev pub call_seen : NamedCall → SymbolCall
-call_seen call = record { symbol = call.symbol; args = call.args }
-
-abbrev pub calls_seen : List NamedCall → List SymbolCall
-calls_seen calls = map call_seen calls
 
 abbrev pub reason_of : Stop → lines.Reason
 reason_of stop.Usage = lines.Usage

@@ -1,14 +1,14 @@
 // From texts to linked units.
-ghost use Rattle.std.specs.Prelude.{◌≡◌, map, IfOk, IfErr};
+ghost use Rattle.std.specs.Prelude.{◌≡◌, length, map, IfOk, IfErr};
 ghost use Rattle.c_tree.specs.View.{unit_of};
 ghost use Rattle.c_link.specs.Offers.{c_symbols};
 ghost use Rattle.crun_job.specs.Texts.{AreShort};
 ghost use Rattle.crun_job.specs.Links.{AreLinked};
-ghost use Rattle.crun_job.specs.Refusals.{RefusesUnits, refusal_for};
+ghost use Rattle.crun_job.specs.Refusals.{IsWithin, RefusesUnits, refusal_for};
 
+use crate::checking::check_units;
 use crate::refusal::UnitsRefusal;
 use crate::stop::Cause;
-use crate::checking::check_units;
 use c_link::{HostSymbol, LinkRefusal, Linked, link};
 use std::alloc::Global;
 use w2c_base::Bytes;
@@ -24,6 +24,7 @@ pub fn link_units(
     ensures units { IfOk result (λ linked. AreLinked texts.now (c_symbols hosts.now) (map unit_of linked.0)) }
     ensures hosts { IfOk result (λ linked. linked.1 ≡ hosts.now) }
     ensures first { IfErr result (RefusesUnits texts.now (c_symbols hosts.now)) }
+    ensures within { IfErr result (IsWithin (length texts.now)) }
 {
     let units = match check_units(alloc, texts) {
         Ok(units) => units,
