@@ -1,10 +1,10 @@
-// Why texts are not those of units.
+// Why texts are not those of linked units.
 ghost use Rattle.std.specs.Prelude.{◌≡◌};
 
 use crate::stop::Cause;
 use std::alloc::AllocFailed;
 
-/// Why texts are not those of units that keep the rules.
+/// Why texts are not those of units that link.
 #[derive(Drop)]
 pub enum UnitsRefusal {
     /// The unit with this number, counted from 0, is refused.
