@@ -1,5 +1,5 @@
 -- Refusals of texts and of the linker, as refusals of units.
-use Rattle.std.proofs.Common.{◌≡◌, inl, inr, ℕ, ◌<◌, List, length, refl, arith}
+use Rattle.std.proofs.Common.{inl, inr, ℕ, List, length, refl, arith}
 use Rattle.c_tree.specs.Tree as tree
 use Rattle.c_meaning.specs.Linking as linking
 use Rattle.c_link.specs.declared.refusal.LinkRefusal.{LinkRefusal}

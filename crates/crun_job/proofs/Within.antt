@@ -1,10 +1,9 @@
 -- The linker's refusal is of one of the units.
-use Rattle.std.proofs.Common.{◌≡◌, ℕ, suc, ◌+◌, ◌<◌, ◌≤◌, Bool, true, false, List, [], ◌∷◌, length, is_some, if◌then◌else◌, Option, Some, None, refl, sym, ap, ◌∙◌, subst, arith, zip}
+use Rattle.std.proofs.Common.{◌≡◌, ℕ, ◌+◌, ◌<◌, ◌≤◌, Bool, true, false, List, [], ◌∷◌, length, if◌then◌else◌, Option, Some, None, refl, subst, arith, zip}
 use Rattle.std.specs.Prelude.{option_map}
 use Rattle.std.specs.List.{range_with_len}
 use Rattle.std.specs.Option.{option_or}
-use Rattle.std.proofs.lemmas.Option.{same_Some}
-use Rattle.w2c_base.specs.Lookup.{if_found, named, numbered}
+use Rattle.w2c_base.specs.Lookup.{if_found, named}
 use Rattle.c_tree.specs.Tree as tree
 use Rattle.c_tree.specs.Runtime.{same_func_type}
 use Rattle.c_tree.specs.Scope.{Name, func_type_of as type_of_func}
