@@ -1,0 +1,53 @@
+-- Refusals of texts and of the linker, as refusals of units.
+use Rattle.std.proofs.Common.{inl, inr, ℕ, List, length, refl, arith}
+use Rattle.c_tree.specs.Tree as tree
+use Rattle.c_meaning.specs.Linking as linking
+use Rattle.c_link.specs.declared.refusal.LinkRefusal.{LinkRefusal}
+use Rattle.c_link.specs.declared.refusal.LinkRefusal.TheVariants as link
+use Rattle.c_link.specs.Refusals.{IsRefusal, first_refusal}
+use Rattle.crun_job.specs.declared.refusal.UnitsRefusal.{UnitsRefusal}
+use Rattle.crun_job.specs.declared.refusal.UnitsRefusal.TheVariants as refusal
+use Rattle.crun_job.specs.Texts.{AreUnitTexts, IsRefusedText, IsUnitText}
+use Rattle.crun_job.specs.Links.{Symbols}
+use Rattle.crun_job.specs.Refusals.{IsWithin, RefusesTexts, RefusesUnits, refusal_for}
+use Rattle.crun_job.proofs.Each.{first_within, many_each}
+use Rattle.crun_job.proofs.Within.{concern_within}
+
+pub text_refused : (texts : List (List ℕ)) (symbols : Symbols) (r : UnitsRefusal) → RefusesTexts texts r → RefusesUnits texts symbols r
+text_refused texts symbols (refusal.Unit number why) refuses = inl refuses
+text_refused texts symbols refusal.Memory refuses = tt
+
+pub unlinked : (texts : List (List ℕ)) (symbols : Symbols) (units : List (List tree.Item)) (r : LinkRefusal)
+    → AreUnitTexts texts units → IsRefusal r (first_refusal units symbols) → RefusesUnits texts symbols (refusal_for r)
+unlinked texts symbols units (link.Undefined unit name) are first = inr (record {
+  units = units;
+  refusal = linking.NotDefined unit name;
+  texts_are = are;
+  first = first;
+  concerns = (refl, refl);
+})
+unlinked texts symbols units (link.Twice unit name) are first = inr (record {
+  units = units;
+  refusal = linking.Twice unit name;
+  texts_are = are;
+  first = first;
+  concerns = (refl, refl);
+})
+unlinked texts symbols units (link.TypeDiffers unit name) are first = inr (record {
+  units = units;
+  refusal = linking.TypeDiffers unit name;
+  texts_are = are;
+  first = first;
+  concerns = (refl, refl);
+})
+unlinked texts symbols units link.Memory are first = tt
+
+-- a unit that is refused is one of those of the texts
+pub refused_within : (texts : List (List ℕ)) (symbols : Symbols) (r : UnitsRefusal) → RefusesUnits texts symbols r
+    → IsWithin (length texts) r
+refused_within texts symbols (refusal.Unit k why) (inl first) = first_within IsUnitText IsRefusedText texts k why first
+refused_within texts symbols (refusal.Unit k why) (inr unlinked) =
+    let less = concern_within unlinked.units symbols unlinked.refusal k why unlinked.first unlinked.concerns in
+    let each = many_each IsUnitText texts unlinked.units unlinked.texts_are in
+    omega (arith, less, each)
+refused_within texts symbols refusal.Memory refuses = tt

@@ -1,0 +1,7 @@
+use Rattle.std.proofs.Common.{map, take}
+use Rattle.c_tree.specs.View.{unit_of}
+use Rattle.crun_job.specs.Texts.{AreUnitTexts}
+use Rattle.crun_job.proofs.checking.check_units.Given as goal
+
+abbrev pub invariant-loop-number : goal.invariant-loop-number
+invariant-loop-number l = AreUnitTexts (take l.number l.texts) (map unit_of l.units.items)

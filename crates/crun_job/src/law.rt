@@ -1,0 +1,41 @@
+// Laws of texts, of units that are refused, and of the linker's refusals.
+ghost use Rattle.std.specs.Prelude.{◌≡◌, ℕ, List};
+ghost use Rattle.c_tree.specs.Tree as tree;
+ghost use Rattle.crun_job.specs.declared.stop.Cause.{Cause};
+ghost use Rattle.c_meaning.specs.Linking.{Program, link_refusal};
+ghost use Rattle.c_link.specs.declared.host_symbol.HostSymbol.{HostSymbol};
+ghost use Rattle.c_link.specs.Offers.{c_symbols};
+ghost use Rattle.c_link.specs.Programs.{IsProgramOf};
+ghost use Rattle.c_link.specs.Refusals.{first_refusal};
+ghost use Rattle.crun_job.specs.Links.{AreLinked, IsRefusedUnit, Symbols};
+ghost use Rattle.crun_job.specs.Texts.{AreUnitTexts, IsFirstRefusedText};
+
+/// The law that texts are those of one list of units at most, and of none where one is refused.
+pub fn one_list_of_units()
+    ensures one { (texts : List (List ℕ)) (units others : List (List tree.Item)) → AreUnitTexts texts units → AreUnitTexts texts others → units ≡ others }
+    ensures apart { (texts : List (List ℕ)) (number : ℕ) (why : Cause) (units : List (List tree.Item)) → IsFirstRefusedText texts number why
+        → AreUnitTexts texts units → ⊥ }
+{}
+
+/// The law that at most one text is the first that is refused, for one reason.
+pub fn one_refused_text()
+    ensures number { (texts : List (List ℕ)) (k n : ℕ) (why other : Cause) → IsFirstRefusedText texts k why → IsFirstRefusedText texts n other → k ≡ n }
+    ensures why { (texts : List (List ℕ)) (k n : ℕ) (why other : Cause) → IsFirstRefusedText texts k why → IsFirstRefusedText texts n other → why ≡ other }
+{}
+
+/// The law that texts are refused by at most one unit, for one reason, and not where they are those of linked units.
+pub fn one_refused_unit()
+    ensures number { (texts : List (List ℕ)) (symbols : Symbols) (k n : ℕ) (why other : Cause) → IsRefusedUnit texts symbols k why
+        → IsRefusedUnit texts symbols n other → k ≡ n }
+    ensures why { (texts : List (List ℕ)) (symbols : Symbols) (k n : ℕ) (why other : Cause) → IsRefusedUnit texts symbols k why
+        → IsRefusedUnit texts symbols n other → why ≡ other }
+    ensures apart { (texts : List (List ℕ)) (symbols : Symbols) (k : ℕ) (why : Cause) (units : List (List tree.Item))
+        → IsRefusedUnit texts symbols k why → AreLinked texts symbols units → ⊥ }
+{}
+
+/// The law that the linker's first refusal is that of the meaning of C, for each program of these
+/// units whose hosts have these symbols.
+pub fn refusals_are_those_of_the_meaning()
+    ensures { (units : List (List tree.Item)) (hosts : List HostSymbol) (p : Program) → IsProgramOf p units hosts
+        → first_refusal units (c_symbols hosts) ≡ link_refusal p }
+{}

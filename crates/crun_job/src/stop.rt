@@ -1,0 +1,68 @@
+// Why the program stops before it has run.
+ghost use Rattle.std.specs.Prelude.{◌≡◌};
+ghost use Rattle.crun_job.specs.declared.stop.Stop.TheVariants.{Memory as WantOfMemory};
+
+use c_tree::Wanted;
+use std::alloc::{AllocError, AllocFailed};
+use w2c_base::{Bytes, Memory};
+
+/// Why a unit is refused. Places are byte offsets from 0.
+#[derive(Drop)]
+pub enum Cause {
+    /// The file has more bytes than a unit may have.
+    TooLong,
+    /// A token that fits nowhere, and what was wanted in its place.
+    Unexpected(u64, Wanted),
+    NumberTooLarge(u64),
+    TooDeep(u64),
+    /// The first rule of the subset that it breaks: the item from 0, in it the statement from 1, or
+    /// 0 for the item itself, its parameters and its local variables, and the rule's number.
+    Rule(usize, usize, u32),
+    /// It declares this symbol, which nothing defines.
+    Undefined(Bytes),
+    /// It defines this symbol, which a host or an earlier unit defines.
+    Twice(Bytes),
+    /// It declares this symbol with another type than it is defined with.
+    TypeDiffers(Bytes),
+}
+
+/// Why the program stops before it has run, or while it runs, with the file's name.
+#[derive(Drop)]
+pub enum Stop {
+    /// The words have no reading.
+    Usage,
+    /// A file that is not read.
+    Unread(String),
+    /// A unit that is refused, by its file.
+    Refused(String, Cause),
+    CallsTooLong,
+    /// A line of the calls file, counted from 1, that names no call.
+    CallsLine(usize),
+    /// A line of the run that is not written.
+    Unwritten,
+    Memory,
+}
+
+impl From<AllocError> for Stop {
+    ghost from_gives = { λ _ e. e ≡ WantOfMemory };
+
+    fn from(_: AllocError) -> Self {
+        Stop::Memory
+    }
+}
+
+impl<T: Drop> From<AllocFailed<T>> for Stop {
+    ghost from_gives = { λ _ e. e ≡ WantOfMemory };
+
+    fn from(_: AllocFailed<T>) -> Self {
+        Stop::Memory
+    }
+}
+
+impl From<Memory> for Stop {
+    ghost from_gives = { λ _ e. e ≡ WantOfMemory };
+
+    fn from(_: Memory) -> Self {
+        Stop::Memory
+    }
+}
