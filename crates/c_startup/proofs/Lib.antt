@@ -8,3 +8,6 @@ pub mod TypesFound
 pub mod Apart
 pub mod First
 pub mod UnitsPush
+pub mod InitSymbols
+pub mod InitsFound
+pub mod CalledFound

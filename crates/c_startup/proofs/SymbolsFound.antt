@@ -30,10 +30,10 @@ use Rattle.c_startup.specs.Names.{function_name, naming_of, unit_names}
 
 -- ---- one unit
 
-abbrev entries_from : ℕ → ℕ → List tree.Item → List Entry
+abbrev pub entries_from : ℕ → ℕ → List tree.Item → List Entry
 entries_from u k items = filter_map (item_entry u) (zip (range_with_len k (length items)) items)
 
-abbrev number_in_unit : ℕ → Option Definition → Option FuncId
+abbrev pub number_in_unit : ℕ → Option Definition → Option FuncId
 number_in_unit u d = option_map (λ (d : Definition). func.Unit u d.item) d
 
 function_says : (u k : ℕ) (q : Name) (items : List tree.Item) (is_static : Bool) (result : CType) (name : Name)
@@ -59,7 +59,7 @@ function_says u k q items false result name params (Some body) e = by_test (byte
     by_test true = refl
     by_test false = e
 
-says_from : (u k : ℕ) (q : Name) (items : List tree.Item) → named q (entries_from u k items) ≡ number_in_unit u (first_under k q items)
+pub says_from : (u k : ℕ) (q : Name) (items : List tree.Item) → named q (entries_from u k items) ≡ number_in_unit u (first_under k q items)
 says_from u k q [] = refl
 says_from u k q (tree.Array name count bytes ∷ items) = says_from u (k + 1) q items
 says_from u k q (tree.Var ty name number ∷ items) = says_from u (k + 1) q items

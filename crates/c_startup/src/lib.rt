@@ -2,6 +2,9 @@
 //! their functions, and their objects before the first statement.
 #![tactic(auto)]
 
+mod called;
+mod init_symbol;
+mod inits;
 mod names;
 mod objects;
 mod startup;
@@ -10,4 +13,6 @@ mod symbols;
 mod tests;
 mod types;
 
+pub use called::called_function;
+pub use inits::init_functions;
 pub use startup::{Startup, start_up};

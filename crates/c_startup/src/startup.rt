@@ -8,6 +8,7 @@ ghost use Rattle.c_link.specs.Programs.{AllChecked, IsProgramOf};
 ghost use Rattle.c_objects.specs.Stores.{machine_of, AreStored};
 ghost use Rattle.c_thread.specs.FuncTypes.{AreFuncTypes};
 ghost use Rattle.c_thread.specs.Linked.{HaveUnitTables, IsLinked};
+ghost use Rattle.c_startup.specs.Called.{AreSymbols};
 ghost use Rattle.c_startup.specs.Entries.{HaveCounts};
 ghost use Rattle.c_startup.specs.Names.{naming_of};
 ghost use Rattle.c_startup.specs.Units.{AreAllFirst, AreTables, AreUnits, IsUnit};
@@ -25,11 +26,12 @@ use std::alloc::Global;
 use std::rc::Rc;
 use w2c_base::Memory;
 
-/// Linked units with the tables of their names, the types of functions, and the objects before the first
-/// statement.
+/// Linked units with the tables of their names, the table of symbols, which the units share, the types of
+/// functions, and the objects before the first statement.
 #[derive(Drop)]
 pub struct Startup {
     pub units: Vec<LinkedUnit>,
+    pub symbols: Rc<Symbols>,
     pub types: FuncTypes,
     pub store: Store,
 }
@@ -39,6 +41,8 @@ pub fn start_up(alloc: Global, linked: &Linked, counts: &[usize]) -> Result<Star
     ensures tables { IfOk result (λ s. HaveUnitTables s.units.items) }
     ensures linked { IfOk result (λ s. (p : Program) → IsProgramOf p (map unit_of linked.now.0) linked.now.1
         → HaveCounts p.hosts counts.now → IsLinked (naming_of p.units) p s.units.items) }
+    ensures symbols { IfOk result (λ s. (p : Program) → IsProgramOf p (map unit_of linked.now.0) linked.now.1
+        → HaveCounts p.hosts counts.now → AreSymbols (naming_of p.units) p s.symbols.value) }
     ensures types { IfOk result (λ s. (p : Program) → IsProgramOf p (map unit_of linked.now.0) linked.now.1
         → HaveCounts p.hosts counts.now → AreFuncTypes (naming_of p.units) p s.types) }
     ensures stored { IfOk result (λ s. AreStored (naming_of (map unit_of linked.now.0)) s.store.units.items) }
@@ -51,6 +55,7 @@ pub fn start_up(alloc: Global, linked: &Linked, counts: &[usize]) -> Result<Star
     let store = first_store(alloc, linked)?;
     Ok(Startup {
         units,
+        symbols: seen,
         types,
         store,
     })

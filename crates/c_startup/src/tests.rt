@@ -1,5 +1,5 @@
 // Two units and a host at startup: what a name of one stands for in the other, types, and first values.
-use crate::start_up;
+use crate::{called_function, init_functions, start_up};
 use c_check::CheckedUnit;
 use c_link::{HostSymbol, Linked, link};
 use c_objects::{FuncId, Held, Object, ObjectId};
@@ -99,5 +99,48 @@ fn two_units_and_a_host(rt: HostRuntime) -> Result<(), Fail> {
         object: Object::Variable(0),
     };
     assert_eq!(rt; startup.store.var(g), Some(Held::Number(Value::I32(7))));
+    Ok(())
+}
+
+// void SYMBOL(void) { return; }
+fn defines_init(alloc: Global, symbol: &str) -> Result<Item, Memory> {
+    let mut params = Params::new(alloc);
+    params.push((CType::Void, None))?;
+    let mut stmts = Stmts::new(alloc);
+    stmts.push(Stmt::ReturnNone)?;
+    Ok(Item::Func(Func {
+        is_static: false,
+        result: CType::Void,
+        name: name(alloc, symbol)?,
+        params,
+        body: Some(Body {
+            locals: Locals::new(alloc),
+            stmts,
+        }),
+    }))
+}
+
+#[test]
+fn functions_that_run_first(rt: HostRuntime) -> Result<(), Fail> {
+    let alloc = rt.alloc();
+    let first = defines_init(alloc, "w2cZ_aZ_i")?;
+    let second = defines_init(alloc, "w2cZ_bZ_i")?;
+    let mut units = Vec::new(alloc);
+    units.push(checked(alloc, defines_f(alloc)?, first)?)?;
+    units.push(checked(alloc, second, defines_init(alloc, "w2cZ_Z_i")?)?)?;
+    let linked = link(alloc, units, &[]).ok().ok_or("the units link")?;
+    let found = init_functions(alloc, &linked)?;
+    assert_eq!(rt; found.as_slice(), [(0, 1), (1, 0)].as_slice());
+    Ok(())
+}
+
+#[test]
+fn a_symbol_is_called(rt: HostRuntime) -> Result<(), Fail> {
+    let alloc = rt.alloc();
+    let linked = linked(alloc)?;
+    let startup = start_up(alloc, &linked, &[1])?;
+    assert_eq!(rt; called_function(&startup.symbols, b"w2cZ_f"), Some((1, 0)));
+    assert_eq!(rt; called_function(&startup.symbols, b"w2cZ_h"), None);
+    assert_eq!(rt; called_function(&startup.symbols, b"g"), None);
     Ok(())
 }

@@ -1,7 +1,10 @@
-use Rattle.std.proofs.Common.{map, subst}
+use Rattle.std.proofs.Common.{map, subst, sym}
 use Rattle.c_tree.specs.View.{unit_of}
 use Rattle.c_thread.specs.declared.scope.Symbols.{Symbols}
+use Rattle.c_startup.specs.Called.{AreSymbols}
+use Rattle.c_startup.specs.Names.{naming_of}
 use Rattle.c_startup.specs.Units.{AreUnits}
+use Rattle.c_startup.proofs.CalledFound.{symbols_are}
 use Rattle.c_startup.proofs.First.{are_stored, is_fresh}
 use Rattle.c_startup.proofs.TablesFound.{linked, unit_tables}
 use Rattle.c_startup.proofs.TypesFound.{types_are}
@@ -26,3 +29,9 @@ returns-clause-stored c = are_stored _ _ c.in_ok-units.ensures.checked c.in_ok-s
 
 pub returns-clause-fresh : goal.returns-clause-fresh
 returns-clause-fresh c p replies same = is_fresh p _ _ c.in_ok-store.ensures same replies
+
+pub returns-clause-symbols : goal.returns-clause-symbols
+returns-clause-symbols c p is have =
+    let units = map unit_of c.args.linked.now.0 in
+    subst (λ (s : Symbols). AreSymbols (naming_of p.units) p s) (sym c.in_ok-seen.ensures)
+    (symbols_are p units c.args.linked.now.1 c.args.counts.now is have _ c.in_ok-symbols.ensures)
