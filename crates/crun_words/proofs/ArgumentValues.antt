@@ -1,12 +1,13 @@
 -- The values that numbers are for parameters.
-use Rattle.std.proofs.Common.{◌≡◌, ℕ, zero, suc, ◌+◌, ◌<◌, All, List, [], ◌∷◌, ◌++◌, length, map, take, slice_get, Option, Some, None, refl, sym, ap, ◌∙◌, subst, arith}
+use Rattle.std.proofs.Common.{◌≡◌, ℕ, zero, suc, ◌+◌, ◌<◌, Bool, true, false, ◌&&◌, All, List, [], ◌∷◌, ◌++◌, length, map, take, slice_get, Option, Some, None, refl, sym, ap, ◌∙◌, subst, arith}
 use Rattle.std.proofs.lemmas.List.{map_push}
 use Rattle.std.proofs.lemmas.List.Elements.{All-head, All-nil, All-push, All-tail}
 use Rattle.w2c_base.specs.declared.value.Value.{Value}
 use Rattle.w2c_base.specs.declared.value.ValType.{ValType}
 use Rattle.w2c_base.specs.Values.{IsNumber, number_of, type_of, types_of}
 use Rattle.c_tree.specs.declared.tree.CType.{CType}
-use Rattle.c_tree.specs.declared.tree.CType.TheVariants.{Void}
+use Rattle.c_tree.specs.declared.tree.CType.TheVariants.{Void, U32, U64, PtrU32, PtrU64, Mem, PtrMem, Tab, PtrTab, FnPtr}
+use Rattle.c_tree.specs.Runtime.{same_type, same_types}
 use Rattle.c_meaning.specs.Linking.{c_params_of, c_type_of}
 use Rattle.w2c_files.proofs.Loops.{next_at}
 use Rattle.crun_words.specs.Arguments.{AreArguments, IsArgument}
@@ -99,3 +100,35 @@ no_number params is = record { types_are = is; numbers_are = refl; fit = All-nil
 pub no_number_void : (params : List CType) (values : List Value) → AreArguments params [] values → params ≡ Void ∷ []
 no_number_void params [] are = are.types_are
 no_number_void params (v ∷ values) are = absurd (let none = ap length are.numbers_are in omega (arith, none))
+
+-- ---- the list void
+
+pub not_one : (params : List CType) → (length params ≡ 1 → ⊥) → false ≡ same_types params (Void ∷ [])
+not_one [] not = refl
+not_one (p ∷ []) not = absurd (not refl)
+not_one (p ∷ q ∷ params) not = go (same_type p Void)
+  where
+    go : (b : Bool) → false ≡ (b && false)
+    go true = refl
+    go false = refl
+
+type_is_void : (t : CType) → (same_type t Void && true) ≡ true → t ≡ Void
+type_is_void Void e = refl
+type_is_void U32 e = absurd cc
+type_is_void U64 e = absurd cc
+type_is_void PtrU32 e = absurd cc
+type_is_void PtrU64 e = absurd cc
+type_is_void Mem e = absurd cc
+type_is_void PtrMem e = absurd cc
+type_is_void Tab e = absurd cc
+type_is_void PtrTab e = absurd cc
+type_is_void FnPtr e = absurd cc
+
+pub void_is : (params : List CType) → same_types params (Void ∷ []) ≡ true → params ≡ Void ∷ []
+void_is [] e = absurd cc
+void_is (t ∷ []) e = ap (λ (u : CType). u ∷ []) (type_is_void t e)
+void_is (t ∷ u ∷ params) e = absurd (never (same_type t Void) e)
+  where
+    never : (b : Bool) → (b && false) ≡ true → ⊥
+    never true e = cc
+    never false e = cc

@@ -137,7 +137,7 @@ module _ (contents : Contents) (units : List Name) (calls : Name) where
   one_reading (AllRead texts text) (NotThere name) r (inl s) = absurd (read_all name texts r.units_are s)
   one_reading (AllRead texts text) (NotThere name) r (inr s) = absurd (no_calls text s.2 r.calls_are)
   one_reading (AllRead texts text) (LongUnit name) r s = absurd (read_short name texts r.units_are s)
-  one_reading (AllRead texts text) LongCalls r (has, other, is, long) = absurd (too_long_and_fit text other r.calls_are is r.calls_fit long)
+  one_reading (AllRead texts text) LongCalls r (has, (other, is, long)) = absurd (too_long_and_fit text other r.calls_are is r.calls_fit long)
   one_reading (NotThere name) (AllRead texts text) (inl r) s = absurd (read_all name texts s.units_are r)
   one_reading (NotThere name) (AllRead texts text) (inr r) s = absurd (no_calls text r.2 s.calls_are)
   one_reading (NotThere name) (NotThere other) (inl r) (inl s) = ap NotThere (one_missing name other r s)
@@ -147,15 +147,15 @@ module _ (contents : Contents) (units : List Name) (calls : Name) where
   one_reading (NotThere name) (LongUnit other) (inl r) s = absurd (two_reasons name other r s)
   one_reading (NotThere name) (LongUnit other) (inr r) s = absurd (read_short other r.1.0 r.1.1 s)
   one_reading (NotThere name) LongCalls (inl r) s = absurd (read_all name s.0.0 s.0.1 r)
-  one_reading (NotThere name) LongCalls (inr r) (has, other, is, long) = absurd (no_calls other r.2 is)
+  one_reading (NotThere name) LongCalls (inr r) (has, (other, is, long)) = absurd (no_calls other r.2 is)
   one_reading (LongUnit name) (AllRead texts text) r s = absurd (read_short name texts s.units_are r)
   one_reading (LongUnit name) (NotThere other) r (inl s) = absurd (two_reasons other name s r)
   one_reading (LongUnit name) (NotThere other) r (inr s) = absurd (read_short name s.1.0 s.1.1 r)
   one_reading (LongUnit name) (LongUnit other) r s =
       ap LongUnit (one_stop most_unit_bytes most_units_bytes contents units name other TooLong TooLong r s).0
   one_reading (LongUnit name) LongCalls r s = absurd (read_short name s.0.0 s.0.1 r)
-  one_reading LongCalls (AllRead texts text) (has, other, is, long) s = absurd (too_long_and_fit text other s.calls_are is s.calls_fit long)
+  one_reading LongCalls (AllRead texts text) (has, (other, is, long)) s = absurd (too_long_and_fit text other s.calls_are is s.calls_fit long)
   one_reading LongCalls (NotThere name) r (inl s) = absurd (read_all name r.0.0 r.0.1 s)
-  one_reading LongCalls (NotThere name) (has, other, is, long) (inr s) = absurd (no_calls other s.2 is)
+  one_reading LongCalls (NotThere name) (has, (other, is, long)) (inr s) = absurd (no_calls other s.2 is)
   one_reading LongCalls (LongUnit name) r s = absurd (read_short name r.0.0 r.0.1 s)
   one_reading LongCalls LongCalls r s = refl

@@ -34,10 +34,20 @@ fn no_arguments(alloc: Global, params: &[CType]) -> Option<Values>
     ensures some { IfSome result (λ values. AreArguments params.now [] values) }
     ensures none { IfNone result ((values : List Value) → AreArguments params.now [] values → ⊥) }
 {
-    if params.len() == 1 && matches!(params[0], CType::Void) {
+    if is_void(params) {
         return Some(Values::new(alloc));
     }
     None
+}
+
+// Whether a list of types is the list `void`.
+fn is_void(params: &[CType]) -> bool
+    ensures { result ≡ same_types params.now (CType.Void ∷ []) }
+{
+    if params.len() != 1 {
+        return false;
+    }
+    matches!(params[0], CType::Void)
 }
 
 // The value that a number is for a parameter of a type.

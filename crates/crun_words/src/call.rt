@@ -6,7 +6,7 @@ ghost use Rattle.crun_words.specs.CallLine.{word_of_name, AreNumbers, Call, IsBy
 ghost use Rattle.crun_words.specs.Seen.{seen_call};
 
 use crate::number::number;
-use crate::parts::parts;
+use crate::parts::{part_at, parts};
 use std::alloc::Global;
 use w2c_base::{Bytes, Memory, Sequence};
 use w2c_mangle::{SymbolKind, UnescapeFault, export_symbol, unescape};
@@ -106,8 +106,9 @@ fn numbers_of(alloc: Global, words: &[&[u8]]) -> Result<Option<Sequence<u64>>, M
     ensures none { IfOk result (λ found. IfNone found ((numbers : List ℕ) → AreNumbers (names_of words.now) numbers → ⊥)) }
 {
     let mut numbers = Sequence::new(alloc);
-    for word in words {
-        let Some(number) = number(*word) else {
+    for k in 0..words.len() {
+        let word = part_at(words, k);
+        let Some(number) = number(word) else {
             return Ok(None);
         };
         numbers.push(number)?;

@@ -1,9 +1,10 @@
 // The lines of a calls file.
 ghost use Rattle.std.specs.Prelude.{◌≡◌, IfOk};
-ghost use Rattle.crun_words.specs.CallsFile.{call_lines_of};
+ghost use Rattle.w2c_files.specs.Words.{names_of};
+ghost use Rattle.crun_words.specs.CallsFile.{call_lines_of, numbered as numbered_from};
 ghost use Rattle.crun_words.specs.Seen.{seen_lines};
 
-use crate::parts::parts;
+use crate::parts::{part_at, parts};
 use std::alloc::Global;
 use w2c_base::Memory;
 
@@ -20,13 +21,19 @@ pub fn call_lines(alloc: Global, text: &[u8]) -> Result<Vec<NumberedLine<'_>>, M
     ensures { IfOk result (λ lines. seen_lines lines.items ≡ call_lines_of text.now) }
 {
     let all = parts(alloc, text, b'\n')?;
+    numbered(alloc, all.as_slice())
+}
+
+// The lines that are not empty, with their numbers.
+fn numbered<'a>(alloc: Global, all: &[&'a [u8]]) -> Result<Vec<NumberedLine<'a>>, Memory>
+    ensures { IfOk result (λ lines. seen_lines lines.items ≡ numbered_from 1 (names_of all.now)) }
+{
     let mut lines = Vec::new(alloc);
-    for (k, line) in all.iter().enumerate() {
-        if !line.is_empty() {
-            lines.push(NumberedLine {
-                number: k + 1,
-                text: *line,
-            })?;
+    for k in 0..all.len() {
+        let text = part_at(all, k);
+        if !text.is_empty() {
+            let number = k + 1;
+            lines.push(NumberedLine { number, text })?;
         }
     }
     Ok(lines)

@@ -4,5 +4,5 @@ use Rattle.crun_words.specs.CallLine.{AreNumbers}
 use Rattle.crun_words.proofs.call.numbers_of.Given as goal
 
 -- the numbers of so many words
-abbrev pub invariant-loop-word : goal.invariant-loop-word
-invariant-loop-word l = AreNumbers (take l.word-index (names_of l.words)) l.numbers
+abbrev pub invariant-loop-k : goal.invariant-loop-k
+invariant-loop-k l = AreNumbers (take l.k (names_of l.words)) l.numbers
