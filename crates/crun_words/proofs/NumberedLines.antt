@@ -27,7 +27,7 @@ so_many (p ∷ parts) zero part at = refl
 so_many (p ∷ parts) (suc k) part at = ap suc (so_many parts k part at)
 
 -- the lines of so many parts, and of one more
-next : (parts : List (List ℕ)) (k : ℕ) (part : List ℕ) → slice_get parts k ≡ Some part
+pub next : (parts : List (List ℕ)) (k : ℕ) (part : List ℕ) → slice_get parts k ≡ Some part
     → numbered 1 (take (k + 1) parts) ≡ numbered 1 (take k parts) ++ numbered (k + 1) (part ∷ [])
 next parts k part at =
     let many : 1 + length (take k parts) ≡ k + 1 = omega (arith, so_many parts k part at) in
@@ -43,15 +43,14 @@ none : (number : ℕ) (part : List ℕ) → length part ≡ 0 → numbered numbe
 none number [] empty = refl
 none number (b ∷ part) empty = absurd (omega (arith, empty))
 
-pub push_line : (parts : List (List ℕ)) (k : ℕ) (part : List ℕ) (lines new : List NumberedLine) (line : NumberedLine) → slice_get parts k ≡ Some part
-    → seen_lines lines ≡ numbered 1 (take k parts) → 0 < length part → seen_numbered line ≡ record { number = k + 1; text = part }
-    → new ≡ lines ++ line ∷ [] → seen_lines new ≡ numbered 1 (take (k + 1) parts)
-push_line parts k part lines new line at so_far some is pushed =
-    ap seen_lines pushed ∙ map_push seen_numbered lines line
-    ∙ (λ i. so_far i ++ one (k + 1) part (seen_numbered line) some is i) ∙ sym (next parts k part at)
+pub pushed : (lines new : List NumberedLine) (line : NumberedLine) (number : ℕ) (part : List ℕ) → 0 < length part
+    → seen_numbered line ≡ record { number = number; text = part } → new ≡ lines ++ line ∷ []
+    → seen_lines new ≡ seen_lines lines ++ numbered number (part ∷ [])
+pushed lines new line number part some is push =
+    ap seen_lines push ∙ map_push seen_numbered lines line
+    ∙ ap (λ (l : List file.NumberedLine). seen_lines lines ++ l) (one number part (seen_numbered line) some is)
 
-pub skip_line : (parts : List (List ℕ)) (k : ℕ) (part : List ℕ) (lines : List NumberedLine) → slice_get parts k ≡ Some part
-    → seen_lines lines ≡ numbered 1 (take k parts) → length part ≡ 0 → seen_lines lines ≡ numbered 1 (take (k + 1) parts)
-skip_line parts k part lines at so_far empty =
-    so_far ∙ sym (append-nil (numbered 1 (take k parts)))
-    ∙ ap (λ (l : List file.NumberedLine). numbered 1 (take k parts) ++ l) (sym (none (k + 1) part empty)) ∙ sym (next parts k part at)
+pub skipped : (lines : List NumberedLine) (number : ℕ) (part : List ℕ) → length part ≡ 0
+    → seen_lines lines ≡ seen_lines lines ++ numbered number (part ∷ [])
+skipped lines number part empty =
+    sym (append-nil (seen_lines lines)) ∙ ap (λ (l : List file.NumberedLine). seen_lines lines ++ l) (sym (none number part empty))

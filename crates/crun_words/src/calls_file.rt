@@ -1,5 +1,5 @@
 // The lines of a calls file.
-ghost use Rattle.std.specs.Prelude.{◌≡◌, IfOk};
+ghost use Rattle.std.specs.Prelude.{◌≡◌, ◌∷◌, ◌++◌, [], IfOk, OnOk};
 ghost use Rattle.w2c_files.specs.Words.{names_of};
 ghost use Rattle.crun_words.specs.CallsFile.{call_lines_of, numbered as numbered_from};
 ghost use Rattle.crun_words.specs.Seen.{seen_lines};
@@ -31,10 +31,22 @@ fn numbered<'a>(alloc: Global, all: &[&'a [u8]]) -> Result<Vec<NumberedLine<'a>>
     let mut lines = Vec::new(alloc);
     for k in 0..all.len() {
         let text = part_at(all, k);
-        if !text.is_empty() {
-            let number = k + 1;
-            lines.push(NumberedLine { number, text })?;
-        }
+        put_line(&mut lines, k + 1, text)?;
     }
     Ok(lines)
+}
+
+// Puts a line at the end, unless it is empty.
+fn put_line<'a>(
+    lines: &mut Vec<NumberedLine<'a>>,
+    number: usize,
+    text: &'a [u8],
+) -> Result<(), Memory>
+    ensures { OnOk result (seen_lines lines.new.items ≡ seen_lines lines.old.items ++ numbered_from number (text.now ∷ [])) }
+{
+    if text.is_empty() {
+        return Ok(());
+    }
+    lines.push(NumberedLine { number, text })?;
+    Ok(())
 }

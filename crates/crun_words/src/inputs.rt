@@ -104,7 +104,10 @@ fn read_units<F: Files>(
         Ok(all) => Ok(all),
         Err(ReadStop::Unread(k)) => Err(InputStop::Unread(named(alloc, units, k)?)),
         Err(ReadStop::TooLong(k)) => Err(InputStop::UnitTooLong(named(alloc, units, k)?)),
-        Err(ReadStop::Past(k, _)) => Err(InputStop::UnitTooLong(named(alloc, units, k)?)),
+        Err(ReadStop::Past(k, place)) => {
+            let _ = place;
+            Err(InputStop::UnitTooLong(named(alloc, units, k)?))
+        }
         Err(ReadStop::Memory) => Err(InputStop::Memory),
     }
 }
