@@ -37,12 +37,12 @@ one_more params numbers k t n values new v at at_number so_far is pushed = recor
   fit = subst (λ (l : List Value). All IsNumber l) (sym pushed) (All-push IsNumber values v so_far.fit is.fits);
 }
 
+take_length : {A : Type 0} (xs : List A) → take (length xs) xs ≡ xs
+take_length [] = refl
+take_length (x ∷ xs) = ap (λ l. x ∷ l) (take_length xs)
+
 take_all : {A : Type 0} (xs : List A) (k : ℕ) → k ≡ length xs → take k xs ≡ xs
-take_all xs k end = ap (λ n. take n xs) end ∙ all xs
-  where
-    all : (ys : List _) → take (length ys) ys ≡ ys
-    all [] = refl
-    all (y ∷ ys) = ap (λ l. y ∷ l) (all ys)
+take_all xs k end = ap (λ n. take n xs) end ∙ take_length xs
 
 -- some value, so the types are no list void
 params_are : (values : List Value) (numbers : List ℕ) → 0 < length numbers → numbers ≡ map number_of values
