@@ -1,0 +1,19 @@
+use Rattle.std.proofs.Common.{◌≡◌, [], ◌∷◌, true, false, sym, ap, ◌∙◌, subst, List}
+use Rattle.w2c_base.specs.declared.value.Value.{Value}
+use Rattle.c_tree.specs.declared.tree.CType.{CType}
+use Rattle.c_tree.specs.declared.tree.CType.TheVariants.{Void}
+use Rattle.c_tree.specs.Runtime.{same_types}
+use Rattle.crun_words.specs.Arguments.{AreArguments}
+use Rattle.crun_words.proofs.ArgumentValues.{no_number, no_number_void, void_is}
+use Rattle.crun_words.proofs.argument.no_arguments.Goals as goal
+
+pub returns-then-is_void-clause-some : goal.returns-then-is_void-clause-some
+returns-then-is_void-clause-some c =
+    subst (λ (values : List Value). AreArguments c.args.params.now [] values) (sym c.new.ensures)
+    (no_number c.args.params.now (void_is c.args.params.now (sym c.is_void.ensures ∙ c.if-is_void.true)))
+
+pub returns-clause-none : goal.returns-clause-none
+returns-clause-none c = λ values are.
+    let both : false ≡ true = sym c.if-is_void.false ∙ c.is_void.ensures
+    ∙ ap (λ (types : List CType). same_types types (Void ∷ [])) (no_number_void c.args.params.now values are) in
+    cc

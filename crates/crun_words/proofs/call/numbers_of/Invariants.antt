@@ -1,0 +1,8 @@
+use Rattle.std.proofs.Common.{take}
+use Rattle.w2c_files.specs.Words.{names_of}
+use Rattle.crun_words.specs.CallLine.{AreNumbers}
+use Rattle.crun_words.proofs.call.numbers_of.Given as goal
+
+-- the numbers of so many words
+abbrev pub invariant-loop-k : goal.invariant-loop-k
+invariant-loop-k l = AreNumbers (take l.k (names_of l.words)) l.numbers

@@ -1,0 +1,55 @@
+-- The command that `clap` reads the words as, and the values that it finds. Which words give which values is clap's own
+-- definition for a command of this form (clap, specs/Simple, specs/Walk and specs/Faults).
+use Rattle.std.specs.Prelude.{ℕ, Bool, true, false, List, [], Option, Some, None, if◌then◌else◌, unwrap_or, codes}
+use Rattle.std.specs.Str.{bytes_eq}
+use Rattle.clap.specs.Words.{App, Row, Rule, all_of, fault_of, first_of, matches_of, new_app, new_rule, with_rule}
+use Rattle.clap.specs.Simple.{on_top}
+use Rattle.clap.specs.Walk.{is_empty}
+use Rattle.clap.specs.declared.builder.action.ArgAction.TheVariants.{Append, SetTrue}
+use Rattle.w2c_io.specs.Contents.{Name}
+
+-- an option of a whole word, which takes one value
+abbrev pub word_option : List ℕ → Rule
+word_option id = record (new_rule id) { long = Some id }
+
+-- a flag of a whole word: clap gives it the text true where it is used, and false where it is not
+abbrev pub word_flag : List ℕ → Rule
+word_flag id = record (new_rule id) { long = Some id; action = Some SetTrue }
+
+-- the last positional, which takes each word that is left
+abbrev pub units_left : Rule
+units_left = record (new_rule (codes "units")) { action = Some Append }
+
+-- no argument yet; the words leave out the program's name
+abbrev pub bare : App
+bare = on_top (λ top. record top { no_binary_name = true }) (new_app (codes "crun"))
+
+-- --steps N, --calls FILE, --state and units
+abbrev pub crun : App
+crun =
+    with_rule (with_rule (with_rule (with_rule bare (word_option (codes "steps"))) (word_option (codes "calls")))
+    (word_flag (codes "state"))) units_left
+
+-- the values of the options, each where it was used, whether the flag was used, and the units in order
+pub record Values : Type 0 where
+  pub steps : Option (List ℕ)
+  pub calls : Option Name
+  pub shows_state : Bool
+  pub units : List Name
+
+-- a flag's text is true
+abbrev pub is_used : Option (List ℕ) → Bool
+is_used None = false
+is_used (Some text) = bytes_eq text (codes "true")
+
+abbrev pub values_in : List Row → Values
+values_in rows = record {
+  steps = first_of (codes "steps") rows;
+  calls = first_of (codes "calls") rows;
+  shows_state = is_used (first_of (codes "state") rows);
+  units = unwrap_or (all_of (codes "units") rows) [];
+}
+
+-- the values that the words give; none where clap refuses them
+unfoldable pub values_of : List (List ℕ) → Option Values
+values_of words = if is_empty (fault_of crun words) then Some (values_in (matches_of crun words)) else None

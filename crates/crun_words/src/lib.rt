@@ -1,0 +1,28 @@
+//! The words of crun's command line, read with `clap`; the files that they name, read within their limits; and the lines
+//! of a calls file, each with the symbol and the numbers that it says.
+#![tactic(auto)]
+
+mod argument;
+mod call;
+mod calls_file;
+mod cases;
+mod command;
+mod inputs;
+mod law;
+mod line;
+mod number;
+mod parts;
+mod read;
+mod values;
+
+pub use argument::arguments;
+pub use call::{CallLine, call_line};
+pub use calls_file::{NumberedLine, call_lines};
+pub use cases::{call_lines_that_are_read, lines_that_are_read, lines_that_are_refused};
+pub use inputs::{InputStop, Inputs, read_inputs};
+pub use law::{one_call, one_reading};
+pub use line::Line;
+pub use read::{NoLine, read_words};
+
+#[cfg(test)]
+mod tests;

@@ -1,0 +1,70 @@
+// The reading of the words.
+ghost use Rattle.std.specs.Prelude.{◌≡◌, ◌≤◌, None, Some, IfOk, IsErrOf, option_map, vec_len};
+ghost use Rattle.clap.specs.Words.{found_of, kind_of, rows_of};
+ghost use Rattle.w2c_files.specs.Words.{texts};
+ghost use Rattle.crun_words.specs.Command.{values_in};
+ghost use Rattle.crun_words.specs.CommandLine.{line_of, line_of_values as line_by_values};
+ghost use Rattle.crun_words.specs.Seen.{seen_line};
+ghost use Rattle.crun_words.specs.declared.read.NoLine.{NoLine};
+ghost use Rattle.crun_words.specs.declared.read.NoLine.TheVariants as no_line;
+
+use crate::command::command;
+use crate::line::{Line, line_of_values};
+use crate::values::Values;
+use clap::error::ErrorKind;
+use clap::{ArgMatches, Error};
+use std::alloc::{AllocError, Global};
+
+/// Why no line was read.
+#[derive(Clone, Copy, Debug, PartialEq, Eq)]
+pub enum NoLine {
+    /// The words have no reading.
+    Usage,
+    /// An allocation failed.
+    Memory,
+}
+
+impl From<AllocError> for NoLine {
+    ghost from_gives = { λ _ e. e ≡ no_line.Memory };
+
+    fn from(_: AllocError) -> Self {
+        NoLine::Memory
+    }
+}
+
+/// The line of the words, which leave out the program's name: which spellings of an option count is `clap`'s definition
+/// for a command of these options, this flag and files. Usage exactly where the words have no reading, `--help` among
+/// them, unless memory is wanting. It names 16 units at most.
+pub fn read_words(alloc: Global, words: &[String]) -> Result<Line<'_>, NoLine>
+    ensures line { IfOk result (λ line. line_of (texts words.now) ≡ Some (seen_line line)) }
+    ensures few { IfOk result (λ line. vec_len line.units ≤ 16) }
+    ensures usage { IsErrOf result NoLine.Usage → line_of (texts words.now) ≡ None }
+{
+    let command = command(alloc)?;
+    match command.try_get_matches_from(words) {
+        Ok(matches) => line_of_matches(alloc, &matches),
+        Err(error) => Err(refusal(&error)),
+    }
+}
+
+fn line_of_matches<'a>(alloc: Global, matches: &ArgMatches<'a>) -> Result<Line<'a>, NoLine>
+    ensures line { IfOk result (λ line. line_by_values (values_in (rows_of (found_of matches.now))) ≡ Some (seen_line line)) }
+    ensures few { IfOk result (λ line. vec_len line.units ≤ 16) }
+    ensures usage { IsErrOf result NoLine.Usage → line_by_values (values_in (rows_of (found_of matches.now))) ≡ None }
+{
+    let values = Values::of(alloc, matches)?;
+    match line_of_values(values) {
+        Some(line) => Ok(line),
+        None => Err(NoLine::Usage),
+    }
+}
+
+fn refusal(error: &Error) -> NoLine
+    ensures { result ≡ NoLine.Usage → kind_of error.now ≡ ErrorKind.OutOfMemory → ⊥ }
+{
+    if error.kind() == ErrorKind::OutOfMemory {
+        NoLine::Memory
+    } else {
+        NoLine::Usage
+    }
+}

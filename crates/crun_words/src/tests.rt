@@ -1,0 +1,175 @@
+// Each public function on its happy path, words and lines that are refused, and each stop of reading.
+use crate::{InputStop, NoLine, arguments, call_line, call_lines, read_inputs, read_words};
+use c_tree::CType;
+use std::alloc::Global;
+use std::test::Fail;
+use w2c_base::Value;
+use w2c_io::{FileCall, MemFiles};
+
+fn words(alloc: Global, texts: &[&str]) -> Result<Vec<String>, Fail> {
+    let mut words = Vec::new(alloc);
+    for text in texts {
+        words.push(String::from_str(alloc, text)?)?;
+    }
+    Ok(words)
+}
+
+fn is_usage(alloc: Global, texts: &[&str]) -> Result<bool, Fail> {
+    let words = words(alloc, texts)?;
+    Ok(matches!(read_words(alloc, words.as_slice()), Err(NoLine::Usage)))
+}
+
+#[test]
+fn a_command_line(rt: HostRuntime) -> Result<(), Fail> {
+    let alloc = rt.alloc();
+    let words = words(
+        alloc,
+        &[
+            "--calls",
+            "c",
+            "a.c",
+            "--steps=18446744073709551615",
+            "b.c",
+            "--state",
+        ],
+    )?;
+    let line = read_words(alloc, words.as_slice()).ok().ok_or("a line")?;
+    assert!(rt; line.steps == 18_446_744_073_709_551_615 && line.calls == "c" && line.shows_state);
+    assert!(rt; line.units.len() == 2 && line.units[0] == "a.c" && line.units[1] == "b.c");
+    Ok(())
+}
+
+#[test]
+fn bad_command_lines(rt: HostRuntime) -> Result<(), Fail> {
+    let alloc = rt.alloc();
+    assert!(rt; is_usage(alloc, &["--steps", "1", "--calls", "c"])?);
+    assert!(rt; is_usage(alloc, &["--steps", "x", "--calls", "c", "u.c"])?);
+    assert!(rt; is_usage(alloc, &["--calls", "c", "u.c"])?);
+    assert!(rt; is_usage(alloc, &["--steps", "1", "u.c"])?);
+    assert!(rt; is_usage(alloc, &["--help"])?);
+    let many = [
+        "--steps", "1", "--calls", "c", "1", "2", "3", "4", "5", "6", "7", "8", "9", "10", "11",
+        "12", "13", "14", "15", "16", "17",
+    ];
+    assert!(rt; is_usage(alloc, &many)?);
+    assert!(rt; !is_usage(alloc, &many[..20])?);
+    Ok(())
+}
+
+fn three_files(alloc: Global) -> Result<MemFiles, Fail> {
+    let mut files = MemFiles::new(alloc);
+    files.add("a.c", b"1")?;
+    files.add("b.c", b"")?;
+    files.add("c", b"m x\n")?;
+    Ok(files)
+}
+
+#[test]
+fn inputs_are_read(rt: HostRuntime) -> Result<(), Fail> {
+    let alloc = rt.alloc();
+    let mut files = three_files(alloc)?;
+    let inputs = read_inputs(alloc, &["b.c", "a.c"], "c", &mut files)
+        .ok()
+        .ok_or("each file is read")?;
+    assert_eq!(rt; inputs.units.len(), 2);
+    assert!(rt; inputs.units[0].as_slice() == b"".as_slice());
+    assert!(rt; inputs.units[1].as_slice() == b"1".as_slice());
+    assert!(rt; inputs.calls.as_slice() == b"m x\n".as_slice());
+    Ok(())
+}
+
+fn is_unread(stop: InputStop, name: &str) -> bool {
+    match stop {
+        InputStop::Unread(unread) => unread.as_str() == name,
+        _ => false,
+    }
+}
+
+#[test]
+fn reading_stops(rt: HostRuntime) -> Result<(), Fail> {
+    let alloc = rt.alloc();
+    let mut files = three_files(alloc)?;
+    let stop = read_inputs(alloc, &["a.c", "d.c"], "e", &mut files)
+        .err()
+        .ok_or("no unit")?;
+    assert!(rt; is_unread(stop, "d.c"));
+    let stop = read_inputs(alloc, &["a.c"], "e", &mut files)
+        .err()
+        .ok_or("no calls file")?;
+    assert!(rt; is_unread(stop, "e"));
+    files.fail(FileCall::Read, 6)?;
+    let stop = read_inputs(alloc, &["a.c", "b.c"], "c", &mut files)
+        .err()
+        .ok_or("a fault")?;
+    assert!(rt; is_unread(stop, "b.c"));
+    let long = vec![in alloc; 10; 1_048_577]?;
+    files.add("long", long.as_slice())?;
+    let stop = read_inputs(alloc, &["a.c"], "long", &mut files)
+        .err()
+        .ok_or("a long file")?;
+    assert!(rt; matches!(stop, InputStop::CallsTooLong));
+    Ok(())
+}
+
+#[test]
+fn lines_of_a_calls_file(rt: HostRuntime) -> Result<(), Fail> {
+    let alloc = rt.alloc();
+    let lines = call_lines(alloc, b"\nm x\n\nn y 1")?;
+    assert_eq!(rt; lines.len(), 2);
+    assert!(rt; lines[0].number == 2 && lines[0].text == b"m x".as_slice());
+    assert!(rt; lines[1].number == 4 && lines[1].text == b"n y 1".as_slice());
+    Ok(())
+}
+
+#[test]
+fn a_line_says_a_call(rt: HostRuntime) -> Result<(), Fail> {
+    let alloc = rt.alloc();
+    let call = call_line(alloc, b"a-b 1")?;
+    assert!(rt; call.is_none());
+    let call = call_line(alloc, b"aZ2Db Z 00000000000000000007 18446744073709551615")?.ok_or(
+        "a call",
+    )?;
+    assert!(rt; call.symbol.as_slice() == b"w2cZ_aZ2DbZ_fZ_".as_slice());
+    assert!(rt; call.numbers.as_slice() == [7, 18_446_744_073_709_551_615].as_slice());
+    Ok(())
+}
+
+#[test]
+fn lines_that_say_none(rt: HostRuntime) -> Result<(), Fail> {
+    let alloc = rt.alloc();
+    let rows: [&[u8]; 12] = [
+        b"",
+        b"m",
+        b" x",
+        b"m ",
+        b"m  x",
+        b"m x ",
+        b" m x",
+        b"Z x",
+        b"m x 1 ",
+        b"m x 000000000000000000000",
+        b"m x 18446744073709551616",
+        b"m x -1",
+    ];
+    for row in rows {
+        assert!(rt; call_line(alloc, row)?.is_none());
+    }
+    Ok(())
+}
+
+#[test]
+fn arguments_of_a_call(rt: HostRuntime) -> Result<(), Fail> {
+    let alloc = rt.alloc();
+    let two = [CType::U32, CType::U64];
+    let values = arguments(alloc, &two, &[4_294_967_295, 4_294_967_296])?.ok_or("two values")?;
+    let wanted = [Value::I32(4_294_967_295), Value::I64(4_294_967_296)];
+    assert_eq!(rt; values.as_slice(), wanted.as_slice());
+    let values = arguments(alloc, &[CType::Void], &[])?.ok_or("no value")?;
+    assert!(rt; values.len() == 0);
+    assert!(rt; arguments(alloc, &two, &[4_294_967_296, 1])?.is_none());
+    assert!(rt; arguments(alloc, &two, &[1])?.is_none());
+    assert!(rt; arguments(alloc, &two, &[])?.is_none());
+    assert!(rt; arguments(alloc, &[CType::PtrMem], &[1])?.is_none());
+    assert!(rt; arguments(alloc, &[CType::Void], &[1])?.is_none());
+    Ok(())
+}
