@@ -11,3 +11,4 @@ pub mod UnitsPush
 pub mod InitSymbols
 pub mod InitsFound
 pub mod CalledFound
+pub mod HostSymbols

@@ -4,3 +4,4 @@ pub mod Entries
 pub mod Units
 pub mod Inits
 pub mod Called
+pub mod HostSymbols

@@ -3,6 +3,7 @@
 #![tactic(auto)]
 
 mod called;
+mod hosts;
 mod init_symbol;
 mod inits;
 mod names;
@@ -14,5 +15,6 @@ mod tests;
 mod types;
 
 pub use called::called_function;
+pub use hosts::{HostsRefusal, host_symbols};
 pub use inits::init_functions;
 pub use startup::{Startup, start_up};
