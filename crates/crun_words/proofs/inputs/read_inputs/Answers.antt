@@ -9,18 +9,18 @@ pub returns-in-Err-clause-stop : goal.returns-in-Err-clause-stop
 returns-in-Err-clause-stop g c =
     let files = g.F.Files in
     stops_at_unit (files.told c.args.files.now) (names_of c.args.units.now) c.args.calls.now (files.read_faults c.args.files.now)
-        (files.read_faults c.read_units.new.files) (files.fault_name c.read_units.new.files) c.in-Err.stop c.in-Err.ensures.stop
+    (files.read_faults c.read_units.new.files) (files.fault_name c.read_units.new.files) c.in-Err.stop c.in-Err.ensures.stop
 
 pub returns-in-Err-read_calls-clause-stop : goal.returns-in-Err-read_calls-clause-stop
 returns-in-Err-read_calls-clause-stop g c =
     let files = g.F.Files in
     stops_at_calls (files.told c.args.files.now) (names_of c.args.units.now) c.args.calls.now (files.read_faults c.args.files.now)
-        (files.read_faults c.read_units.new.files) (files.read_faults c.read_calls.new.files)
-        (files.fault_name c.read_calls.new.files) c.in-Err-read_calls.stop c.in-Ok.ensures.later
-        (λ contents tells. (c.in-Ok.texts.items, c.in-Ok.ensures.read contents tells))
-        (subst (λ (told : Told). StopsCalls told c.args.calls.now (files.read_faults c.read_units.new.files)
-        (files.read_faults c.read_calls.new.files) (files.fault_name c.read_calls.new.files) c.in-Err-read_calls.stop)
-        c.read_units.ensures.told c.in-Err-read_calls.ensures.stop)
+    (files.read_faults c.read_units.new.files) (files.read_faults c.read_calls.new.files)
+    (files.fault_name c.read_calls.new.files) c.in-Err-read_calls.stop c.in-Ok.ensures.later
+    (λ contents tells. (c.in-Ok.texts.items, c.in-Ok.ensures.read contents tells))
+    (subst (λ (told : Told). StopsCalls told c.args.calls.now (files.read_faults c.read_units.new.files)
+    (files.read_faults c.read_calls.new.files) (files.fault_name c.read_calls.new.files) c.in-Err-read_calls.stop)
+    c.read_units.ensures.told c.in-Err-read_calls.ensures.stop)
 
 pub returns-clause-read : goal.returns-clause-read
 returns-clause-read g c = λ contents tells. record {
