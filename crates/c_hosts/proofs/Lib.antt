@@ -1,6 +1,6 @@
 mod Arguments
 mod Called
 mod Lasts
-mod Offers
+pub mod Offers
 mod Replies
-mod Runs
+pub mod Runs
