@@ -1,0 +1,7 @@
+mod Functions
+mod History
+mod CallsBehind
+mod InitsBehind
+mod Beginnings
+mod ObjectsSeen
+mod Keeping

@@ -1,0 +1,60 @@
+use Rattle.std.proofs.Common.{◌≡◌, List, ◌++◌, [], map, refl, sym, ap, ◌∙◌, subst, arith}
+use Rattle.w2c_base.specs.Run.{Ask, asks_in}
+use Rattle.c_meaning.specs.Run.{c_run}
+use Rattle.c_startup.specs.Inits.{address_in}
+use Rattle.c_hosts.specs.Journals.{ask_of, replies_in}
+use Rattle.c_session.specs.declared.outcome.Kept.TheVariants as kept
+use Rattle.c_session.specs.Engines.{machine_with, naming_in, program_in, units_at}
+use Rattle.c_session.specs.Sessions.{phase_of, program_of, trail_of}
+use Rattle.c_session.proofs.Functions.{still_started}
+use Rattle.c_session.proofs.Keeping.{is_fresh, keeps_behind, keeps_over}
+use Rattle.c_session.proofs.session.Session.init.Goals as goal
+
+pub returns-in-Err-clause-asked : goal.returns-in-Err-clause-asked
+returns-in-Err-clause-asked g c rest =
+    let start = c.self.invariant.fresh (is_fresh c.self.inside.standing (ap (λ s. phase_of s.standing) c.self.view_is ∙ c.requires)) in (
+      _,
+      ap (λ j. map ask_of j ++ asks_in (c_run (program_of g.H.HostModule c.args.self.now) rest c.args.self.now.steps
+          (replies_in c.self.inside.engine.hosts.journal)).events) (sym start.journal),
+    )
+
+pub run_inits-requires-clause-first : goal.run_inits-requires-clause-first
+run_inits-requires-clause-first g c =
+    let start = c.self.invariant.fresh (is_fresh c.self.inside.standing (ap (λ s. phase_of s.standing) c.self.view_is ∙ c.requires)) in
+    record {
+      journal = start.journal;
+      objects = λ replies. ap (λ d. machine_with d (units_at c.self.inside.engine) (trail_of replies [])) start.depth
+          ∙ start.objects replies;
+    }
+
+pub run_inits-requires-clause-inits : goal.run_inits-requires-clause-inits
+run_inits-requires-clause-inits g c =
+    ap (map (address_in (naming_in c.self.inside.engine))) c.as_slice.ensures.value
+    ∙ c.in-Ok.ensures.meaning (program_in g.H.HostModule c.self.inside.engine) refl
+
+pub invariant_of-self-in-Err-run_inits : goal.invariant_of-self-in-Err-run_inits
+invariant_of-self-in-Err-run_inits g c =
+    let less = c.in-Err-run_inits.ensures.fewer in
+    let fewer = c.self.invariant.fewer in
+    keeps_over g.H.HostModule c.run_inits.new.self c.self.inside.steps c.run_inits.new.inits_run
+    (still_started g.H.HostModule c.self.inside.engine c.run_inits.new.self c.in-Err-run_inits.ensures.same c.self.invariant.started)
+    (omega (arith, less, fewer)) kept.Memory
+
+pub returns-in-Err-run_inits-clause-asked : goal.returns-in-Err-run_inits-clause-asked
+returns-in-Err-run_inits-clause-asked g c rest =
+    let start = c.self.invariant.fresh (is_fresh c.self.inside.standing (ap (λ s. phase_of s.standing) c.self.view_is ∙ c.requires)) in
+    subst (λ s. (more : List Ask)
+    × (asks_in (c_run (program_of g.H.HostModule s) rest s.steps (replies_in c.run_inits.new.self.hosts.journal)).events
+    ≡ map ask_of c.run_inits.new.self.hosts.journal ++ more)) c.self.view_is
+    (subst (λ n. (more : List Ask)
+    × (asks_in (c_run (program_in g.H.HostModule c.self.inside.engine) rest n (replies_in c.run_inits.new.self.hosts.journal)).events
+    ≡ map ask_of c.run_inits.new.self.hosts.journal ++ more)) start.left (c.in-Err-run_inits.ensures.asked rest))
+
+pub invariant_of-self-2 : goal.invariant_of-self-2
+invariant_of-self-2 g c =
+    let less = c.in-Ok-run_inits.ensures.fewer in
+    let fewer = c.self.invariant.fewer in
+    keeps_behind g.H.HostModule c.run_inits.new.self c.self.inside.steps c.run_inits.new.inits_run
+    (still_started g.H.HostModule c.self.inside.engine c.run_inits.new.self c.in-Ok-run_inits.ensures.same c.self.invariant.started)
+    (omega (arith, less, fewer)) c.in-Ok-run_inits.outcome
+    c.standing_behind-self-inside.result c.standing_behind-self-inside.ensures c.in-Ok-run_inits.ensures.ready
