@@ -1,0 +1,166 @@
+-- A module as a linker writes it, with every place 0, and its unit, written by hand. Its 99 bytes by sections:
+--     00 61 73 6D 01 00 00 00
+--     01 06 01 60 01 7F 01 7F                    a type `[i32] -> [i32]`
+--     03 02 01 00                                a function of it
+--     04 05 01 70 01 01 01                       a table of 1 element, at most 1
+--     05 03 01 00 02                             a memory of 2 pages, without a maximum
+--     06 08 01 7F 01 41 80 88 04 0B              a mutable i32, the stack pointer, 66560 at first
+--     07 0E 02 06 6D 65 6D 6F 72 79 02 00        the memory as `memory`
+--     01 66 00 00                                the function as `f`
+--     0A 1A 01 18 01 01 7F                       its body, with one more i32
+--     23 00 41 10 6B 22 01                       l1 is the pointer less 16
+--     20 00 36 02 0C 20 01 28 02 0C 20 00 6C 0B  the parameter, stored 12 bytes behind l1 and loaded, times itself
+--     00 0B 04 6E 61 6D 65 01 04 01 00 01 66     a custom section
+use Rattle.std.specs.Prelude.{pos, false, true, List, [], ◌∷◌, ◌++◌, map, codes, Some, None}
+use Rattle.w2c_base.specs.declared.value.ValType.TheVariants as type
+use Rattle.wasm_tree.specs.declared.code.MemArg.{MemArg}
+use Rattle.wasm_tree.specs.Instructions.{GlobalGet, I32Const, Binary, Sub, Mul, LocalTee, LocalGet, Store, Load, I32Store, I32Load}
+use Rattle.wasm_tree.specs.declared.entries.ExportKind.TheVariants.{Func as ExportFunc, Memory as ExportMemory}
+use Rattle.wasm_meaning.specs.LinkedSet.{NamedModule}
+use Rattle.wasm_meaning.specs.Samples.{code_of, func_type}
+use Rattle.c_tree.specs.declared.tree.CType.TheVariants as c_type
+use Rattle.c_tree.specs.declared.tree.Num.TheVariants.{N32}
+use Rattle.c_tree.specs.declared.tree.COp.{COp}
+use Rattle.c_tree.specs.declared.tree.COp.TheVariants as op
+use Rattle.c_tree.specs.Tree as tree
+use Rattle.c_tree.specs.Scope.{Name}
+use Rattle.c_prelude.specs.declared.operation.LoadOp.TheVariants.{I32Load as HelperLoad}
+use Rattle.c_prelude.specs.declared.operation.StoreOp.TheVariants.{I32Store as HelperStore}
+use Rattle.c_prelude.specs.Helpers.{load_helper, store_helper}
+use Rattle.c_unit.specs.Samples.{limits, export, call, n32, n64}
+
+-- 12 bytes behind the address, aligned to 4
+abbrev behind_12 : MemArg
+behind_12 = record { align = 2; offset = 12 }
+
+abbrev pub linked : NamedModule
+linked = record {
+  name = codes "real";
+  tree = record {
+    types = func_type (type.I32 ∷ []) (Some type.I32) ∷ [];
+    imports = [];
+    funcs = record { type_index = 0; place = 0 } ∷ [];
+    tables = record { limits = limits 1 (Some 1); place = 0 } ∷ [];
+    memories = record { limits = limits 2 None; place = 0 } ∷ [];
+    globals = record { ty = type.I32; mutable = true; code = code_of (I32Const (pos 66560) ∷ []); place = 0 } ∷ [];
+    exports = export (codes "memory") ExportMemory 0 ∷ export (codes "f") ExportFunc 0 ∷ [];
+    start = None;
+    elements = [];
+    segments = [];
+    bodies = record {
+      runs = record { count = 1; ty = type.I32 } ∷ [];
+      code = code_of (
+          GlobalGet 0 ∷ I32Const (pos 16) ∷ Binary type.I32 Sub ∷ LocalTee 1
+          ∷ LocalGet 0 ∷ Store I32Store behind_12
+          ∷ LocalGet 1 ∷ Load I32Load behind_12
+          ∷ LocalGet 0 ∷ Binary type.I32 Mul ∷ []);
+      end_place = 0;
+    } ∷ [];
+  };
+}
+
+-- ---- its unit
+
+abbrev set : Name → tree.Expr → tree.Stmt
+set target value = tree.Set target (tree.Value value)
+
+-- left, operator, right, in 32 bits
+abbrev two : COp → Name → Name → tree.Expr
+two o left right = tree.Op o (tree.Name left) (tree.Name right)
+
+abbrev local : Name → tree.Local
+local text = (c_type.U32, text, N32 0)
+
+-- void w2cZ_realZ_i(void): a table, a memory and the global; nothing is tested, so no variable and no trap
+abbrev pub linked_init : List tree.Stmt
+linked_init =
+    tree.Null
+    ∷ call None (codes "w2c_tab_new") (tree.Address (codes "t0") ∷ n32 1 ∷ tree.Value (n64 1) ∷ [])
+    ∷ call None (codes "w2c_mem_new") (tree.Address (codes "m0") ∷ n32 2 ∷ tree.Value (n64 4294967296) ∷ [])
+    ∷ tree.Set (codes "g0") (n32 66560)
+    ∷ tree.ReturnNone
+    ∷ []
+
+-- w2c_mem *w2cZ_realZ_mZ_memory(void) { return &m0; }
+-- u32 w2cZ_realZ_fZ_f(u32 a0) { u32 r = 0u; r = f0(a0); return r; }
+abbrev pub linked_exports : List tree.Func
+linked_exports =
+    record {
+      is_static = false;
+      result = c_type.PtrMem;
+      name = codes "w2cZ_realZ_mZ_memory";
+      params = (c_type.Void, None) ∷ [];
+      body = Some (record { locals = []; stmts = tree.Return (tree.Address (codes "m0")) ∷ [] });
+    }
+    ∷ record {
+      is_static = false;
+      result = c_type.U32;
+      name = codes "w2cZ_realZ_fZ_f";
+      params = (c_type.U32, Some (codes "a0")) ∷ [];
+      body = Some (record {
+        locals = local (codes "r") ∷ [];
+        stmts =
+            call (Some (codes "r")) (codes "f0") (tree.Value (tree.Name (codes "a0")) ∷ [])
+            ∷ tree.Return (tree.Value (tree.Name (codes "r")))
+            ∷ [];
+      });
+    }
+    ∷ []
+
+-- static u32 f0(u32 l0): the test of the depth, a statement for each instruction, and the exit
+abbrev pub linked_body : List tree.Stmt
+linked_body =
+    tree.If op.Lt (tree.Name (codes "w2c_depth")) (tree.Number (N32 1024)) (codes "L0")
+    ∷ call None (codes "w2c_trap") (n32 8 ∷ [])
+    ∷ tree.Return (tree.Value (tree.Name (codes "i0")))
+    ∷ tree.Label (codes "L0")
+    ∷ set (codes "w2c_depth") (tree.Op op.Add (tree.Name (codes "w2c_depth")) (tree.Number (N32 1)))
+    ∷ set (codes "i0") (tree.Name (codes "g0"))
+    ∷ set (codes "i1") (tree.Number (N32 16))
+    ∷ set (codes "i0") (two op.Sub (codes "i0") (codes "i1"))
+    ∷ set (codes "l1") (tree.Name (codes "i0"))
+    ∷ set (codes "i1") (tree.Name (codes "l0"))
+    ∷ call None (codes "i32_store")
+    (tree.Address (codes "m0") ∷ tree.Value (tree.Name (codes "i0")) ∷ n32 12 ∷ tree.Value (tree.Name (codes "i1")) ∷ [])
+    ∷ set (codes "i0") (tree.Name (codes "l1"))
+    ∷ call (Some (codes "i0")) (codes "i32_load")
+    (tree.Address (codes "m0") ∷ tree.Value (tree.Name (codes "i0")) ∷ n32 12 ∷ [])
+    ∷ set (codes "i1") (tree.Name (codes "l0"))
+    ∷ set (codes "i0") (two op.Mul (codes "i0") (codes "i1"))
+    ∷ set (codes "w2c_depth") (tree.Op op.Sub (tree.Name (codes "w2c_depth")) (tree.Number (N32 1)))
+    ∷ tree.Return (tree.Value (tree.Name (codes "i0")))
+    ∷ []
+
+-- the objects, a declaration of f0, both helpers, f0, the exports and the init function
+abbrev pub linked_items : List tree.Item
+linked_items =
+    tree.Var c_type.Tab (codes "t0") None
+    ∷ tree.Var c_type.Mem (codes "m0") None
+    ∷ tree.Var c_type.U32 (codes "g0") None
+    ∷ tree.Function (record {
+      is_static = true;
+      result = c_type.U32;
+      name = codes "f0";
+      params = (c_type.U32, None) ∷ [];
+      body = None;
+    })
+    ∷ tree.Function (load_helper HelperLoad)
+    ∷ tree.Function (store_helper HelperStore)
+    ∷ tree.Function (record {
+      is_static = true;
+      result = c_type.U32;
+      name = codes "f0";
+      params = (c_type.U32, Some (codes "l0")) ∷ [];
+      body = Some (record {
+        locals = local (codes "l1") ∷ local (codes "i0") ∷ local (codes "i1") ∷ [];
+        stmts = linked_body;
+      });
+    })
+    ∷ (map tree.Function linked_exports
+    ++ tree.Function (record {
+      is_static = false;
+      result = c_type.Void;
+      name = codes "w2cZ_realZ_i";
+      params = (c_type.Void, None) ∷ [];
+      body = Some (record { locals = []; stmts = linked_init });
+    }) ∷ [])
