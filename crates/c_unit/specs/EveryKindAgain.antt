@@ -13,6 +13,9 @@ use Rattle.c_tree.specs.declared.tree.Num.TheVariants.{N32, N64, Plain}
 use Rattle.c_tree.specs.declared.tree.COp.TheVariants as op
 use Rattle.c_tree.specs.Tree as tree
 use Rattle.c_tree.specs.Scope.{Name}
+use Rattle.alike.specs.Alike.{global_name}
+use Rattle.c_body.specs.Names.{label_name, pointer_name}
+use Rattle.c_unit.specs.Exports.{param_name}
 use Rattle.c_unit.specs.Samples.{limits, export, import, call, n, n32, n64, pointer}
 
 abbrev pub again : NamedModule
@@ -62,8 +65,8 @@ hands_on result symbol param zero import_symbol args = record {
 -- u64 *w2cZ_cZ_vZ_global(void) { u64 *r = 0; r = w2cZ_aZ_vZ_g(); return r; }
 abbrev pub again_exports : List tree.Func
 again_exports =
-    hands_on c_type.U32 (codes "w2cZ_cZ_fZ_func") (c_type.U64, Some (codes "a0")) (N32 0) (codes "w2cZ_aZ_fZ_f")
-    (tree.Value (tree.Name (codes "a0")) ∷ [])
+    hands_on c_type.U32 (codes "w2cZ_cZ_fZ_func") (c_type.U64, Some (param_name 0)) (N32 0) (codes "w2cZ_aZ_fZ_f")
+    (tree.Value (tree.Name (param_name 0)) ∷ [])
     ∷ hands_on c_type.PtrTab (codes "w2cZ_cZ_tZ_table") (c_type.Void, None) (Plain 0) (codes "w2cZ_aZ_tZ_t") []
     ∷ hands_on c_type.PtrMem (codes "w2cZ_cZ_mZ_memory") (c_type.Void, None) (Plain 0) (codes "w2cZ_aZ_mZ_m") []
     ∷ hands_on c_type.PtrU64 (codes "w2cZ_cZ_vZ_global") (c_type.Void, None) (Plain 0) (codes "w2cZ_aZ_vZ_g") []
@@ -73,17 +76,17 @@ again_exports =
 abbrev pub again_init : List tree.Stmt
 again_init =
     tree.Null
-    ∷ call (Some (codes "pt0")) (codes "w2cZ_aZ_tZ_t") []
+    ∷ call (Some (pointer_name (codes "t0"))) (codes "w2cZ_aZ_tZ_t") []
     ∷ call (Some (codes "n")) (codes "w2c_tab_len") (pointer (codes "t0") ∷ [])
-    ∷ tree.If op.Lt (tree.Op op.Div n (n64 1)) (n64 1) (codes "L0")
+    ∷ tree.If op.Lt (tree.Op op.Div n (n64 1)) (n64 1) (label_name 0)
     ∷ call (Some (codes "n")) (codes "w2c_tab_max") (pointer (codes "t0") ∷ [])
-    ∷ tree.If op.Gt n (n64 2) (codes "L0")
-    ∷ call (Some (codes "pm0")) (codes "w2cZ_aZ_mZ_m") []
+    ∷ tree.If op.Gt n (n64 2) (label_name 0)
+    ∷ call (Some (pointer_name (codes "m0"))) (codes "w2cZ_aZ_mZ_m") []
     ∷ call (Some (codes "n")) (codes "w2c_mem_len") (pointer (codes "m0") ∷ [])
-    ∷ tree.If op.Lt (tree.Op op.Div n (n64 65536)) (n64 2) (codes "L0")
-    ∷ call (Some (codes "pg0")) (codes "w2cZ_aZ_vZ_g") []
+    ∷ tree.If op.Lt (tree.Op op.Div n (n64 65536)) (n64 2) (label_name 0)
+    ∷ call (Some (pointer_name (global_name 0))) (codes "w2cZ_aZ_vZ_g") []
     ∷ tree.ReturnNone
-    ∷ tree.Label (codes "L0")
+    ∷ tree.Label (label_name 0)
     ∷ call None (codes "w2c_trap") (n32 9 ∷ [])
     ∷ []
 
@@ -99,9 +102,9 @@ declared result symbol param = tree.Function (record {
 
 abbrev pub again_items : List tree.Item
 again_items =
-    tree.Var c_type.PtrMem (codes "pm0") None
-    ∷ tree.Var c_type.PtrTab (codes "pt0") None
-    ∷ tree.Var c_type.PtrU64 (codes "pg0") None
+    tree.Var c_type.PtrMem (pointer_name (codes "m0")) None
+    ∷ tree.Var c_type.PtrTab (pointer_name (codes "t0")) None
+    ∷ tree.Var c_type.PtrU64 (pointer_name (global_name 0)) None
     ∷ declared c_type.U32 (codes "w2cZ_aZ_fZ_f") c_type.U64
     ∷ declared c_type.PtrTab (codes "w2cZ_aZ_tZ_t") c_type.Void
     ∷ declared c_type.PtrMem (codes "w2cZ_aZ_mZ_m") c_type.Void

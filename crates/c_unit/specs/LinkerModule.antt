@@ -19,14 +19,15 @@ use Rattle.wasm_tree.specs.declared.entries.ExportKind.TheVariants.{Func as Expo
 use Rattle.wasm_meaning.specs.LinkedSet.{NamedModule}
 use Rattle.wasm_meaning.specs.Samples.{code_of, func_type}
 use Rattle.c_tree.specs.declared.tree.CType.TheVariants as c_type
-use Rattle.c_tree.specs.declared.tree.Num.TheVariants.{N32}
-use Rattle.c_tree.specs.declared.tree.COp.{COp}
 use Rattle.c_tree.specs.declared.tree.COp.TheVariants as op
 use Rattle.c_tree.specs.Tree as tree
-use Rattle.c_tree.specs.Scope.{Name}
 use Rattle.c_prelude.specs.declared.operation.LoadOp.TheVariants.{I32Load as HelperLoad}
 use Rattle.c_prelude.specs.declared.operation.StoreOp.TheVariants.{I32Store as HelperStore}
 use Rattle.c_prelude.specs.Helpers.{load_helper, store_helper}
+use Rattle.alike.specs.Alike.{func_name, global_name}
+use Rattle.c_body.specs.Names.{local_name}
+use Rattle.c_body.specs.Samples.{i, name, number, set, two, slot, function_f0}
+use Rattle.c_unit.specs.Exports.{param_name}
 use Rattle.c_unit.specs.Samples.{limits, export, call, n32, n64}
 
 -- 12 bytes behind the address, aligned to 4
@@ -61,23 +62,13 @@ linked = record {
 
 -- ---- its unit
 
-abbrev set : Name → tree.Expr → tree.Stmt
-set target value = tree.Set target (tree.Value value)
-
--- left, operator, right, in 32 bits
-abbrev two : COp → Name → Name → tree.Expr
-two o left right = tree.Op o (tree.Name left) (tree.Name right)
-
-abbrev local : Name → tree.Local
-local text = (c_type.U32, text, N32 0)
-
 -- void w2cZ_realZ_i(void): a table, a memory and the global; nothing is tested, so no variable and no trap
 abbrev pub linked_init : List tree.Stmt
 linked_init =
     tree.Null
     ∷ call None (codes "w2c_tab_new") (tree.Address (codes "t0") ∷ n32 1 ∷ tree.Value (n64 1) ∷ [])
     ∷ call None (codes "w2c_mem_new") (tree.Address (codes "m0") ∷ n32 2 ∷ tree.Value (n64 4294967296) ∷ [])
-    ∷ tree.Set (codes "g0") (n32 66560)
+    ∷ tree.Set (global_name 0) (n32 66560)
     ∷ tree.ReturnNone
     ∷ []
 
@@ -96,39 +87,30 @@ linked_exports =
       is_static = false;
       result = c_type.U32;
       name = codes "w2cZ_realZ_fZ_f";
-      params = (c_type.U32, Some (codes "a0")) ∷ [];
+      params = (c_type.U32, Some (param_name 0)) ∷ [];
       body = Some (record {
-        locals = local (codes "r") ∷ [];
+        locals = slot (codes "r") ∷ [];
         stmts =
-            call (Some (codes "r")) (codes "f0") (tree.Value (tree.Name (codes "a0")) ∷ [])
-            ∷ tree.Return (tree.Value (tree.Name (codes "r")))
+            call (Some (codes "r")) (func_name 0) (tree.Value (name (param_name 0)) ∷ [])
+            ∷ tree.Return (tree.Value (name (codes "r")))
             ∷ [];
       });
     }
     ∷ []
 
--- static u32 f0(u32 l0): the test of the depth, a statement for each instruction, and the exit
-abbrev pub linked_body : List tree.Stmt
-linked_body =
-    tree.If op.Lt (tree.Name (codes "w2c_depth")) (tree.Number (N32 1024)) (codes "L0")
-    ∷ call None (codes "w2c_trap") (n32 8 ∷ [])
-    ∷ tree.Return (tree.Value (tree.Name (codes "i0")))
-    ∷ tree.Label (codes "L0")
-    ∷ set (codes "w2c_depth") (tree.Op op.Add (tree.Name (codes "w2c_depth")) (tree.Number (N32 1)))
-    ∷ set (codes "i0") (tree.Name (codes "g0"))
-    ∷ set (codes "i1") (tree.Number (N32 16))
-    ∷ set (codes "i0") (two op.Sub (codes "i0") (codes "i1"))
-    ∷ set (codes "l1") (tree.Name (codes "i0"))
-    ∷ set (codes "i1") (tree.Name (codes "l0"))
-    ∷ call None (codes "i32_store")
-    (tree.Address (codes "m0") ∷ tree.Value (tree.Name (codes "i0")) ∷ n32 12 ∷ tree.Value (tree.Name (codes "i1")) ∷ [])
-    ∷ set (codes "i0") (tree.Name (codes "l1"))
-    ∷ call (Some (codes "i0")) (codes "i32_load")
-    (tree.Address (codes "m0") ∷ tree.Value (tree.Name (codes "i0")) ∷ n32 12 ∷ [])
-    ∷ set (codes "i1") (tree.Name (codes "l0"))
-    ∷ set (codes "i0") (two op.Mul (codes "i0") (codes "i1"))
-    ∷ set (codes "w2c_depth") (tree.Op op.Sub (tree.Name (codes "w2c_depth")) (tree.Number (N32 1)))
-    ∷ tree.Return (tree.Value (tree.Name (codes "i0")))
+-- a statement for each instruction
+abbrev linked_stmts : List tree.Stmt
+linked_stmts =
+    set (i 0) (name (global_name 0))
+    ∷ set (i 1) (number 16)
+    ∷ set (i 0) (two (i 0) op.Sub (i 1))
+    ∷ set (local_name 1) (name (i 0))
+    ∷ set (i 1) (name (local_name 0))
+    ∷ call None (codes "i32_store") (tree.Address (codes "m0") ∷ tree.Value (name (i 0)) ∷ n32 12 ∷ tree.Value (name (i 1)) ∷ [])
+    ∷ set (i 0) (name (local_name 1))
+    ∷ call (Some (i 0)) (codes "i32_load") (tree.Address (codes "m0") ∷ tree.Value (name (i 0)) ∷ n32 12 ∷ [])
+    ∷ set (i 1) (name (local_name 0))
+    ∷ set (i 0) (two (i 0) op.Mul (i 1))
     ∷ []
 
 -- the objects, a declaration of f0, both helpers, f0, the exports and the init function
@@ -136,26 +118,17 @@ abbrev pub linked_items : List tree.Item
 linked_items =
     tree.Var c_type.Tab (codes "t0") None
     ∷ tree.Var c_type.Mem (codes "m0") None
-    ∷ tree.Var c_type.U32 (codes "g0") None
+    ∷ tree.Var c_type.U32 (global_name 0) None
     ∷ tree.Function (record {
       is_static = true;
       result = c_type.U32;
-      name = codes "f0";
+      name = func_name 0;
       params = (c_type.U32, None) ∷ [];
       body = None;
     })
     ∷ tree.Function (load_helper HelperLoad)
     ∷ tree.Function (store_helper HelperStore)
-    ∷ tree.Function (record {
-      is_static = true;
-      result = c_type.U32;
-      name = codes "f0";
-      params = (c_type.U32, Some (codes "l0")) ∷ [];
-      body = Some (record {
-        locals = local (codes "l1") ∷ local (codes "i0") ∷ local (codes "i1") ∷ [];
-        stmts = linked_body;
-      });
-    })
+    ∷ tree.Function (function_f0 (slot (local_name 1) ∷ slot (i 0) ∷ slot (i 1) ∷ []) linked_stmts)
     ∷ (map tree.Function linked_exports
     ++ tree.Function (record {
       is_static = false;
