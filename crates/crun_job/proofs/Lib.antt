@@ -5,3 +5,8 @@ pub mod Links
 pub mod Within
 pub mod Meaning
 pub mod UnitLaws
+pub mod Values
+pub mod Calls
+pub mod Lines
+pub mod JobLaws
+pub mod Tasks

@@ -10,7 +10,7 @@ use Rattle.crun_job.specs.Links.{AreLinked, Concerns, IsRefusedUnit, Symbols}
 use Rattle.crun_job.proofs.Each.{first_apart, one_each, one_first}
 use Rattle.crun_job.proofs.Texts.{one_cause, one_items, text_apart}
 
-one_units : (texts : List (List ℕ)) (a b : List (List tree.Item)) → AreUnitTexts texts a → AreUnitTexts texts b → a ≡ b
+pub one_units : (texts : List (List ℕ)) (a b : List (List tree.Item)) → AreUnitTexts texts a → AreUnitTexts texts b → a ≡ b
 one_units texts a b first second = one_each IsUnitText one_items texts a b first second
 
 -- the linker's refusal is of one unit and has one cause
@@ -20,7 +20,7 @@ one_concern (linking.Twice unit symbol) k n why other a b = (a.0 ∙ sym b.0, a.
 one_concern (linking.TypeDiffers unit symbol) k n why other a b = (a.0 ∙ sym b.0, a.1 ∙ sym b.1)
 
 -- a text that is refused is none of a unit
-texts_apart : (texts : List (List ℕ)) (k : ℕ) (why : Cause) (units : List (List tree.Item)) → IsFirstRefusedText texts k why
+pub texts_apart : (texts : List (List ℕ)) (k : ℕ) (why : Cause) (units : List (List tree.Item)) → IsFirstRefusedText texts k why
     → AreUnitTexts texts units → ⊥
 texts_apart texts k why units first are = first_apart IsUnitText IsRefusedText text_apart texts k why units first are
 

@@ -1,11 +1,16 @@
--- What a refusal of units says of their texts. Want of memory says nothing.
+-- What a refusal of units says of their texts, and one of calls of their lines. Want of memory says nothing.
 use Rattle.std.specs.Prelude.{◌≡◌, ◌<◌, ℕ, List}
 use Rattle.c_link.specs.declared.refusal.LinkRefusal.{LinkRefusal}
 use Rattle.c_link.specs.declared.refusal.LinkRefusal.TheVariants as link
 use Rattle.crun_job.specs.declared.stop.Cause.TheVariants as cause
+use Rattle.c_tree.specs.Tree as tree
+use Rattle.crun_words.specs.CallsFile.{NumberedLine}
+use Rattle.crun_job.specs.declared.refusal.CallsRefusal.{CallsRefusal}
+use Rattle.crun_job.specs.declared.refusal.CallsRefusal.TheVariants as calls
 use Rattle.crun_job.specs.declared.refusal.UnitsRefusal.{UnitsRefusal}
 use Rattle.crun_job.specs.declared.refusal.UnitsRefusal.TheVariants as refusal
 use Rattle.crun_job.specs.Texts.{IsFirstRefusedText, IsRefusedText}
+use Rattle.crun_job.specs.Calls.{IsFirstRefusedLine}
 use Rattle.crun_job.specs.Links.{IsRefusedUnit, Symbols}
 
 -- the text with a number is refused
@@ -29,6 +34,11 @@ refusal_for link.Memory = refusal.Memory
 abbrev pub RefusesUnits : List (List ℕ) → Symbols → UnitsRefusal → Type 0
 RefusesUnits texts symbols (refusal.Unit number why) = IsRefusedUnit texts symbols number why
 RefusesUnits texts symbols refusal.Memory = Unit {0}
+
+-- the first line that names no call
+abbrev pub RefusesCalls : List (List tree.Item) → List NumberedLine → CallsRefusal → Type 0
+RefusesCalls units lines (calls.Line number) = IsFirstRefusedLine units lines number
+RefusesCalls units lines calls.Memory = Unit {0}
 
 -- the number of a refused unit is that of one of so many
 abbrev pub IsWithin : ℕ → UnitsRefusal → Type 0

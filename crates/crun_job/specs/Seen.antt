@@ -1,8 +1,21 @@
 -- What the program keeps, without where it lies in memory.
-use Rattle.std.specs.Prelude.{string_bytes}
+use Rattle.std.specs.Prelude.{◌≡◌, true, All, List, map, string_bytes}
+use Rattle.c_tree.specs.Tree as tree
+use Rattle.c_meaning.specs.Linking.{fits, Program, SymbolCall}
+use Rattle.crun_job.specs.declared.calls_file.NamedCall.{NamedCall}
 use Rattle.crun_job.specs.declared.stop.Stop.{Stop}
 use Rattle.crun_job.specs.declared.stop.Stop.TheVariants as stop
 use Rattle.crun_job.specs.Lines as lines
+
+abbrev pub call_seen : NamedCall → SymbolCall
+call_seen call = record { symbol = call.symbol; args = call.args }
+
+abbrev pub calls_seen : List NamedCall → List SymbolCall
+calls_seen calls = map call_seen calls
+
+-- each call fits these units, whatever hosts they are linked with
+abbrev pub AllFit : List (List tree.Item) → List NamedCall → Type 0
+AllFit units calls = (p : Program) → p.units ≡ units → All (λ call. fits p (call_seen call) ≡ true) calls
 
 abbrev pub reason_of : Stop → lines.Reason
 reason_of stop.Usage = lines.Usage

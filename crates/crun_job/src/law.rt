@@ -1,12 +1,15 @@
-// Laws of texts, of units that are refused, and of the linker's refusals.
+// Laws of texts, of units that are refused, of the linker's refusals, of calls, and of the job.
 ghost use Rattle.std.specs.Prelude.{◌≡◌, ℕ, List};
+ghost use Rattle.w2c_io.specs.Contents.{Name, Contents};
 ghost use Rattle.c_tree.specs.Tree as tree;
 ghost use Rattle.crun_job.specs.declared.stop.Cause.{Cause};
-ghost use Rattle.c_meaning.specs.Linking.{Program, link_refusal};
+ghost use Rattle.c_meaning.specs.Linking.{fits, Program, SymbolCall, link_refusal};
 ghost use Rattle.c_link.specs.declared.host_symbol.HostSymbol.{HostSymbol};
 ghost use Rattle.c_link.specs.Offers.{c_symbols};
 ghost use Rattle.c_link.specs.Programs.{IsProgramOf};
 ghost use Rattle.c_link.specs.Refusals.{first_refusal};
+ghost use Rattle.crun_job.specs.Calls.{program_of};
+ghost use Rattle.crun_job.specs.Job.{IsJob, Job};
 ghost use Rattle.crun_job.specs.Links.{AreLinked, IsRefusedUnit, Symbols};
 ghost use Rattle.crun_job.specs.Texts.{AreUnitTexts, IsFirstRefusedText};
 
@@ -38,4 +41,15 @@ pub fn one_refused_unit()
 pub fn refusals_are_those_of_the_meaning()
     ensures { (units : List (List tree.Item)) (hosts : List HostSymbol) (p : Program) → IsProgramOf p units hosts
         → first_refusal units (c_symbols hosts) ≡ link_refusal p }
+{}
+
+/// The law that which hosts units are linked with says nothing of the calls that fit.
+pub fn hosts_say_nothing()
+    ensures { (p : Program) (call : SymbolCall) → fits (program_of p.units) call ≡ fits p call }
+{}
+
+/// The law that words ask for at most one job, over what the files hold and the hosts' symbols.
+pub fn one_job()
+    ensures { (words : List Name) (symbols : Symbols) (contents : Contents) (job other : Job)
+        → IsJob words symbols contents job → IsJob words symbols contents other → job ≡ other }
 {}

@@ -1,22 +1,27 @@
-//! What a command line of crun asks for over what its files hold. So far: the units that texts spell
-//! and that keep the rules, linked, or the first that is refused, and the line and the status of each
-//! reason.
+//! What a command line of crun asks for over what its files hold: linked units and calls of their
+//! functions, or why it is refused, with the line that says so and the status.
 #![tactic(auto)]
 
+mod calls_file;
 mod checking;
 mod law;
 mod line;
 mod linking;
+mod prepare;
 mod refusal;
 mod stop;
+mod task;
 #[cfg(test)]
 mod tests;
 
+pub use calls_file::{NamedCall, read_calls};
 pub use checking::check_units;
 pub use law::{
-    one_list_of_units, one_refused_text, one_refused_unit, refusals_are_those_of_the_meaning,
+    hosts_say_nothing, one_job, one_list_of_units, one_refused_text, one_refused_unit,
+    refusals_are_those_of_the_meaning,
 };
 pub use line::report;
 pub use linking::link_units;
-pub use refusal::UnitsRefusal;
+pub use refusal::{CallsRefusal, UnitsRefusal};
 pub use stop::{Cause, Stop};
+pub use task::Task;

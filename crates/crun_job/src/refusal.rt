@@ -1,8 +1,9 @@
-// Why texts are not those of linked units.
+// Why texts are not those of linked units, and lines not those of calls.
 ghost use Rattle.std.specs.Prelude.{◌≡◌};
 
 use crate::stop::Cause;
 use std::alloc::AllocFailed;
+use w2c_base::Memory;
 
 /// Why texts are not those of units that link.
 #[derive(Drop)]
@@ -19,5 +20,33 @@ impl<T: Drop> From<AllocFailed<T>> for UnitsRefusal {
 
     fn from(_: AllocFailed<T>) -> Self {
         UnitsRefusal::Memory
+    }
+}
+
+/// Why the lines of a calls file name no calls.
+#[derive(Clone, Copy, Debug, Drop, PartialEq, Eq)]
+pub enum CallsRefusal {
+    /// The line with this number, counted from 1, names no call.
+    Line(usize),
+    Memory,
+}
+
+impl<T: Drop> From<AllocFailed<T>> for CallsRefusal {
+    ghost use Rattle.crun_job.specs.declared.refusal.CallsRefusal.TheVariants as refusal;
+
+    ghost from_gives = { λ _ e. e ≡ refusal.Memory };
+
+    fn from(_: AllocFailed<T>) -> Self {
+        CallsRefusal::Memory
+    }
+}
+
+impl From<Memory> for CallsRefusal {
+    ghost use Rattle.crun_job.specs.declared.refusal.CallsRefusal.TheVariants as refusal;
+
+    ghost from_gives = { λ _ e. e ≡ refusal.Memory };
+
+    fn from(_: Memory) -> Self {
+        CallsRefusal::Memory
     }
 }

@@ -1,12 +1,12 @@
-// A line with its status, and texts that are read, checked and linked.
+// A line with its status, texts that are read, checked and linked, and the way from words to a task.
 ghost use Rattle.std.specs.Prelude.{◌≤◌, length, IfOk};
 ghost use Rattle.crun_job.specs.Texts.{most_unit_bytes};
 
-use crate::{Cause, Stop, UnitsRefusal, check_units, link_units, report};
+use crate::{Cause, Stop, Task, UnitsRefusal, check_units, link_units, read_calls, report};
 use std::alloc::Global;
 use std::test::Fail;
 use w2c_base::Bytes;
-use w2c_io::MemSink;
+use w2c_io::{Files, MemFiles, MemSink};
 
 const ADDS_C: &str =
     "#include \"w2c_rt.h\"\nu32 w2cZ_uZ_fZ_q(u32 x, u32 y) {\nu32 z = 0u;\nz = (x + y);\nreturn z;\n}\n";
@@ -76,4 +76,70 @@ fn the_first_unit_that_does_not_link(rt: HostRuntime) -> Result<(), Fail> {
         }
         _ => Err(Fail::new("another answer")),
     }
+}
+
+#[test]
+fn calls_that_lines_name(rt: HostRuntime) -> Result<(), Fail> {
+    let alloc = rt.alloc();
+    let texts = [unit_text(alloc, ADDS_C)?];
+    let linked = link_units(alloc, &texts, &[]).ok().ok_or("the unit links")?;
+    let calls = read_calls(alloc, &linked, b"\nu q 7 2\n")
+        .ok()
+        .ok_or("the line names a call")?;
+    assert_eq!(rt; calls.len(), 1);
+    Ok(())
+}
+
+// What `--steps 8 --calls c u.c` comes to over files.
+fn task_over<F: Files>(alloc: Global, files: &mut F) -> Result<Result<Task, Stop>, Fail> {
+    let mut words = Vec::new(alloc);
+    for word in ["--steps", "8", "--calls", "c", "u.c"] {
+        words.push(String::from_str(alloc, word)?)?;
+    }
+    Ok(Task::of_words(alloc, words.as_slice(), files, &[]))
+}
+
+// The same, where the files hold these texts.
+fn prepared(alloc: Global, unit: &str, calls: &str) -> Result<Result<Task, Stop>, Fail> {
+    let mut files = MemFiles::new(alloc);
+    files.add("u.c", unit.as_bytes())?;
+    files.add("c", calls.as_bytes())?;
+    task_over(alloc, &mut files)
+}
+
+#[test]
+fn a_task(rt: HostRuntime) -> Result<(), Fail> {
+    let alloc = rt.alloc();
+    let task = prepared(alloc, ADDS_C, "u q 7 2\n\nu q 0 0")?
+        .ok()
+        .ok_or("a task")?;
+    assert!(rt; task.calls.len() == 2 && task.steps == 8 && !task.shows_state);
+    assert_eq!(rt; task.linked.unit_count(), 1);
+    Ok(())
+}
+
+#[test]
+fn first_refusals(rt: HostRuntime) -> Result<(), Fail> {
+    let alloc = rt.alloc();
+    let rows = [
+        (
+            "#include \"w2c_rt.h\"\nfloat x;",
+            "",
+            6,
+            "crun: u.c: unexpected at 20: wanted item\n",
+        ),
+        (BREAKS_C, "x", 6, "crun: u.c: rule 7 item 0 statement 1\n"),
+        (ASKS_C, "x", 6, "crun: u.c: undefined w2cZ_g\n"),
+        (ADDS_C, "\nu q 7\n", 2, "crun: calls line 2\n"),
+        (ADDS_C, "u r 7 2", 2, "crun: calls line 1\n"),
+        (ADDS_C, "u q 7 4294967296", 2, "crun: calls line 1\n"),
+    ];
+    for (unit, calls, status, line) in rows {
+        let stop = prepared(alloc, unit, calls)?.err().ok_or("it is refused")?;
+        let mut err = MemSink::new(alloc);
+        let came = report(alloc, &stop, &mut err);
+        assert!(rt; came == status, "{line}");
+        assert_eq!(rt; err.bytes(), line.as_bytes());
+    }
+    Ok(())
 }

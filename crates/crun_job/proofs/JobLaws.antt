@@ -1,0 +1,116 @@
+-- Words ask for at most one job.
+use Rattle.std.proofs.Common.{◌≡◌, ℕ, List, Option, Some, None, MatchOption, refl, sym, ap, ◌∙◌, subst}
+use Rattle.std.specs.Prelude.{slice_get}
+use Rattle.std.proofs.lemmas.Option.{same_Some}
+use Rattle.w2c_io.specs.Contents.{Name, Contents}
+use Rattle.c_tree.specs.Tree as tree
+use Rattle.c_meaning.specs.Linking.{SymbolCall}
+use Rattle.crun_words.specs.CommandLine.{Line, line_of}
+use Rattle.crun_words.specs.Inputs.{Reading, AllRead, NotThere, LongUnit, LongCalls}
+use Rattle.crun_words.specs.CallsFile.{call_lines_of, NumberedLine}
+use Rattle.crun_words.proofs.InputStops.{one_reading}
+use Rattle.crun_job.specs.declared.stop.Cause.{Cause}
+use Rattle.crun_job.specs.Links.{AreLinked, IsRefusedUnit, Symbols}
+use Rattle.crun_job.specs.Calls.{AreCalls, IsFirstRefusedLine, IsRefusedLine, NamesFrom}
+use Rattle.crun_job.specs.Lines.{Usage, CallsTooLong, CallsLine, Refused, Unread, Unwritten, WantOfMemory}
+use Rattle.crun_job.specs.Job.{IsJob, IsJobBehind, IsJobOf, IsTextsJob, Job, Run, Stops}
+use Rattle.crun_job.proofs.Each.{first_apart, one_each, one_first}
+use Rattle.crun_job.proofs.Calls.{one_named}
+use Rattle.crun_job.proofs.UnitLaws.{linked_apart, one_refused_unit, one_units}
+
+-- ---- lines of a calls file
+
+module _ (units : List (List tree.Item)) where
+  line_apart : (line : NumberedLine) (call : SymbolCall) (n : ℕ) → NamesFrom units line call → IsRefusedLine units line n → ⊥
+  line_apart line call n names refused = refused.1 call names
+
+  one_line : (line : NumberedLine) (k n : ℕ) → IsRefusedLine units line k → IsRefusedLine units line n → k ≡ n
+  one_line line k n a b = a.0 ∙ sym b.0
+
+  one_call_list : (lines : List NumberedLine) (cs ds : List SymbolCall) → AreCalls units lines cs → AreCalls units lines ds → cs ≡ ds
+  one_call_list lines cs ds are are' = one_each (NamesFrom units) (λ line a b. one_named units line.text a b) lines cs ds are are'
+
+  lines_apart : (lines : List NumberedLine) (n : ℕ) (cs : List SymbolCall) → IsFirstRefusedLine units lines n → AreCalls units lines cs → ⊥
+  lines_apart lines n cs first are = first_apart (NamesFrom units) (IsRefusedLine units) line_apart lines first.0 n cs first.1 are
+
+  one_number : (lines : List NumberedLine) (k n : ℕ) → IsFirstRefusedLine units lines k → IsFirstRefusedLine units lines n → k ≡ n
+  one_number lines k n a b = (one_first (NamesFrom units) (IsRefusedLine units) line_apart one_line lines a.0 b.0 k n a.1 b.1).1
+
+-- ---- what texts come to
+
+module _ (line : Line) (symbols : Symbols) (texts : List (List ℕ)) (text : List ℕ) where
+  -- a unit is refused, or all are linked; then a line is refused, or all name calls
+  data IsSeen (job : Job) : Type 0 where
+    Unit_refused : (number : ℕ) → (file : Name) → (why : Cause) → slice_get line.units number ≡ Some file
+        → IsRefusedUnit texts symbols number why
+        → job ≡ Stops (Refused file why) → IsSeen job
+    Line_refused : (units : List (List tree.Item)) → (number : ℕ) → AreLinked texts symbols units
+        → IsFirstRefusedLine units (call_lines_of text) number → job ≡ Stops (CallsLine number) → IsSeen job
+    All_named : (units : List (List tree.Item)) → (calls : List SymbolCall) → AreLinked texts symbols units
+        → AreCalls units (call_lines_of text) calls → job ≡ Run units calls line.steps line.shows_state → IsSeen job
+
+  seen : (job : Job) → IsTextsJob line symbols texts text job → IsSeen job
+  seen (Run units calls steps shown) (linked, are, is_steps, is_shown) =
+      All_named units calls linked are (λ i. Run units calls (is_steps i) (is_shown i))
+  seen (Stops (Refused file why)) (number, named, refused) = Unit_refused number file why named refused refl
+  seen (Stops (CallsLine number)) (units, linked, first) = Line_refused units number linked first refl
+  seen (Stops Usage) is = absurd is
+  seen (Stops CallsTooLong) is = absurd is
+  seen (Stops (Unread file)) is = absurd is
+  seen (Stops Unwritten) is = absurd is
+  seen (Stops WantOfMemory) is = absurd is
+
+  one_seen : (a b : Job) → IsSeen a → IsSeen b → a ≡ b
+  one_seen a b (Unit_refused k file why named refused is) (Unit_refused n other why' named' refused' is') =
+      let both = one_refused_unit texts symbols k n why why' refused refused' in
+      let files : file ≡ other = same_Some file other (sym named ∙ ap (slice_get line.units) both.0 ∙ named') in
+      is ∙ (λ i. Stops (Refused (files i) (both.1 i))) ∙ sym is'
+  one_seen a b (Unit_refused k file why named refused is) (Line_refused units n linked first is') =
+      absurd (linked_apart texts symbols k why units refused linked)
+  one_seen a b (Unit_refused k file why named refused is) (All_named units calls linked are is') =
+      absurd (linked_apart texts symbols k why units refused linked)
+  one_seen a b (Line_refused units n linked first is) (Unit_refused k file why named refused is') =
+      absurd (linked_apart texts symbols k why units refused linked)
+  one_seen a b (All_named units calls linked are is) (Unit_refused k file why named refused is') =
+      absurd (linked_apart texts symbols k why units refused linked)
+  one_seen a b (Line_refused units n linked first is) (Line_refused others m linked' first' is') =
+      let same = one_units texts others units linked'.0 linked.0 in
+      let there = subst (λ us. IsFirstRefusedLine us (call_lines_of text) m) same first' in
+      is ∙ ap (λ i. Stops (CallsLine i)) (one_number units (call_lines_of text) n m first there) ∙ sym is'
+  one_seen a b (Line_refused units n linked first is) (All_named others calls linked' are is') =
+      let same = one_units texts others units linked'.0 linked.0 in
+      absurd (lines_apart units (call_lines_of text) n calls first (subst (λ us. AreCalls us (call_lines_of text) calls) same are))
+  one_seen a b (All_named others calls linked' are is') (Line_refused units n linked first is) =
+      let same = one_units texts others units linked'.0 linked.0 in
+      absurd (lines_apart units (call_lines_of text) n calls first (subst (λ us. AreCalls us (call_lines_of text) calls) same are))
+  one_seen a b (All_named units cs linked are is) (All_named others ds linked' are' is') =
+      let same = one_units texts units others linked.0 linked'.0 in
+      let there = subst (λ us. AreCalls us (call_lines_of text) cs) same are in
+      let calls = one_call_list others (call_lines_of text) cs ds there are' in
+      is ∙ (λ i. Run (same i) (calls i) line.steps line.shows_state) ∙ sym is'
+
+  pub one_texts_job : (a b : Job) → IsTextsJob line symbols texts text a → IsTextsJob line symbols texts text b → a ≡ b
+  one_texts_job a b first second = one_seen a b (seen a first) (seen b second)
+
+-- ---- what words ask for
+
+one_behind : (line : Line) (symbols : Symbols) (reading : Reading) (a b : Job) → IsJobBehind line symbols reading a
+    → IsJobBehind line symbols reading b → a ≡ b
+one_behind line symbols (AllRead texts text) a b first second = one_texts_job line symbols texts text a b first second
+one_behind line symbols (NotThere file) a b first second = first ∙ sym second
+one_behind line symbols (LongUnit file) a b first second = first ∙ sym second
+one_behind line symbols LongCalls a b first second = first ∙ sym second
+
+one_line_job : (line : Line) (symbols : Symbols) (m : Contents) (a b : Job) → IsJobOf line symbols m a → IsJobOf line symbols m b → a ≡ b
+one_line_job line symbols m a b (reading, is, behind) (other, is', behind') =
+    one_behind line symbols reading a b behind
+    (subst (λ r. IsJobBehind line symbols r b) (one_reading m line.units line.calls other reading is' is) behind')
+
+pub one_job : (words : List Name) (symbols : Symbols) (m : Contents) (a b : Job) → IsJob words symbols m a
+    → IsJob words symbols m b → a ≡ b
+one_job words symbols m a b = go (line_of words)
+  where
+    go : (o : Option Line) → MatchOption o (a ≡ Stops Usage) (λ line. IsJobOf line symbols m a)
+        → MatchOption o (b ≡ Stops Usage) (λ line. IsJobOf line symbols m b) → a ≡ b
+    go None is is' = is ∙ sym is'
+    go (Some line) is is' = one_line_job line symbols m a b is is'

@@ -1,0 +1,43 @@
+-- The lines of a calls file that are gone through: one more that names a call, and the first that names none.
+use Rattle.std.proofs.Common.{◌≡◌, ℕ, ◌+◌, ◌<◌, List, [], ◌∷◌, ◌++◌, length, take, get_or, refl, sym, ◌∙◌, subst}
+use Rattle.std.proofs.Math.ListN.{get_or-map}
+use Rattle.std.proofs.lemmas.List.{get_or_default, length-map}
+use Rattle.c_tree.specs.Tree as tree
+use Rattle.c_meaning.specs.Linking.{SymbolCall}
+use Rattle.crun_words.specs.CallsFile as file
+use Rattle.crun_words.specs.Seen.{seen_lines, seen_numbered}
+use Rattle.crun_words.specs.declared.calls_file.NumberedLine.{NumberedLine}
+use Rattle.crun_job.specs.declared.calls_file.NamedCall.{NamedCall}
+use Rattle.crun_job.specs.Calls.{AreCalls, IsFirstRefusedLine, IsRefusedLine, Names, NamesFrom}
+use Rattle.crun_job.specs.Seen.{call_seen, calls_seen}
+use Rattle.crun_job.proofs.Each.{each_pushed, first_at}
+use Rattle.crun_job.proofs.Taken.{take_next}
+
+module _ (units : List (List tree.Item)) (lines : List NumberedLine) (i : ℕ) (d : NumberedLine) (less : i < length lines)
+    (calls : List NamedCall) (so_far : AreCalls units (take i (seen_lines lines)) (calls_seen calls)) where
+  abbrev pub line : file.NumberedLine
+  line = seen_numbered (get_or lines i d)
+
+  less_seen : i < length (seen_lines lines)
+  less_seen = rw length-map less
+
+  line_is : line ≡ get_or (seen_lines lines) i line
+  line_is =
+      sym (get_or-map seen_numbered lines i d)
+      ∙ get_or_default (seen_lines lines) i (seen_numbered d) line less_seen
+
+  pub one_more : (call : NamedCall) (new : List NamedCall) → Names units line.text (call_seen call) → new ≡ calls ++ call ∷ []
+      → AreCalls units (take (i + 1) (seen_lines lines)) (calls_seen new)
+  one_more call new names pushed =
+      subst (λ cs. AreCalls units (take (i + 1) (seen_lines lines)) (calls_seen cs)) (sym pushed)
+      (subst (λ ls. AreCalls units ls (calls_seen (calls ++ call ∷ []))) (sym (take_next (seen_lines lines) i line less_seen line_is))
+      (each_pushed (NamesFrom units) call_seen (take i (seen_lines lines)) calls line call so_far names))
+
+  pub refused_here : (whole : List file.NumberedLine) → seen_lines lines ≡ whole
+      → ((call : SymbolCall) → Names units line.text call → ⊥) → IsFirstRefusedLine units whole (get_or lines i d).number
+  refused_here whole is none =
+      subst (λ ls. IsFirstRefusedLine units ls (get_or lines i d).number) is (
+        i,
+        first_at (NamesFrom units) (IsRefusedLine units) (seen_lines lines) i line (calls_seen calls) (get_or lines i d).number
+            less_seen line_is so_far (refl, none),
+      )

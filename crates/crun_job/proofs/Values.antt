@@ -1,0 +1,63 @@
+-- Values that are told by the types of parameters and by their numbers.
+use Rattle.std.proofs.Common.{◌≡◌, true, List, [], ◌∷◌, All, map, refl, ap, ◌∙◌}
+use Rattle.std.proofs.lemmas.Bool.{and_parts, false≢true}
+use Rattle.std.proofs.lemmas.List.Sums.{AllPass-from_list_all}
+use Rattle.std.specs.List.{list_all}
+use Rattle.w2c_base.specs.declared.value.Value.{Value}
+use Rattle.w2c_base.specs.declared.value.Value.TheVariants.{I32, I64}
+use Rattle.w2c_base.specs.Values.{IsNumber, is_number, number_of, type_of, types_of}
+use Rattle.w2c_base.proofs.Numbers.{found_is_number}
+use Rattle.c_tree.specs.declared.tree.CType.{CType}
+use Rattle.c_tree.specs.declared.tree.CType.TheVariants as type
+use Rattle.c_tree.specs.Runtime.{same_type, same_types}
+use Rattle.c_meaning.specs.Linking.{c_params_of, c_type_of}
+
+-- types that are equal by the test for it are equal
+type_same : (t u : CType) → same_type t u ≡ true → t ≡ u
+type_same type.Void type.Void e = refl
+type_same type.U32 type.U32 e = refl
+type_same type.U64 type.U64 e = refl
+type_same type.PtrU32 type.PtrU32 e = refl
+type_same type.PtrU64 type.PtrU64 e = refl
+type_same type.Mem type.Mem e = refl
+type_same type.PtrMem type.PtrMem e = refl
+type_same type.Tab type.Tab e = refl
+type_same type.PtrTab type.PtrTab e = refl
+type_same type.FnPtr type.FnPtr e = refl
+type_same _ _ e = absurd (false≢true e)
+
+pub types_same : (ts us : List CType) → same_types ts us ≡ true → ts ≡ us
+types_same [] [] e = refl
+types_same (t ∷ ts) (u ∷ us) e =
+    let h = and_parts (same_type t u) (same_types ts us) e in
+    ap (λ x. x ∷ ts) (type_same t u h.0) ∙ ap (λ xs. u ∷ xs) (types_same ts us h.1)
+types_same [] (u ∷ us) e = absurd (false≢true e)
+types_same (t ∷ ts) [] e = absurd (false≢true e)
+
+same_value : (v w : Value) → c_type_of (type_of v) ≡ c_type_of (type_of w) → number_of v ≡ number_of w → v ≡ w
+same_value (I32 n) (I32 m) types numbers = ap I32 numbers
+same_value (I64 n) (I64 m) types numbers = ap I64 numbers
+same_value (I32 n) (I64 m) types numbers = absurd cc
+same_value (I64 n) (I32 m) types numbers = absurd cc
+
+all_same : (vs ws : List Value) → map c_type_of (types_of vs) ≡ map c_type_of (types_of ws) → map number_of vs ≡ map number_of ws → vs ≡ ws
+all_same [] [] types numbers = refl
+all_same [] (w ∷ ws) types numbers = absurd cc
+all_same (v ∷ vs) [] types numbers = absurd cc
+all_same (v ∷ vs) (w ∷ ws) types numbers =
+    let first_type : c_type_of (type_of v) ≡ c_type_of (type_of w) = cc in
+    let first_number : number_of v ≡ number_of w = cc in
+    let other_types : map c_type_of (types_of vs) ≡ map c_type_of (types_of ws) = cc in
+    let other_numbers : map number_of vs ≡ map number_of ws = cc in
+    ap (λ x. x ∷ vs) (same_value v w first_type first_number) ∙ ap (λ xs. w ∷ xs) (all_same vs ws other_types other_numbers)
+
+pub same_values : (vs ws : List Value) → c_params_of (types_of vs) ≡ c_params_of (types_of ws)
+    → map number_of vs ≡ map number_of ws → vs ≡ ws
+same_values [] [] types numbers = refl
+same_values [] (w ∷ ws) types numbers = absurd cc
+same_values (v ∷ vs) [] types numbers = absurd cc
+same_values (v ∷ vs) (w ∷ ws) types numbers = all_same (v ∷ vs) (w ∷ ws) types numbers
+
+-- numbers of their types, by the test for it
+pub all_numbers : (values : List Value) → list_all is_number values ≡ true → All IsNumber values
+all_numbers values e = λ k d less. found_is_number _ (AllPass-from_list_all is_number values e k d less)

@@ -1,0 +1,45 @@
+use Rattle.std.proofs.Common.{length, map, refl, sym, ap, ◌∙◌, subst}
+use Rattle.w2c_files.specs.Words.{names_of}
+use Rattle.c_tree.specs.View.{unit_of}
+use Rattle.c_link.specs.Offers.{c_symbols}
+use Rattle.crun_words.specs.CallsFile.{call_lines_of}
+use Rattle.crun_words.specs.Seen.{seen_line}
+use Rattle.crun_job.specs.Calls.{AreCalls, IsFirstRefusedLine}
+use Rattle.crun_job.specs.Links.{AreLinked}
+use Rattle.crun_job.specs.Refusals.{IsWithin, RefusesUnits}
+use Rattle.crun_job.specs.Seen.{calls_seen, reason_of}
+use Rattle.crun_job.specs.Stopping.{StopsUnit}
+use Rattle.crun_job.proofs.Tasks.{unit_stops}
+use Rattle.crun_job.proofs.task.Task.of_inputs.Goals as goal
+
+pub stop_at-requires : goal.stop_at-requires
+stop_at-requires c =
+    subst (λ many. IsWithin many c.in-Err.refusal)
+    (ap length c.as_slice.ensures.value ∙ c.requires.many ∙ ap length (sym c.as_slice-in-Err.ensures.value)) c.in-Err.ensures.within
+
+pub returns-in-Err-clause-stop : goal.returns-in-Err-clause-stop
+returns-in-Err-clause-stop c =
+    let symbols = c_symbols c.args.hosts.now in
+    let inputs = c.args.inputs.now in
+    unit_stops (seen_line c.args.line.now) symbols inputs.units.items inputs.calls c.in-Err.refusal (reason_of c.stop_at.result)
+    (subst (λ ts. RefusesUnits ts symbols c.in-Err.refusal) c.as_slice.ensures.value c.in-Err.ensures.first)
+    (subst (λ ns. StopsUnit (names_of ns) c.in-Err.refusal (reason_of c.stop_at.result)) c.as_slice-in-Err.ensures.value c.stop_at.ensures)
+
+pub returns-in-Err-Line-clause-stop : goal.returns-in-Err-Line-clause-stop
+returns-in-Err-Line-clause-stop c =
+    let units = map unit_of c.in-Ok.linked.0 in (
+      units,
+      subst (λ ts. AreLinked ts (c_symbols c.args.hosts.now) units) c.as_slice.ensures.value c.in-Ok.ensures.units,
+      subst (λ t. IsFirstRefusedLine units (call_lines_of t) c.in-Err-Line.number) c.as_slice-2.ensures
+          (rw c.in-Err-Line.field-0-is at c.in-Err-Line.ensures.first),
+    )
+
+pub returns-clause-task : goal.returns-clause-task
+returns-clause-task c =
+    let units = map unit_of c.in-Ok.linked.0 in (
+      subst (λ ts. AreLinked ts (c_symbols c.args.hosts.now) units) c.as_slice.ensures.value c.in-Ok.ensures.units,
+      subst (λ t. AreCalls units (call_lines_of t) (calls_seen c.in-Ok-read_calls.calls.items)) c.as_slice-2.ensures
+          c.in-Ok-read_calls.ensures.calls,
+      refl,
+      refl,
+    )
