@@ -1,198 +1,297 @@
--- How a session's run goes on behind the calls that were made.
-use Rattle.std.proofs.Common.{◌≡◌, ℕ, suc, ◌+◌, ◌-◌, ◌≤◌, append_assoc, List, [], ◌∷◌, ◌++◌, length, map, Option, Some, None, refl, sym, ap, ◌∙◌, subst, arith}
+-- How a session's run goes on behind the functions that have ended.
+use Rattle.std.proofs.Common.{
+  ◌≡◌,
+  ℕ,
+  suc,
+  ◌+◌,
+  ◌-◌,
+  ◌≤◌,
+  append_assoc,
+  List,
+  [],
+  ◌∷◌,
+  ◌++◌,
+  length,
+  map,
+  Option,
+  Some,
+  None,
+  refl,
+  sym,
+  ap,
+  ◌∙◌,
+  subst,
+  arith,
+}
 use Rattle.std.specs.Prelude.{option_map, zip}
 use Rattle.std.specs.List.{range_with_len}
-use Rattle.std.proofs.lemmas.List.{append-nil, map_push}
+use Rattle.std.proofs.lemmas.List.{append-nil, map-append, map_push}
 use Rattle.w2c_base.specs.declared.value.Value.{Value}
 use Rattle.w2c_base.specs.Lookup.{numbered}
-use Rattle.w2c_base.specs.Run.{CallEnded, Event, Phase, Init, Call, Reply, asks_in, values_in}
+use Rattle.w2c_base.specs.Run.{Ask, CallEnded, Event, Phase, Init, Call, Reply, Trail, asks_in, values_in}
 use Rattle.w2c_base.proofs.Events.{asks_behind, values_behind}
-use Rattle.c_tree.specs.declared.tree.Item.{Item}
-use Rattle.c_tree.specs.Tree as tree
-use Rattle.c_tree.specs.View.{unit_of}
-use Rattle.c_meaning.specs.State.{FuncAddress, UnitFunc, Number, Machine}
-use Rattle.c_meaning.specs.Linking.{Program, SymbolCall, called_func, definition_at, init_functions}
-use Rattle.c_meaning.specs.Step.{begin}
-use Rattle.c_meaning.specs.Run.{CRun, Entry, Pending, Progress, Over, begun, begin_entry, came_back, told_end, after, c_run, entries_of, run_of}
-use Rattle.c_meaning.specs.Reaches.{Reaches}
-use Rattle.c_meaning.proofs.Ways.{enough, join}
-use Rattle.c_machine.specs.Threads.{alone, definition_in, machine_of}
+use Rattle.c_meaning.specs.State.{FuncAddress, Objects, Number, State}
+use Rattle.c_meaning.specs.Linking.{Program, SymbolCall, called_func, init_functions}
+use Rattle.c_meaning.specs.Machine.{fresh}
+use Rattle.c_meaning.specs.Step.{call}
+use Rattle.c_meaning.specs.Run.{CRun, Ended, Entry, Going, OutOfSteps, Over, Pending, Progress, after, begin_entry, begun, c_run, c_start, came_back, entries_of, over, run_of}
+use Rattle.c_meaning.proofs.Longer.{after_over, after_sum}
+use Rattle.c_sound.proofs.Tells.{run_tells}
+use Rattle.c_hosts.specs.declared.journal.Asked.{Asked}
+use Rattle.c_hosts.specs.Journals.{ask_of, events_in, replies_in, reply_in}
+use Rattle.c_hosts.specs.Running.{trail_before, trail_behind}
 use Rattle.crun.specs.declared.outcome.Outcome.{Outcome}
 use Rattle.crun.specs.declared.outcome.Outcome.TheVariants as outcome
-use Rattle.crun.specs.declared.outcome.Kept.{Kept}
-use Rattle.crun.specs.declared.outcome.Standing.{Standing}
-use Rattle.crun.specs.declared.outcome.Standing.TheVariants as standing
-use Rattle.crun.specs.Sessions.{Came, IfOver, IsOutcome, Stands, State, last_value, standing_of, stands_at, starts, trail_of}
+use Rattle.crun.specs.Engines.{machine_with, Came}
+use Rattle.crun.specs.Sessions.{last_value, trail_of, BehindAt, IsOutcome}
 
 -- one item more, with its number
-numbered_from : {A : Type 0} (k : ℕ) (xs : List A) (x : A) → zip (range_with_len k (length (xs ++ x ∷ []))) (xs ++ x ∷ []) ≡ zip (range_with_len k (length xs)) xs ++ (k + length xs, x) ∷ []
+numbered_from : {A : Type 0} (k : ℕ) (xs : List A) (x : A)
+    → zip (range_with_len k (length (xs ++ x ∷ []))) (xs ++ x ∷ []) ≡ zip (range_with_len k (length xs)) xs ++ (k + length xs, x) ∷ []
 numbered_from k [] x = let e : k ≡ k + 0 = omega arith in ap (λ n. (n, x) ∷ []) e
 numbered_from k (y ∷ xs) x =
     let e : k + 1 + length xs ≡ k + suc (length xs) = omega arith in
     ap (λ l. (k, y) ∷ l) (numbered_from (k + 1) xs x ∙ ap (λ n. zip (range_with_len (k + 1) (length xs)) xs ++ (n, x) ∷ []) e)
 
-numbered_push : {A : Type 0} (xs : List A) (x : A) → numbered (xs ++ x ∷ []) ≡ numbered xs ++ (length xs, x) ∷ []
-numbered_push xs x = numbered_from 0 xs x ∙ (let e : 0 + length xs ≡ length xs = omega arith in ap (λ n. numbered xs ++ (n, x) ∷ []) e)
+numbered_around : {A : Type 0} (k : ℕ) (xs : List A) (x : A) (ys : List A) → (rest : List (ℕ × A))
+    × (zip (range_with_len k (length (xs ++ x ∷ ys))) (xs ++ x ∷ ys) ≡ zip (range_with_len k (length xs)) xs ++ (k + length xs, x) ∷ rest)
+numbered_around k [] x ys =
+    let e : k ≡ k + 0 = omega arith in
+    let rest = zip (range_with_len (k + 1) (length ys)) ys in
+    (rest, ap (λ n. (n, x) ∷ rest) e)
+numbered_around k (y ∷ xs) x ys =
+    let more = numbered_around (k + 1) xs x ys in
+    let e : k + 1 + length xs ≡ k + suc (length xs) = omega arith in
+    (more.0, ap (λ l. (k, y) ∷ l) (more.1 ∙ ap (λ n. zip (range_with_len (k + 1) (length xs)) xs ++ (n, x) ∷ more.0) e))
 
-abbrev entry_of : Program → ℕ × SymbolCall → Entry
+numbered_push : {A : Type 0} (xs : List A) (x : A) → numbered (xs ++ x ∷ []) ≡ numbered xs ++ (length xs, x) ∷ []
+numbered_push xs x =
+    numbered_from 0 xs x ∙ (let e : 0 + length xs ≡ length xs = omega arith in ap (λ n. numbered xs ++ (n, x) ∷ []) e)
+
+abbrev pub entry_of : Program → ℕ × SymbolCall → Entry
 entry_of p c = record { phase = Call c.0; func = called_func p c.1; args = c.1.args }
 
+abbrev pub init_entry : ℕ × FuncAddress → Entry
+init_entry f = record { phase = Init f.0; func = Some f.1; args = [] }
+
 -- the entry of one call more
-pub entries_push : (p : Program) (calls : List SymbolCall) (c : SymbolCall) (more : List Entry) → entries_of p (calls ++ c ∷ []) ++ more ≡ entries_of p calls ++ entry_of p (length calls, c) ∷ more
-entries_push p calls c more =
-    let inits : List Entry = map (λ (f : ℕ × FuncAddress). record { phase = Init f.0; func = Some f.1; args = [] }) (numbered (init_functions p)) in
+pub entries_push : (p : Program) (calls : List SymbolCall) (c : SymbolCall)
+    → entries_of p (calls ++ c ∷ []) ≡ entries_of p calls ++ entry_of p (length calls, c) ∷ []
+entries_push p calls c =
+    let inits : List Entry = map init_entry (numbered (init_functions p)) in
     let listed = map (entry_of p) (numbered calls) in
-    let one : map (entry_of p) (numbered (calls ++ c ∷ [])) ≡ listed ++ entry_of p (length calls, c) ∷ [] = ap (map (entry_of p)) (numbered_push calls c) ∙ map_push (entry_of p) (numbered calls) (length calls, c) in
-    ap (λ l. (inits ++ l) ++ more) one
-    ∙ append_assoc inits (listed ++ entry_of p (length calls, c) ∷ []) more
-    ∙ ap (λ l. inits ++ l) (append_assoc listed (entry_of p (length calls, c) ∷ []) more)
-    ∙ sym (append_assoc inits listed (entry_of p (length calls, c) ∷ more))
+    let one : map (entry_of p) (numbered (calls ++ c ∷ [])) ≡ listed ++ entry_of p (length calls, c) ∷ [] =
+    ap (map (entry_of p)) (numbered_push calls c) ∙ map_push (entry_of p) (numbered calls) (length calls, c) in
+    ap (λ l. inits ++ l) one ∙ sym (append_assoc inits listed (entry_of p (length calls, c) ∷ []))
 
--- an entry of a function of the unit begins it
-pub entry_begins : (items : List tree.Item) (c : SymbolCall) (item : ℕ) (m : Machine) (last phase : Phase) (more : List Entry)
-    → called_func (alone items) c ≡ Some (UnitFunc 0 c.symbol) → definition_at (alone items) 0 c.symbol ≡ definition_in items item
-    → begin_entry (alone items) m last (record { phase = phase; func = called_func (alone items) c; args = c.args } ∷ more)
-    ≡ begun (record { phase = phase; entries = more }) (begin (definition_in items item) 0 m (map Number c.args) [])
-entry_begins items c item m last phase more called defined =
-    ap (λ f. begin_entry (alone items) m last (record { phase = phase; func = f; args = c.args } ∷ more)) called
-    ∙ ap (λ d. begun (record { phase = phase; entries = more }) (begin d 0 m (map Number c.args) [])) defined
+-- the entries around one call
+pub entries_around : (p : Program) (calls : List SymbolCall) (c : SymbolCall) (more : List SymbolCall)
+    → (rest : List Entry) × (entries_of p (calls ++ c ∷ more) ≡ entries_of p calls ++ entry_of p (length calls, c) ∷ rest)
+entries_around p calls c more =
+    let inits : List Entry = map init_entry (numbered (init_functions p)) in
+    let around = numbered_around 0 calls c more in
+    let rest = map (entry_of p) around.0 in
+    let count : 0 + length calls ≡ length calls = omega arith in (
+      rest,
+      ap (λ l. inits ++ map (entry_of p) l) around.1
+          ∙ ap (λ n. inits ++ map (entry_of p) (numbered calls ++ (n, c) ∷ around.0)) count
+          ∙ ap (λ l. inits ++ l) (map-append (entry_of p) (numbered calls) ((length calls, c) ∷ around.0))
+          ∙ sym (append_assoc inits (map (entry_of p) (numbered calls)) (entry_of p (length calls, c) ∷ rest)),
+    )
 
--- a call that has come back
-pub back_to : (p : Program) (k : ℕ) (more : List Entry) (m : Machine) (v : Option Value)
-    → came_back p (record { phase = Call k; entries = more }) m (Call k) (option_map Number v) ≡ begin_entry p (told_end m v) (Call k) more
-back_to p k more m None = refl
-back_to p k more m (Some v) = refl
+-- ---- what asks tell
 
-pub last_is : (values : List (Option Value)) (v : Option Value) → last_value (values ++ v ∷ []) ≡ v
-last_is [] v = refl
-last_is (w ∷ []) v = refl
-last_is (w ∷ x ∷ values) v = last_is (x ∷ values) v
+pub asks_told : (asks : List Asked) → asks_in (events_in asks) ≡ map ask_of asks
+asks_told [] = refl
+asks_told (a ∷ asks) = ap (λ rest. ask_of a ∷ rest) (asks_told asks)
 
--- the call that ended last
-pub last_told : (events : List Event) (v : Option Value) → last_value (values_in (events ++ CallEnded v ∷ [])) ≡ v
-last_told events v = ap last_value (values_behind events (CallEnded v ∷ [])) ∙ last_is (values_in events) v
+pub no_values_told : (asks : List Asked) → values_in (events_in asks) ≡ []
+no_values_told [] = refl
+no_values_told (a ∷ asks) = no_values_told asks
 
-no_ask_told : (events : List Event) (v : Option Value) → asks_in events ≡ [] → asks_in (events ++ CallEnded v ∷ []) ≡ []
-no_ask_told events v none = asks_behind events (CallEnded v ∷ []) ∙ ap (λ asks. asks ++ []) none
+pub asks_more : (told : List Event) (journal asks : List Asked) → asks_in told ≡ map ask_of journal
+    → asks_in (told ++ events_in asks) ≡ map ask_of (journal ++ asks)
+asks_more told journal asks is =
+    asks_behind told (events_in asks) ∙ ap (λ xs. xs ++ asks_in (events_in asks)) is ∙ ap (λ xs. map ask_of journal ++ xs) (asks_told asks)
+    ∙ sym (map-append ask_of journal asks)
 
--- a way to the end of a run, or of as many statements as there are
-pub comes_to : (p : Program) (calls : List SymbolCall) (replies : List Reply) (n steps : ℕ) (run : CRun) → n ≤ steps
-    → Reaches p n (starts p replies (entries_of p calls ++ [])) (Over run) → c_run p calls steps replies ≡ run
-comes_to p calls replies n steps run within way =
-    enough p calls replies n steps run
-    (subst (λ es. Reaches p n (starts p replies es) (Over run)) (append-nil (entries_of p calls)) way) within
+pub values_more : (told : List Event) (asks : List Asked) → values_in (told ++ events_in asks) ≡ values_in told
+values_more told asks =
+    values_behind told (events_in asks) ∙ ap (λ vs. values_in told ++ vs) (no_values_told asks) ∙ append-nil (values_in told)
 
-pub stops_at : (p : Program) (calls : List SymbolCall) (replies : List Reply) (steps : ℕ) (to : Progress)
-    → Reaches p steps (starts p replies (entries_of p calls ++ [])) to → c_run p calls steps replies ≡ run_of to
-stops_at p calls replies steps to way =
-    ap (λ es. run_of (after p steps (starts p replies es))) (sym (append-nil (entries_of p calls))) ∙ ap run_of way.there
+last_of : (vs : List (Option Value)) (v : Option Value) → last_value (vs ++ v ∷ []) ≡ v
+last_of [] v = refl
+last_of (w ∷ []) v = refl
+last_of (w ∷ u ∷ vs) v = last_of (u ∷ vs) v
 
--- ---- a call more
+-- ---- want of memory: the asks so far stand in front of the run's
 
--- how a call's function begins
-abbrev call_begins : State → ℕ → SymbolCall → List Reply → List Event → Pending → Progress
-call_begins before item c replies events pending =
-    let m = machine_of (unit_of before.unit) (trail_of replies events) before.depth in
-    begun pending (begin (definition_in (unit_of before.unit) item) 0 m (map Number c.args) [])
+pub part_told : (p : Program) (n steps : ℕ) (start : Progress) (pending : Pending) (s : State) (journal : List Asked)
+    → after p n start ≡ Going pending s → asks_in s.machine.trail.events ≡ map ask_of journal → n ≤ steps
+    → (more : List Ask) × (asks_in (run_of (after p steps start)).events ≡ map ask_of journal ++ more)
+part_told p n steps start pending s journal stands is within =
+    let rest = run_tells p (steps - n) (Going pending s) in
+    let count : steps ≡ n + (steps - n) = omega (arith, within) in (
+      asks_in rest.0,
+      ap (λ i. asks_in (run_of (after p i start)).events) count
+          ∙ ap (λ x. asks_in (run_of x).events) (after_sum p n (steps - n) start ∙ ap (after p (steps - n)) stands)
+          ∙ ap asks_in rest.1 ∙ asks_behind s.machine.trail.events rest.0 ∙ ap (λ xs. xs ++ asks_in rest.0) is,
+    )
 
--- what the run of a call's function came to, for all replies and whatever is called next
-abbrev pub CallCame : State → State → ℕ → SymbolCall → Outcome → Type 0
-CallCame before after item c o = (replies : List Reply) (events : List Event) (pending : Pending) → (to : Progress)
-    × Reaches (alone (unit_of before.unit)) (before.left - after.left) (call_begins before item c replies events pending) to
-    × Came (unit_of before.unit) item (trail_of replies events) pending after.depth o to
+-- ---- one entry more
 
-module _ (before after : State) (calls : List SymbolCall) (c : SymbolCall) (item : ℕ) (stands : Stands before calls)
-    (called : called_func (alone (unit_of before.unit)) c ≡ Some (UnitFunc 0 c.symbol))
-    (defined : definition_at (alone (unit_of before.unit)) 0 c.symbol ≡ definition_in (unit_of before.unit) item)
-    (unit_same : after.unit ≡ before.unit) (steps_same : after.steps ≡ before.steps) (fewer : after.left ≤ before.left) where
-  abbrev p : Program
-  p = alone (unit_of before.unit)
+module _ (p : Program) (depth : ℕ) (units : List Objects) (journal : List Asked) (n : ℕ) (entries : List Entry) (last : Phase)
+    (told : List Event)
+    (behind : BehindAt p depth units journal n entries last told) (x : Entry) (f : FuncAddress) (func_is : x.func ≡ Some f)
+    (depth' : ℕ) (units' : List Objects) (asks : List Asked) (k : ℕ) where
+  -- where the function begins, with what is pending
+  abbrev pub begins : List Entry → List Reply → Progress
+  begins more later =
+      begun (record { phase = x.phase; entries = more })
+      (call p f (machine_with depth units (trail_before asks later told)) (map Number x.args) [])
 
-  abbrev pending_of : List Entry → Pending
-  pending_of more = record { phase = Call (length calls); entries = more }
+  abbrev pub CameOut : Outcome → Type 0
+  CameOut o = (more : List Entry) (later : List Reply)
+      → Came p (record { phase = x.phase; entries = more }) (machine_with depth' units') (trail_behind asks later told) o
+      (after p k (begins more later))
 
-  -- the whole way, from the start
-  whole : (replies : List Reply) (more : List Entry) (to : Progress)
-      → Reaches p (before.left - after.left) (call_begins before item c replies stands.events (pending_of more)) to
-      → Reaches p (before.steps - after.left) (starts p replies (entries_of p (calls ++ c ∷ []) ++ more)) to
-  whole replies more to way =
-      let m = machine_of (unit_of before.unit) (trail_of replies stands.events) before.depth in
-      let here = entry_begins (unit_of before.unit) c item m stands.last (Call (length calls)) more called defined in
-      let first = stands.reaches replies (entry_of p (length calls, c) ∷ more) in
-      let second = subst (λ x. Reaches p (before.left - after.left) x to) (sym here) way in
-      let both = join p (before.steps - before.left) (before.left - after.left) _ _ to first second in
-      let count : (before.steps - before.left) + (before.left - after.left) ≡ before.steps - after.left = omega (arith, stands.fewer, fewer) in
-      subst (λ n. Reaches p n (starts p replies (entries_of p (calls ++ c ∷ []) ++ more)) to) count
-      (subst (λ es. Reaches p ((before.steps - before.left) + (before.left - after.left)) (starts p replies es) to)
-      (sym (entries_push p calls c more)) both)
+  -- the whole run so far
+  abbrev start : List Reply → List Entry → Progress
+  start later es = begin_entry p (fresh p (replies_in (journal ++ asks) ++ later)) (Init 0) es
 
-  -- the call that ended is told
-  abbrev told : Option Value → List Event
-  told v = stands.events ++ CallEnded v ∷ []
+  whole : (more : List Entry) (later : List Reply) → after p (n + k) (start later (entries ++ x ∷ more)) ≡ after p k (begins more later)
+  whole more later =
+      after_sum p n k (start later (entries ++ x ∷ more))
+      ∙ ap (λ rs. after p k (after p n (begin_entry p (fresh p rs) (Init 0) (entries ++ x ∷ more)))) replies
+      ∙ ap (after p k) (behind.reaches (replies_in asks ++ later) (x ∷ more))
+      ∙ ap (λ o. after p k (begin_entry p (machine_with depth units (trail_before asks later told)) last
+      (record { phase = x.phase; func = o; args = x.args } ∷ more))) func_is
+    where
+      replies : replies_in (journal ++ asks) ++ later ≡ replies_in journal ++ (replies_in asks ++ later)
+      replies = ap (λ rs. rs ++ later) (map-append reply_in journal asks) ∙ append_assoc (replies_in journal) (replies_in asks) later
 
-  whole_ended : (v : Option Value) → CallCame before after item c (outcome.Ended v) → (replies : List Reply) (more : List Entry)
-      → Reaches p (before.steps - after.left) (starts p replies (entries_of p (calls ++ c ∷ []) ++ more))
-      (stands_at (unit_of before.unit) after.depth replies (told v) (Call (length calls)) more)
-  whole_ended v came replies more =
-      let at = came replies stands.events (pending_of more) in
-      let m = machine_of (unit_of before.unit) (trail_of replies stands.events) after.depth in
-      subst (Reaches p (before.steps - after.left) (starts p replies (entries_of p (calls ++ c ∷ []) ++ more)))
-      (at.2.0 ∙ back_to p (length calls) more m v) (whole replies more at.0 at.1)
+  shifted : (more : List Entry) → (entries ++ x ∷ []) ++ more ≡ entries ++ x ∷ more
+  shifted more = append_assoc entries (x ∷ []) more
 
-  -- the way of a session with this unit and these steps
-  abbrev Way : List Event → List Item → ℕ → List Reply → List Entry → Type 0
-  Way events unit steps replies more =
-      Reaches (alone (unit_of unit)) (steps - after.left)
-      (starts (alone (unit_of unit)) replies (entries_of (alone (unit_of unit)) (calls ++ c ∷ []) ++ more))
-      (stands_at (unit_of unit) after.depth replies events (Call (length calls)) more)
-
-  -- a call that ended: the session stands behind it
-  pub ended_stands : (v : Option Value) → after.standing ≡ standing.Ready → CallCame before after item c (outcome.Ended v) → Stands after (calls ++ c ∷ [])
-  ended_stands v ready came = record {
-    ready = ready;
-    fewer = omega (arith, stands.fewer, fewer, steps_same);
-    last = Call (length calls);
-    events = told v;
-    no_asks = no_ask_told stands.events v stands.no_asks;
-    reaches = λ replies more.
-        subst (λ n. Way (told v) after.unit n replies more) (sym steps_same)
-        (subst (λ unit. Way (told v) unit before.steps replies more) (sym unit_same) (whole_ended v came replies more));
+  -- an init function that gave nothing
+  pub init_ended : (number : ℕ) → x.phase ≡ Init number → CameOut (outcome.Ended None)
+      → BehindAt p depth' units' (journal ++ asks) (n + k) (entries ++ x ∷ []) x.phase (told ++ events_in asks)
+  init_ended number phase_is came = record {
+    asks = asks_more told journal asks behind.asks;
+    reaches = λ later more.
+        ap (λ es. after p (n + k) (start later es)) (shifted more) ∙ whole more later ∙ came more later
+        ∙ ap (λ ph. came_back p (record { phase = x.phase; entries = more }) (machine_with depth' units' (trail_behind asks later told))
+        ph None) phase_is
+        ∙ ap (λ ph. begin_entry p (machine_with depth' units' (trail_behind asks later told)) ph more) (sym phase_is);
   }
 
-  -- its outcome is that of the run
-  pub call_outcome : (o : Outcome) → (o ≡ outcome.OutOfSteps → after.left ≡ 0) → CallCame before after item c o → (replies : List Reply)
-      → IsOutcome o (Call (length calls)) (c_run p (calls ++ c ∷ []) before.steps replies)
-  call_outcome (outcome.Ended v) spent came replies =
-      let way = whole_ended v came replies [] in
-      let run = comes_to p (calls ++ c ∷ []) replies (before.steps - after.left) before.steps _ (omega arith) way in
-      rw run (refl, last_told stands.events v, (refl, no_ask_told stands.events v stands.no_asks))
-  call_outcome (outcome.Trapped kind) spent came replies =
-      let at = came replies stands.events (pending_of []) in
-      let start = starts p replies (entries_of p (calls ++ c ∷ []) ++ []) in
-      let way = subst (Reaches p (before.steps - after.left) start) at.2 (whole replies [] at.0 at.1) in
-      let run = comes_to p (calls ++ c ∷ []) replies (before.steps - after.left) before.steps _ (omega arith) way in
-      rw run (refl, (refl, stands.no_asks))
-  call_outcome (outcome.Undefined u) spent came replies =
-      let at = came replies stands.events (pending_of []) in
-      let start = starts p replies (entries_of p (calls ++ c ∷ []) ++ []) in
-      let way = subst (Reaches p (before.steps - after.left) start) at.2 (whole replies [] at.0 at.1) in
-      let run = comes_to p (calls ++ c ∷ []) replies (before.steps - after.left) before.steps _ (omega arith) way in
-      rw run (refl, (refl, stands.no_asks))
-  call_outcome outcome.OutOfSteps spent came replies =
-      let at = came replies stands.events (pending_of []) in
-      let none : before.steps - after.left ≡ before.steps = (let zero_left = spent refl in omega (arith, zero_left)) in
-      let way = subst (λ n. Reaches p n (starts p replies (entries_of p (calls ++ c ∷ []) ++ [])) at.0) none (whole replies [] at.0 at.1) in
-      let run = stops_at p (calls ++ c ∷ []) replies before.steps at.0 way ∙ ap run_of at.2.1 in
-      rw (run, at.2.2) (refl, (refl, stands.no_asks))
+  -- a call that ended
+  pub call_ended : (number : ℕ) (value : Option Value) → x.phase ≡ Call number → CameOut (outcome.Ended value)
+      → BehindAt p depth' units' (journal ++ asks) (n + k) (entries ++ x ∷ []) x.phase ((told ++ events_in asks) ++ CallEnded value ∷ [])
+  call_ended number value phase_is came = record {
+    asks = asks_behind (told ++ events_in asks) (CallEnded value ∷ []) ∙ append-nil (asks_in (told ++ events_in asks))
+        ∙ asks_more told journal asks behind.asks;
+    reaches = λ later more.
+        ap (λ es. after p (n + k) (start later es)) (shifted more) ∙ whole more later ∙ came more later
+        ∙ ap (λ ph. came_back p (record { phase = x.phase; entries = more }) (machine_with depth' units' (trail_behind asks later told)) ph
+        (option_map Number value)) phase_is
+        ∙ comes value later more
+        ∙ ap (λ ph. begin_entry p (machine_with depth' units' (trail_of later ((told ++ events_in asks) ++ CallEnded value ∷ []))) ph
+        more) (sym phase_is);
+  }
+    where
+      comes : (value : Option Value) (later : List Reply) (more : List Entry)
+          → came_back p (record { phase = x.phase; entries = more }) (machine_with depth' units' (trail_behind asks later told))
+          (Call number) (option_map Number value)
+          ≡ begin_entry p (machine_with depth' units' (trail_of later ((told ++ events_in asks) ++ CallEnded value ∷ []))) (Call number)
+          more
+      comes None later more = refl
+      comes (Some v) later more = refl
 
-  -- a session that is ready behind a call stands behind it
-  pub ready_stands : (o : Outcome) → standing_of o ≡ standing.Ready → after.standing ≡ standing_of o → CallCame before after item c o → Stands after (calls ++ c ∷ [])
-  ready_stands (outcome.Ended v) ready is came = ended_stands v is came
-  ready_stands (outcome.Trapped kind) ready is came = absurd cc
-  ready_stands (outcome.Undefined u) ready is came = absurd cc
-  ready_stands outcome.OutOfSteps ready is came = absurd cc
+  -- an entry that did not end: the run of every list of calls with these entries is this
+  module _ (calls : List SymbolCall) (rest : List Entry) (are : entries_of p calls ≡ entries ++ x ∷ rest) (steps : ℕ)
+      (within : n + k ≤ steps) where
+    abbrev the_run : CRun
+    the_run = c_run p calls steps (replies_in (journal ++ asks))
 
-pub not_over : (s : Standing) → ((why : Kept) → s ≡ standing.Over why → ⊥) → (P : Kept → Type 0) → IfOver s P
-not_over standing.Fresh none P = tt
-not_over standing.Ready none P = tt
-not_over (standing.Over why) none P = absurd (none why refl)
+    at_start : c_start p calls (replies_in (journal ++ asks)) ≡ start [] (entries ++ x ∷ rest)
+    at_start = ap (λ es. begin_entry p (fresh p (replies_in (journal ++ asks))) (Init 0) es) are
+        ∙ ap (λ rs. begin_entry p (fresh p rs) (Init 0) (entries ++ x ∷ rest)) (sym (append-nil (replies_in (journal ++ asks))))
+
+    there : after p (n + k) (c_start p calls (replies_in (journal ++ asks))) ≡ after p k (begins rest [])
+    there = ap (after p (n + k)) at_start ∙ whole rest []
+
+    over_run : (run : CRun) → after p k (begins rest []) ≡ Over run → the_run ≡ run
+    over_run run is =
+        let count : steps ≡ (n + k) + (steps - (n + k)) = omega (arith, within) in
+        ap run_of (ap (λ i. after p i (c_start p calls (replies_in (journal ++ asks)))) count
+        ∙ after_sum p (n + k) (steps - (n + k)) (c_start p calls (replies_in (journal ++ asks)))
+        ∙ ap (after p (steps - (n + k))) (there ∙ is) ∙ after_over p (steps - (n + k)) run)
+
+    abbrev Comes : Outcome → CRun → Type 0
+    Comes why run = IsOutcome why x.phase (journal ++ asks) (told ++ events_in asks) units' run
+
+    came_so : (why : Outcome) → (run : CRun) → the_run ≡ run → Comes why run → Comes why the_run
+    came_so why run is end = subst (Comes why) (sym is) end
+
+    asks_are : asks_in (told ++ events_in asks) ≡ map ask_of (journal ++ asks)
+    asks_are = asks_more told journal asks behind.asks
+
+    pub trapped : (kind : _) → CameOut (outcome.Trapped kind) → Comes (outcome.Trapped kind) the_run
+    trapped kind came = came_so (outcome.Trapped kind) _ (over_run _ (came rest []))
+        (record { end = refl; phase_is = refl; events = refl; asks = asks_are; objects = refl })
+
+    pub undefined : (u : _) → CameOut (outcome.Undefined u) → Comes (outcome.Undefined u) the_run
+    undefined u came = came_so (outcome.Undefined u) _ (over_run _ (came rest []))
+        (record { end = refl; phase_is = refl; events = refl; asks = asks_are; objects = refl })
+
+    pub out_of_steps : n + k ≡ steps → CameOut outcome.OutOfSteps → Comes outcome.OutOfSteps the_run
+    out_of_steps count came = go (came rest [])
+      where
+        go : Came p (record { phase = x.phase; entries = rest }) (machine_with depth' units') (trail_behind asks [] told) outcome.OutOfSteps
+            (after p k (begins rest [])) → Comes outcome.OutOfSteps the_run
+        go (s, stands, machine_is) =
+            let whole_run : the_run ≡ over (record { phase = x.phase; entries = rest }) s.machine OutOfSteps =
+            ap run_of (ap (λ i. after p i (c_start p calls (replies_in (journal ++ asks)))) (sym count) ∙ there ∙ stands) in
+            let so : the_run ≡ over (record { phase = x.phase; entries = rest }) (machine_with depth' units' (trail_behind asks [] told))
+            OutOfSteps =
+            whole_run ∙ ap (λ machine. over (record { phase = x.phase; entries = rest }) machine OutOfSteps) machine_is in
+            came_so outcome.OutOfSteps _ so (record { end = refl; phase_is = refl; events = refl; asks = asks_are; objects = refl })
+
+    -- an entry that is on its way: the asks so far are a beginning of the run's
+    pub still_going : (pending : Pending) (s : State) → after p k (begins rest []) ≡ Going pending s
+        → s.machine.trail ≡ trail_behind asks [] told
+        → (more : List Ask) × (asks_in the_run.events ≡ map ask_of (journal ++ asks) ++ more)
+    still_going pending s stands tells =
+        part_told p (n + k) steps (c_start p calls (replies_in (journal ++ asks))) pending s (journal ++ asks) (there ∙ stands)
+        (ap (λ (t : Trail). asks_in t.events) tells ∙ asks_are) within
+
+-- ---- behind all entries
+
+-- the run of the calls whose entries have all ended
+pub all_ended : (p : Program) (depth : ℕ) (units : List Objects) (journal : List Asked) (n : ℕ) (calls : List SymbolCall) (last : Phase)
+    (told : List Event) (value : Option Value) → BehindAt p depth units journal n (entries_of p calls) last told
+    → last_value (values_in told) ≡ value → (steps : ℕ) → n ≤ steps
+    → IsOutcome (outcome.Ended value) last journal told units (c_run p calls steps (replies_in journal))
+all_ended p depth units journal n calls last told value behind is steps within =
+    subst (IsOutcome (outcome.Ended value) last journal told units) (sym run_is)
+    (record { end = (refl, is); phase_is = refl; events = refl; asks = behind.asks; objects = refl })
+  where
+    at_start : c_start p calls (replies_in journal) ≡ begin_entry p (fresh p (replies_in journal ++ [])) (Init 0) (entries_of p calls ++ [])
+    at_start = ap (λ es. begin_entry p (fresh p (replies_in journal)) (Init 0) es) (sym (append-nil (entries_of p calls)))
+        ∙ ap (λ rs. begin_entry p (fresh p rs) (Init 0) (entries_of p calls ++ [])) (sym (append-nil (replies_in journal)))
+
+    run_is : c_run p calls steps (replies_in journal)
+        ≡ over (record { phase = last; entries = [] }) (machine_with depth units (trail_of [] told)) Ended
+    run_is =
+        let count : steps ≡ n + (steps - n) = omega (arith, within) in
+        ap run_of (ap (λ i. after p i (c_start p calls (replies_in journal))) count
+        ∙ after_sum p n (steps - n) (c_start p calls (replies_in journal))
+        ∙ ap (after p (steps - n)) (ap (after p n) at_start ∙ behind.reaches [] []) ∙ after_over p (steps - n)
+        (over (record { phase = last; entries = [] }) (machine_with depth units (trail_of [] told)) Ended))
+
+-- the value of a call that ended
+pub value_last : (told : List Event) (asks : List Asked) (value : Option Value)
+    → last_value (values_in ((told ++ events_in asks) ++ CallEnded value ∷ [])) ≡ value
+value_last told asks value = ap last_value (values_behind (told ++ events_in asks) (CallEnded value ∷ []))
+    ∙ last_of (values_in (told ++ events_in asks)) value

@@ -1,13 +1,21 @@
-pub mod BuiltParts
-pub mod Called
-pub mod ConstantTold
-pub mod Decided
-pub mod Ends
-pub mod Entries
-pub mod Fitting
-pub mod History
-pub mod Inits
-pub mod Never
-pub mod Signed
-pub mod SumsTold
-pub mod SymbolParts
+pub mod Collected
+pub mod Checked
+pub mod Externals
+pub mod SymbolsFound
+pub mod Arrays
+pub mod TablesFound
+pub mod TypesFound
+pub mod Apart
+pub mod First
+pub mod UnitsPush
+pub mod InitSymbols
+pub mod InitsFound
+pub mod CalledFound
+pub mod HostSymbols
+mod Functions
+mod History
+mod CallsBehind
+mod InitsBehind
+mod Beginnings
+mod ObjectsSeen
+mod Keeping

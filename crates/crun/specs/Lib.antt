@@ -1,7 +1,13 @@
-pub mod Built
-pub mod ConstantParts
-pub mod ConstantTests
-pub mod Hosts
+-- The public contracts cite these.
+pub mod HostSymbols
+pub mod Names
+pub mod Shown
+pub mod Engines
 pub mod Sessions
-pub mod Signatures
-pub mod Symbols
+
+-- Those of the crate's own functions, and proofs, cite these, too.
+pub mod Objects
+pub mod Entries
+pub mod Units
+pub mod Inits
+pub mod Called

@@ -1,81 +1,161 @@
-// One function of a unit, run from its beginning to its end.
-ghost use Rattle.std.specs.Prelude.{◌≡◌, ◌-◌, ◌≤◌, [], map, Some, IfOk};
-ghost use Rattle.w2c_base.specs.Run.{Trail};
-ghost use Rattle.c_tree.specs.View.{unit_of};
-ghost use Rattle.c_meaning.specs.State.{Number};
-ghost use Rattle.c_meaning.specs.Linking.{Definition};
-ghost use Rattle.c_meaning.specs.Step.{begin};
-ghost use Rattle.c_meaning.specs.Run.{Pending, Progress, begun};
-ghost use Rattle.c_meaning.specs.Reaches.{Reaches};
-ghost use Rattle.c_machine.specs.Tables.{IsTables};
-ghost use Rattle.c_machine.specs.Threads.{alone, definition_in, machine_of};
-ghost use Rattle.crun.specs.declared.outcome.Outcome.TheVariants as outcome;
-ghost use Rattle.crun.specs.Built.{IsBuilt};
-ghost use Rattle.crun.specs.Sessions.{outcome_of as outcome_of_step, IsEntry, RunCame};
+// One function of linked units, run with hosts from its beginning to its end.
+ghost use Rattle.std.specs.Prelude.{◌≡◌, ◌-◌, ◌≤◌, List, map, IfOk, OnErr};
+ghost use Rattle.w2c_base.specs.declared.value.Value.{Value as AnyValue};
+ghost use Rattle.w2c_base.specs.Run.{Call};
+ghost use Rattle.c_sound.specs.Typed.{Begins};
+ghost use Rattle.c_hosts.specs.declared.journal.Asked.{Asked};
+ghost use Rattle.c_hosts.specs.Running.{Asks};
+ghost use Rattle.c_objects.specs.declared.held.Held.TheVariants.{Number};
+ghost use Rattle.c_objects.specs.Stores.{AreStored};
+ghost use Rattle.crun.specs.declared.outcome.Outcome.TheVariants as outcomes;
+ghost use Rattle.crun.specs.Engines.{ended_with, entry_in, naming_in, outcome_in, program_in, BeginsWith, FunctionCame, FunctionCamePart, IfEnded, IsReady, SameProgram};
 
 use crate::outcome::{Outcome, UndefinedAt};
-use c_machine::{Frame, Stepped, Tables, Thread};
-use c_tree::Unit;
+use c_hosts::{Ending, HostModule, Hosts, run};
+use c_link::Linked;
+use c_objects::{Held, Store};
+use crate::startup::Startup;
+use c_thread::{LinkedFrame, LinkedThread};
+use lin_mem::LinMem;
 use std::alloc::Global;
+use std::mem::replace;
 use w2c_base::{Memory, Value};
 
-/// What lasts from one function's run to the next: w2c_depth, and the steps that are left.
-#[derive(Clone, Copy)]
-pub struct Engine {
+/// What lasts from one function's run to the next: the units with their tables and objects, w2c_depth,
+/// the hosts with their journal, and the steps that are left. A memory that was not made is lent as
+/// one without bytes.
+#[derive(Drop)]
+pub struct Engine<H: HostModule> {
+    pub linked: Linked,
+    pub startup: Startup,
     pub depth: u32,
+    pub hosts: Hosts<H>,
     pub left: u64,
+    pub not_made: LinMem,
 }
 
-impl Engine {
-    /// Runs the function that an item defines, with these arguments.
-    pub fn run(
+impl<H: HostModule> Engine<H> {
+    /// Runs the function that an item of a unit defines, with these arguments.
+    pub fn run_function(
         &mut self,
         alloc: Global,
-        unit: &Unit,
-        tables: &Tables,
+        unit: usize,
         item: usize,
-        args: Vec<Value>,
+        args: &[Value],
     ) -> Result<Outcome, Memory>
-        requires built { IsBuilt (unit_of unit.now) }
-        requires tables { IsTables tables.now (unit_of unit.now) }
-        requires entry { IsEntry (unit_of unit.now) item args.items }
-        ensures came { IfOk result (λ o. RunCame (unit_of unit.now) self.old self.new item args.items o) }
-        ensures spent { IfOk result (λ o. o ≡ outcome.OutOfSteps → self.new.left ≡ 0) }
+        requires ready { IsReady H.HostModule self.old }
+        requires begins { Begins (program_in H.HostModule self.old) (entry_in self.old unit item args.now (Call 0)) }
+        ensures came { IfOk result (λ o. (asks : List Asked)
+            × Asks H.HostModule self.old.hosts.list.items self.old.hosts.journal asks self.new.hosts.list.items self.new.hosts.journal
+            × FunctionCame H.HostModule self.old unit item args.now asks o (self.old.left - self.new.left) self.new) }
+        ensures wanting { OnErr result ((asks : List Asked)
+            × Asks H.HostModule self.old.hosts.list.items self.old.hosts.journal asks self.new.hosts.list.items self.new.hosts.journal
+            × FunctionCamePart H.HostModule self.old unit item args.now asks self.old.left) }
+        ensures ready { IfOk result (λ o. IfEnded o (IsReady H.HostModule self.new)) }
+        ensures stored { IfOk result (λ o. AreStored (naming_in self.old) self.new.startup.store.units.items) }
+        ensures same { SameProgram H.HostModule self.old self.new }
+        ensures spent { IfOk result (λ o. o ≡ outcomes.OutOfSteps → self.new.left ≡ 0) }
         ensures fewer { self.new.left ≤ self.old.left }
     {
-        let Some(top) = Frame::begin(unit, item, args)? else {
-            unreachable!()
+        let top = match self.first_frame(alloc, unit, item, args) {
+            Ok(top) => top,
+            Err(Memory) => return Err(Memory),
         };
-        let mut thread = Thread {
+        let empty = Store {
+            units: Vec::new(alloc),
+        };
+        let mut thread = LinkedThread {
             depth: self.depth,
+            store: replace(&mut self.startup.store, empty),
             top,
             below: Vec::new(alloc),
         };
-        let mut left = self.left;
-        let stepped = thread.run(alloc, unit, tables, &mut left)?;
+        let came = run(
+            alloc,
+            self.startup.units.as_slice(),
+            &self.startup.types,
+            &mut thread,
+            &mut self.hosts,
+            &mut self.left,
+        );
         self.depth = thread.depth;
-        self.left = left;
-        let Some(outcome) = outcome_of(stepped, &thread.top) else {
+        self.startup.store = thread.store;
+        let ending = match came {
+            Ok(ending) => ending,
+            Err(Memory) => return Err(Memory),
+        };
+        let Some(outcome) = outcome_of(ending, &thread.top) else {
             unreachable!()
         };
         Ok(outcome)
     }
+
+    // The function as it begins.
+    fn first_frame(
+        &self,
+        alloc: Global,
+        unit: usize,
+        item: usize,
+        args: &[Value],
+    ) -> Result<LinkedFrame, Memory>
+        requires ready { IsReady H.HostModule self.now }
+        requires begins { Begins (program_in H.HostModule self.now) (entry_in self.now unit item args.now (Call 0)) }
+        ensures { IfOk result (λ f. BeginsWith H.HostModule self.now unit item args.now f) }
+    {
+        let frame = match LinkedFrame::begin(
+            self.startup.units.as_slice(),
+            unit,
+            item,
+            held(alloc, args)?,
+        ) {
+            Ok(frame) => frame,
+            Err(Memory) => return Err(Memory),
+        };
+        let Some(top) = frame else { unreachable!() };
+        Ok(top)
+    }
 }
 
-// None where the step was stuck.
-fn outcome_of(stepped: Stepped, top: &Frame) -> Option<Outcome>
-    ensures { result ≡ outcome_of_step stepped top.now }
+// What an ending is for those who called the function: no outcome where it was stuck, or came back with a pointer.
+fn outcome_of(ending: Option<Ending>, top: &LinkedFrame) -> Option<Outcome>
+    ensures { result ≡ outcome_in ending top.now }
 {
-    match stepped {
-        Stepped::Next => Some(Outcome::OutOfSteps),
-        Stepped::Back(value) => Some(Outcome::Ended(value)),
-        Stepped::Trapped(kind) => Some(Outcome::Trapped(kind)),
-        Stepped::Undefined(kind) => Some(Outcome::Undefined(UndefinedAt {
+    let Some(ending) = ending else {
+        return Some(Outcome::OutOfSteps);
+    };
+    match ending {
+        Ending::Back(value) => ended(value),
+        Ending::Trapped(kind) => Some(Outcome::Trapped(kind)),
+        Ending::Undefined(kind) => Some(Outcome::Undefined(UndefinedAt {
             kind,
-            unit: 0,
+            unit: top.unit,
             item: top.item,
             statement: top.at,
         })),
-        Stepped::Stuck => None,
+        Ending::Stuck => None,
     }
+}
+
+fn ended(value: Option<Held>) -> Option<Outcome>
+    ensures { result ≡ ended_with value }
+{
+    let Some(value) = value else {
+        return Some(Outcome::Ended(None));
+    };
+    match value {
+        Held::Number(number) => Some(Outcome::Ended(Some(number))),
+        Held::Pointer(_) => None,
+        Held::FuncPointer(_) => None,
+    }
+}
+
+// Arguments as parameters hold them.
+fn held(alloc: Global, args: &[Value]) -> Result<Vec<Held>, Memory>
+    ensures { IfOk result (λ values. values.items ≡ map Number args.now) }
+{
+    let mut values = Vec::new(alloc);
+    for arg in args {
+        values.push(Held::Number(*arg))?;
+    }
+    Ok(values)
 }

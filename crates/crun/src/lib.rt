@@ -1,19 +1,29 @@
-//! Sessions: linked units run by the meaning of C, call by call.
+//! Linked units that run with hosts, by the meaning of C: program startup (C11, 5.1.2), the init functions, then call
+//! after call.
 #![tactic(auto)]
 
-mod constant;
+mod called;
+mod calls;
 mod engine;
-mod host;
-mod linked;
+mod hosts;
+mod init_symbol;
+mod inits;
+mod names;
+mod objects;
 mod outcome;
+mod run_inits;
 mod session;
-mod signatures;
-mod sums;
+#[cfg(test)]
+mod session_tests;
+mod shown;
+mod start;
+mod startup;
 mod symbols;
 #[cfg(test)]
 mod tests;
+mod types;
 
-pub use host::{BoxedHost, HostFunction, HostModule, HostReply};
-pub use linked::{Linked, SingleRefusal};
-pub use outcome::{Kept, Outcome, Phase, Stop, UndefinedAt};
-pub use session::{Asked, Journal, Session};
+pub use hosts::{HostsRefusal, host_symbols};
+pub use outcome::{Kept, Outcome, Phase, Standing, Stop, UndefinedAt};
+pub use session::Session;
+pub use shown::{Element, Owner};

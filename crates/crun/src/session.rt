@@ -1,97 +1,83 @@
 // Sessions.
-ghost use Rattle.std.specs.Prelude.{◌≡◌, ◌≢◌, ◌≤◌, None, Option, [], ◌∷◌, ◌++◌, List, ℕ, length, true, Err, IfErr, IfOk, OnErr, OnOk};
-ghost use Rattle.w2c_base.specs.Run.{Call, Init, Reply};
+ghost use Rattle.std.specs.Prelude.{◌≡◌, ◌≢◌, ◌∷◌, ◌++◌, ◌-◌, ◌<◌, [], ℕ, slice_get, Some, List, Option, length, map, true, Err, IfErr, IfOk, OnErr, OnOk, None, option_map, option_copied};
+ghost use Rattle.w2c_base.specs.declared.value.Value.{Value as AnyValue};
+ghost use Rattle.w2c_base.specs.Lookup.{at_index, if_found};
+ghost use Rattle.w2c_base.specs.Run.{asks_in, Ask, Call, Event, Init};
 ghost use Rattle.c_tree.specs.View.{unit_of};
 ghost use Rattle.c_meaning.specs.Linking.{fits, SymbolCall};
 ghost use Rattle.c_meaning.specs.Run.{c_run};
-ghost use Rattle.c_machine.specs.Threads.{alone};
+ghost use Rattle.c_objects.specs.Stores.{AreStored};
+ghost use Rattle.crun.specs.HostSymbols.{symbols_of_hosts};
+ghost use Rattle.crun.specs.Names.{naming_of};
+ghost use Rattle.c_hosts.specs.declared.journal.Asked.{Asked};
+ghost use Rattle.c_hosts.specs.Asking.{hosts_of};
+ghost use Rattle.c_hosts.specs.Journals.{ask_of, events_in, replies_in};
+ghost use Rattle.c_hosts.specs.Running.{Asks};
+ghost use Rattle.crun.specs.declared.outcome.Kept.{Kept as AnyKept};
 ghost use Rattle.crun.specs.declared.outcome.Kept.TheVariants as kept;
+ghost use Rattle.crun.specs.declared.outcome.Outcome.TheVariants as outcomes;
 ghost use Rattle.crun.specs.declared.outcome.Phase.TheVariants as phases;
 ghost use Rattle.crun.specs.declared.outcome.Standing.TheVariants as standing;
 ghost use Rattle.crun.specs.declared.outcome.Stop.TheVariants as stops;
-ghost use Rattle.crun.specs.Sessions.{phase_of, standing_of, IfOver, IsOutcome, Stands, RunCame, SymbolCame};
-ghost use Rattle.crun.specs.Built.{IsBuilt};
-ghost use Rattle.crun.specs.declared.outcome.Outcome.TheVariants as outcomes;
-ghost use Rattle.w2c_base.specs.declared.value.Value.{Value as AnyValue};
-ghost use Rattle.crun.specs.declared.outcome.Kept.{Kept as AnyKept};
+ghost use Rattle.crun.specs.Shown.{bytes_in, bytes_of, element_seen, elements_count, memories_of, number_held, object_in, tables_of, vars_of};
+ghost use Rattle.crun.specs.Sessions.{objects_of, phase_of, program_of, standing_of, told_by, IfOver, IsLast, IsOutcome, Stands};
 
 use crate::engine::Engine;
-use crate::host::{HostModule, HostReply};
-use crate::linked::Linked;
+use crate::shown::Element;
 use crate::outcome::{Kept, Outcome, Phase, Standing, Stop};
+use c_hosts::{HostModule, Hosts, Journal};
+use c_link::Linked;
+use crate::inits::init_functions;
+use lin_mem::LinMem;
 use std::alloc::Global;
 use std::marker::Model;
-use w2c_base::{Memory, Sequence, Value, Values};
+use w2c_base::{Memory, Value};
 
-// The item of the init function in a unit that is built.
-const INIT_FUNCTION: usize = 1;
-
-/// A host's function that was asked, and what it replied: the numbers of both, the arguments, the
-/// reply.
-#[derive(Drop)]
-pub struct Asked {
-    pub host: usize,
-    pub function: usize,
-    pub args: Values,
-    pub reply: HostReply,
-}
-
-/// What hosts were asked, in order.
-pub type Journal = Sequence<Asked>;
-
-/// A unit that runs: its init functions first, then calls, with so many statements in all.
+/// Linked units that run with hosts: their init functions first, then calls, with so many statements in all.
 #[derive(Drop)]
 pub struct Session<H: HostModule> {
     alloc: Global,
-    linked: Linked,
-    hosts: Vec<H>,
-    journal: Journal,
-    engine: Engine,
+    engine: Engine<H>,
     steps: u64,
     inits_run: usize,
     standing: Standing,
 }
 
 impl<H: HostModule> Model for Session<H> {
-    ghost use Rattle.std.specs.Prelude.{◌≡◌, [], length};
     ghost use Rattle.std.specs.Coded.{codes};
     ghost use Rattle.c_tree.specs.contracts.tree.Expr as expr;
-    ghost use Rattle.crun.specs.Sessions.{IsAtStart, State, state_of};
+    ghost use Rattle.crun.specs.Sessions.{state_of, Keeps, State};
 
-    ghost Value = { State };
+    ghost Value = { State H };
 
     ghost coded = { Prim.hlevel (codes, expr.the_row.coded) };
 
-    ghost view = { λ s. state_of s.linked s.steps s.engine s.inits_run s.standing };
+    ghost view = { λ s. state_of s.engine s.steps s.inits_run s.standing };
 
-    ghost invariant = { λ s. (s.hosts.items ≡ []) × (s.journal ≡ [])
-        × IsAtStart (state_of s.linked s.steps s.engine s.inits_run s.standing) };
+    ghost invariant = { λ s. Keeps H.HostModule s.engine s.steps s.inits_run s.standing };
 }
 
 impl<H: HostModule> Session<H> {
-    /// A session over a linked unit, with so many statements. It runs nothing. So far there are no
-    /// hosts. On want of memory the hosts are dropped.
+    /// A session of linked units with the hosts whose symbols they were linked with, and so many
+    /// statements in all. It runs nothing. After want of memory the hosts are dropped.
     pub fn start(
         alloc: Global,
         linked: Linked,
         hosts: Vec<H>,
         steps: u64,
     ) -> Result<Session<H>, Memory>
-        requires { hosts.items ≡ [] }
-        ensures unit { IfOk result (λ s. s.unit ≡ linked) }
+        requires { linked.1 ≡ symbols_of_hosts (hosts_of H.HostModule hosts.items) }
+        ensures linked { IfOk result (λ s. s.linked ≡ linked) }
+        ensures hosts { IfOk result (λ s. s.hosts ≡ hosts.items) }
         ensures steps { IfOk result (λ s. s.steps ≡ steps) }
-        ensures fresh { IfOk result (λ s. s.standing ≡ standing.Fresh) }
-        ensures none_begun { IfOk result (λ s. s.inits_run ≡ 0) }
+        ensures standing { IfOk result (λ s. s.standing ≡ standing.Fresh) }
+        ensures journal { IfOk result (λ s. s.journal ≡ []) }
+        ensures inits { IfOk result (λ s. s.inits_run ≡ 0) }
     {
+        let engine = Engine::start(alloc, linked, hosts, steps)?;
         Ok(Session {
             alloc,
-            linked,
-            hosts,
-            journal: Journal::new(alloc),
-            engine: Engine {
-                depth: 0,
-                left: steps,
-            },
+            engine,
             steps,
             inits_run: 0,
             standing: Standing::Fresh,
@@ -110,11 +96,11 @@ impl<H: HostModule> Session<H> {
         }
     }
 
-    /// The unit that runs.
+    /// The units that run.
     pub fn linked(&self) -> &Linked
-        ensures { result.now ≡ self.now.unit }
+        ensures { result.now ≡ self.now.linked }
     {
-        &self.linked
+        &self.engine.linked
     }
 
     /// How many init functions were begun.
@@ -124,95 +110,138 @@ impl<H: HostModule> Session<H> {
         self.inits_run
     }
 
-    /// What hosts were asked, in order: nothing, so far.
-    pub fn journal(&self) -> &Journal
-        ensures { result.now ≡ [] }
+    /// The number of hosts.
+    pub fn host_count(&self) -> usize
+        ensures { result ≡ length self.now.hosts }
     {
-        &self.journal
+        self.engine.hosts.list.len()
+    }
+
+    /// The host that was handed in at a place, counted from 0, in its present state.
+    pub fn host(&self, k: usize) -> &H
+        requires { k < length self.now.hosts }
+        ensures { slice_get self.now.hosts k ≡ Some result.now }
+    {
+        &self.engine.hosts.list[k]
+    }
+
+    /// What hosts were asked and replied, in order.
+    pub fn journal(&self) -> &Journal
+        ensures { result.now ≡ self.now.journal }
+    {
+        &self.engine.hosts.journal
+    }
+
+    /// The number that a variable of a unit holds. None exactly where the unit has no variable of this
+    /// name, or one that holds a pointer.
+    pub fn variable(&self, unit: usize, name: &[u8]) -> Option<Value>
+        ensures { result ≡ if_found (object_in (objects_of self.now) unit vars_of name.now) number_held }
+    {
+        self.engine.variable(unit, name)
+    }
+
+    /// A memory of a unit, one that was not made without bytes. None exactly where the unit has none of
+    /// this name.
+    pub fn memory(&self, unit: usize, name: &[u8]) -> Option<&LinMem>
+        ensures { option_map bytes_in (option_copied result) ≡ option_map bytes_of (object_in (objects_of self.now) unit memories_of name.now) }
+    {
+        self.engine.memory(unit, name)
+    }
+
+    /// The number of elements of a table of a unit. None exactly where the unit has none of this name.
+    pub fn table_len(&self, unit: usize, name: &[u8]) -> Option<u64>
+        ensures { result ≡ option_map elements_count (object_in (objects_of self.now) unit tables_of name.now) }
+    {
+        self.engine.table_len(unit, name)
+    }
+
+    /// An element of a table of a unit. None exactly where the unit has no table of this name, the number is
+    /// not below its length, or the element is empty.
+    pub fn element(&self, unit: usize, name: &[u8], i: u64) -> Option<Element>
+        ensures { option_map (element_seen (naming_of (map unit_of self.now.linked.0))) result
+            ≡ if_found (object_in (objects_of self.now) unit tables_of name.now) (λ t. at_index t.elements i) }
+    {
+        self.engine.element(unit, name, i)
     }
 
     /// Runs the init functions: those of external linkage whose names are init symbols, of type void
-    /// without parameters. A unit that is built has one. After want of memory the session is over.
+    /// without parameters, in the order of the units and in a unit in the order of its items. After want of
+    /// memory the session is over, and its journal holds each ask that a host has answered.
     pub fn init(&mut self) -> Result<Outcome, Memory>
         requires { phase_of self.old.standing ≡ phases.Fresh }
-        ensures ran { IfOk result (λ o. (replies : List Reply)
-            → IsOutcome o (Init 0) (c_run (alone (unit_of self.old.unit)) [] self.old.steps replies)) }
-        ensures stands { OnOk result (self.new.standing ≡ standing.Ready → Stands self.new []) }
+        ensures ran { IfOk result (λ o. (rest : List SymbolCall) → IsLast o rest
+            → IsOutcome o (Init (self.new.inits_run - 1)) self.new.journal (events_in self.new.journal) (objects_of self.new)
+            (c_run (program_of H.HostModule self.old) rest self.old.steps (replies_in self.new.journal))) }
+        ensures stands { IfOk result (λ o. self.new.standing ≡ standing.Ready → Stands H.HostModule self.new [] (events_in self.new.journal)) }
         ensures standing { IfOk result (λ o. self.new.standing ≡ standing_of o) }
         ensures value { IfOk result (λ o. (v : Option AnyValue) → o ≡ outcomes.Ended v → v ≡ None) }
+        ensures stored { IfOk result (λ o. AreStored (naming_of (map unit_of self.new.linked.0)) self.new.objects) }
+        ensures answered { (asks : List Asked) × Asks H.HostModule self.old.hosts self.old.journal asks self.new.hosts self.new.journal }
         ensures memory { OnErr result (self.new.standing ≡ standing.Over kept.Memory) }
-        ensures begun { self.new.inits_run ≡ 1 }
-        ensures unit { self.new.unit ≡ self.old.unit }
+        ensures asked { OnErr result ((rest : List SymbolCall) → (more : List Ask)
+            × (asks_in (c_run (program_of H.HostModule self.old) rest self.old.steps (replies_in self.new.journal)).events ≡ map ask_of self.new.journal ++ more)) }
+        ensures linked { self.new.linked ≡ self.old.linked }
+        ensures hosts { hosts_of H.HostModule self.new.hosts ≡ hosts_of H.HostModule self.old.hosts }
         ensures steps { self.new.steps ≡ self.old.steps }
     {
         self.standing = Standing::Over(Kept::Memory);
-        self.inits_run = 1;
-        let outcome = run_init(self.alloc, &self.linked, &mut self.engine)?;
+        let inits = match init_functions(self.alloc, &self.engine.linked) {
+            Ok(inits) => inits,
+            Err(Memory) => return Err(Memory),
+        };
+        let outcome = match self
+            .engine
+            .run_inits(self.alloc, inits.as_slice(), &mut self.inits_run)
+        {
+            Ok(outcome) => outcome,
+            Err(Memory) => return Err(Memory),
+        };
         self.standing = standing_behind(outcome);
         Ok(outcome)
     }
 
-    /// Calls the function of a symbol that the unit defines for others, with arguments that fit.
-    /// Over, with why, where the session was over before; then nothing changes. After want of
-    /// memory the session is over.
+    /// Calls the function of a symbol that a unit defines for others, with arguments that fit. Over, with why, where
+    /// the session was over before; then nothing changes. After want of memory the session is over, and its journal holds
+    /// each ask that a host has answered.
     pub fn call(&mut self, symbol: &[u8], args: &[Value]) -> Result<Outcome, Stop>
         requires begun { phase_of self.old.standing ≢ phases.Fresh }
-        requires fits { fits (alone (unit_of self.old.unit)) (record { symbol = symbol.now; args = args.now }) ≡ true }
+        requires fits { fits (program_of H.HostModule self.old) (record { symbol = symbol.now; args = args.now }) ≡ true }
         ensures over { IfOver self.old.standing (λ why. (result ≡ Err (stops.Over why)) × (self.new ≡ self.old)) }
         ensures only_over { IfErr result (λ stop. (why : AnyKept) → stop ≡ stops.Over why → self.old.standing ≡ standing.Over why) }
-        ensures ran { IfOk result (λ o. (calls : List SymbolCall) → Stands self.old calls → (replies : List Reply)
-            → IsOutcome o (Call (length calls)) (c_run (alone (unit_of self.old.unit)) (calls ++ record { symbol = symbol.now; args = args.now } ∷ []) self.old.steps replies)) }
-        ensures stands { IfOk result (λ o. self.new.standing ≡ standing.Ready → (calls : List SymbolCall) → Stands self.old calls
-            → Stands self.new (calls ++ record { symbol = symbol.now; args = args.now } ∷ [])) }
+        ensures ran { IfOk result (λ o. (calls rest : List SymbolCall) (told : List Event) (asks : List Asked) → Stands H.HostModule self.old calls told
+            → self.new.journal ≡ self.old.journal ++ asks → IsLast o rest
+            → IsOutcome o (Call (length calls)) self.new.journal (told_by told asks o) (objects_of self.new)
+            (c_run (program_of H.HostModule self.old) (calls ++ record { symbol = symbol.now; args = args.now } ∷ rest) self.old.steps (replies_in self.new.journal))) }
+        ensures stands { IfOk result (λ o. self.new.standing ≡ standing.Ready → (calls : List SymbolCall) (told : List Event) (asks : List Asked)
+            → Stands H.HostModule self.old calls told → self.new.journal ≡ self.old.journal ++ asks
+            → Stands H.HostModule self.new (calls ++ record { symbol = symbol.now; args = args.now } ∷ []) (told_by told asks o)) }
         ensures standing { IfOk result (λ o. self.new.standing ≡ standing_of o) }
+        ensures stored { IfOk result (λ o. AreStored (naming_of (map unit_of self.new.linked.0)) self.new.objects) }
+        ensures answered { (asks : List Asked) × Asks H.HostModule self.old.hosts self.old.journal asks self.new.hosts self.new.journal }
         ensures memory { IfErr result (λ stop. stop ≡ stops.Memory → self.new.standing ≡ standing.Over kept.Memory) }
+        ensures asked { IfErr result (λ stop. stop ≡ stops.Memory → (calls rest : List SymbolCall) (told : List Event)
+            → Stands H.HostModule self.old calls told → (more : List Ask)
+            × (asks_in (c_run (program_of H.HostModule self.old) (calls ++ record { symbol = symbol.now; args = args.now } ∷ rest) self.old.steps
+            (replies_in self.new.journal)).events ≡ map ask_of self.new.journal ++ more)) }
         ensures inits { self.new.inits_run ≡ self.old.inits_run }
-        ensures unit { self.new.unit ≡ self.old.unit }
+        ensures linked { self.new.linked ≡ self.old.linked }
+        ensures hosts { hosts_of H.HostModule self.new.hosts ≡ hosts_of H.HostModule self.old.hosts }
         ensures steps { self.new.steps ≡ self.old.steps }
     {
         if let Standing::Over(why) = self.standing {
             return Err(Stop::Over(why));
         }
         self.standing = Standing::Over(Kept::Memory);
-        let outcome = run_symbol(self.alloc, &self.linked, &mut self.engine, symbol, args)?;
+        let outcome = match self.engine.run_symbol(self.alloc, symbol, args) {
+            Ok(outcome) => outcome,
+            Err(Memory) => return Err(Stop::Memory),
+        };
         self.standing = standing_behind(outcome);
         Ok(outcome)
     }
 
     /// Gives the session and its hosts up.
     pub fn close(self) {}
-}
-
-// Runs the init function.
-fn run_init(alloc: Global, linked: &Linked, engine: &mut Engine) -> Result<Outcome, Memory>
-    ensures built { IsBuilt (unit_of linked.now) }
-    ensures came { IfOk result (λ o. RunCame (unit_of linked.now) engine.old engine.new 1 [] o) }
-    ensures spent { IfOk result (λ o. o ≡ outcomes.OutOfSteps → engine.new.left ≡ 0) }
-    ensures fewer { engine.new.left ≤ engine.old.left }
-{
-    let none = Vec::new(alloc);
-    let outcome = engine.run(alloc, linked.unit(), linked.tables(), INIT_FUNCTION, none)?;
-    Ok(outcome)
-}
-
-// Runs the function of a symbol.
-fn run_symbol(
-    alloc: Global,
-    linked: &Linked,
-    engine: &mut Engine,
-    symbol: &[u8],
-    args: &[Value],
-) -> Result<Outcome, Memory>
-    requires { fits (alone (unit_of linked.now)) (record { symbol = symbol.now; args = args.now }) ≡ true }
-    ensures came { IfOk result (λ o. SymbolCame (unit_of linked.now) engine.old engine.new (record { symbol = symbol.now; args = args.now }) o) }
-    ensures fewer { engine.new.left ≤ engine.old.left }
-{
-    let Some(item) = linked.tables().functions.find(symbol) else {
-        unreachable!()
-    };
-    let values = Vec::from_slice(alloc, args)?;
-    let outcome = engine.run(alloc, linked.unit(), linked.tables(), item, values)?;
-    Ok(outcome)
 }
 
 // Where an outcome leaves the session.

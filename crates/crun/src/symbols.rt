@@ -1,149 +1,130 @@
-// Which names are symbols of init functions and of exported functions.
-ghost use Rattle.std.specs.Prelude.{◌≡◌, ◌↔◌, ◌≤◌, ◌++◌, ℕ, List, length, codes, IfOk, IsTrue, MatchOption};
-ghost use Rattle.crun.specs.Symbols.{HasNoEnd, IsEscape, IsExportSymbol, IsInitSymbol, IsModuleEscape, SplitsAtEnd};
+// The functions that units and hosts define for all units, found by their symbols.
+ghost use Rattle.std.specs.Prelude.{◌≡◌, ◌∷◌, ◌++◌, [], ℕ, List, map, zip, filter_map, flat_map, IfOk, OnOk};
+ghost use Rattle.std.specs.List.{range_with_len};
+ghost use Rattle.w2c_base.specs.Lookup.{named, numbered as numbered_list};
+ghost use Rattle.c_tree.specs.View.{item_of, unit_of};
+ghost use Rattle.c_thread.specs.Sights.{symbol_in};
+ghost use Rattle.c_objects.specs.declared.held.FuncId.TheVariants as func;
+ghost use Rattle.crun.specs.Entries.{entries, entry_of, host_ids as host_ids_of, item_entry, symbol_of, unit_entries};
 
+use c_link::{HostSymbol, Linked, defined_function};
+use c_machine::{NameTable, number_all};
+use c_objects::FuncId;
+use c_thread::Symbols;
+use c_tree::Item;
 use std::alloc::Global;
-use w2c_base::{Memory, NAME_LENGTH};
-use w2c_mangle::{UnescapeFault, unescape};
+use w2c_base::Memory;
 
-/// Whether a name is the symbol of some module's init function.
-pub(crate) fn is_init_symbol(alloc: Global, name: &[u8]) -> Result<bool, Memory>
-    ensures { IfOk result (λ b. IsTrue b ↔ IsInitSymbol name.now) }
+/// A function that all units see: its symbol, and its number.
+#[derive(Clone, Copy)]
+pub struct Seen<'a> {
+    pub symbol: &'a [u8],
+    pub func: FuncId,
+}
+
+/// The table of what units and hosts define for all units, where the hosts have so many functions each.
+pub fn symbols(alloc: Global, linked: &Linked, counts: &[usize]) -> Result<Symbols, Memory>
+    ensures { IfOk result (λ s. (q : List ℕ) → symbol_in s q
+        ≡ named q (entries (map unit_of linked.now.0) linked.now.1 counts.now)) }
 {
-    let Some((module, rest)) = split_symbol(name) else {
-        return Ok(false);
-    };
-    if rest != b"i".as_slice() {
-        return Ok(false);
+    let mut seen = of_units(alloc, linked)?;
+    put_hosts(
+        &mut seen,
+        linked.host_symbols(),
+        host_ids(alloc, counts)?.as_slice(),
+    )?;
+    let symbols = numbered(alloc, seen.as_slice())?;
+    Ok(symbols)
+}
+
+fn of_units(alloc: Global, linked: &Linked) -> Result<Vec<Seen<'_>>, Memory>
+    ensures { IfOk result (λ seen. map entry_of seen.items ≡ flat_map unit_entries (numbered_list (map unit_of linked.now.0))) }
+{
+    let mut seen = Vec::new(alloc);
+    for unit in 0..linked.unit_count() {
+        put_unit(&mut seen, unit, linked.unit(unit).unit().as_slice())?;
     }
-    is_module_escape(alloc, module)
+    Ok(seen)
 }
 
-/// Whether a name is the symbol of some module's exported function.
-pub(crate) fn is_export_symbol(alloc: Global, name: &[u8]) -> Result<bool, Memory>
-    ensures { IfOk result (λ b. IsTrue b ↔ IsExportSymbol name.now) }
+fn put_unit<'a>(seen: &mut Vec<Seen<'a>>, unit: usize, items: &'a [Item]) -> Result<(), Memory>
+    ensures { OnOk result (map entry_of seen.new.items ≡ map entry_of seen.old.items ++ unit_entries (unit, map item_of items.now)) }
 {
-    let Some((module, rest)) = split_symbol(name) else {
-        return Ok(false);
-    };
-    let Some(export) = behind(rest, b"fZ_") else {
-        return Ok(false);
-    };
-    if !is_escape(alloc, module)? {
-        return Ok(false);
+    for (i, item) in items.iter().enumerate() {
+        put_item(seen, unit, i, item)?;
     }
-    is_escape(alloc, export)
+    Ok(())
 }
 
-// What stands between w2cZ_ and the first Z_ behind it, and what stands behind that.
-fn split_symbol(name: &[u8]) -> Option<(&[u8], &[u8])>
-    ensures { MatchOption result ((t : List ℕ) → name.now ≡ codes "w2cZ_" ++ t → HasNoEnd t)
-        (λ s. (t : List ℕ) × (name.now ≡ codes "w2cZ_" ++ t) × SplitsAtEnd t s.0.now s.1.now) }
+fn put_item<'a>(
+    seen: &mut Vec<Seen<'a>>,
+    unit: usize,
+    number: usize,
+    item: &'a Item,
+) -> Result<(), Memory>
+    ensures { OnOk result (map entry_of seen.new.items
+        ≡ map entry_of seen.old.items ++ filter_map (item_entry unit) ((number, item_of item.now) ∷ [])) }
 {
-    split_at_end(behind(name, b"w2cZ_")?)
-}
-
-// What stands behind a front.
-fn behind<'a>(text: &'a [u8], front: &[u8]) -> Option<&'a [u8]>
-    ensures { MatchOption result ((t : List ℕ) → text.now ≡ front.now ++ t → ⊥) (λ t. text.now ≡ front.now ++ t.now) }
-{
-    text.strip_prefix(front)
-}
-
-// What stands in front of the first Z_, which no escape holds, and what stands behind it.
-fn split_at_end(text: &[u8]) -> Option<(&[u8], &[u8])>
-    ensures { MatchOption result (HasNoEnd text.now) (λ s. SplitsAtEnd text.now s.0.now s.1.now) }
-{
-    for i in 1..text.len() {
-        if text[i - 1] == b'Z' && text[i] == b'_' {
-            return Some((&text[..i - 1], &text[i + 1..]));
+    match defined_function(item) {
+        Some(f) => {
+            seen.push(Seen {
+                symbol: f.name.as_slice(),
+                func: FuncId::Unit(unit, number),
+            })?;
+            Ok(())
         }
+        None => Ok(()),
     }
-    None
 }
 
-// Whether a text is the escape of a module's name: of 1 to 1,024 bytes.
-fn is_module_escape(alloc: Global, text: &[u8]) -> Result<bool, Memory>
-    ensures { IfOk result (λ b. IsTrue b ↔ IsModuleEscape text.now) }
+// Hosts' symbols with their numbers, as long as there are both.
+fn put_hosts<'a>(
+    seen: &mut Vec<Seen<'a>>,
+    hosts: &'a [HostSymbol],
+    ids: &[FuncId],
+) -> Result<(), Memory>
+    ensures { OnOk result (map entry_of seen.new.items ≡ map entry_of seen.old.items ++ zip (map symbol_of hosts.now) ids.now) }
 {
-    match unescape(alloc, text) {
-        Ok(name) => Ok(is_module_name(name.as_slice())),
-        Err(UnescapeFault::NotEscaped) => Ok(false),
-        Err(UnescapeFault::Memory) => Err(Memory),
+    for (i, host) in hosts.iter().enumerate() {
+        let Some(id) = ids.get(i) else {
+            return Ok(());
+        };
+        seen.push(Seen {
+            symbol: host.symbol.as_slice(),
+            func: *id,
+        })?;
     }
+    Ok(())
 }
 
-fn is_module_name(name: &[u8]) -> bool
-    ensures { IsTrue result ↔ (1 ≤ length name.now) × (length name.now ≤ 1024) }
+fn host_ids(alloc: Global, counts: &[usize]) -> Result<Vec<FuncId>, Memory>
+    ensures { IfOk result (λ ids. ids.items ≡ host_ids_of counts.now) }
 {
-    !name.is_empty() && name.len() <= NAME_LENGTH as usize
+    let mut ids = Vec::new(alloc);
+    for (host, count) in counts.iter().enumerate() {
+        put_ids(&mut ids, host, *count)?;
+    }
+    Ok(ids)
 }
 
-fn is_escape(alloc: Global, text: &[u8]) -> Result<bool, Memory>
-    ensures { IfOk result (λ b. IsTrue b ↔ IsEscape text.now) }
+fn put_ids(ids: &mut Vec<FuncId>, host: usize, count: usize) -> Result<(), Memory>
+    ensures { OnOk result (ids.new.items ≡ ids.old.items ++ map (func.Host host) (range_with_len 0 count)) }
 {
-    match unescape(alloc, text) {
-        Ok(_) => Ok(true),
-        Err(UnescapeFault::NotEscaped) => Ok(false),
-        Err(UnescapeFault::Memory) => Err(Memory),
+    for function in 0..count {
+        ids.push(FuncId::Host(host, function))?;
     }
+    Ok(())
 }
 
-#[cfg(test)]
-mod tests {
-    use crate::symbols::{is_export_symbol, is_init_symbol};
-    use std::alloc::Global;
-    use std::test::Fail;
-
-    #[test]
-    fn symbols_are_told_from_other_names(rt: HostRuntime) -> Result<(), Fail> {
-        let alloc = rt.alloc();
-        let rows = [
-            ("w2cZ_aZ5AZ_i", true, false),
-            ("w2cZ_Z_i", false, false),
-            ("w2cZ_aZ20bZ_i", true, false),
-            ("w2cZ_aZ_fZ_f", false, true),
-            ("w2cZ_Z2EZ_fZ_", false, true),
-            ("w2cZ_aZ_ii", false, false),
-            ("w2cZ_aZ_mZ_f", false, false),
-            ("w2cZ_aZ_fZ_Z", false, false),
-            ("w2cZ_ZG0Z_i", false, false),
-            ("w2c_trap", false, false),
-            ("main", false, false),
-        ];
-        for (name, is_init, is_export) in rows {
-            assert_eq!(rt; is_init_symbol(alloc, name.as_bytes())?, is_init, "{name}");
-            assert_eq!(rt;
-                is_export_symbol(alloc, name.as_bytes())?,
-                is_export,
-                "{name}"
-            );
-        }
-        Ok(())
+// A table in which each symbol stands for the first of its functions.
+fn numbered(alloc: Global, seen: &[Seen<'_>]) -> Result<Symbols, Memory>
+    ensures { IfOk result (λ s. (q : List ℕ) → symbol_in s q ≡ named q (map entry_of seen.now)) }
+{
+    let mut numbers = NameTable::new(alloc);
+    let mut funcs = Vec::new(alloc);
+    for (i, one) in seen.iter().enumerate() {
+        numbers.enter(alloc, Some(one.symbol), i)?;
+        funcs.push(one.func)?;
     }
-
-    // The init symbol of a module's name of so many letters.
-    fn symbol_of_letters(alloc: Global, letters: usize) -> Result<Vec<u8>, Fail> {
-        let mut symbol = Vec::from_slice(alloc, b"w2cZ_")?;
-        for _ in 0..letters {
-            symbol.push(b'a')?;
-        }
-        symbol.extend_from_slice(b"Z_i")?;
-        Ok(symbol)
-    }
-
-    #[test]
-    fn names_of_modules_have_1_to_1024_bytes(rt: HostRuntime) -> Result<(), Fail> {
-        let alloc = rt.alloc();
-        let rows = [(0, false), (1, true), (1024, true), (1025, false)];
-        for (letters, is_init) in rows {
-            let symbol = symbol_of_letters(alloc, letters)?;
-            assert_eq!(rt;
-                is_init_symbol(alloc, symbol.as_slice())?,
-                is_init,
-                "{letters}"
-            );
-        }
-        Ok(())
-    }
+    Ok(Symbols { numbers, funcs })
 }

@@ -1,214 +1,232 @@
-// A unit that gives 42, run with more and fewer statements.
-ghost use Rattle.std.specs.Prelude.{◌≡◌, []};
-
-use crate::{BoxedHost, HostModule, Kept, Linked, Outcome, Phase, Session, SingleRefusal, Stop};
+// Two units and a host at startup: what a name of one stands for in the other, types, first values, what
+// begins, and symbols of hosts.
+use crate::called::called_function;
+use crate::inits::init_functions;
+use crate::startup::start_up;
+use crate::{HostsRefusal, host_symbols};
 use c_check::CheckedUnit;
-use c_tree::{
-    Arg, Args, Body, COp, CType, Callee, Expr, Func, Item, Locals, Name, Num, Params, Stmt, Stmts,
-    Unit,
-};
+use c_hosts::{HostFunction, HostModule, HostReply};
+use c_link::{HostSymbol, Linked, link};
+use c_objects::{FuncId, Held, Object, ObjectId};
+use c_tree::{Arg, Body, CType, Expr, Func, Item, Locals, Name, Num, Params, Stmt, Stmts, Unit};
 use std::alloc::{AllocError, Global};
-use std::boxed::Box;
 use std::test::Fail;
-use w2c_base::{Memory, Value};
+use w2c_base::{Bytes, FuncType, Memory, Types, ValType, Value};
 
-const INIT: &[u8] = b"w2cZ_twoZ_i";
-
-const EXPORT: &[u8] = b"w2cZ_twoZ_fZ_f";
-
-fn name(alloc: Global, text: &[u8]) -> Result<Name, AllocError> {
-    Ok(Name::from_vec(text.to_vec(alloc)?))
+fn name(alloc: Global, text: &str) -> Result<Name, AllocError> {
+    Ok(Name::from_vec(text.as_bytes().to_vec(alloc)?))
 }
 
-fn variable(alloc: Global, text: &[u8]) -> Result<Expr, AllocError> {
-    Ok(Expr::Name(name(alloc, text)?))
-}
-
-fn u32_locals(alloc: Global, names: &[&[u8]]) -> Result<Locals, Memory> {
-    let mut locals = Locals::new(alloc);
-    for text in names {
-        locals.push((CType::U32, name(alloc, text)?, Num::N32(0)))?;
-    }
-    Ok(locals)
-}
-
-fn function(
-    alloc: Global,
-    is_static: bool,
-    gives: CType,
-    text: &[u8],
-    body: Option<Body>,
-) -> Result<Item, Memory> {
+fn u32_param(alloc: Global) -> Result<Params, Memory> {
     let mut params = Params::new(alloc);
-    params.push((CType::Void, None))?;
+    params.push((CType::U32, Some(name(alloc, "x")?)))?;
+    Ok(params)
+}
+
+// u32 NAME(u32 x);
+fn declares(alloc: Global, text: &str) -> Result<Item, Memory> {
     Ok(Item::Func(Func {
-        is_static,
-        result: gives,
+        is_static: false,
+        result: CType::U32,
         name: name(alloc, text)?,
-        params,
-        body,
+        params: u32_param(alloc)?,
+        body: None,
     }))
 }
 
-fn init_function(alloc: Global) -> Result<Item, Memory> {
+// u32 w2cZ_f(u32 x) { return x; }
+fn defines_f(alloc: Global) -> Result<Item, Memory> {
     let mut stmts = Stmts::new(alloc);
-    stmts.push(Stmt::Null)?;
-    stmts.push(Stmt::ReturnNone)?;
-    let locals = Locals::new(alloc);
-    function(
-        alloc,
-        false,
-        CType::Void,
-        INIT,
-        Some(Body { locals, stmts }),
-    )
+    stmts.push(Stmt::Return(Arg::Value(Expr::Name(name(alloc, "x")?))))?;
+    Ok(Item::Func(Func {
+        is_static: false,
+        result: CType::U32,
+        name: name(alloc, "w2cZ_f")?,
+        params: u32_param(alloc)?,
+        body: Some(Body {
+            locals: Locals::new(alloc),
+            stmts,
+        }),
+    }))
 }
 
-fn export_function(alloc: Global, symbol: &[u8]) -> Result<Item, Memory> {
-    let mut stmts = Stmts::new(alloc);
-    let callee = Callee::Named(name(alloc, b"f0")?);
-    stmts.push(Stmt::Call(Some(name(alloc, b"r")?), callee, Args::new(alloc)))?;
-    stmts.push(Stmt::Return(Arg::Value(variable(alloc, b"r")?)))?;
-    let locals = u32_locals(alloc, &[b"r"])?;
-    function(
-        alloc,
-        false,
-        CType::U32,
-        symbol,
-        Some(Body { locals, stmts }),
-    )
-}
-
-fn body_function(alloc: Global) -> Result<Item, Memory> {
-    let mut stmts = Stmts::new(alloc);
-    let forty = Arg::Value(Expr::Num(Num::N32(40)));
-    stmts.push(Stmt::Set(name(alloc, b"i0")?, forty))?;
-    let two = Arg::Value(Expr::Num(Num::N32(2)));
-    stmts.push(Stmt::Set(name(alloc, b"i1")?, two))?;
-    let left = Box::new(alloc, variable(alloc, b"i0")?)?;
-    let right = Box::new(alloc, variable(alloc, b"i1")?)?;
-    let sum = Arg::Value(Expr::Op(COp::Add, left, right));
-    stmts.push(Stmt::Set(name(alloc, b"i0")?, sum))?;
-    stmts.push(Stmt::Return(Arg::Value(variable(alloc, b"i0")?)))?;
-    let locals = u32_locals(alloc, &[b"i0", b"i1"])?;
-    function(alloc, true, CType::U32, b"f0", Some(Body { locals, stmts }))
-}
-
-fn unit(alloc: Global, symbol: &[u8]) -> Result<Unit, Memory> {
+fn checked(alloc: Global, first: Item, second: Item) -> Result<CheckedUnit, Fail> {
     let mut unit = Unit::new(alloc);
-    unit.push(function(alloc, true, CType::U32, b"f0", None)?)?;
-    unit.push(init_function(alloc)?)?;
-    unit.push(export_function(alloc, symbol)?)?;
-    unit.push(body_function(alloc)?)?;
+    unit.push(first)?;
+    unit.push(second)?;
+    if !unit.formed() {
+        return Err(Fail::new("a text spells the unit"));
+    }
+    let unit = CheckedUnit::check(alloc, unit)
+        .ok()
+        .ok_or("the unit keeps the rules")?;
     Ok(unit)
 }
 
-// A unit that is checked.
-fn checked(alloc: Global, unit: Unit) -> Result<CheckedUnit, Fail> {
-    if !unit.formed() {
-        return Err("no text spells the unit".into());
+// static u32 g = 7u; u32 w2cZ_f(u32 x); and w2cZ_f with a declaration of w2cZ_h, which a host offers.
+fn linked(alloc: Global) -> Result<Linked, Fail> {
+    let global = Item::Var(CType::U32, name(alloc, "g")?, Some(Num::N32(7)));
+    let mut units = Vec::new(alloc);
+    units.push(checked(alloc, global, declares(alloc, "w2cZ_f")?)?)?;
+    units.push(checked(alloc, defines_f(alloc)?, declares(alloc, "w2cZ_h")?)?)?;
+    let mut params = Types::new(alloc);
+    params.push(ValType::I32)?;
+    let host = HostSymbol {
+        symbol: Bytes::from_vec(b"w2cZ_h".to_vec(alloc)?),
+        ty: FuncType {
+            params,
+            result: Some(ValType::I32),
+        },
+    };
+    let linked = link(alloc, units, &[host]).ok().ok_or("the units link")?;
+    Ok(linked)
+}
+
+#[test]
+fn two_units_and_a_host(rt: HostRuntime) -> Result<(), Fail> {
+    let alloc = rt.alloc();
+    let linked = linked(alloc)?;
+    let startup = start_up(alloc, &linked, &[1])?;
+    assert_eq!(rt; startup.units.len(), 2);
+    if startup.units.len() == 2 {
+        assert_eq!(rt;
+            startup.units[0].objects.func(b"w2cZ_f"),
+            Some(FuncId::Unit(1, 0))
+        );
+        assert_eq!(rt;
+            startup.units[1].objects.func(b"w2cZ_h"),
+            Some(FuncId::Host(0, 0))
+        );
     }
-    Ok(CheckedUnit::check(alloc, unit)?)
+    assert!(rt; startup.types.find(FuncId::Host(0, 0)).is_some());
+    let g = ObjectId {
+        unit: 0,
+        object: Object::Variable(0),
+    };
+    assert_eq!(rt; startup.store.var(g), Some(Held::Number(Value::I32(7))));
+    Ok(())
 }
 
-// What the init function and a call of the export come to with so many statements in all. None
-// where the export does not fit.
-fn outcomes<H: HostModule>(
-    alloc: Global,
-    hosts: Vec<H>,
-    steps: u64,
-) -> Result<Option<(Outcome, Result<Outcome, Stop>)>, Fail>
-    requires { hosts.items ≡ [] }
-{
-    let linked = Linked::single(alloc, checked(alloc, unit(alloc, EXPORT)?)?)?;
-    if !linked.fits(EXPORT, &[]) {
-        return Ok(None);
+// void SYMBOL(void) { return; }
+fn defines_init(alloc: Global, symbol: &str) -> Result<Item, Memory> {
+    let mut params = Params::new(alloc);
+    params.push((CType::Void, None))?;
+    let mut stmts = Stmts::new(alloc);
+    stmts.push(Stmt::ReturnNone)?;
+    Ok(Item::Func(Func {
+        is_static: false,
+        result: CType::Void,
+        name: name(alloc, symbol)?,
+        params,
+        body: Some(Body {
+            locals: Locals::new(alloc),
+            stmts,
+        }),
+    }))
+}
+
+#[test]
+fn functions_that_run_first(rt: HostRuntime) -> Result<(), Fail> {
+    let alloc = rt.alloc();
+    let first = defines_init(alloc, "w2cZ_aZ_i")?;
+    let second = defines_init(alloc, "w2cZ_bZ_i")?;
+    let mut units = Vec::new(alloc);
+    units.push(checked(alloc, defines_f(alloc)?, first)?)?;
+    units.push(checked(alloc, second, defines_init(alloc, "w2cZ_Z_i")?)?)?;
+    let linked = link(alloc, units, &[]).ok().ok_or("the units link")?;
+    let found = init_functions(alloc, &linked)?;
+    assert_eq!(rt; found.as_slice(), [(0, 1), (1, 0)].as_slice());
+    Ok(())
+}
+
+#[test]
+fn a_symbol_is_called(rt: HostRuntime) -> Result<(), Fail> {
+    let alloc = rt.alloc();
+    let linked = linked(alloc)?;
+    let startup = start_up(alloc, &linked, &[1])?;
+    assert_eq!(rt; called_function(&startup.symbols, b"w2cZ_f"), Some((1, 0)));
+    assert_eq!(rt; called_function(&startup.symbols, b"w2cZ_h"), None);
+    assert_eq!(rt; called_function(&startup.symbols, b"g"), None);
+    Ok(())
+}
+
+// A host with a function `tick` of type [i32] -> [], which always traps.
+#[derive(Drop)]
+struct Traps {
+    name: Bytes,
+    tick: HostFunction,
+}
+
+impl HostModule for Traps {
+    ghost use Rattle.std.specs.Prelude.{◌≡◌, ◌∷◌, [], ℕ};
+    ghost use Rattle.c_hosts.specs.declared.host.HostReply.TheVariants as reply;
+
+    ghost name_of = { λ h. h.name };
+
+    ghost functions_of = { λ h. h.tick ∷ [] };
+
+    ghost state = { λ h. 0 ∷ [] };
+
+    ghost may = { λ h before i args answer after. (n : ℕ) × (after ≡ n ∷ []) };
+
+    fn name(&self) -> &[u8] {
+        self.name.as_slice()
     }
-    let mut session = Session::start(alloc, linked, hosts, steps)?;
-    let first = session.init()?;
-    let second = session.call(EXPORT, &[]);
-    session.close();
-    Ok(Some((first, second)))
+
+    fn count(&self) -> usize {
+        1
+    }
+
+    fn function(&self, _i: usize) -> &HostFunction {
+        &self.tick
+    }
+
+    fn call(&mut self, _i: usize, _args: &[Value]) -> HostReply {
+        HostReply::Trap
+    }
 }
 
-fn outcomes_in(
-    alloc: Global,
-    steps: u64,
-) -> Result<Option<(Outcome, Result<Outcome, Stop>)>, Fail> {
-    outcomes::<BoxedHost>(alloc, Vec::new(alloc), steps)
-}
-
-#[test]
-fn statements_are_counted(rt: HostRuntime) -> Result<(), Fail> {
-    let alloc = rt.alloc();
-    let init = Outcome::Ended(None);
-    let value = Outcome::Ended(Some(Value::I32(42)));
-    assert_eq!(rt; outcomes_in(alloc, 8)?, Some((init, Ok(value))));
-    assert_eq!(rt;
-        outcomes_in(alloc, 7)?,
-        Some((init, Ok(Outcome::OutOfSteps)))
-    );
-    assert_eq!(rt;
-        outcomes_in(alloc, 2)?,
-        Some((init, Ok(Outcome::OutOfSteps)))
-    );
-    let over = Err(Stop::Over(Kept::OutOfSteps));
-    assert_eq!(rt; outcomes_in(alloc, 1)?, Some((Outcome::OutOfSteps, over)));
-    Ok(())
-}
-
-// A session's phase, the init functions that were begun, and how many hosts were asked.
-fn shown<H: HostModule>(session: &Session<H>) -> (Phase, usize, usize) {
-    (
-        session.phase(),
-        session.inits_run(),
-        session.journal().len(),
-    )
-}
-
-// The same at the start and behind the init function, and the number of items.
-fn shown_twice<H: HostModule>(
-    alloc: Global,
-    hosts: Vec<H>,
-) -> Result<((Phase, usize, usize), (Phase, usize, usize), usize), Fail>
-    requires { hosts.items ≡ [] }
-{
-    let linked = Linked::single(alloc, checked(alloc, unit(alloc, EXPORT)?)?)?;
-    let mut session = Session::start(alloc, linked, hosts, 2)?;
-    let before = shown(&session);
-    session.init()?;
-    Ok((before, shown(&session), session.linked().unit().len()))
+fn named_host(alloc: Global, text: &str) -> Result<Traps, Fail> {
+    let mut params = Types::new(alloc);
+    params.push(ValType::I32)?;
+    Ok(Traps {
+        name: name(alloc, text)?,
+        tick: HostFunction {
+            name: name(alloc, "tick")?,
+            ty: FuncType {
+                params,
+                result: None,
+            },
+        },
+    })
 }
 
 #[test]
-fn a_session_is_ready_behind_its_init_function(rt: HostRuntime) -> Result<(), Fail> {
+fn symbols_of_two_hosts(rt: HostRuntime) -> Result<(), Fail> {
     let alloc = rt.alloc();
-    let seen = shown_twice::<BoxedHost>(alloc, Vec::new(alloc))?;
-    assert_eq!(rt; seen, ((Phase::Fresh, 0, 0), (Phase::Ready, 1, 0), 4));
+    let mut hosts = Vec::new(alloc);
+    hosts.push(named_host(alloc, "a")?)?;
+    hosts.push(named_host(alloc, "b")?)?;
+    let symbols = host_symbols(alloc, hosts.as_slice())
+        .ok()
+        .ok_or("the symbols differ")?;
+    assert_eq!(rt; symbols.len(), 2);
+    if symbols.len() == 2 {
+        assert_eq!(rt; symbols[0].symbol.as_slice(), b"w2cZ_aZ_fZ_tick".as_slice());
+        assert_eq!(rt; symbols[1].symbol.as_slice(), b"w2cZ_bZ_fZ_tick".as_slice());
+        assert_eq!(rt; symbols[1].ty.params.as_slice(), [ValType::I32].as_slice());
+    }
     Ok(())
 }
 
 #[test]
-fn a_unit_shows_its_external_functions(rt: HostRuntime) -> Result<(), Fail> {
+fn a_symbol_comes_twice(rt: HostRuntime) -> Result<(), Fail> {
     let alloc = rt.alloc();
-    let linked = Linked::single(alloc, checked(alloc, unit(alloc, EXPORT)?)?)?;
-    let ty = linked.signature(EXPORT).ok_or("no function")?;
-    assert_eq!(rt; ty.result, CType::U32);
-    assert_eq!(rt; ty.params.as_slice(), [CType::Void].as_slice());
-    assert!(rt; linked.signature(b"f0").is_none());
-    assert!(rt; linked.fits(EXPORT, &[]));
-    assert!(rt; linked.fits(INIT, &[]));
-    assert!(rt; !linked.fits(EXPORT, &[Value::I32(1)]));
-    assert!(rt; !linked.fits(b"f0", &[]));
-    Ok(())
-}
-
-#[test]
-fn other_units_are_refused(rt: HostRuntime) -> Result<(), Fail> {
-    let alloc = rt.alloc();
-    let refusal = Linked::single(alloc, checked(alloc, unit(alloc, b"w2cZ_twoZ_vZ_f")?)?).err();
-    assert_eq!(rt; refusal, Some(SingleRefusal::NotBuilt));
-    let refusal = Linked::single(alloc, checked(alloc, Unit::new(alloc))?).err();
-    assert_eq!(rt; refusal, Some(SingleRefusal::NotBuilt));
+    let mut hosts = Vec::new(alloc);
+    hosts.push(named_host(alloc, "a")?)?;
+    hosts.push(named_host(alloc, "b")?)?;
+    hosts.push(named_host(alloc, "a")?)?;
+    let refusal = host_symbols(alloc, hosts.as_slice()).err();
+    assert_eq!(rt; refusal, Some(HostsRefusal::Twice(2)));
     Ok(())
 }

@@ -1,198 +1,385 @@
--- What one outcome of a session and one line make of where a run stands.
-use Rattle.std.proofs.Common.{◌≡◌, ◌≢◌, ◌⊎◌, inl, inr, ℕ, ◌+◌, ◌<◌, ◌≤◌, List, [], ◌∷◌, ◌++◌, length, length-append, append_assoc, map, take, drop, take-append-drop, drop-cons, add-one, slice_index_or, Option, Some, None, refl, sym, ap, ◌∙◌, subst, arith}
-use Rattle.std.proofs.lemmas.List.{drop-map, length-map, length-take-le, take_at}
+-- What the outcome of an init function or a call, and the lines that are written of it, make of where a run stands.
+use Rattle.std.proofs.Common.{◌≡◌, ℕ, ◌+◌, List, [], ◌∷◌, ◌++◌, append_assoc, length, map, drop, Option, Some, None, refl, sym, ap, ◌∙◌, subst, arith}
+use Rattle.std.specs.Prelude.{Bool, true, false, if◌then◌else◌}
+use Rattle.std.proofs.lemmas.List.{append-nil, drop_at, map-append}
 use Rattle.w2c_base.specs.declared.value.Value.{Value}
-use Rattle.w2c_base.specs.Run.{Phase, Init, Call}
+use Rattle.w2c_base.specs.Run.{Ask, Event, Host, Phase, Init, Call, asks_in, values_in}
+use Rattle.w2c_base.proofs.Events.{asks_behind}
 use Rattle.w2c_io.specs.Contents.{extended}
 use Rattle.w2c_io.specs.Telling.{SaysPart}
-use Rattle.w2c_io.proofs.Telling.{rose_from}
-use Rattle.c_tree.specs.Tree as tree
 use Rattle.c_tree.specs.View.{unit_of}
-use Rattle.c_meaning.specs.Linking.{SymbolCall}
-use Rattle.c_meaning.specs.Run.{CRun, Ended}
+use Rattle.c_meaning.specs.Linking.{Program, SymbolCall}
+use Rattle.c_meaning.specs.Run.{CRun, Ended, c_run, over}
+use Rattle.c_hosts.specs.declared.host.HostModule.{Ghosts as HostModule}
+use Rattle.c_hosts.specs.declared.journal.Asked.{Asked}
+use Rattle.c_hosts.specs.Asking.{hosts_of, Answered}
+use Rattle.c_hosts.specs.Journals.{ask_of, events_in, replies_in, reply_in}
+use Rattle.c_hosts.specs.Running.{Asks}
 use Rattle.crun.specs.declared.outcome.Outcome.{Outcome}
 use Rattle.crun.specs.declared.outcome.Outcome.TheVariants as outcome
-use Rattle.crun.specs.declared.outcome.Standing.TheVariants as standing
-use Rattle.crun.specs.Sessions.{standing_of, IsOutcome, Stands, State}
-use Rattle.crun_cli.specs.declared.call_line.NamedCall.{NamedCall}
-use Rattle.crun_cli.specs.Job.{run_of}
-use Rattle.crun_cli.specs.Seen.{call_seen, calls_seen}
-use Rattle.crun_cli.specs.Lines.{Reason, Unwritten, WantOfMemory, Usage, Unread, Refused, CallsTooLong, CallsLine}
-use Rattle.crun_cli.specs.RunLines.{lines_of, HasStatus}
-use Rattle.crun_cli.specs.Running.{status_of_outcome, Behind}
-use Rattle.crun_cli.specs.Stops.{HasRun, StopsPutting, StopsRunning}
-use Rattle.crun_cli.proofs.Printed.{all_the_same, count_more, ends_or_not, extended_by_none, extended_twice, init_line, line_more, line_of_phase, lines_stay, no_count, no_lines, part_of_all, status_is, values_of, IsEnd}
+use Rattle.crun.specs.Engines.{machine_with}
+use Rattle.crun.specs.Sessions.{objects_of, program_of, told_by, trail_of, IsLast, IsOutcome, Stands, State}
+use Rattle.crun_lines.specs.CallLines.{last_line}
+use Rattle.crun_lines.specs.RunLines.{event_lines, lines_of}
+use Rattle.crun_lines.specs.StateLines.{state_lines}
+use Rattle.crun_lines.proofs.Events.{event_lines_append}
+use Rattle.crun_cli.specs.Playing.{lines_at, run_at, HasPlayed, IsBehind, IsLeft, IsSince, IsStored}
+use Rattle.crun_cli.specs.Runs.{asked_events, HasPart, HasRun, HasStatus}
+use Rattle.crun_cli.specs.Views.{lines_behind, status_of_outcome}
+use Rattle.crun_cli.proofs.Lines.{asks_are, asks_are_asked, call_lines, came_out, end_is, inits_lines, status_is, told_asks}
+use Rattle.crun_cli.proofs.Sessions.{has_ended, told_in_front}
+use Rattle.crun_cli.proofs.Written.{part_behind, part_in_front, says_nothing, whole_behind}
 
--- a status that is none is that of an end
-pub end_of_none : (o : Outcome) → status_of_outcome o ≡ None → IsEnd o
-end_of_none (outcome.Ended value) e = (value, refl)
-end_of_none (outcome.Trapped kind) e = absurd cc
-end_of_none (outcome.Undefined u) e = absurd cc
-end_of_none outcome.OutOfSteps e = absurd cc
+-- hosts have answered these asks, and then those
+answered_append : {H : Type 0} (m : HostModule H) (before middle after : List H) (asks more : List Asked)
+    → Answered m before asks middle → Answered m middle more after → Answered m before (asks ++ more) after
+answered_append m before middle after [] more same answered = subst (λ hs. Answered m hs more after) same answered
+answered_append m before middle after (a ∷ asks) more (next, answers, rest) answered =
+    (next, answers, answered_append m next middle after asks more rest answered)
 
-pub ready_of_end : (o : Outcome) → status_of_outcome o ≡ None → standing_of o ≡ standing.Ready
-ready_of_end (outcome.Ended value) e = refl
-ready_of_end (outcome.Trapped kind) e = absurd cc
-ready_of_end (outcome.Undefined u) e = absurd cc
-ready_of_end outcome.OutOfSteps e = absurd cc
+-- no outcome but an end is an end
+abbrev pub IsEnded : Outcome → Type 0
+IsEnded o = (value : Option Value) × (o ≡ outcome.Ended value)
 
-outcome_of_end : (o : Outcome) (phase : Phase) (run : CRun) → IsOutcome o phase run → IsEnd o → run.outcome ≡ Ended
-outcome_of_end o phase run is (value, e) = (let end : IsOutcome (outcome.Ended value) phase run = subst (λ x. IsOutcome x phase run) e is in end.0)
+pub ended_or_not : (o : Outcome) (P : Type 0) → (IsEnded o → P) → (((rest : List SymbolCall) → IsLast o rest) → P) → P
+ended_or_not (outcome.Ended value) P ended stopped = ended (value, refl)
+ended_or_not (outcome.Trapped kind) P ended stopped = stopped (λ rest. tt)
+ended_or_not (outcome.Undefined u) P ended stopped = stopped (λ rest. tt)
+ended_or_not outcome.OutOfSteps P ended stopped = stopped (λ rest. tt)
 
-not_ended : (o : Outcome) (phase : Phase) (run : CRun) (status : ℕ) → IsOutcome o phase run → status_of_outcome o ≡ Some status → run.outcome ≢ Ended
-not_ended o phase run status is some = by_end (ends_or_not o phase run is)
-  where
-    none_some : (value : Option Value) → o ≡ outcome.Ended value → ⊥
-    none_some value e = (let both : None ≡ Some status = sym (ap status_of_outcome e) ∙ some in cc)
+pub is_ended : (o : Outcome) → status_of_outcome o ≡ None → IsEnded o
+is_ended (outcome.Ended value) e = (value, refl)
+is_ended (outcome.Trapped kind) e = absurd cc
+is_ended (outcome.Undefined u) e = absurd cc
+is_ended outcome.OutOfSteps e = absurd cc
 
-    by_end : (IsEnd o × (run.outcome ≡ Ended)) ⊎ ((status_of_outcome o ≡ None → ⊥) × (run.outcome ≢ Ended)) → run.outcome ≢ Ended
-    by_end (inl ((value, e), end)) = absurd (none_some value e)
-    by_end (inr (none, apart)) = apart
+pub is_last : (o : Outcome) (status : ℕ) (rest : List SymbolCall) → status_of_outcome o ≡ Some status → IsLast o rest
+is_last (outcome.Ended value) status rest e = absurd cc
+is_last (outcome.Trapped kind) status rest e = tt
+is_last (outcome.Undefined u) status rest e = tt
+is_last outcome.OutOfSteps status rest e = tt
 
--- ---- a call, from where the session stands
+ended_text : (phase : Phase) (o : Outcome) → IsEnded o → last_line phase (came_out o) ≡ []
+ended_text phase o (value, is) = ap (λ o. last_line phase (came_out o)) is
 
-module _ (before after : State) (done : List SymbolCall) (c : SymbolCall) (old now : Option (List ℕ)) (behind : Behind before done old now) (o : Outcome)
-    (is : IsOutcome o (Call (length done)) (run_of (unit_of before.unit) (done ++ c ∷ []) before.steps)) where
-  abbrev line : List ℕ
-  line = line_of_phase (Call (length done)) o
+module _ {H : Type 0} (m : HostModule H) (e : State H) where
+  abbrev hosts : List Host
+  hosts = hosts_of m e.hosts
 
-  -- its line is written
-  printed : extended now line ≡ extended old (lines_of (run_of (unit_of before.unit) (done ++ c ∷ []) before.steps))
-  printed =
-      ap (λ t. extended t line) behind.printed ∙ extended_twice old _ line
-      ∙ ap (extended old) (sym (line_more (unit_of before.unit) done before.steps behind.ended behind.count c o is))
+  pub since_start : e.journal ≡ [] → IsSince m e e
+  since_start none = record {
+    linked = refl;
+    steps = refl;
+    hosts = refl;
+    answered = subst (λ asks. Answered m e.hosts asks e.hosts) (sym none) refl;
+  }
 
-  pub behind_more : (then_now : Option (List ℕ)) (text : List ℕ) → after.unit ≡ before.unit → after.steps ≡ before.steps → status_of_outcome o ≡ None → Stands after (done ++ c ∷ []) → text ≡ line → then_now ≡ extended now text
-      → Behind after (done ++ c ∷ []) old then_now
-  behind_more then_now text unit steps none stands is_line written =
-      let put = written ∙ ap (extended now) is_line in
-      let end = end_of_none o none in
-      let Q : State → Type 0 = λ s. ((run_of (unit_of s.unit) (done ++ c ∷ []) s.steps).outcome ≡ Ended) × (length (values_of (run_of (unit_of s.unit) (done ++ c ∷ []) s.steps)) ≡ length (done ++ c ∷ []))
-      × (then_now ≡ extended old (lines_of (run_of (unit_of s.unit) (done ++ c ∷ []) s.steps))) in
-      let here : Q before = (outcome_of_end o (Call (length done)) _ is end, count_more (unit_of before.unit) done before.steps behind.ended behind.count c o is end.0 end.1, put ∙ printed) in
-      let there = (subst (λ u. ((run_of (unit_of u) (done ++ c ∷ []) after.steps).outcome ≡ Ended) × (length (values_of (run_of (unit_of u) (done ++ c ∷ []) after.steps)) ≡ length (done ++ c ∷ []))
-      × (then_now ≡ extended old (lines_of (run_of (unit_of u) (done ++ c ∷ []) after.steps)))) (sym unit)
-      (subst (λ n. ((run_of (unit_of before.unit) (done ++ c ∷ []) n).outcome ≡ Ended) × (length (values_of (run_of (unit_of before.unit) (done ++ c ∷ []) n)) ≡ length (done ++ c ∷ []))
-      × (then_now ≡ extended old (lines_of (run_of (unit_of before.unit) (done ++ c ∷ []) n)))) (sym steps) here)) in
-      record { stands = stands; ended = there.0; count = there.1; printed = there.2 }
+  pub since_next : (s s' : State H) (asks : List Asked) → IsSince m e s → s'.linked ≡ s.linked → s'.steps ≡ s.steps
+      → hosts_of m s'.hosts ≡ hosts_of m s.hosts → Asks m s.hosts s.journal asks s'.hosts s'.journal → IsSince m e s'
+  since_next s s' asks since linked steps same asked = record {
+    linked = linked ∙ since.linked;
+    steps = steps ∙ since.steps;
+    hosts = same ∙ since.hosts;
+    answered = subst (λ js. Answered m e.hosts js s'.hosts) (sym asked.written)
+        (answered_append m e.hosts s.hosts s'.hosts s.journal asks since.answered asked.answered);
+  }
 
-  pub has_run : (then_now : Option (List ℕ)) (text : List ℕ) (status : ℕ) (more : List SymbolCall) → status_of_outcome o ≡ Some status → text ≡ line → then_now ≡ extended now text
-      → HasRun (unit_of before.unit) (done ++ c ∷ more) before.steps old then_now status
-  has_run then_now text status more some is_line written =
-      let put = written ∙ ap (extended now) is_line in
-      let apart = not_ended o (Call (length done)) _ status is some in
-      let same = all_the_same (unit_of before.unit) done before.steps behind.ended behind.count c o is more apart in
-      subst (λ run. HasStatus run.outcome status × (then_now ≡ extended old (lines_of run))) (sym same)
-      (status_is o (Call (length done)) _ status is some, put ∙ printed)
+  program_same : (s : State H) → IsSince m e s → program_of m s ≡ program_of m e
+  program_same s since = (λ i. record { units = map unit_of (since.linked i).0; hosts = since.hosts i })
 
-  -- a part of its line is written
-  pub part_written : (then_now : Option (List ℕ)) (more : List SymbolCall) → SaysPart now then_now line → SaysPart old then_now (lines_of (run_of (unit_of before.unit) (done ++ c ∷ more) before.steps))
-  part_written then_now more (part, prefix, is_now) = (
-    lines_of (run_of (unit_of before.unit) done before.steps) ++ part,
-    part_of_all (unit_of before.unit) done before.steps behind.ended behind.count c o is more part prefix,
-    is_now ∙ ap (λ t. extended t part) behind.printed ∙ extended_twice old _ part,
-  )
+  -- a run of the session's program is one of the program at the start
+  pub run_is : (s : State H) (calls : List SymbolCall) (asks : List Asked) → IsSince m e s
+      → c_run (program_of m s) calls s.steps (replies_in asks) ≡ c_run (program_of m e) calls e.steps (replies_in asks)
+  run_is s calls asks since =
+      ap (λ p. c_run p calls s.steps (replies_in asks)) (program_same s since)
+      ∙ ap (λ n. c_run (program_of m e) calls n (replies_in asks)) since.steps
 
-  put_stops : (then_now : Option (List ℕ)) (faults faults' : ℕ) (more : List SymbolCall) (why : Reason) → StopsPutting now then_now faults faults' line why
-      → StopsRunning (unit_of before.unit) (done ++ c ∷ more) before.steps old then_now faults faults' why
-  put_stops then_now faults faults' more Unwritten stops = (stops.0, part_written then_now more stops.1)
-  put_stops then_now faults faults' more WantOfMemory stops = part_written then_now more stops
-  put_stops then_now faults faults' more Usage stops = absurd stops
-  put_stops then_now faults faults' more (Unread file) stops = absurd stops
-  put_stops then_now faults faults' more (Refused file why) stops = absurd stops
-  put_stops then_now faults faults' more CallsTooLong stops = absurd stops
-  put_stops then_now faults faults' more (CallsLine number) stops = absurd stops
+  module _ (s : State H) (since : IsSince m e s) (old now : Option (List ℕ)) (calls : List SymbolCall) where
+    abbrev run : CRun
+    run = run_at m e s calls
 
-  pub line_stops : (then_now : Option (List ℕ)) (text : List ℕ) (faults faults' : ℕ) (more : List SymbolCall) (why : Reason) → text ≡ line → StopsPutting now then_now faults faults' text why
-      → StopsRunning (unit_of before.unit) (done ++ c ∷ more) before.steps old then_now faults faults' why
-  line_stops then_now text faults faults' more why is_line stops = put_stops then_now faults faults' more why (subst (λ l. StopsPutting now then_now faults faults' l why) is_line stops)
+    -- more may be told behind what was told: a part of its lines is written
+    pub left_in_front : (told rest : List Event) → run.events ≡ told ++ rest → asked_events told ≡ events_in s.journal
+        → SaysPart old now (event_lines hosts 0 told) → IsLeft m e s calls old now
+    left_in_front told rest front asks part = record {
+      since = since;
+      more = asks_in rest;
+      first = ap asks_in front ∙ asks_behind told rest ∙ ap (λ l. l ++ asks_in rest) (asks_are told s.journal asks);
+      part = subst (SaysPart old now) whole
+          (part_in_front old now (event_lines hosts 0 told)
+          (event_lines hosts (0 + length (values_in told)) rest ++ last_line run.phase run.outcome) part);
+    }
+      where
+        whole : event_lines hosts 0 told ++ (event_lines hosts (0 + length (values_in told)) rest ++ last_line run.phase run.outcome)
+            ≡ lines_at m e s calls
+        whole = sym (append_assoc (event_lines hosts 0 told) (event_lines hosts (0 + length (values_in told)) rest) (last_line run.phase run.outcome))
+            ∙ ap (λ l. l ++ last_line run.phase run.outcome) (sym (event_lines_append hosts 0 told rest) ∙ ap (event_lines hosts 0) (sym front))
 
--- no line of the call is written, or none was made
-pub written_so_far : (before : State) (done : List SymbolCall) (c : SymbolCall) (old now : Option (List ℕ)) (more : List SymbolCall) → Behind before done old now
-    → SaysPart old now (lines_of (run_of (unit_of before.unit) (done ++ c ∷ more) before.steps))
-written_so_far before done c old now more behind =
-    (lines_of (run_of (unit_of before.unit) done before.steps), lines_stay (unit_of before.unit) done (c ∷ more) before.steps behind.ended, behind.printed)
+    -- the run came to this outcome
+    module _ (o : Outcome) (phase : Phase) (told : List Event) (is : IsOutcome o phase s.journal told (objects_of s) run) where
+      pub lines_are : event_lines hosts 0 told ++ last_line phase (came_out o) ≡ lines_at m e s calls
+      lines_are =
+          ap (λ l. l ++ last_line phase (came_out o)) (ap (event_lines hosts 0) (sym is.events))
+          ∙ ap (λ ph. event_lines hosts 0 run.events ++ last_line ph (came_out o)) (sym is.phase_is)
+          ∙ ap (λ x. event_lines hosts 0 run.events ++ last_line run.phase x) (sym (end_is o run is.end))
 
--- all calls ended
-pub run_ended : (s : State) (calls : List SymbolCall) (old now : Option (List ℕ)) → Behind s calls old now → HasRun (unit_of s.unit) calls s.steps old now 0
-run_ended s calls old now behind = (subst (λ c. HasStatus c 0) (sym behind.ended) refl, behind.printed)
+      pub left_at_end : SaysPart old now (event_lines hosts 0 told ++ last_line phase (came_out o)) → IsLeft m e s calls old now
+      left_at_end part = record {
+        since = since;
+        more = [];
+        first = is.asks ∙ sym (append-nil (map ask_of s.journal));
+        part = subst (SaysPart old now) lines_are part;
+      }
 
--- ---- the init functions
+      pub played_at_end : (status : ℕ) → status_of_outcome o ≡ Some status → IsStored s → asked_events told ≡ events_in s.journal
+          → now ≡ extended old (event_lines hosts 0 told ++ last_line phase (came_out o)) → HasPlayed m e s calls old now status
+      played_at_end status some stored asks printed = record {
+        since = since;
+        stored = stored;
+        asks = ap asked_events is.events ∙ asks;
+        has_status = subst (λ x. HasStatus x status) (sym (end_is o run is.end)) (status_is o status some);
+        objects = is.objects;
+        printed = printed ∙ ap (extended old) lines_are;
+      }
 
-pub inits_behind : (before after : State) (old : Option (List ℕ)) (o : Outcome) → IsOutcome o (Init 0) (run_of (unit_of before.unit) [] before.steps) → after.unit ≡ before.unit → after.steps ≡ before.steps
-    → status_of_outcome o ≡ None → Stands after [] → Behind after [] old old
-inits_behind before after old o is unit steps none stands =
-    let ended : (run_of (unit_of before.unit) [] before.steps).outcome ≡ Ended = outcome_of_end o (Init 0) _ is (end_of_none o none) in
-    let there : (run_of (unit_of after.unit) [] after.steps).outcome ≡ Ended = subst (λ u. (run_of (unit_of u) [] after.steps).outcome ≡ Ended) (sym unit) (subst (λ n. (run_of (unit_of before.unit) [] n).outcome ≡ Ended) (sym steps) ended) in
-    record {
+  -- ---- behind the init functions
+
+  module _ (s : State H) (since : IsSince m e s) (old now : Option (List ℕ)) (o : Outcome) (k : ℕ)
+      (ran : (rest : List SymbolCall) → IsLast o rest
+      → IsOutcome o (Init k) s.journal (events_in s.journal) (objects_of s) (c_run (program_of m e) rest e.steps (replies_in s.journal))) where
+    abbrev inits_text : List ℕ
+    inits_text = lines_behind (hosts_of m s.hosts) (drop 0 s.journal) (Init k) o
+
+    inits_are : inits_text ≡ event_lines hosts 0 (events_in s.journal) ++ last_line (Init k) (came_out o)
+    inits_are = ap (λ hs. lines_behind hs s.journal (Init k) o) since.hosts ∙ sym (inits_lines hosts k s.journal o)
+
+    pub inits_behind : status_of_outcome o ≡ None → IsStored s → Stands m s [] (events_in s.journal) → now ≡ extended old inits_text
+        → IsBehind m e s [] old now
+    inits_behind none stored stands printed = record {
+      since = since;
+      stored = stored;
+      told = events_in s.journal;
       stands = stands;
-      ended = there;
-      count = no_count (unit_of after.unit) after.steps;
-      printed = extended_by_none old ∙ ap (extended old) (sym (no_lines (unit_of after.unit) after.steps there));
+      asks = asks_are_asked s.journal;
+      printed = printed ∙ ap (extended old) (inits_are ∙ ap (λ l. event_lines hosts 0 (events_in s.journal) ++ l)
+          (ended_text (Init k) o (is_ended o none)) ∙ append-nil (event_lines hosts 0 (events_in s.journal)));
     }
 
-module _ (before : State) (old : Option (List ℕ)) (o : Outcome) (is : IsOutcome o (Init 0) (run_of (unit_of before.unit) [] before.steps)) (status : ℕ) (some : status_of_outcome o ≡ Some status) where
-  pub inits_stop : (now : Option (List ℕ)) (text : List ℕ) (calls : List SymbolCall) → text ≡ line_of_phase (Init 0) o → now ≡ extended old text → HasRun (unit_of before.unit) calls before.steps old now status
-  inits_stop now text calls is_line written =
-      let put = written ∙ ap (extended old) is_line in
-      let all = init_line (unit_of before.unit) before.steps o is (not_ended o (Init 0) _ status is some) calls in
-      (subst (λ run. HasStatus run.outcome status) (sym all.0) (status_is o (Init 0) _ status is some), put ∙ ap (extended old) (sym all.1))
+    pub inits_played : (status : ℕ) → status_of_outcome o ≡ Some status → IsStored s → now ≡ extended old inits_text
+        → (calls : List SymbolCall) → HasPlayed m e s calls old now status
+    inits_played status some stored printed calls =
+        played_at_end s since old now calls o (Init k) (events_in s.journal) (ran calls (is_last o status calls some)) status some stored
+        (asks_are_asked s.journal) (printed ∙ ap (extended old) inits_are)
 
-  pub inits_put_stops : (now : Option (List ℕ)) (text : List ℕ) (faults faults' : ℕ) (calls : List SymbolCall) (why : Reason) → text ≡ line_of_phase (Init 0) o → StopsPutting old now faults faults' text why
-      → StopsRunning (unit_of before.unit) calls before.steps old now faults faults' why
-  inits_put_stops now text faults faults' calls why is_line stops = by_why why (subst (λ l. StopsPutting old now faults faults' l why) (is_line ∙ sym all.1) stops)
+    pub inits_left : (IsEnded o → Stands m s [] (events_in s.journal)) → SaysPart old now inits_text
+        → (calls : List SymbolCall) → IsLeft m e s calls old now
+    inits_left stands part calls = ended_or_not o (IsLeft m e s calls old now) ended stopped
+      where
+        said : SaysPart old now (event_lines hosts 0 (events_in s.journal) ++ last_line (Init k) (came_out o))
+        said = subst (SaysPart old now) inits_are part
+
+        ended : IsEnded o → IsLeft m e s calls old now
+        ended is =
+            let front = told_in_front m s [] (events_in s.journal) (stands is) calls [] in
+            let here = ap (λ rs. c_run (program_of m s) calls s.steps rs) (sym (append-nil (replies_in s.journal))) in
+            left_in_front s since old now calls (events_in s.journal) front.0
+            (ap (λ (r : CRun). r.events) (sym (run_is s calls s.journal since) ∙ here) ∙ front.1)
+            (asks_are_asked s.journal)
+            (subst (SaysPart old now) (ap (λ l. event_lines hosts 0 (events_in s.journal) ++ l) (ended_text (Init k) o is)
+            ∙ append-nil (event_lines hosts 0 (events_in s.journal))) said)
+
+        stopped : ((rest : List SymbolCall) → IsLast o rest) → IsLeft m e s calls old now
+        stopped last = left_at_end s since old now calls o (Init k) (events_in s.journal) (ran calls (last calls)) said
+
+  -- memory was wanting in the init functions
+  pub inits_wanting : (s : State H) → IsSince m e s → (old : Option (List ℕ)) (calls : List SymbolCall)
+      → ((more : List Ask) × (asks_in (c_run (program_of m e) calls e.steps (replies_in s.journal)).events ≡ map ask_of s.journal ++ more))
+      → IsLeft m e s calls old old
+  inits_wanting s since old calls asked = record {
+    since = since;
+    more = asked.0;
+    first = asked.1;
+    part = says_nothing old (lines_at m e s calls);
+  }
+
+  -- ---- behind a call
+
+  module _ (s s' : State H) (done : List SymbolCall) (c : SymbolCall) (old before : Option (List ℕ)) (behind : IsBehind m e s done old before)
+      (since : IsSince m e s') (asks : List Asked) (written : s'.journal ≡ s.journal ++ asks) where
+    abbrev told : List Event
+    told = behind.told
+
+    abbrev front_text : List ℕ
+    front_text = event_lines hosts 0 told
+
+    new_asks : drop (length s.journal) s'.journal ≡ asks
+    new_asks = ap (drop (length s.journal)) written ∙ drop_at s.journal asks (length s.journal) refl
+
+    module _ (o : Outcome) (now : Option (List ℕ))
+        (ran : (rest : List SymbolCall) → IsLast o rest
+        → IsOutcome o (Call (length done)) s'.journal (told_by told asks o) (objects_of s')
+        (c_run (program_of m s) (done ++ c ∷ rest) s.steps (replies_in s'.journal))) where
+      abbrev call_text : List ℕ
+      call_text = lines_behind (hosts_of m s'.hosts) (drop (length s.journal) s'.journal) (Call (length done)) o
+
+      abbrev told' : List Event
+      told' = told_by told asks o
+
+      texts_are : front_text ++ call_text ≡ event_lines hosts 0 told' ++ last_line (Call (length done)) (came_out o)
+      texts_are =
+          ap (λ hs. front_text ++ lines_behind hs (drop (length s.journal) s'.journal) (Call (length done)) o) since.hosts
+          ∙ ap (λ js. front_text ++ lines_behind hosts js (Call (length done)) o) new_asks
+          ∙ sym (call_lines hosts (length done) told asks o behind.stands.values)
+
+      asks' : asked_events told' ≡ events_in s'.journal
+      asks' = told_asks told s.journal asks o behind.asks ∙ ap events_in (sym written)
+
+      here : (rest : List SymbolCall) → IsLast o rest
+          → IsOutcome o (Call (length done)) s'.journal told' (objects_of s') (run_at m e s' (done ++ c ∷ rest))
+      here rest last = subst (IsOutcome o (Call (length done)) s'.journal told' (objects_of s'))
+          (run_is s (done ++ c ∷ rest) s'.journal behind.since) (ran rest last)
+
+      pub call_behind : status_of_outcome o ≡ None → IsStored s' → Stands m s' (done ++ c ∷ []) told' → now ≡ extended before call_text
+          → IsBehind m e s' (done ++ c ∷ []) old now
+      call_behind none stored stands printed = record {
+        since = since;
+        stored = stored;
+        told = told';
+        stands = stands;
+        asks = asks';
+        printed = whole_behind old before now front_text call_text behind.printed printed
+            ∙ ap (extended old) (texts_are ∙ ap (λ l. event_lines hosts 0 told' ++ l) (ended_text (Call (length done)) o (is_ended o none))
+            ∙ append-nil (event_lines hosts 0 told'));
+      }
+
+      pub call_played : (status : ℕ) → status_of_outcome o ≡ Some status → IsStored s' → now ≡ extended before call_text
+          → (more : List SymbolCall) → HasPlayed m e s' (done ++ c ∷ more) old now status
+      call_played status some stored printed more =
+          played_at_end s' since old now (done ++ c ∷ more) o (Call (length done)) told' (here more (is_last o status more some)) status some stored
+          asks' (whole_behind old before now front_text call_text behind.printed printed ∙ ap (extended old) texts_are)
+
+      pub call_left : (IsEnded o → Stands m s' (done ++ c ∷ []) told') → SaysPart before now call_text
+          → (more : List SymbolCall) → IsLeft m e s' (done ++ c ∷ more) old now
+      call_left stands part more = ended_or_not o (IsLeft m e s' (done ++ c ∷ more) old now) ended stopped
+        where
+          said : SaysPart old now (event_lines hosts 0 told' ++ last_line (Call (length done)) (came_out o))
+          said = subst (SaysPart old now) texts_are (part_behind old before now front_text call_text behind.printed part)
+
+          ended : IsEnded o → IsLeft m e s' (done ++ c ∷ more) old now
+          ended is =
+              let front = told_in_front m s' (done ++ c ∷ []) told' (stands is) more [] in
+              let same = ap (λ cs. c_run (program_of m s') cs s'.steps (replies_in s'.journal)) (sym (append_assoc done (c ∷ []) more))
+                  ∙ ap (λ rs. c_run (program_of m s') ((done ++ c ∷ []) ++ more) s'.steps rs) (sym (append-nil (replies_in s'.journal))) in
+              left_in_front s' since old now (done ++ c ∷ more) told' front.0
+              (ap (λ (r : CRun). r.events) (sym (run_is s' (done ++ c ∷ more) s'.journal since) ∙ same) ∙ front.1)
+              asks'
+              (subst (SaysPart old now) (ap (λ l. event_lines hosts 0 told' ++ l) (ended_text (Call (length done)) o is)
+              ∙ append-nil (event_lines hosts 0 told')) said)
+
+          stopped : ((rest : List SymbolCall) → IsLast o rest) → IsLeft m e s' (done ++ c ∷ more) old now
+          stopped last = left_at_end s' since old now (done ++ c ∷ more) o (Call (length done)) told' (here more (last more)) said
+
+    -- memory was wanting in the call
+    pub call_wanting : (more : List SymbolCall)
+        → ((rest : List Ask) × (asks_in (c_run (program_of m s) (done ++ c ∷ more) s.steps (replies_in s'.journal)).events ≡ map ask_of s'.journal ++ rest))
+        → IsLeft m e s' (done ++ c ∷ more) old before
+    call_wanting more asked = record {
+      since = since;
+      more = asked.0;
+      first = ap (λ (r : CRun). asks_in r.events) (sym (run_is s (done ++ c ∷ more) s'.journal behind.since)) ∙ asked.1;
+      part = subst (SaysPart old before) whole
+          (part_in_front old before front_text (event_lines hosts (0 + length (values_in told)) front.0 ++ last_line run'.phase run'.outcome)
+          (front_text, ([], sym (append-nil front_text)), behind.printed));
+    }
+      where
+        run' : CRun
+        run' = run_at m e s' (done ++ c ∷ more)
+
+        front : (rest : List Event) × (run'.events ≡ told ++ rest)
+        front =
+            let f = told_in_front m s done told behind.stands (c ∷ more) (replies_in asks) in
+            let replies : replies_in s'.journal ≡ replies_in s.journal ++ replies_in asks = ap replies_in written ∙ map-append reply_in s.journal asks in
+            (f.0, ap (λ (r : CRun). r.events) (sym (run_is s (done ++ c ∷ more) s'.journal behind.since)
+            ∙ ap (λ rs. c_run (program_of m s) (done ++ c ∷ more) s.steps rs) replies) ∙ f.1)
+
+        whole : front_text ++ (event_lines hosts (0 + length (values_in told)) front.0 ++ last_line run'.phase run'.outcome)
+            ≡ lines_at m e s' (done ++ c ∷ more)
+        whole = sym (append_assoc front_text (event_lines hosts (0 + length (values_in told)) front.0) (last_line run'.phase run'.outcome))
+            ∙ ap (λ l. l ++ last_line run'.phase run'.outcome) (sym (event_lines_append hosts 0 told front.0) ∙ ap (event_lines hosts 0) (sym front.1))
+
+  -- ---- behind all calls
+
+  pub all_played : (s : State H) (calls : List SymbolCall) (old now : Option (List ℕ)) → IsBehind m e s calls old now → HasPlayed m e s calls old now 0
+  all_played s calls old now behind = record {
+    since = behind.since;
+    stored = behind.stored;
+    asks = ap (λ (r : CRun). asked_events r.events) is ∙ behind.asks;
+    has_status = subst (λ (r : CRun). HasStatus r.outcome 0) (sym is) refl;
+    objects = ap (λ (r : CRun). r.units) is;
+    printed = behind.printed ∙ ap (extended old) (sym (append-nil (event_lines hosts 0 behind.told))
+        ∙ ap (λ (r : CRun). event_lines hosts 0 r.events ++ last_line r.phase r.outcome) (sym is));
+  }
     where
-      all : (run_of (unit_of before.unit) calls before.steps ≡ run_of (unit_of before.unit) [] before.steps) × (lines_of (run_of (unit_of before.unit) calls before.steps) ≡ line_of_phase (Init 0) o)
-      all = init_line (unit_of before.unit) before.steps o is (not_ended o (Init 0) _ status is some) calls
+      is : run_at m e s calls
+          ≡ over (record { phase = behind.stands.last; entries = [] }) (machine_with s.depth (objects_of s) (trail_of [] behind.told)) Ended
+      is = sym (run_is s calls s.journal behind.since) ∙ has_ended m s calls behind.told behind.stands
 
-      by_why : (why : Reason) → StopsPutting old now faults faults' (lines_of (run_of (unit_of before.unit) calls before.steps)) why → StopsRunning (unit_of before.unit) calls before.steps old now faults faults' why
-      by_why Unwritten stops = stops
-      by_why WantOfMemory stops = stops
-      by_why Usage stops = stops
-      by_why (Unread file) stops = stops
-      by_why (Refused file why) stops = stops
-      by_why CallsTooLong stops = stops
-      by_why (CallsLine number) stops = stops
+  -- ---- with the state or without it
 
--- ---- the calls of a list, one by one
+  module _ (s : State H) (calls : List SymbolCall) (old : Option (List ℕ)) where
+    abbrev the_run : CRun
+    the_run = run_at m e s calls
 
-seen_at : (calls : List NamedCall) (k : ℕ) (item : NamedCall) → k < length calls → slice_index_or calls k item ≡ item → drop k (calls_seen calls) ≡ call_seen item ∷ drop (k + 1) (calls_seen calls)
-seen_at calls k item lt is =
-    drop-map call_seen k calls ∙ ap (map call_seen) (drop-cons calls k item lt ∙ (λ i. is i ∷ drop (sym (add-one k) i) calls))
-    ∙ ap (λ l. call_seen item ∷ l) (sym (drop-map call_seen (k + 1) calls))
+    pub all_lines : (shown : Bool) → lines_at m e s calls ++ (if shown then state_lines hosts the_run.units else []) ≡ lines_of hosts shown the_run
+    all_lines shown = refl
 
-pub calls_split : (calls : List NamedCall) (k : ℕ) (item : NamedCall) → k < length calls → slice_index_or calls k item ≡ item → take k (calls_seen calls) ++ call_seen item ∷ drop (k + 1) (calls_seen calls) ≡ calls_seen calls
-calls_split calls k item lt is = ap (λ l. take k (calls_seen calls) ++ l) (sym (seen_at calls k item lt is)) ∙ take-append-drop k (calls_seen calls)
+    pub left_part : (shown : Bool) (now : Option (List ℕ)) → IsLeft m e s calls old now
+        → HasPart m e.hosts (map unit_of e.linked.0) calls e.steps shown old now
+    left_part shown now left = record {
+      asks = s.journal;
+      after = s.hosts;
+      answered = left.since.answered;
+      more = left.more;
+      first = left.first;
+      part = subst (SaysPart old now) (all_lines shown)
+          (part_in_front old now (lines_at m e s calls) (if shown then state_lines hosts the_run.units else []) left.part);
+    }
 
-pub calls_before : (calls : List NamedCall) (k : ℕ) → k < length calls → length (take k (calls_seen calls)) ≡ k
-calls_before calls k lt = length-take-le k (calls_seen calls) (omega (arith, lt, length-map calls call_seen))
+    module _ (middle : Option (List ℕ)) (status : ℕ) (played : HasPlayed m e s calls old middle status) where
+      pub ran_alone : HasRun m e.hosts (map unit_of e.linked.0) calls e.steps false old middle status
+      ran_alone = record {
+        asks = s.journal;
+        after = s.hosts;
+        answered = played.since.answered;
+        told = played.asks;
+        has_status = played.has_status;
+        lines = played.printed ∙ ap (extended old) (sym (append-nil (lines_at m e s calls)) ∙ all_lines false);
+      }
 
-pub calls_next : (calls : List NamedCall) (k : ℕ) (item : NamedCall) → k < length calls → slice_index_or calls k item ≡ item → take k (calls_seen calls) ++ call_seen item ∷ [] ≡ take (k + 1) (calls_seen calls)
-calls_next calls k item lt is =
-    let len : length (take k (calls_seen calls)) ≡ k = calls_before calls k lt in
-    let whole = calls_split calls k item lt is in
-    let front : take (k + 1) (take k (calls_seen calls) ++ call_seen item ∷ drop (k + 1) (calls_seen calls)) ≡ take k (calls_seen calls) ++ call_seen item ∷ [] =
-    ap (take (k + 1)) (sym (append_assoc (take k (calls_seen calls)) (call_seen item ∷ []) (drop (k + 1) (calls_seen calls))))
-    ∙ take_at (take k (calls_seen calls) ++ call_seen item ∷ []) (drop (k + 1) (calls_seen calls)) (k + 1) (length-append (take k (calls_seen calls)) (call_seen item ∷ []) ∙ ap (λ n. n + 1) len) in
-    sym front ∙ ap (take (k + 1)) whole
+      state_is : state_lines (hosts_of m s.hosts) (objects_of s) ≡ state_lines hosts the_run.units
+      state_is = ap (λ hs. state_lines hs (objects_of s)) played.since.hosts ∙ ap (state_lines hosts) (sym played.objects)
 
--- a run of the session's unit is one of the unit at the start
-pub run_at_start : (s first : State) (calls all : List SymbolCall) (old now : Option (List ℕ)) (status : ℕ) → s.unit ≡ first.unit → s.steps ≡ first.steps → calls ≡ all → HasRun (unit_of s.unit) calls s.steps old now status → HasRun (unit_of first.unit) all first.steps old now status
-run_at_start s first calls all old now status unit steps same ran =
-    subst (λ u. HasRun (unit_of u) all first.steps old now status) unit (subst (λ n. HasRun (unit_of s.unit) all n old now status) steps (subst (λ cs. HasRun (unit_of s.unit) cs s.steps old now status) same ran))
+      pub ran_shown : (now : Option (List ℕ)) → now ≡ extended middle (state_lines (hosts_of m s.hosts) (objects_of s))
+          → HasRun m e.hosts (map unit_of e.linked.0) calls e.steps true old now status
+      ran_shown now printed = record {
+        asks = s.journal;
+        after = s.hosts;
+        answered = played.since.answered;
+        told = played.asks;
+        has_status = played.has_status;
+        lines = whole_behind old middle now (lines_at m e s calls) (state_lines hosts the_run.units) played.printed
+            (printed ∙ ap (extended middle) state_is) ∙ ap (extended old) (all_lines true);
+      }
 
--- and so is why it was left; a count that rose has risen from the start
-later_faults : (items : List tree.Item) (calls : List SymbolCall) (steps : ℕ) (old now : Option (List ℕ)) (start faults faults' : ℕ) (why : Reason) → start ≤ faults → StopsRunning items calls steps old now faults faults' why → StopsRunning items calls steps old now start faults' why
-later_faults items calls steps old now start faults faults' Unwritten le stop = (rose_from start faults faults' le stop.0, stop.1)
-later_faults items calls steps old now start faults faults' WantOfMemory le stop = stop
-later_faults items calls steps old now start faults faults' Usage le stop = stop
-later_faults items calls steps old now start faults faults' (Unread file) le stop = stop
-later_faults items calls steps old now start faults faults' (Refused file cause) le stop = stop
-later_faults items calls steps old now start faults faults' CallsTooLong le stop = stop
-later_faults items calls steps old now start faults faults' (CallsLine number) le stop = stop
-
-pub stop_at_start : (s first : State) (calls all : List SymbolCall) (old now : Option (List ℕ)) (start faults faults' : ℕ) (why : Reason) → s.unit ≡ first.unit → s.steps ≡ first.steps → calls ≡ all → start ≤ faults
-    → StopsRunning (unit_of s.unit) calls s.steps old now faults faults' why → StopsRunning (unit_of first.unit) all first.steps old now start faults' why
-stop_at_start s first calls all old now start faults faults' why unit steps same le stop =
-    later_faults (unit_of first.unit) all first.steps old now start faults faults' why le
-    (subst (λ u. StopsRunning (unit_of u) all first.steps old now faults faults' why) unit (subst (λ n. StopsRunning (unit_of s.unit) all n old now faults faults' why) steps (subst (λ cs. StopsRunning (unit_of s.unit) cs s.steps old now faults faults' why) same stop)))
+      pub shown_part : (now : Option (List ℕ)) → SaysPart middle now (state_lines (hosts_of m s.hosts) (objects_of s))
+          → HasPart m e.hosts (map unit_of e.linked.0) calls e.steps true old now
+      shown_part now part = record {
+        asks = s.journal;
+        after = s.hosts;
+        answered = played.since.answered;
+        more = [];
+        first = asks_are the_run.events s.journal played.asks ∙ sym (append-nil (map ask_of s.journal));
+        part = subst (SaysPart old now) (all_lines true)
+            (part_behind old middle now (lines_at m e s calls) (state_lines hosts the_run.units) played.printed
+            (subst (SaysPart middle now) state_is part));
+      }

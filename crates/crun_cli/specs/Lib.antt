@@ -1,10 +1,10 @@
-pub mod CallsFile
-pub mod CommandLine
-pub mod Job
-pub mod Lines
-pub mod Numbers
-pub mod Parts
-pub mod RunLines
-pub mod Running
-pub mod Seen
-pub mod Stops
+-- promised: the run that a command line asks for, with hosts, its lines, and what the clauses of the top call say
+pub mod Runs
+pub mod Jobs
+pub mod EnvHost
+-- of the code alone
+pub mod Writing
+pub mod Views
+pub mod Playing
+pub mod Showing
+pub mod Stopping

@@ -1,35 +1,104 @@
-use Rattle.std.proofs.Common.{◌≡◌, List, [], ◌∷◌, ◌++◌, length, refl, sym, ap, ◌∙◌, subst}
-use Rattle.w2c_base.specs.Run.{Call, Reply}
+use Rattle.std.proofs.Common.{◌≡◌, List, ◌∷◌, ◌++◌, length, map, refl, sym, ap, ◌∙◌, subst, arith}
+use Rattle.w2c_base.specs.Run.{Ask, Call, asks_in}
 use Rattle.c_tree.specs.View.{unit_of}
-use Rattle.c_meaning.specs.Linking.{SymbolCall}
 use Rattle.c_meaning.specs.Run.{c_run}
-use Rattle.c_machine.specs.Threads.{alone}
-use Rattle.crun.specs.declared.outcome.Standing.TheVariants as standing
-use Rattle.crun.specs.Sessions.{IsOutcome, Stands, state_of, trail_of}
-use Rattle.crun.proofs.History.{CallCame, call_outcome, not_over, ready_stands}
+use Rattle.c_hosts.specs.Asking.{hosts_of}
+use Rattle.c_hosts.specs.Journals.{ask_of, replies_in}
+use Rattle.c_hosts.specs.Running.{Asks}
+use Rattle.c_objects.specs.Stores.{AreStored}
+use Rattle.crun.specs.Names.{naming_of}
+use Rattle.crun.specs.declared.outcome.Kept.TheVariants as kept
+use Rattle.crun.specs.Engines.{units_at}
+use Rattle.crun.specs.Sessions.{program_of, told_by, IsOutcome, Stands}
+use Rattle.crun.proofs.CallsBehind.{call_asked, call_ran, call_stands}
+use Rattle.crun.proofs.Functions.{still_started}
+use Rattle.crun.proofs.Keeping.{keeps_behind, keeps_over, not_over}
 use Rattle.crun.proofs.session.Session.call.Goals as goal
+
+pub invariant_of-self : goal.invariant_of-self
+invariant_of-self g c =
+    let less = c.in-Err.ensures.fewer in
+    let fewer = c.self.invariant.fewer in
+    keeps_over g.H.HostModule c.run_symbol.new.self c.self.inside.steps c.self.inside.inits_run
+    (still_started g.H.HostModule c.self.inside.engine c.run_symbol.new.self c.in-Err.ensures.same c.self.invariant.started)
+    (omega (arith, less, fewer)) kept.Memory
+
+pub returns-in-Err : goal.returns-in-Err
+returns-in-Err g c =
+    let w = c.in-Err.ensures.wanting in
+    record {
+      over = not_over c.args.self.now.standing _ (λ why is. c.in_default.not-Over why (ap (λ s. s.standing) c.self.view_is ∙ is));
+      only_over = λ why is. absurd cc;
+      ran = tt;
+      stands = tt;
+      standing = tt;
+      stored = tt;
+      answered = (
+        w.0,
+        subst (λ s. Asks g.H.HostModule s.hosts s.journal w.0 c.run_symbol.new.self.hosts.list.items
+            c.run_symbol.new.self.hosts.journal) c.self.view_is w.1,
+      );
+      memory = λ is. refl;
+      asked = λ is calls rest told stands.
+          subst (λ s. (more : List Ask)
+          × (asks_in (c_run (program_of g.H.HostModule s)
+          (calls ++ (record { symbol = c.args.symbol.now; args = c.args.args.now }) ∷ rest)
+          s.steps (replies_in c.run_symbol.new.self.hosts.journal)).events ≡ map ask_of c.run_symbol.new.self.hosts.journal ++ more))
+          c.self.view_is
+          (call_asked g.H.HostModule c.self.inside.engine c.run_symbol.new.self c.self.inside.steps c.self.inside.inits_run
+          c.self.inside.standing c.in-Err.ensures.fewer (record { symbol = c.args.symbol.now; args = c.args.args.now })
+          w.0 w.1 w.2 calls rest told (subst (λ s. Stands g.H.HostModule s calls told) (sym c.self.view_is) stands));
+      inits = ap (λ s. s.inits_run) c.self.view_is;
+      linked = c.in-Err.ensures.same.linked ∙ ap (λ s. s.linked) c.self.view_is;
+      hosts = c.in-Err.ensures.same.hosts ∙ ap (λ s. hosts_of g.H.HostModule s.hosts) c.self.view_is;
+      steps = ap (λ s. s.steps) c.self.view_is;
+    }
+
+pub invariant_of-self-2 : goal.invariant_of-self-2
+invariant_of-self-2 g c =
+    let less = c.in-Ok.ensures.fewer in
+    let fewer = c.self.invariant.fewer in
+    keeps_behind g.H.HostModule c.run_symbol.new.self c.self.inside.steps c.self.inside.inits_run
+    (still_started g.H.HostModule c.self.inside.engine c.run_symbol.new.self c.in-Ok.ensures.same c.self.invariant.started)
+    (omega (arith, less, fewer)) c.in-Ok.outcome
+    c.standing_behind-self-inside.result c.standing_behind-self-inside.ensures c.in-Ok.ensures.ready
 
 pub returns : goal.returns
 returns g c =
-    let inside = c.self.inside in
-    let o = c.in_ok-outcome.outcome in
-    let call : SymbolCall = record { symbol = c.args.symbol.now; args = c.args.args.now } in
-    let came = c.in_ok-outcome.ensures.came in
-    let before = state_of inside.linked inside.steps inside.engine inside.inits_run inside.standing in
-    let after = state_of inside.linked inside.steps c.run_symbol.new.engine inside.inits_run c.standing_behind-self-inside.result in
-    let run : CallCame before after came.item call o = λ rs events pending. came.came (trail_of rs events) pending in
-    let less = c.run_symbol.ensures.fewer in
-    let now = c.standing_behind-self-inside.ensures in
+    let came = c.in-Ok.ensures.came in
     record {
-      over = not_over c.args.self.now.standing (λ why is. c.in_default.not-Over why (ap (λ s. s.standing) c.self.view_is ∙ is)) _;
+      over = not_over c.args.self.now.standing _ (λ why is. c.in_default.not-Over why (ap (λ s. s.standing) c.self.view_is ∙ is));
       only_over = tt;
-      ran = subst (λ s. (calls : List SymbolCall) → Stands s calls → (replies : List Reply) → IsOutcome o (Call (length calls)) (c_run (alone (unit_of s.unit)) (calls ++ call ∷ []) s.steps replies)) c.self.view_is
-          (λ calls stands replies. call_outcome before after calls call came.item stands came.called came.defined refl refl less o came.spent run replies);
-      stands = subst (λ s. c.standing_behind-self-inside.result ≡ standing.Ready → (calls : List SymbolCall) → Stands s calls → Stands after (calls ++ call ∷ [])) c.self.view_is
-          (λ ready calls stands. ready_stands before after calls call came.item stands came.called came.defined refl refl less o (sym now ∙ ready) now run);
+      ran = λ calls rest told asks stands is last_one.
+          subst (λ s. IsOutcome c.in-Ok.outcome (Call (length calls)) c.run_symbol.new.self.hosts.journal
+          (told_by told asks c.in-Ok.outcome) (units_at c.run_symbol.new.self)
+          (c_run (program_of g.H.HostModule s) (calls ++ (record { symbol = c.args.symbol.now; args = c.args.args.now }) ∷ rest) s.steps
+          (replies_in c.run_symbol.new.self.hosts.journal))) c.self.view_is
+          (call_ran g.H.HostModule c.self.inside.engine c.run_symbol.new.self c.self.inside.steps c.self.inside.inits_run
+          c.self.inside.standing c.in-Ok.ensures.fewer (record { symbol = c.args.symbol.now; args = c.args.args.now })
+          came.0 came.1 c.in-Ok.outcome came.2 c.in-Ok.ensures.spent calls rest told asks
+          (subst (λ s. Stands g.H.HostModule s calls told) (sym c.self.view_is) stands)
+          (is ∙ ap (λ s. s.journal ++ asks) (sym c.self.view_is)) last_one);
+      stands = λ ready calls told asks stands is.
+          call_stands g.H.HostModule c.self.inside.engine c.run_symbol.new.self c.self.inside.steps c.self.inside.inits_run
+          c.self.inside.standing c.in-Ok.ensures.fewer (record { symbol = c.args.symbol.now; args = c.args.args.now })
+          came.0 came.1 c.in-Ok.outcome came.2 c.in-Ok.ensures.same c.standing_behind-self-inside.result
+          c.standing_behind-self-inside.ensures ready
+          calls told asks (subst (λ s. Stands g.H.HostModule s calls told) (sym c.self.view_is) stands)
+          (is ∙ ap (λ s. s.journal ++ asks) (sym c.self.view_is));
       standing = c.standing_behind-self-inside.ensures;
+      stored = subst (λ l. AreStored (naming_of (map unit_of l.0)) c.run_symbol.new.self.startup.store.units.items)
+          (sym c.in-Ok.ensures.same.linked)
+          c.in-Ok.ensures.stored;
+      answered = (
+        came.0,
+        subst (λ s. Asks g.H.HostModule s.hosts s.journal came.0 c.run_symbol.new.self.hosts.list.items
+            c.run_symbol.new.self.hosts.journal) c.self.view_is came.1,
+      );
       memory = tt;
+      asked = tt;
       inits = ap (λ s. s.inits_run) c.self.view_is;
-      unit = ap (λ s. s.unit) c.self.view_is;
+      linked = c.in-Ok.ensures.same.linked ∙ ap (λ s. s.linked) c.self.view_is;
+      hosts = c.in-Ok.ensures.same.hosts ∙ ap (λ s. hosts_of g.H.HostModule s.hosts) c.self.view_is;
       steps = ap (λ s. s.steps) c.self.view_is;
     }

@@ -1,39 +1,80 @@
-use Rattle.std.proofs.Common.{◌≡◌, List, [], refl, sym, ap, ◌∙◌, subst}
-use Rattle.w2c_base.specs.Run.{Init, Reply}
-use Rattle.c_tree.specs.View.{unit_of}
-use Rattle.c_meaning.specs.Run.{c_run}
-use Rattle.c_machine.specs.Threads.{alone}
-use Rattle.crun.specs.declared.outcome.Phase.TheVariants as phase
-use Rattle.crun.specs.declared.outcome.Standing.{Standing}
-use Rattle.crun.specs.declared.outcome.Standing.TheVariants as standing
-use Rattle.crun.specs.Sessions.{IsOutcome, phase_of, state_of}
-use Rattle.crun.proofs.Inits.{has_init, init_outcome, init_value, inits_stand}
+use Rattle.std.proofs.Common.{◌≡◌, ◌-◌, List, ◌++◌, [], length, map, refl, sym, ap, ◌∙◌, subst, arith}
+use Rattle.w2c_base.specs.Run.{Ask, Init, asks_in}
+use Rattle.c_meaning.specs.Run.{c_run, entries_of}
+use Rattle.crun.specs.Inits.{address_in}
+use Rattle.c_hosts.specs.Journals.{ask_of, events_in, replies_in}
+use Rattle.crun.specs.declared.outcome.Kept.TheVariants as kept
+use Rattle.crun.specs.Engines.{machine_with, naming_in, program_in, units_at}
+use Rattle.crun.specs.Sessions.{phase_of, program_of, trail_of, BehindAt}
+use Rattle.crun.proofs.Functions.{same_program, still_started}
+use Rattle.crun.proofs.History.{no_values_told}
+use Rattle.crun.proofs.Keeping.{is_fresh, keeps_behind, keeps_over, ready_ended}
 use Rattle.crun.proofs.session.Session.init.Goals as goal
 
-is_fresh : (s : Standing) → phase_of s ≡ phase.Fresh → s ≡ standing.Fresh
-is_fresh standing.Fresh e = refl
-is_fresh standing.Ready e = absurd cc
-is_fresh (standing.Over why) e = absurd cc
+pub returns-in-Err-clause-asked : goal.returns-in-Err-clause-asked
+returns-in-Err-clause-asked g c rest =
+    let start = c.self.invariant.fresh (is_fresh c.self.inside.standing (ap (λ s. phase_of s.standing) c.self.view_is ∙ c.requires)) in (
+      _,
+      ap (λ j. map ask_of j ++ asks_in (c_run (program_of g.H.HostModule c.args.self.now) rest c.args.self.now.steps
+          (replies_in c.self.inside.engine.hosts.journal)).events) (sym start.journal),
+    )
 
-pub returns : goal.returns
-returns g c =
-    let inside = c.self.inside in
-    let items = unit_of inside.linked in
-    let o = c.in_ok-outcome.outcome in
-    let has = has_init items c.in_ok-outcome.ensures.built in
-    let fresh = is_fresh inside.standing (ap (λ s. phase_of s.standing) c.self.view_is ∙ c.requires) in
-    let start = c.self.invariant.2 fresh in
-    let came = c.in_ok-outcome.ensures.came in
-    let after = state_of inside.linked inside.steps c.run_init.new.engine 1 c.standing_behind-self-inside.result in
+pub run_inits-requires-clause-first : goal.run_inits-requires-clause-first
+run_inits-requires-clause-first g c =
+    let start = c.self.invariant.fresh (is_fresh c.self.inside.standing (ap (λ s. phase_of s.standing) c.self.view_is ∙ c.requires)) in
     record {
-      ran = subst (λ s. (replies : List Reply) → IsOutcome o (Init 0) (c_run (alone (unit_of s.unit)) [] s.steps replies)) c.self.view_is
-          (subst (λ n. (replies : List Reply) → IsOutcome o (Init 0) (c_run (alone items) [] n replies)) start.0
-          (init_outcome items has inside.engine c.run_init.new.engine o start.1 came c.in_ok-outcome.ensures.spent));
-      stands = (λ ready. inits_stand items has inside.engine c.run_init.new.engine o after start.1 came c.run_init.ensures.fewer refl (sym start.0) refl refl c.standing_behind-self-inside.ensures (sym c.standing_behind-self-inside.ensures ∙ ready));
-      standing = c.standing_behind-self-inside.ensures;
-      value = init_value items has inside.engine c.run_init.new.engine o start.1 came;
-      memory = tt;
-      begun = refl;
-      unit = ap (λ s. s.unit) c.self.view_is;
-      steps = ap (λ s. s.steps) c.self.view_is;
+      journal = start.journal;
+      objects = λ replies. ap (λ d. machine_with d (units_at c.self.inside.engine) (trail_of replies [])) start.depth
+          ∙ start.objects replies;
+    }
+
+pub run_inits-requires-clause-inits : goal.run_inits-requires-clause-inits
+run_inits-requires-clause-inits g c =
+    ap (map (address_in (naming_in c.self.inside.engine))) c.as_slice.ensures.value
+    ∙ c.in-Ok.ensures.meaning (program_in g.H.HostModule c.self.inside.engine) refl
+
+pub invariant_of-self-in-Err-run_inits : goal.invariant_of-self-in-Err-run_inits
+invariant_of-self-in-Err-run_inits g c =
+    let less = c.in-Err-run_inits.ensures.fewer in
+    let fewer = c.self.invariant.fewer in
+    keeps_over g.H.HostModule c.run_inits.new.self c.self.inside.steps c.run_inits.new.inits_run
+    (still_started g.H.HostModule c.self.inside.engine c.run_inits.new.self c.in-Err-run_inits.ensures.same c.self.invariant.started)
+    (omega (arith, less, fewer)) kept.Memory
+
+pub returns-in-Err-run_inits-clause-asked : goal.returns-in-Err-run_inits-clause-asked
+returns-in-Err-run_inits-clause-asked g c rest =
+    let start = c.self.invariant.fresh (is_fresh c.self.inside.standing (ap (λ s. phase_of s.standing) c.self.view_is ∙ c.requires)) in
+    subst (λ s. (more : List Ask)
+    × (asks_in (c_run (program_of g.H.HostModule s) rest s.steps (replies_in c.run_inits.new.self.hosts.journal)).events
+    ≡ map ask_of c.run_inits.new.self.hosts.journal ++ more)) c.self.view_is
+    (subst (λ n. (more : List Ask)
+    × (asks_in (c_run (program_in g.H.HostModule c.self.inside.engine) rest n (replies_in c.run_inits.new.self.hosts.journal)).events
+    ≡ map ask_of c.run_inits.new.self.hosts.journal ++ more)) start.left (c.in-Err-run_inits.ensures.asked rest))
+
+pub invariant_of-self-2 : goal.invariant_of-self-2
+invariant_of-self-2 g c =
+    let less = c.in-Ok-run_inits.ensures.fewer in
+    let fewer = c.self.invariant.fewer in
+    keeps_behind g.H.HostModule c.run_inits.new.self c.self.inside.steps c.run_inits.new.inits_run
+    (still_started g.H.HostModule c.self.inside.engine c.run_inits.new.self c.in-Ok-run_inits.ensures.same c.self.invariant.started)
+    (omega (arith, less, fewer)) c.in-Ok-run_inits.outcome
+    c.standing_behind-self-inside.result c.standing_behind-self-inside.ensures c.in-Ok-run_inits.ensures.ready
+
+pub returns-clause-stands : goal.returns-clause-stands
+returns-clause-stands g c ready =
+    let start = c.self.invariant.fresh (is_fresh c.self.inside.standing (ap (λ s. phase_of s.standing) c.self.view_is ∙ c.requires)) in
+    let ended = ready_ended c.in-Ok-run_inits.outcome _ (sym c.standing_behind-self-inside.ensures ∙ ready) c.in-Ok-run_inits.ensures.ended in
+    let less = c.in-Ok-run_inits.ensures.fewer in
+    let fewer = c.self.invariant.fewer in
+    record {
+      ready = ready;
+      fewer = omega (arith, less, fewer);
+      last = Init (c.run_inits.new.inits_run - 1);
+      values = ap length (no_values_told c.run_inits.new.self.hosts.journal);
+      behind = subst (λ p. BehindAt p c.run_inits.new.self.depth (units_at c.run_inits.new.self) c.run_inits.new.self.hosts.journal (c.self.inside.steps - c.run_inits.new.self.left) (entries_of p [])
+          (Init (c.run_inits.new.inits_run - 1)) (events_in c.run_inits.new.self.hosts.journal))
+          (sym (same_program g.H.HostModule c.self.inside.engine c.run_inits.new.self c.in-Ok-run_inits.ensures.same))
+          (subst (λ n. BehindAt (program_in g.H.HostModule c.self.inside.engine) c.run_inits.new.self.depth (units_at c.run_inits.new.self) c.run_inits.new.self.hosts.journal (n - c.run_inits.new.self.left)
+          (entries_of (program_in g.H.HostModule c.self.inside.engine) []) (Init (c.run_inits.new.inits_run - 1)) (events_in c.run_inits.new.self.hosts.journal))
+          start.left ended.1);
     }

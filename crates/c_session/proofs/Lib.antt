@@ -1,7 +1,0 @@
-mod Functions
-mod History
-mod CallsBehind
-mod InitsBehind
-mod Beginnings
-mod ObjectsSeen
-mod Keeping

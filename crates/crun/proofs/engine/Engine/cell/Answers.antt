@@ -1,0 +1,25 @@
+use Rattle.std.proofs.Common.{option_map, sym, ap, ◌∙◌}
+use Rattle.std.specs.Prelude.{slice_get, option_copied}
+use Rattle.w2c_base.specs.Lookup.{if_found}
+use Rattle.c_objects.specs.Objects.{memory_of}
+use Rattle.crun.specs.Engines.{naming_in, units_at}
+use Rattle.crun.proofs.ObjectsSeen.{memory_found}
+use Rattle.crun.proofs.engine.Engine.cell.Goals as goal
+
+pub returns-in_err-number : goal.returns-in_err-number
+returns-in_err-number g c =
+    ap (λ o. option_map memory_of (option_copied o)) c.from_residual-in_err-number.ensures
+    ∙ sym (memory_found (naming_in c.args.self.now) (units_at c.args.self.now) c.args.unit c.in_ok-tables.tables.now
+    c.in_ok-tables.objects.now
+    c.in_ok-tables.ensures c.args.name.now
+    ∙ ap (λ n. option_map memory_of (if_found n (λ i. slice_get c.in_ok-tables.objects.now.memories.items i)))
+    (sym c.in_err-number.ensures))
+
+pub returns : goal.returns
+returns g c =
+    ap (option_map memory_of) c.at.ensures
+    ∙ sym (memory_found (naming_in c.args.self.now) (units_at c.args.self.now) c.args.unit c.in_ok-tables.tables.now
+    c.in_ok-tables.objects.now
+    c.in_ok-tables.ensures c.args.name.now
+    ∙ ap (λ n. option_map memory_of (if_found n (λ i. slice_get c.in_ok-tables.objects.now.memories.items i))) (sym c.in_ok-number.ensures)
+    ∙ ap (λ xs. option_map memory_of (slice_get xs c.in_ok-number.number)) (sym c.as_slice.ensures.value))

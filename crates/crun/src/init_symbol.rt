@@ -1,0 +1,108 @@
+// Which names are symbols of init functions.
+ghost use Rattle.std.specs.Prelude.{◌≡◌, ◌≢◌, ◌↔◌, ◌≤◌, ◌++◌, ℕ, List, length, IfOk, IsTrue, MatchOption};
+ghost use Rattle.c_meaning.specs.Linking.{is_init_symbol as is_symbol};
+ghost use Rattle.crun.specs.Inits.{init_symbol_around};
+
+use std::alloc::Global;
+use w2c_base::{Memory, NAME_LENGTH};
+use w2c_mangle::{UnescapeFault, unescape};
+
+/// Whether a name is the symbol of some module's init function.
+pub fn is_init_symbol(alloc: Global, name: &[u8]) -> Result<bool, Memory>
+    ensures { IfOk result (λ b. b ≡ is_symbol name.now) }
+{
+    match escaped_module(name) {
+        Some(text) => is_module_escape(alloc, text),
+        None => Ok(false),
+    }
+}
+
+// What stands between w2cZ_ and Z_i.
+fn escaped_module(name: &[u8]) -> Option<&[u8]>
+    ensures { MatchOption result ((text : List ℕ) → name.now ≢ init_symbol_around text)
+        (λ text. name.now ≡ init_symbol_around text.now) }
+{
+    in_front_of(behind(name, b"w2cZ_")?, b"Z_i")
+}
+
+fn behind<'a>(text: &'a [u8], front: &[u8]) -> Option<&'a [u8]>
+    ensures { MatchOption result ((rest : List ℕ) → text.now ≢ front.now ++ rest) (λ rest. text.now ≡ front.now ++ rest.now) }
+{
+    text.strip_prefix(front)
+}
+
+fn in_front_of<'a>(text: &'a [u8], end: &[u8]) -> Option<&'a [u8]>
+    ensures { MatchOption result ((rest : List ℕ) → text.now ≢ rest ++ end.now) (λ rest. text.now ≡ rest.now ++ end.now) }
+{
+    text.strip_suffix(end)
+}
+
+// Whether a text is the escape of a module's name.
+fn is_module_escape(alloc: Global, text: &[u8]) -> Result<bool, Memory>
+    ensures { IfOk result (λ b. b ≡ is_symbol (init_symbol_around text.now)) }
+{
+    match unescape(alloc, text) {
+        Ok(name) => Ok(is_module_name(name.as_slice())),
+        Err(UnescapeFault::NotEscaped) => Ok(false),
+        Err(UnescapeFault::Memory) => Err(Memory),
+    }
+}
+
+// Whether a name has as many bytes as modules' names have.
+fn is_module_name(name: &[u8]) -> bool
+    ensures { IsTrue result ↔ (1 ≤ length name.now) × (length name.now ≤ 1024) }
+{
+    !name.is_empty() && name.len() <= NAME_LENGTH as usize
+}
+
+#[cfg(test)]
+mod tests {
+    use crate::init_symbol::is_init_symbol;
+    use std::alloc::Global;
+    use std::test::Fail;
+
+    #[test]
+    fn symbols_are_told_from_other_names(rt: HostRuntime) -> Result<(), Fail> {
+        let alloc = rt.alloc();
+        let rows = [
+            ("w2cZ_aZ5AZ_i", true),
+            ("w2cZ_aZ20bZ_i", true),
+            ("w2cZ_Z_i", false),
+            ("w2cZ_i", false),
+            ("w2cZ_aZ_ii", false),
+            ("w2cZ_aZ_fZ_f", false),
+            ("w2cZ_ZG0Z_i", false),
+            ("w2cZ_Z41Z_i", false),
+            ("main", false),
+        ];
+        for (name, is_init) in rows {
+            assert_eq!(rt; is_init_symbol(alloc, name.as_bytes())?, is_init, "{name}");
+        }
+        Ok(())
+    }
+
+    // The init symbol of a module's name of so many letters.
+    fn symbol_of_letters(alloc: Global, letters: usize) -> Result<Vec<u8>, Fail> {
+        let mut symbol = Vec::from_slice(alloc, b"w2cZ_")?;
+        for _ in 0..letters {
+            symbol.push(b'a')?;
+        }
+        symbol.extend_from_slice(b"Z_i")?;
+        Ok(symbol)
+    }
+
+    #[test]
+    fn names_of_modules_have_1_to_1024_bytes(rt: HostRuntime) -> Result<(), Fail> {
+        let alloc = rt.alloc();
+        let rows = [(0, false), (1, true), (1024, true), (1025, false)];
+        for (letters, is_init) in rows {
+            let symbol = symbol_of_letters(alloc, letters)?;
+            assert_eq!(rt;
+                is_init_symbol(alloc, symbol.as_slice())?,
+                is_init,
+                "{letters}"
+            );
+        }
+        Ok(())
+    }
+}

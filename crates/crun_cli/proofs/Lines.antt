@@ -1,0 +1,134 @@
+-- The lines of what was told, of asks and of outcomes.
+use Rattle.std.proofs.Common.{◌≡◌, ◌≢◌, ℕ, ◌+◌, List, [], ◌∷◌, ◌++◌, append_assoc, length, map, Option, Some, None, refl, sym, ap, ◌∙◌, subst, arith}
+use Rattle.std.proofs.lemmas.List.{append-nil, map-append}
+use Rattle.w2c_base.specs.declared.value.Value.{Value}
+use Rattle.w2c_base.specs.Run.{CallEnded, Event, Host, Phase, Init, Call, asks_in, values_in}
+use Rattle.w2c_base.specs.Run as run
+use Rattle.w2c_base.proofs.Events.{values_behind}
+use Rattle.c_meaning.specs.State.{Trapped, Undefined}
+use Rattle.c_meaning.specs.Run.{CRun, Ended, OutOfSteps, Stopped}
+use Rattle.c_meaning.specs.Run as meaning
+use Rattle.c_hosts.specs.declared.journal.Asked.{Asked}
+use Rattle.c_hosts.specs.Journals.{ask_of, event_in, events_in}
+use Rattle.crun.specs.declared.outcome.Outcome.{Outcome}
+use Rattle.crun.specs.declared.outcome.Outcome.TheVariants as outcome
+use Rattle.crun.specs.Engines.{place_of}
+use Rattle.crun.specs.Sessions.{told_by, IsEnd}
+use Rattle.crun_lines.specs.CallLines.{ended_line, last_line}
+use Rattle.crun_lines.specs.RunLines.{event_lines}
+use Rattle.crun_lines.proofs.Events.{event_lines_append}
+use Rattle.crun_cli.specs.Runs.{asked_events, HasStatus}
+use Rattle.crun_cli.specs.Views.{asked_line, asks_lines, lines_behind, outcome_line, status_of_outcome}
+
+-- ---- asks
+
+-- asks tell no values, and nothing but asks
+no_values : (asks : List Asked) → values_in (events_in asks) ≡ []
+no_values [] = refl
+no_values (a ∷ asks) = no_values asks
+
+asked_append : (events more : List Event) → asked_events (events ++ more) ≡ asked_events events ++ asked_events more
+asked_append [] more = refl
+asked_append (run.Asked ask reply ∷ events) more = ap (λ l. run.Asked ask reply ∷ l) (asked_append events more)
+asked_append (CallEnded value ∷ events) more = asked_append events more
+
+pub asks_are_asked : (asks : List Asked) → asked_events (events_in asks) ≡ events_in asks
+asks_are_asked [] = refl
+asks_are_asked (a ∷ asks) = ap (λ l. event_in a ∷ l) (asks_are_asked asks)
+
+pub told_asks : (told : List Event) (journal asks : List Asked) (o : Outcome) → asked_events told ≡ events_in journal
+    → asked_events (told_by told asks o) ≡ events_in (journal ++ asks)
+told_asks told journal asks o are = by o
+  where
+    front : asked_events (told ++ events_in asks) ≡ events_in (journal ++ asks)
+    front = asked_append told (events_in asks) ∙ ap (λ l. l ++ asked_events (events_in asks)) are
+        ∙ ap (λ l. events_in journal ++ l) (asks_are_asked asks) ∙ sym (map-append event_in journal asks)
+
+    by : (o : Outcome) → asked_events (told_by told asks o) ≡ events_in (journal ++ asks)
+    by (outcome.Ended value) = asked_append (told ++ events_in asks) (CallEnded value ∷ []) ∙ append-nil (asked_events (told ++ events_in asks)) ∙ front
+    by (outcome.Trapped kind) = front
+    by (outcome.Undefined u) = front
+    by outcome.OutOfSteps = front
+
+-- the asks of a run whose asked events these are
+pub asks_of_events : (events : List Event) → asks_in (asked_events events) ≡ asks_in events
+asks_of_events [] = refl
+asks_of_events (run.Asked ask reply ∷ events) = ap (λ l. ask ∷ l) (asks_of_events events)
+asks_of_events (CallEnded value ∷ events) = asks_of_events events
+
+asks_of_journal : (asks : List Asked) → asks_in (events_in asks) ≡ map ask_of asks
+asks_of_journal [] = refl
+asks_of_journal (a ∷ asks) = ap (λ l. ask_of a ∷ l) (asks_of_journal asks)
+
+pub asks_are : (events : List Event) (journal : List Asked) → asked_events events ≡ events_in journal → asks_in events ≡ map ask_of journal
+asks_are events journal are = sym (asks_of_events events) ∙ ap asks_in are ∙ asks_of_journal journal
+
+-- ---- lines
+
+pub lines_of_asks : (hosts : List Host) (k : ℕ) (asks : List Asked) → event_lines hosts k (events_in asks) ≡ asks_lines hosts asks
+lines_of_asks hosts k [] = refl
+lines_of_asks hosts k (a ∷ asks) = ap (λ l. asked_line hosts a ++ l) (lines_of_asks hosts k asks)
+
+-- how the run of an outcome came out
+abbrev pub came_out : Outcome → meaning.Outcome
+came_out (outcome.Ended value) = Ended
+came_out (outcome.Trapped kind) = Stopped (Trapped kind)
+came_out (outcome.Undefined u) = Stopped (Undefined u.kind (place_of u))
+came_out outcome.OutOfSteps = OutOfSteps
+
+pub end_is : (o : Outcome) (r : CRun) → IsEnd o r → r.outcome ≡ came_out o
+end_is (outcome.Ended value) r end = end.0
+end_is (outcome.Trapped kind) r end = end
+end_is (outcome.Undefined u) r end = end
+end_is outcome.OutOfSteps r end = end
+
+pub status_is : (o : Outcome) (status : ℕ) → status_of_outcome o ≡ Some status → HasStatus (came_out o) status
+status_is (outcome.Ended value) status e = absurd cc
+status_is (outcome.Trapped kind) status e = (let same : 1 ≡ status = cc in sym same)
+status_is (outcome.Undefined u) status e = (let same : 8 ≡ status = cc in sym same)
+status_is outcome.OutOfSteps status e = (let same : 7 ≡ status = cc in sym same)
+
+-- the init functions: their asks, and the last line where one did not end
+pub inits_lines : (hosts : List Host) (k : ℕ) (asks : List Asked) (o : Outcome)
+    → event_lines hosts 0 (events_in asks) ++ last_line (Init k) (came_out o) ≡ lines_behind hosts asks (Init k) o
+inits_lines hosts k asks o = ap (λ l. l ++ last_line (Init k) (came_out o)) (lines_of_asks hosts 0 asks) ∙ by o
+  where
+    by : (o : Outcome) → asks_lines hosts asks ++ last_line (Init k) (came_out o) ≡ lines_behind hosts asks (Init k) o
+    by (outcome.Ended value) = refl
+    by (outcome.Trapped kind) = refl
+    by (outcome.Undefined u) = refl
+    by outcome.OutOfSteps = refl
+
+-- a call behind what was told: the lines of its asks, and its own
+pub call_lines : (hosts : List Host) (k : ℕ) (told : List Event) (asks : List Asked) (o : Outcome) → length (values_in told) ≡ k
+    → event_lines hosts 0 (told_by told asks o) ++ last_line (Call k) (came_out o)
+    ≡ event_lines hosts 0 told ++ lines_behind hosts asks (Call k) o
+call_lines hosts k told asks o count = by o
+  where
+    lines : List ℕ
+    lines = event_lines hosts 0 told
+
+    front : event_lines hosts 0 (told ++ events_in asks) ≡ lines ++ asks_lines hosts asks
+    front = event_lines_append hosts 0 told (events_in asks)
+        ∙ ap (λ l. lines ++ l) (lines_of_asks hosts (0 + length (values_in told)) asks)
+
+    stopped : (last : List ℕ) → event_lines hosts 0 (told ++ events_in asks) ++ last ≡ lines ++ (asks_lines hosts asks ++ last)
+    stopped last = ap (λ l. l ++ last) front ∙ append_assoc lines (asks_lines hosts asks) last
+
+    number : 0 + length (values_in (told ++ events_in asks)) ≡ k
+    number =
+        let same : values_in (told ++ events_in asks) ≡ values_in told =
+            values_behind told (events_in asks) ∙ ap (λ vs. values_in told ++ vs) (no_values asks) ∙ append-nil (values_in told) in
+        let counted : length (values_in (told ++ events_in asks)) ≡ k = ap length same ∙ count in
+        omega (arith, counted)
+
+    by : (o : Outcome) → event_lines hosts 0 (told_by told asks o) ++ last_line (Call k) (came_out o) ≡ lines ++ lines_behind hosts asks (Call k) o
+    by (outcome.Ended value) =
+        append-nil (event_lines hosts 0 ((told ++ events_in asks) ++ CallEnded value ∷ []))
+        ∙ event_lines_append hosts 0 (told ++ events_in asks) (CallEnded value ∷ [])
+        ∙ ap (λ n. event_lines hosts 0 (told ++ events_in asks) ++ (ended_line n value ++ [])) number
+        ∙ ap (λ l. event_lines hosts 0 (told ++ events_in asks) ++ l) (append-nil (ended_line k value))
+        ∙ stopped (ended_line k value)
+    by (outcome.Trapped kind) = stopped (last_line (Call k) (Stopped (Trapped kind)))
+    by (outcome.Undefined u) = stopped (last_line (Call k) (Stopped (Undefined u.kind (place_of u))))
+    by outcome.OutOfSteps = stopped (last_line (Call k) OutOfSteps)

@@ -1,0 +1,17 @@
+use Rattle.std.proofs.Common.{◌≡◌, ◌∙◌, [], List, ℕ, Option, IfSome, true, refl, sym, ap, subst, map, rules}
+use Rattle.c_tree.specs.View.{unit_of}
+use Rattle.c_meaning.specs.Linking.{SymbolCall}
+use Rattle.crun_job.specs.Seen.{calls_seen}
+use Rattle.crun_cli.specs.Playing.{HasPlayed}
+use Rattle.crun_cli.proofs.Written.{says_nothing}
+use Rattle.crun_cli.proofs.play.play.Goals as goal
+
+pub returns-in-Err-clause-part : goal.returns-in-Err-clause-part
+returns-in-Err-clause-part g c = record {
+  asks = [];
+  after = c.args.hosts.items;
+  answered = refl;
+  more = _;
+  first = refl;
+  part = says_nothing (g.O.Sink.told c.args.out.now) _;
+}

@@ -1,0 +1,22 @@
+use Rattle.std.proofs.Common.{◌≡◌, ◌∙◌, [], List, ℕ, Option, IfSome, true, refl, sym, ap, subst, map, rules}
+use Rattle.c_tree.specs.View.{unit_of}
+use Rattle.c_meaning.specs.Linking.{SymbolCall}
+use Rattle.crun_job.specs.Seen.{calls_seen}
+use Rattle.crun_cli.specs.Playing.{HasPlayed}
+use Rattle.crun_cli.specs.Runs.{HasPart}
+use Rattle.crun_cli.proofs.Behind.{left_part, shown_part}
+use Rattle.crun_cli.proofs.play.play_and_show.Goals as goal
+
+pub returns-in-Err-clause-part : goal.returns-in-Err-clause-part
+returns-in-Err-clause-part g c =
+    left_part g.H.HostModule c.args.session.now c.play_all.new.session (calls_seen c.args.calls.now) (g.O.Sink.told c.args.out.now)
+    c.args.shows_state (g.O.Sink.told c.play_all.new.out) c.in-Err.ensures.left
+
+pub returns-in-Err-show-clause-part : goal.returns-in-Err-show-clause-part
+returns-in-Err-show-clause-part g c =
+    let e = c.args.session.now in
+    let calls = calls_seen c.args.calls.now in
+    let shown : true ≡ c.args.shows_state = search rules in
+    subst (λ b. HasPart g.H.HostModule e.hosts (map unit_of e.linked.0) calls e.steps b (g.O.Sink.told c.args.out.now) (g.O.Sink.told c.show.new.out))
+    shown (shown_part g.H.HostModule e c.play_all.new.session calls (g.O.Sink.told c.args.out.now) (g.O.Sink.told c.play_all.new.out) c.in-Ok.status
+    c.in-Ok.ensures.played (g.O.Sink.told c.show.new.out) c.in-Err-show.ensures.part)

@@ -1,0 +1,24 @@
+use Rattle.std.proofs.Common.{◌≡◌, ◌+◌, ◌-◌, ◌∙◌, sym, ap, subst, arith, take, drop, map, length}
+use Rattle.std.specs.Prelude.{Ok, Err, flat_map, option_map, option_copied}
+use Rattle.std.specs.List.{range_with_len}
+use Rattle.c_hosts.specs.Asking.{hosts_of}
+use Rattle.crun.specs.Sessions.{objects_of}
+use Rattle.crun_cli.specs.Views.{asked_line}
+use Rattle.crun_cli.proofs.Loops.{front_next, front_split, one_more, stopped_at, AreWritten}
+use Rattle.crun_cli.proofs.telling.tell_asks.Goals as goal
+
+pub returns-in-Err : goal.returns-in-Err
+returns-in-Err g c =
+    let lines = asked_line (hosts_of g.H.HostModule c.args.session.now.hosts) in
+    let k = c.loop-ask.ask-index in
+    let asks = c.args.asks.now in
+    stopped_at lines _ _ _ _ _ _ (take k asks) c.ask-item.result (drop (k + 1) asks) asks c.in-Err.answer
+    (front_split asks k c.ask-item.result c.loop-ask-test.true c.ask-item.is) c.loop-ask.invariant c.in-Err.ensures
+
+pub loop-ask-preserved : goal.loop-ask-preserved
+loop-ask-preserved g c =
+    let lines = asked_line (hosts_of g.H.HostModule c.args.session.now.hosts) in
+    let k = c.loop-ask.ask-index in
+    let asks = c.args.asks.now in
+    subst (AreWritten lines _ _ _ _) (sym (front_next asks k c.ask-item.result c.loop-ask-test.true c.ask-item.is))
+    (one_more lines c.in-Ok.field-0 _ _ _ _ _ _ (take k asks) c.ask-item.result c.loop-ask.invariant c.in-Ok.ensures)

@@ -1,0 +1,12 @@
+use Rattle.std.proofs.Common.{take}
+use Rattle.c_hosts.specs.Asking.{hosts_of}
+use Rattle.crun_cli.specs.Views.{asked_line}
+use Rattle.crun_cli.proofs.Loops.{AreWritten}
+use Rattle.crun_cli.proofs.telling.tell_asks.Given as goal
+
+abbrev pub invariant-loop-ask : goal.invariant-loop-ask
+invariant-loop-ask g l =
+    let told = g.O.Sink.told in
+    let faults = g.O.Sink.faults in
+    AreWritten (asked_line (hosts_of g.H.HostModule l.session.hosts)) (told l.fn.out) (told l.out) (faults l.fn.out) (faults l.out)
+    (take l.ask-index l.asks)
