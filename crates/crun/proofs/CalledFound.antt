@@ -1,5 +1,32 @@
 -- What stands for a symbol by number is the first definition that units have of it.
-use Rattle.std.proofs.Common.{◌≡◌, ℕ, zero, suc, ◌+◌, length, Bool, true, false, ◌&&◌, if◌then◌else◌, List, [], ◌∷◌, map, bytes_eq, is_some, Option, Some, None, refl, sym, ap, ◌∙◌, subst, arith}
+use Rattle.std.proofs.Common.{
+  ◌≡◌,
+  ℕ,
+  zero,
+  suc,
+  ◌+◌,
+  length,
+  Bool,
+  true,
+  false,
+  ◌&&◌,
+  if◌then◌else◌,
+  List,
+  [],
+  ◌∷◌,
+  map,
+  bytes_eq,
+  is_some,
+  Option,
+  Some,
+  None,
+  refl,
+  sym,
+  ap,
+  ◌∙◌,
+  subst,
+  arith,
+}
 use Rattle.std.specs.Prelude.{slice_get, option_map, zip, filter, flat_map, IfSome, IsSome}
 use Rattle.std.specs.List.{list_all, list_any, position_from, range_with_len}
 use Rattle.std.specs.Option.{option_or}
@@ -14,7 +41,21 @@ use Rattle.c_tree.specs.Tree as tree
 use Rattle.c_tree.specs.Runtime.{same_type, same_types}
 use Rattle.c_tree.specs.Scope.{Name, func_type_of}
 use Rattle.c_meaning.specs.State.{FuncAddress, UnitFunc, HostFunc}
-use Rattle.c_meaning.specs.Linking.{Definition, Program, SymbolCall, c_params_of, called_func, defined, defined_for_all, definition_of, fits, func_type, host_symbol, is_external, typed}
+use Rattle.c_meaning.specs.Linking.{
+  Definition,
+  Program,
+  SymbolCall,
+  c_params_of,
+  called_func,
+  defined,
+  defined_for_all,
+  definition_of,
+  fits,
+  func_type,
+  host_symbol,
+  is_external,
+  typed,
+}
 use Rattle.c_scope.proofs.Lookups.{named-append}
 use Rattle.c_link.specs.declared.host_symbol.HostSymbol.{HostSymbol}
 use Rattle.c_link.specs.Programs.{IsProgramOf}

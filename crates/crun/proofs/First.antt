@@ -1,5 +1,27 @@
 -- The first objects of units are those of the meaning of C.
-use Rattle.std.proofs.Common.{◌≡◌, zero, suc, Bool, true, false, if◌then◌else◌, List, [], ◌∷◌, ◌++◌, length, map, is_some, Option, Some, None, refl, sym, ap, ◌∙◌}
+use Rattle.std.proofs.Common.{
+  ◌≡◌,
+  zero,
+  suc,
+  Bool,
+  true,
+  false,
+  if◌then◌else◌,
+  List,
+  [],
+  ◌∷◌,
+  ◌++◌,
+  length,
+  map,
+  is_some,
+  Option,
+  Some,
+  None,
+  refl,
+  sym,
+  ap,
+  ◌∙◌,
+}
 use Rattle.std.specs.Prelude.{zip, filter_map, option_map}
 use Rattle.std.specs.List.{cons_option}
 use Rattle.std.proofs.lemmas.List.{length-map}

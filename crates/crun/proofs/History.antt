@@ -34,7 +34,25 @@ use Rattle.c_meaning.specs.State.{FuncAddress, Objects, Number, State}
 use Rattle.c_meaning.specs.Linking.{Program, SymbolCall, called_func, init_functions}
 use Rattle.c_meaning.specs.Machine.{fresh}
 use Rattle.c_meaning.specs.Step.{call}
-use Rattle.c_meaning.specs.Run.{CRun, Ended, Entry, Going, OutOfSteps, Over, Pending, Progress, after, begin_entry, begun, c_run, c_start, came_back, entries_of, over, run_of}
+use Rattle.c_meaning.specs.Run.{
+  CRun,
+  Ended,
+  Entry,
+  Going,
+  OutOfSteps,
+  Over,
+  Pending,
+  Progress,
+  after,
+  begin_entry,
+  begun,
+  c_run,
+  c_start,
+  came_back,
+  entries_of,
+  over,
+  run_of,
+}
 use Rattle.c_meaning.proofs.Longer.{after_over, after_sum}
 use Rattle.c_sound.proofs.Tells.{run_tells}
 use Rattle.c_hosts.specs.declared.journal.Asked.{Asked}

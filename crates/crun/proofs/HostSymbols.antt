@@ -1,5 +1,41 @@
 -- Symbols that are put into a list one by one, until one comes a second time.
-use Rattle.std.proofs.Common.{◌≡◌, ℕ, zero, suc, ◌+◌, ◌<◌, ◌≤◌, add-one, arith, get_or, length, Bool, true, false, ◌&&◌, ◌||◌, if◌then◌else◌, List, [], ◌∷◌, ◌++◌, append_assoc, map, bytes_eq, is_some, take, drop, Option, Some, None, refl, sym, ap, ◌∙◌, subst}
+use Rattle.std.proofs.Common.{
+  ◌≡◌,
+  ℕ,
+  zero,
+  suc,
+  ◌+◌,
+  ◌<◌,
+  ◌≤◌,
+  add-one,
+  arith,
+  get_or,
+  length,
+  Bool,
+  true,
+  false,
+  ◌&&◌,
+  ◌||◌,
+  if◌then◌else◌,
+  List,
+  [],
+  ◌∷◌,
+  ◌++◌,
+  append_assoc,
+  map,
+  bytes_eq,
+  is_some,
+  take,
+  drop,
+  Option,
+  Some,
+  None,
+  refl,
+  sym,
+  ap,
+  ◌∙◌,
+  subst,
+}
 use Rattle.std.specs.Prelude.{not, option_map, slice_get, zip, flat_map}
 use Rattle.std.specs.List.{range_with_len}
 use Rattle.std.specs.Option.{option_or}
@@ -51,7 +87,8 @@ same_both_ways x y = go (bytes_eq x y) (bytes_eq y x) refl refl
     go true false e f = sym ((bytes_eq-Decides y x).1 (sym ((bytes_eq-Decides x y).0 e))) ∙ f
     go false true e f = sym e ∙ (bytes_eq-Decides x y).1 (sym ((bytes_eq-Decides y x).0 f))
 
-distinct_push : (names : List Name) (x : Name) → are_distinct names ≡ true → is_among x names ≡ false → are_distinct (names ++ x ∷ []) ≡ true
+distinct_push : (names : List Name) (x : Name) → are_distinct names ≡ true → is_among x names ≡ false → are_distinct (names ++ x ∷ [])
+    ≡ true
 distinct_push [] x kept none = refl
 distinct_push (y ∷ names) x kept none =
     go (is_among y names) (bytes_eq x y) (are_distinct names) (is_among x names) kept none
@@ -180,7 +217,8 @@ module _ {H : Type 0} (host : H → Host) (hosts : List H) (i : ℕ) (h : H) (le
   host_twice before k so_far same first = record {
     host = host h;
     at = ap (slice_get (map host hosts)) same ∙ host_there;
-    first = subst (λ l. IsFirstTwice l (symbols_of_host (host h))) (so_far ∙ ap (λ n. symbols_of_hosts (take n (map host hosts))) (sym same))
+    first = subst (λ l. IsFirstTwice l (symbols_of_host (host h)))
+        (so_far ∙ ap (λ n. symbols_of_hosts (take n (map host hosts))) (sym same))
         first;
   }
 

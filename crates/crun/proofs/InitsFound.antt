@@ -1,5 +1,37 @@
 -- The items that define functions which run first are those of the meaning of C.
-use Rattle.std.proofs.Common.{◌≡◌, ◌⊎◌, ℕ, zero, suc, ◌+◌, ◌≤◌, inl, inr, length, Bool, true, false, ◌&&◌, if◌then◌else◌, List, [], ◌∷◌, ◌++◌, map, get_or, is_some, Option, Some, None, refl, sym, ap, ◌∙◌, subst, arith}
+use Rattle.std.proofs.Common.{
+  ◌≡◌,
+  ◌⊎◌,
+  ℕ,
+  zero,
+  suc,
+  ◌+◌,
+  ◌≤◌,
+  inl,
+  inr,
+  length,
+  Bool,
+  true,
+  false,
+  ◌&&◌,
+  if◌then◌else◌,
+  List,
+  [],
+  ◌∷◌,
+  ◌++◌,
+  map,
+  get_or,
+  is_some,
+  Option,
+  Some,
+  None,
+  refl,
+  sym,
+  ap,
+  ◌∙◌,
+  subst,
+  arith,
+}
 use Rattle.std.specs.Prelude.{slice_get, zip, filter, filter_map, flat_map, option_map}
 use Rattle.std.specs.List.{cons_option, range_with_len}
 use Rattle.std.proofs.lemmas.List.{append-nil, map-append}
@@ -49,7 +81,8 @@ module _ (name : ℕ → ℕ → Name) where
           { item = j; func = record { is_static = is_static; result = result; name = own; params = params; body = Some body }; body = body }
 
       by_test : (b : Bool) → map address (cons_option (if b then Some (u, j) else None) (inits_from u (j + 1) items))
-          ≡ map (address_of u) (if b then d ∷ filter is_init (definitions_from (j + 1) items) else filter is_init (definitions_from (j + 1) items))
+          ≡ map (address_of u) (if b then d ∷ filter is_init (definitions_from (j + 1) items) else filter is_init
+          (definitions_from (j + 1) items))
       by_test true = ap (λ n. UnitFunc u n ∷ map address (inits_from u (j + 1) items)) named ∙ ap (λ l. UnitFunc u own ∷ l) rest
       by_test false = rest
 
@@ -65,7 +98,8 @@ module _ (name : ℕ → ℕ → Name) where
       by_item : (x : tree.Item) → item ≡ x → Alike u (j + 1) items → Alike u j (x ∷ items)
       by_item (tree.Array n count bytes) e rest = rest
       by_item (tree.Var ty n number) e rest = rest
-      by_item (tree.Function f) e rest = function_alike u j items f.is_static f.result f.name f.params f.body (first ∙ ap function_name e) rest
+      by_item (tree.Function f) e rest = function_alike u j items f.is_static f.result f.name f.params f.body (first ∙ ap function_name e)
+          rest
 
   pub units_alike : (k : ℕ) (us : List (List tree.Item))
       → ((u i : ℕ) (items : List tree.Item) → slice_get us u ≡ Some items → name (k + u) i ≡ get_or (map function_name items) i [])
@@ -135,7 +169,13 @@ pub found_in_units : (k : ℕ) (us : List (List tree.Item)) (n : ℕ) (f : UnitI
 found_in_units k [] n f at = absurd cc
 found_in_units k (items ∷ us) n f at =
     elim (append_at (unit_inits (k, items)) (flat_map unit_inits (zip (range_with_len (k + 1) (length us)) us)) n f at) [
-      | inl found ↦ record { u = 0; items = items; at = refl; found = subst (λ m. IsFound m 0 items f) here (found_in k 0 items found.0 f found.1) }
+      | inl found ↦ record {
+        u = 0;
+        items = items;
+        at = refl;
+        found = subst (λ m. IsFound m 0 items f) here
+            (found_in k 0 items found.0 f found.1);
+      }
       | inr found ↦ later (found_in_units (k + 1) us found.0 f found.1)
     ]
   where

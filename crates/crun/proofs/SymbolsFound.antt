@@ -1,5 +1,32 @@
 -- What symbols stand for by number is what they stand for in the meaning of C.
-use Rattle.std.proofs.Common.{◌≡◌, ℕ, suc, ◌+◌, length, Bool, true, false, if◌then◌else◌, cond, List, [], ◌∷◌, ◌++◌, map, bytes_eq, get_or, is_some, Option, Some, None, refl, sym, ap, ◌∙◌, arith}
+use Rattle.std.proofs.Common.{
+  ◌≡◌,
+  ℕ,
+  suc,
+  ◌+◌,
+  length,
+  Bool,
+  true,
+  false,
+  if◌then◌else◌,
+  cond,
+  List,
+  [],
+  ◌∷◌,
+  ◌++◌,
+  map,
+  bytes_eq,
+  get_or,
+  is_some,
+  Option,
+  Some,
+  None,
+  refl,
+  sym,
+  ap,
+  ◌∙◌,
+  arith,
+}
 use Rattle.std.specs.Prelude.{slice_get, option_map, zip, filter, filter_map, flat_map}
 use Rattle.std.specs.List.{position_from, range_with_len}
 use Rattle.std.specs.Option.{option_or}

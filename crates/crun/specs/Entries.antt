@@ -1,6 +1,26 @@
 -- The functions that units and hosts define for all units, by number, and their types (C11, 6.2.2 linkages
 -- of identifiers, 6.9 external definitions).
-use Rattle.std.specs.Prelude.{◌≡◌, ℕ, if◌then◌else◌, is_some, List, [], ◌∷◌, ◌++◌, length, map, zip, take, drop, filter_map, flat_map, Option, Some, None, option_map}
+use Rattle.std.specs.Prelude.{
+  ◌≡◌,
+  ℕ,
+  if◌then◌else◌,
+  is_some,
+  List,
+  [],
+  ◌∷◌,
+  ◌++◌,
+  length,
+  map,
+  zip,
+  take,
+  drop,
+  filter_map,
+  flat_map,
+  Option,
+  Some,
+  None,
+  option_map,
+}
 use Rattle.std.specs.List.{range_with_len}
 use Rattle.w2c_base.specs.Lookup.{numbered}
 use Rattle.w2c_base.specs.Run.{Host}

@@ -1,6 +1,24 @@
 -- The functions that run first, by the numbers of their units and of their items there (C11, 5.1.2 program
 -- startup).
-use Rattle.std.specs.Prelude.{◌≡◌, ℕ, ◌&&◌, Bool, true, false, if◌then◌else◌, List, [], ◌∷◌, ◌++◌, codes, filter_map, flat_map, Option, Some, None}
+use Rattle.std.specs.Prelude.{
+  ◌≡◌,
+  ℕ,
+  ◌&&◌,
+  Bool,
+  true,
+  false,
+  if◌then◌else◌,
+  List,
+  [],
+  ◌∷◌,
+  ◌++◌,
+  codes,
+  filter_map,
+  flat_map,
+  Option,
+  Some,
+  None,
+}
 use Rattle.w2c_base.specs.Lookup.{numbered}
 use Rattle.c_tree.specs.declared.tree.CType.TheVariants.{Void}
 use Rattle.c_tree.specs.Tree as tree

@@ -4,7 +4,6 @@ pub mod Names
 pub mod Shown
 pub mod Engines
 pub mod Sessions
-
 -- Those of the crate's own functions, and proofs, cite these, too.
 pub mod Objects
 pub mod Entries

@@ -23,11 +23,11 @@ ghost use Rattle.crun.specs.Shown.{bytes_in, bytes_of, element_seen, elements_co
 ghost use Rattle.crun.specs.Sessions.{objects_of, phase_of, program_of, standing_of, told_by, IfOver, IsLast, IsOutcome, Stands};
 
 use crate::engine::Engine;
-use crate::shown::Element;
+use crate::inits::init_functions;
 use crate::outcome::{Kept, Outcome, Phase, Standing, Stop};
+use crate::shown::Element;
 use c_hosts::{HostModule, Hosts, Journal};
 use c_link::Linked;
-use crate::inits::init_functions;
 use lin_mem::LinMem;
 use std::alloc::Global;
 use std::marker::Model;

@@ -7,9 +7,9 @@ ghost use Rattle.crun.specs.Engines.{IsReady};
 ghost use Rattle.crun.specs.Sessions.{IsFirst};
 
 use crate::engine::Engine;
+use crate::startup::start_up;
 use c_hosts::{HostModule, Hosts, Journal};
 use c_link::Linked;
-use crate::startup::start_up;
 use lin_mem::LinMem;
 use std::alloc::Global;
 use w2c_base::Memory;

@@ -269,7 +269,7 @@ module _ {H : Type 0} (m : HostModule H) (e : State H) where
           ended is =
               let front = told_in_front m s' (done ++ c ∷ []) told' (stands is) more [] in
               let same = ap (λ cs. c_run (program_of m s') cs s'.steps (replies_in s'.journal)) (sym (append_assoc done (c ∷ []) more))
-                  ∙ ap (λ rs. c_run (program_of m s') ((done ++ c ∷ []) ++ more) s'.steps rs) (sym (append-nil (replies_in s'.journal))) in
+              ∙ ap (λ rs. c_run (program_of m s') ((done ++ c ∷ []) ++ more) s'.steps rs) (sym (append-nil (replies_in s'.journal))) in
               left_in_front s' since old now (done ++ c ∷ more) told' front.0
               (ap (λ (r : CRun). r.events) (sym (run_is s' (done ++ c ∷ more) s'.journal since) ∙ same) ∙ front.1)
               asks'
@@ -298,9 +298,11 @@ module _ {H : Type 0} (m : HostModule H) (e : State H) where
         front : (rest : List Event) × (run'.events ≡ told ++ rest)
         front =
             let f = told_in_front m s done told behind.stands (c ∷ more) (replies_in asks) in
-            let replies : replies_in s'.journal ≡ replies_in s.journal ++ replies_in asks = ap replies_in written ∙ map-append reply_in s.journal asks in
-            (f.0, ap (λ (r : CRun). r.events) (sym (run_is s (done ++ c ∷ more) s'.journal behind.since)
-            ∙ ap (λ rs. c_run (program_of m s) (done ++ c ∷ more) s.steps rs) replies) ∙ f.1)
+            let replies : replies_in s'.journal ≡ replies_in s.journal ++ replies_in asks = ap replies_in written ∙ map-append reply_in s.journal asks in (
+              f.0,
+              ap (λ (r : CRun). r.events) (sym (run_is s (done ++ c ∷ more) s'.journal behind.since)
+                  ∙ ap (λ rs. c_run (program_of m s) (done ++ c ∷ more) s.steps rs) replies) ∙ f.1,
+            )
 
         whole : front_text ++ (event_lines hosts (0 + length (values_in told)) front.0 ++ last_line run'.phase run'.outcome)
             ≡ lines_at m e s' (done ++ c ∷ more)

@@ -118,7 +118,7 @@ call_lines hosts k told asks o count = by o
     number : 0 + length (values_in (told ++ events_in asks)) ≡ k
     number =
         let same : values_in (told ++ events_in asks) ≡ values_in told =
-            values_behind told (events_in asks) ∙ ap (λ vs. values_in told ++ vs) (no_values asks) ∙ append-nil (values_in told) in
+        values_behind told (events_in asks) ∙ ap (λ vs. values_in told ++ vs) (no_values asks) ∙ append-nil (values_in told) in
         let counted : length (values_in (told ++ events_in asks)) ≡ k = ap length same ∙ count in
         omega (arith, counted)
 

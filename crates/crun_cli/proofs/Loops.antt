@@ -32,7 +32,7 @@ module _ {A : Type 0} (lines : A → List ℕ) where
       → AreWritten lines old new before after (done ++ x ∷ [])
   one_more u old middle new before between after done x are wrote =
       let both = then_writes {B = Unit {0}} tt (Ok u) old middle new before between after (flat_map lines done) (lines x)
-          (as_call old middle before between done are) wrote in
+      (as_call old middle before between done are) wrote in
       record {
         written = both.whole ∙ ap (λ l. extended old (flat_map lines done ++ l)) (sym (one_line x))
             ∙ ap (extended old) (sym (flat_map-append lines done (x ∷ [])));

@@ -41,7 +41,7 @@ module _ (units : List Objects) (u : ℕ) (name : Name) where
         let here : k ≡ k + 0 = omega arith in
         let next : (j : ℕ) → k + 1 + j ≡ k + suc j = λ j. omega arith in
         let first : element_lines hosts u name (k, e) ≡ line_of_element hosts u name k (at_index elements k) =
-            one e ∙ ap (line_of_element hosts u name k) (sym (same 0) ∙ ap (at_index elements) (sym here)) in
+        one e ∙ ap (line_of_element hosts u name k) (sym (same 0) ∙ ap (at_index elements) (sym here)) in
         let others = elements_from (k + 1) elements rest (λ j. ap (at_index elements) (next j) ∙ same (suc j)) in
         (λ i. first i ++ others i)
       where

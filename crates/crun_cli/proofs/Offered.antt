@@ -34,7 +34,7 @@ twice_apart (x ∷ front) behind again there distinct =
     go true e there later =
         let same : again ≡ x = (bytes_eq-Decides again x).0 e in
         let here : is_among x (again ∷ behind) ≡ true =
-            ap (λ b. b || is_among x behind) ((bytes_eq-Decides x again).1 (sym same)) in
+        ap (λ b. b || is_among x behind) ((bytes_eq-Decides x again).1 (sym same)) in
         found (among-append x front (again ∷ behind) ∙ ap (λ b. is_among x front || b) here ∙ or_true (is_among x front))
       where
         or_true : (a : Bool) → (a || true) ≡ true

@@ -71,9 +71,11 @@ module _ {H : Type 0} (m : HostModule H) (s : State H) (calls : List SymbolCall)
       → (rest : List Event) × ((c_run p (calls ++ more) s.steps (replies_in s.journal ++ later)).events ≡ told ++ rest)
   told_in_front more later =
       let x : Progress = begin_entry p (machine later) stands.last (entries_behind p (length calls) more) in
-      let tells = run_tells p s.left x in
-      (tells.0, ap (λ (r : CRun). r.events) (longer more later) ∙ tells.1
-      ∙ ap (λ l. l ++ tells.0) (entry_same p (machine later) stands.last (length calls) more))
+      let tells = run_tells p s.left x in (
+        tells.0,
+        ap (λ (r : CRun). r.events) (longer more later) ∙ tells.1
+            ∙ ap (λ l. l ++ tells.0) (entry_same p (machine later) stands.last (length calls) more),
+      )
 
   -- the run of these calls has ended
   pub has_ended : c_run p calls s.steps (replies_in s.journal)

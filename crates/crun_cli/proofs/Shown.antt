@@ -56,9 +56,10 @@ module _ {A : Type 0} where
 
   all_found : (entries : List (Name × A)) → AreNames (keys_of entries) → AllByRecursion (Found entries) entries
   all_found [] names = tt
-  all_found (x ∷ entries) names =
-      (ap (λ b. if b then Some x.1 else named x.0 entries) ((bytes_eq-Decides x.0 x.0).1 refl),
-      behind x entries entries names.1 (all_found entries names.2))
+  all_found (x ∷ entries) names = (
+    ap (λ b. if b then Some x.1 else named x.0 entries) ((bytes_eq-Decides x.0 x.0).1 refl),
+    behind x entries entries names.1 (all_found entries names.2),
+  )
 
   -- also in order
   abbrev put : Ordering → Name → A → Name × A → List (Name × A) → List (Name × A)
@@ -104,7 +105,7 @@ module _ {A : Type 0} where
         let g : ℕ → A = λ i. get_or (v ∷ values) i v in
         let is : in_order entries ≡ map (beside g) order = found_by_number (name ∷ names) (v ∷ values) v same in
         let all : AllByRecursion (Found entries) (in_order entries) =
-            placed entries [] entries tt (all_found entries (subst AreNames (sym (keys_zip (name ∷ names) (v ∷ values) same)) are)) in
+        placed entries [] entries tt (all_found entries (subst AreNames (sym (keys_zip (name ∷ names) (v ∷ values) same)) are)) in
         ap (flat_map lines) is ∙ each_named entries g order (subst (AllByRecursion (Found entries)) is all)
 
 -- ---- a unit, and all units
@@ -115,11 +116,11 @@ module _ (hosts : List Host) (units : List Objects) (names : Naming) where
   unit_shown u items o at stored =
       let n : UnitNames = unit_names items in
       let vars = by_names (variable_lines u) n.vars (map (value_of names) o.vars.items) stored.vars
-          (stored.vars_count ∙ sym (length-map o.vars.items (value_of names))) in
+      (stored.vars_count ∙ sym (length-map o.vars.items (value_of names))) in
       let memories = by_names (memory_lines u) n.memories (map memory_of o.memories.items) stored.memories
-          (stored.memories_count ∙ sym (length-map o.memories.items memory_of)) in
+      (stored.memories_count ∙ sym (length-map o.memories.items memory_of)) in
       let tables = by_names (table_lines hosts u) n.tables (map (table_of names) o.tables.items) stored.tables
-          (stored.tables_count ∙ sym (length-map o.tables.items (table_of names))) in
+      (stored.tables_count ∙ sym (length-map o.tables.items (table_of names))) in
       (λ i. (vars i ++ memories i) ++ tables i) ∙ sym (ap (text n) at)
     where
       -- by the objects that the unit has
@@ -145,7 +146,7 @@ module _ (hosts : List Host) (units : List Objects) (names : Naming) where
       let next : (j : ℕ) → k + 1 + j ≡ k + suc j = λ j. omega arith in
       let first = unit_shown k items o at stored.0 ∙ ap (lines_of_items hosts units k) (sym items_are) in
       let others = shown_from all (k + 1) rest os stored.1 (λ j. ap (slice_get units) (next j) ∙ units_are (suc j))
-          (λ j. ap (slice_get all) (next j) ∙ all_are (suc j)) in
+      (λ j. ap (slice_get all) (next j) ∙ all_are (suc j)) in
       (λ i. first i ++ others i)
 
 pub all_shown : {H : Type 0} (m : HostModule H) (s : State H) → AreAllStored s

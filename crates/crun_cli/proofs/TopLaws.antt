@@ -65,7 +65,7 @@ module _ {H : Type 0} (hm : HostModule H) (hosts : List H) (words : List Name) w
       → Asks m (Run units calls steps shown) → Asks m (Stops why) → ⊥
   no_run m units calls steps shown why job refused =
       (let apart : Run units calls steps shown ≡ Stops why =
-          one_job words (symbols_with hm hosts) m (Run units calls steps shown) (Stops why) job refused in cc)
+      one_job words (symbols_with hm hosts) m (Run units calls steps shown) (Stops why) job refused in cc)
 
   pub run_refused : (m : Contents) (old new : Option (List ℕ)) (status : ℕ) (why : Reason) → Ran hm hosts words m old new status
       → Asks m (Stops why) → (status ≡ status_of why) ⊎ (status ≡ 5)

@@ -28,9 +28,11 @@ part_in_front old new a b (part, (rest, is), gained) =
 
 -- a part of a text behind one that is written
 pub part_behind : (old middle new : Option (List ℕ)) (a b : List ℕ) → middle ≡ extended old a → SaysPart middle new b → SaysPart old new (a ++ b)
-part_behind old middle new a b written (part, (rest, is), gained) =
-    (a ++ part, (rest, ap (λ l. a ++ l) is ∙ sym (append_assoc a part rest)),
-    gained ∙ ap (λ o. extended o part) written ∙ extended_twice old a part)
+part_behind old middle new a b written (part, (rest, is), gained) = (
+  a ++ part,
+  (rest, ap (λ l. a ++ l) is ∙ sym (append_assoc a part rest)),
+  gained ∙ ap (λ o. extended o part) written ∙ extended_twice old a part,
+)
 
 pub whole_behind : (old middle new : Option (List ℕ)) (a b : List ℕ) → middle ≡ extended old a → new ≡ extended middle b → new ≡ extended old (a ++ b)
 whole_behind old middle new a b written gained = gained ∙ ap (λ o. extended o b) written ∙ extended_twice old a b

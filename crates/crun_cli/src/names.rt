@@ -43,11 +43,7 @@ fn object_names(alloc: Global, kind: Kind, items: &[Item]) -> Result<Vec<&[u8]>,
     Ok(names)
 }
 
-fn put_object_name<'a>(
-    names: &mut Vec<&'a [u8]>,
-    kind: Kind,
-    item: &'a Item,
-) -> Result<(), Memory>
+fn put_object_name<'a>(names: &mut Vec<&'a [u8]>, kind: Kind, item: &'a Item) -> Result<(), Memory>
     ensures { OnOk result (texts names.new.items ≡ texts names.old.items ++ names_in (kind_of kind) (item_of item.now ∷ [])) }
 {
     if has_object(kind, item) {

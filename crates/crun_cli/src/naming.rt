@@ -9,8 +9,8 @@ ghost use Rattle.crun_lines.specs.HostLines.{function_name as function_name_in, 
 ghost use Rattle.crun_cli.specs.Views.{name_among};
 
 use c_hosts::HostModule;
-use crun::Session;
 use c_tree::{Func, Item};
+use crun::Session;
 
 /// The name of the host with a number, which is empty where there is none.
 pub fn host_name<H: HostModule>(session: &Session<H>, host: usize) -> &[u8]

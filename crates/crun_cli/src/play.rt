@@ -183,7 +183,14 @@ fn play_call<H: HostModule, O: Sink>(
         Err(Stop::Memory) => return Err(WriteAnswer::Memory),
         Err(Stop::Over(_)) => unreachable!(),
     };
-    match tell(alloc, session, from, Phase::Call(index as u64), outcome, out) {
+    match tell(
+        alloc,
+        session,
+        from,
+        Phase::Call(index as u64),
+        outcome,
+        out,
+    ) {
         Ok(()) => Ok(status(outcome)),
         Err(answer) => Err(answer),
     }

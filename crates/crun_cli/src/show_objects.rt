@@ -15,7 +15,9 @@ use crate::naming::{function_name, item_name};
 use crate::writing::put_line;
 use c_hosts::HostModule;
 use crun::{Element, Owner, Session};
-use crun_lines::{Function, element_line, length_line, pages_line, row_count, row_line, variable_line};
+use crun_lines::{
+    Function, element_line, length_line, pages_line, row_count, row_line, variable_line,
+};
 use lin_mem::LinMem;
 use std::alloc::Global;
 use w2c_io::{Sink, WriteAnswer};

@@ -126,7 +126,10 @@ fn tell_outcome<O: Sink>(
     match outcome {
         Outcome::Ended(value) => tell_end(alloc, phase, value, out),
         Outcome::Trapped(kind) => put_line(last_line(alloc, phase, Stop::Trapped(kind)), out),
-        Outcome::Undefined(at) => put_line(last_line(alloc, phase, Stop::Undefined(at_place(at))), out),
+        Outcome::Undefined(at) => put_line(
+            last_line(alloc, phase, Stop::Undefined(at_place(at))),
+            out,
+        ),
         Outcome::OutOfSteps => put_line(last_line(alloc, phase, Stop::OutOfSteps), out),
     }
 }

@@ -88,7 +88,12 @@ fn runs(rt: HostRuntime) -> Result<(), Fail> {
         ),
         ("5", "a tick\n", 7, "init 1 out of steps\n"),
         ("6", "a tick\n", 7, "call 1 out of steps\n"),
-        ("7", "a tick\n", 7, "host env tick = i64:1\ncall 1 out of steps\n"),
+        (
+            "7",
+            "a tick\n",
+            7,
+            "host env tick = i64:1\ncall 1 out of steps\n",
+        ),
     ];
     for (steps, calls, status, lines) in rows {
         let mut out = MemSink::new(alloc);

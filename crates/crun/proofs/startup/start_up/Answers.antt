@@ -17,11 +17,13 @@ pub returns-clause-linked : goal.returns-clause-linked
 returns-clause-linked c p is have =
     let units = map unit_of c.args.linked.now.0 in
     let made = subst (λ (s : Symbols). AreUnits s units c.in_ok-units.units.items) c.in_ok-seen.ensures c.in_ok-units.ensures.units in
-    linked p units c.args.linked.now.1 c.args.counts.now is have c.in_ok-units.ensures.checked _ c.in_ok-symbols.ensures c.in_ok-units.units.items made
+    linked p units c.args.linked.now.1 c.args.counts.now is have c.in_ok-units.ensures.checked _ c.in_ok-symbols.ensures
+    c.in_ok-units.units.items made
 
 pub returns-clause-types : goal.returns-clause-types
 returns-clause-types c p is have =
-    types_are p (map unit_of c.args.linked.now.0) c.args.linked.now.1 c.args.counts.now is have c.in_ok-units.ensures.checked c.in_ok-types.types
+    types_are p (map unit_of c.args.linked.now.0) c.args.linked.now.1 c.args.counts.now is have c.in_ok-units.ensures.checked
+    c.in_ok-types.types
     c.in_ok-types.ensures.units c.in_ok-types.ensures.hosts
 
 pub returns-clause-stored : goal.returns-clause-stored

@@ -43,7 +43,8 @@ returns-in-Err-came-clause-wanting g c =
       part.1,
       came_part g.H.HostModule c.args.self.now c.args.unit c.args.item c.args.args.now c.requires.ready c.in-Ok.top
           c.in-Ok.ensures
-          c.as_slice.result.now c.as_slice.ensures.value t c.replace.ensures.value refl refl c.new-2.ensures.items c.args.self.now.left part.0
+          c.as_slice.result.now c.as_slice.ensures.value t c.replace.ensures.value refl refl c.new-2.ensures.items c.args.self.now.left
+          part.0
           part.2,
     )
 

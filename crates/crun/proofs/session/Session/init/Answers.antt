@@ -63,7 +63,8 @@ invariant_of-self-2 g c =
 pub returns-clause-stands : goal.returns-clause-stands
 returns-clause-stands g c ready =
     let start = c.self.invariant.fresh (is_fresh c.self.inside.standing (ap (λ s. phase_of s.standing) c.self.view_is ∙ c.requires)) in
-    let ended = ready_ended c.in-Ok-run_inits.outcome _ (sym c.standing_behind-self-inside.ensures ∙ ready) c.in-Ok-run_inits.ensures.ended in
+    let ended = ready_ended c.in-Ok-run_inits.outcome _ (sym c.standing_behind-self-inside.ensures ∙ ready)
+    c.in-Ok-run_inits.ensures.ended in
     let less = c.in-Ok-run_inits.ensures.fewer in
     let fewer = c.self.invariant.fewer in
     record {
@@ -71,10 +72,13 @@ returns-clause-stands g c ready =
       fewer = omega (arith, less, fewer);
       last = Init (c.run_inits.new.inits_run - 1);
       values = ap length (no_values_told c.run_inits.new.self.hosts.journal);
-      behind = subst (λ p. BehindAt p c.run_inits.new.self.depth (units_at c.run_inits.new.self) c.run_inits.new.self.hosts.journal (c.self.inside.steps - c.run_inits.new.self.left) (entries_of p [])
+      behind = subst (λ p. BehindAt p c.run_inits.new.self.depth (units_at c.run_inits.new.self) c.run_inits.new.self.hosts.journal
+          (c.self.inside.steps - c.run_inits.new.self.left) (entries_of p [])
           (Init (c.run_inits.new.inits_run - 1)) (events_in c.run_inits.new.self.hosts.journal))
           (sym (same_program g.H.HostModule c.self.inside.engine c.run_inits.new.self c.in-Ok-run_inits.ensures.same))
-          (subst (λ n. BehindAt (program_in g.H.HostModule c.self.inside.engine) c.run_inits.new.self.depth (units_at c.run_inits.new.self) c.run_inits.new.self.hosts.journal (n - c.run_inits.new.self.left)
-          (entries_of (program_in g.H.HostModule c.self.inside.engine) []) (Init (c.run_inits.new.inits_run - 1)) (events_in c.run_inits.new.self.hosts.journal))
+          (subst (λ n. BehindAt (program_in g.H.HostModule c.self.inside.engine) c.run_inits.new.self.depth
+          (units_at c.run_inits.new.self) c.run_inits.new.self.hosts.journal (n - c.run_inits.new.self.left)
+          (entries_of (program_in g.H.HostModule c.self.inside.engine) []) (Init (c.run_inits.new.inits_run - 1))
+          (events_in c.run_inits.new.self.hosts.journal))
           start.left ended.1);
     }
