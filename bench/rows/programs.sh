@@ -11,7 +11,8 @@ trap 'rm -rf "$work"' EXIT
 sh "$here/../copy_crates.sh" "$work" $(sed -n 's/^\([a-z0-9_]*\):.*/\1/p' "$top/crates.txt" | grep -v '_rows$')
 for program in wasm2c_cli crun_cli; do
     src=$work/crates/$program/src
-    sed -e '/^fn main/,$d' -e '/^#\[cfg(test)\]/d' -e '/^mod tests;/d' -e '/^use std::/d' -e '/^use w2c_io::/d' "$src/main.rt" >"$src/lib.rt"
+    sed -e '/^fn main/,$d' -e '/^#\[cfg(test)\]/d' -e '/^mod tests;/d' -e '/^use std::/d' -e '/^use w2c_io::/d' -e 's/^use env::/pub use env::/' \
+        "$src/main.rt" >"$src/lib.rt"
     rm -rf "$src/main.rt" "$src/tests.rt" "$src/tests"
 done
 mkdir -p "$work/crates/program_rows/src"
