@@ -16,7 +16,7 @@ import tempfile
 
 HERE = os.path.dirname(os.path.abspath(__file__))
 sys.path.insert(0, os.path.join(HERE, "../wasm2c"))
-from compare import NODE, argument, operators, plan, run, signatures  # noqa: E402
+from modules import NODE, assembled, compiled, plan, run, signatures  # noqa: E402
 
 
 def node(module, sigs, calls):
@@ -66,32 +66,14 @@ def compare(wasm2c, program, name, given):
 
 
 def main():
-    programs = [os.path.abspath(word) for word in sys.argv[1:]] + [os.path.join(HERE, "../../bin", name) for name in ("wasm2c", "crun")][len(sys.argv) - 1 :]
+    defaults = [os.path.join(HERE, "../../bin", name) for name in ("wasm2c", "crun")]
+    words = sys.argv[1:]
+    programs = [os.path.abspath(word) for word in [*words, *defaults[len(words) :]]]
     random.seed(1)
     with tempfile.TemporaryDirectory() as work:
         os.chdir(work)
-        target = ["--target=wasm32", "-mcpu=mvp", "-O2", "-nostdlib", "-fno-builtin", "-Wl,--no-entry"]
-        run("clang", *target, os.path.join(HERE, "../wasm2c/compiled.c"), "-o", "compiled.wasm")
-        small = [[n] for n in (0, 1, 2, 10, 1000)]
-        compare(
-            *programs,
-            "compiled",
-            {
-                "crc": [[1, 1000], [7, 13]],
-                "fib": [[n] for n in (0, 1, 2, 15)],
-                "sieve": [*small, [70000]],
-                "sortsum": [[n, 9] for n in (0, 1, 2, 500)],
-                "sw": [[n] for n in [*range(12), 0xFFFFFFFF]],
-                "apply": [[k, argument("i32"), argument("i32")] for k in (0, 1, 2, 3, 3, 3, 4, 0xFFFFFFFF) for _ in range(3)],
-                "grow": [[0], [3], [70000], [0]],
-                "deep": [[n] for n in (0, 1, 500)],
-                "poke": [[3 * 65536, 0xDEADBEEF], [4 * 65536 - 2, 7], [0xFFFFFFFC, 1]],
-            },
-        )
-        with open("operators.wat", "w") as file:
-            file.write(operators())
-        run("wat2wasm", "operators.wat", "-o", "operators.wasm")
-        compare(*programs, "operators", {})
+        compare(*programs, *compiled())
+        compare(*programs, *assembled())
 
 
 if __name__ == "__main__":

@@ -1,5 +1,26 @@
 -- What the outcome of an init function or a call, and the lines that are written of it, make of where a run stands.
-use Rattle.std.proofs.Common.{◌≡◌, ℕ, ◌+◌, List, [], ◌∷◌, ◌++◌, append_assoc, length, map, drop, Option, Some, None, refl, sym, ap, ◌∙◌, subst, arith}
+use Rattle.std.proofs.Common.{
+  ◌≡◌,
+  ℕ,
+  ◌+◌,
+  List,
+  [],
+  ◌∷◌,
+  ◌++◌,
+  append_assoc,
+  length,
+  map,
+  drop,
+  Option,
+  Some,
+  None,
+  refl,
+  sym,
+  ap,
+  ◌∙◌,
+  subst,
+  arith,
+}
 use Rattle.std.specs.Prelude.{Bool, true, false, if◌then◌else◌}
 use Rattle.std.proofs.lemmas.List.{append-nil, drop_at, map-append}
 use Rattle.w2c_base.specs.declared.value.Value.{Value}
@@ -112,8 +133,10 @@ module _ {H : Type 0} (m : HostModule H) (e : State H) where
       where
         whole : event_lines hosts 0 told ++ (event_lines hosts (0 + length (values_in told)) rest ++ last_line run.phase run.outcome)
             ≡ lines_at m e s calls
-        whole = sym (append_assoc (event_lines hosts 0 told) (event_lines hosts (0 + length (values_in told)) rest) (last_line run.phase run.outcome))
-            ∙ ap (λ l. l ++ last_line run.phase run.outcome) (sym (event_lines_append hosts 0 told rest) ∙ ap (event_lines hosts 0) (sym front))
+        whole = sym (append_assoc (event_lines hosts 0 told) (event_lines hosts (0 + length (values_in told)) rest)
+            (last_line run.phase run.outcome))
+            ∙ ap (λ l. l ++ last_line run.phase run.outcome)
+            (sym (event_lines_append hosts 0 told rest) ∙ ap (event_lines hosts 0) (sym front))
 
     -- the run came to this outcome
     module _ (o : Outcome) (phase : Phase) (told : List Event) (is : IsOutcome o phase s.journal told (objects_of s) run) where
@@ -146,50 +169,51 @@ module _ {H : Type 0} (m : HostModule H) (e : State H) where
 
   module _ (s : State H) (since : IsSince m e s) (old now : Option (List ℕ)) (o : Outcome) (k : ℕ)
       (ran : (rest : List SymbolCall) → IsLast o rest
-      → IsOutcome o (Init k) s.journal (events_in s.journal) (objects_of s) (c_run (program_of m e) rest e.steps (replies_in s.journal))) where
-    abbrev inits_text : List ℕ
-    inits_text = lines_behind (hosts_of m s.hosts) (drop 0 s.journal) (Init k) o
+      → IsOutcome o (Init k) s.journal (events_in s.journal) (objects_of s) (c_run (program_of m e) rest e.steps (replies_in s.journal)))
+    where
+      abbrev inits_text : List ℕ
+      inits_text = lines_behind (hosts_of m s.hosts) (drop 0 s.journal) (Init k) o
 
-    inits_are : inits_text ≡ event_lines hosts 0 (events_in s.journal) ++ last_line (Init k) (came_out o)
-    inits_are = ap (λ hs. lines_behind hs s.journal (Init k) o) since.hosts ∙ sym (inits_lines hosts k s.journal o)
+      inits_are : inits_text ≡ event_lines hosts 0 (events_in s.journal) ++ last_line (Init k) (came_out o)
+      inits_are = ap (λ hs. lines_behind hs s.journal (Init k) o) since.hosts ∙ sym (inits_lines hosts k s.journal o)
 
-    pub inits_behind : status_of_outcome o ≡ None → IsStored s → Stands m s [] (events_in s.journal) → now ≡ extended old inits_text
-        → IsBehind m e s [] old now
-    inits_behind none stored stands printed = record {
-      since = since;
-      stored = stored;
-      told = events_in s.journal;
-      stands = stands;
-      asks = asks_are_asked s.journal;
-      printed = printed ∙ ap (extended old) (inits_are ∙ ap (λ l. event_lines hosts 0 (events_in s.journal) ++ l)
-          (ended_text (Init k) o (is_ended o none)) ∙ append-nil (event_lines hosts 0 (events_in s.journal)));
-    }
+      pub inits_behind : status_of_outcome o ≡ None → IsStored s → Stands m s [] (events_in s.journal) → now ≡ extended old inits_text
+          → IsBehind m e s [] old now
+      inits_behind none stored stands printed = record {
+        since = since;
+        stored = stored;
+        told = events_in s.journal;
+        stands = stands;
+        asks = asks_are_asked s.journal;
+        printed = printed ∙ ap (extended old) (inits_are ∙ ap (λ l. event_lines hosts 0 (events_in s.journal) ++ l)
+            (ended_text (Init k) o (is_ended o none)) ∙ append-nil (event_lines hosts 0 (events_in s.journal)));
+      }
 
-    pub inits_played : (status : ℕ) → status_of_outcome o ≡ Some status → IsStored s → now ≡ extended old inits_text
-        → (calls : List SymbolCall) → HasPlayed m e s calls old now status
-    inits_played status some stored printed calls =
-        played_at_end s since old now calls o (Init k) (events_in s.journal) (ran calls (is_last o status calls some)) status some stored
-        (asks_are_asked s.journal) (printed ∙ ap (extended old) inits_are)
+      pub inits_played : (status : ℕ) → status_of_outcome o ≡ Some status → IsStored s → now ≡ extended old inits_text
+          → (calls : List SymbolCall) → HasPlayed m e s calls old now status
+      inits_played status some stored printed calls =
+          played_at_end s since old now calls o (Init k) (events_in s.journal) (ran calls (is_last o status calls some)) status some stored
+          (asks_are_asked s.journal) (printed ∙ ap (extended old) inits_are)
 
-    pub inits_left : (IsEnded o → Stands m s [] (events_in s.journal)) → SaysPart old now inits_text
-        → (calls : List SymbolCall) → IsLeft m e s calls old now
-    inits_left stands part calls = ended_or_not o (IsLeft m e s calls old now) ended stopped
-      where
-        said : SaysPart old now (event_lines hosts 0 (events_in s.journal) ++ last_line (Init k) (came_out o))
-        said = subst (SaysPart old now) inits_are part
+      pub inits_left : (IsEnded o → Stands m s [] (events_in s.journal)) → SaysPart old now inits_text
+          → (calls : List SymbolCall) → IsLeft m e s calls old now
+      inits_left stands part calls = ended_or_not o (IsLeft m e s calls old now) ended stopped
+        where
+          said : SaysPart old now (event_lines hosts 0 (events_in s.journal) ++ last_line (Init k) (came_out o))
+          said = subst (SaysPart old now) inits_are part
 
-        ended : IsEnded o → IsLeft m e s calls old now
-        ended is =
-            let front = told_in_front m s [] (events_in s.journal) (stands is) calls [] in
-            let here = ap (λ rs. c_run (program_of m s) calls s.steps rs) (sym (append-nil (replies_in s.journal))) in
-            left_in_front s since old now calls (events_in s.journal) front.0
-            (ap (λ (r : CRun). r.events) (sym (run_is s calls s.journal since) ∙ here) ∙ front.1)
-            (asks_are_asked s.journal)
-            (subst (SaysPart old now) (ap (λ l. event_lines hosts 0 (events_in s.journal) ++ l) (ended_text (Init k) o is)
-            ∙ append-nil (event_lines hosts 0 (events_in s.journal))) said)
+          ended : IsEnded o → IsLeft m e s calls old now
+          ended is =
+              let front = told_in_front m s [] (events_in s.journal) (stands is) calls [] in
+              let here = ap (λ rs. c_run (program_of m s) calls s.steps rs) (sym (append-nil (replies_in s.journal))) in
+              left_in_front s since old now calls (events_in s.journal) front.0
+              (ap (λ (r : CRun). r.events) (sym (run_is s calls s.journal since) ∙ here) ∙ front.1)
+              (asks_are_asked s.journal)
+              (subst (SaysPart old now) (ap (λ l. event_lines hosts 0 (events_in s.journal) ++ l) (ended_text (Init k) o is)
+              ∙ append-nil (event_lines hosts 0 (events_in s.journal))) said)
 
-        stopped : ((rest : List SymbolCall) → IsLast o rest) → IsLeft m e s calls old now
-        stopped last = left_at_end s since old now calls o (Init k) (events_in s.journal) (ran calls (last calls)) said
+          stopped : ((rest : List SymbolCall) → IsLast o rest) → IsLeft m e s calls old now
+          stopped last = left_at_end s since old now calls o (Init k) (events_in s.journal) (ran calls (last calls)) said
 
   -- memory was wanting in the init functions
   pub inits_wanting : (s : State H) → IsSince m e s → (old : Option (List ℕ)) (calls : List SymbolCall)
@@ -204,7 +228,8 @@ module _ {H : Type 0} (m : HostModule H) (e : State H) where
 
   -- ---- behind a call
 
-  module _ (s s' : State H) (done : List SymbolCall) (c : SymbolCall) (old before : Option (List ℕ)) (behind : IsBehind m e s done old before)
+  module _ (s s' : State H) (done : List SymbolCall) (c : SymbolCall) (old before : Option (List ℕ))
+      (behind : IsBehind m e s done old before)
       (since : IsSince m e s') (asks : List Asked) (written : s'.journal ≡ s.journal ++ asks) where
     abbrev told : List Event
     told = behind.told
@@ -255,7 +280,8 @@ module _ {H : Type 0} (m : HostModule H) (e : State H) where
       pub call_played : (status : ℕ) → status_of_outcome o ≡ Some status → IsStored s' → now ≡ extended before call_text
           → (more : List SymbolCall) → HasPlayed m e s' (done ++ c ∷ more) old now status
       call_played status some stored printed more =
-          played_at_end s' since old now (done ++ c ∷ more) o (Call (length done)) told' (here more (is_last o status more some)) status some stored
+          played_at_end s' since old now (done ++ c ∷ more) o (Call (length done)) told' (here more (is_last o status more some)) status
+          some stored
           asks' (whole_behind old before now front_text call_text behind.printed printed ∙ ap (extended old) texts_are)
 
       pub call_left : (IsEnded o → Stands m s' (done ++ c ∷ []) told') → SaysPart before now call_text
@@ -281,14 +307,16 @@ module _ {H : Type 0} (m : HostModule H) (e : State H) where
 
     -- memory was wanting in the call
     pub call_wanting : (more : List SymbolCall)
-        → ((rest : List Ask) × (asks_in (c_run (program_of m s) (done ++ c ∷ more) s.steps (replies_in s'.journal)).events ≡ map ask_of s'.journal ++ rest))
+        → ((rest : List Ask) × (asks_in (c_run (program_of m s) (done ++ c ∷ more) s.steps (replies_in s'.journal)).events
+        ≡ map ask_of s'.journal ++ rest))
         → IsLeft m e s' (done ++ c ∷ more) old before
     call_wanting more asked = record {
       since = since;
       more = asked.0;
       first = ap (λ (r : CRun). asks_in r.events) (sym (run_is s (done ++ c ∷ more) s'.journal behind.since)) ∙ asked.1;
       part = subst (SaysPart old before) whole
-          (part_in_front old before front_text (event_lines hosts (0 + length (values_in told)) front.0 ++ last_line run'.phase run'.outcome)
+          (part_in_front old before front_text
+          (event_lines hosts (0 + length (values_in told)) front.0 ++ last_line run'.phase run'.outcome)
           (front_text, ([], sym (append-nil front_text)), behind.printed));
     }
       where
@@ -298,7 +326,8 @@ module _ {H : Type 0} (m : HostModule H) (e : State H) where
         front : (rest : List Event) × (run'.events ≡ told ++ rest)
         front =
             let f = told_in_front m s done told behind.stands (c ∷ more) (replies_in asks) in
-            let replies : replies_in s'.journal ≡ replies_in s.journal ++ replies_in asks = ap replies_in written ∙ map-append reply_in s.journal asks in (
+            let replies : replies_in s'.journal ≡ replies_in s.journal ++ replies_in asks = ap replies_in written
+            ∙ map-append reply_in s.journal asks in (
               f.0,
               ap (λ (r : CRun). r.events) (sym (run_is s (done ++ c ∷ more) s'.journal behind.since)
                   ∙ ap (λ rs. c_run (program_of m s) (done ++ c ∷ more) s.steps rs) replies) ∙ f.1,
@@ -307,11 +336,13 @@ module _ {H : Type 0} (m : HostModule H) (e : State H) where
         whole : front_text ++ (event_lines hosts (0 + length (values_in told)) front.0 ++ last_line run'.phase run'.outcome)
             ≡ lines_at m e s' (done ++ c ∷ more)
         whole = sym (append_assoc front_text (event_lines hosts (0 + length (values_in told)) front.0) (last_line run'.phase run'.outcome))
-            ∙ ap (λ l. l ++ last_line run'.phase run'.outcome) (sym (event_lines_append hosts 0 told front.0) ∙ ap (event_lines hosts 0) (sym front.1))
+            ∙ ap (λ l. l ++ last_line run'.phase run'.outcome)
+            (sym (event_lines_append hosts 0 told front.0) ∙ ap (event_lines hosts 0) (sym front.1))
 
   -- ---- behind all calls
 
-  pub all_played : (s : State H) (calls : List SymbolCall) (old now : Option (List ℕ)) → IsBehind m e s calls old now → HasPlayed m e s calls old now 0
+  pub all_played : (s : State H) (calls : List SymbolCall) (old now : Option (List ℕ)) → IsBehind m e s calls old now
+      → HasPlayed m e s calls old now 0
   all_played s calls old now behind = record {
     since = behind.since;
     stored = behind.stored;
@@ -332,7 +363,8 @@ module _ {H : Type 0} (m : HostModule H) (e : State H) where
     abbrev the_run : CRun
     the_run = run_at m e s calls
 
-    pub all_lines : (shown : Bool) → lines_at m e s calls ++ (if shown then state_lines hosts the_run.units else []) ≡ lines_of hosts shown the_run
+    pub all_lines : (shown : Bool) → lines_at m e s calls ++ (if shown then state_lines hosts the_run.units else [])
+        ≡ lines_of hosts shown the_run
     all_lines shown = refl
 
     pub left_part : (shown : Bool) (now : Option (List ℕ)) → IsLeft m e s calls old now

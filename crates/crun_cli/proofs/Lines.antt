@@ -1,5 +1,26 @@
 -- The lines of what was told, of asks and of outcomes.
-use Rattle.std.proofs.Common.{◌≡◌, ◌≢◌, ℕ, ◌+◌, List, [], ◌∷◌, ◌++◌, append_assoc, length, map, Option, Some, None, refl, sym, ap, ◌∙◌, subst, arith}
+use Rattle.std.proofs.Common.{
+  ◌≡◌,
+  ◌≢◌,
+  ℕ,
+  ◌+◌,
+  List,
+  [],
+  ◌∷◌,
+  ◌++◌,
+  append_assoc,
+  length,
+  map,
+  Option,
+  Some,
+  None,
+  refl,
+  sym,
+  ap,
+  ◌∙◌,
+  subst,
+  arith,
+}
 use Rattle.std.proofs.lemmas.List.{append-nil, map-append}
 use Rattle.w2c_base.specs.declared.value.Value.{Value}
 use Rattle.w2c_base.specs.Run.{CallEnded, Event, Host, Phase, Init, Call, asks_in, values_in}
@@ -45,7 +66,8 @@ told_asks told journal asks o are = by o
         ∙ ap (λ l. events_in journal ++ l) (asks_are_asked asks) ∙ sym (map-append event_in journal asks)
 
     by : (o : Outcome) → asked_events (told_by told asks o) ≡ events_in (journal ++ asks)
-    by (outcome.Ended value) = asked_append (told ++ events_in asks) (CallEnded value ∷ []) ∙ append-nil (asked_events (told ++ events_in asks)) ∙ front
+    by (outcome.Ended value) = asked_append (told ++ events_in asks) (CallEnded value ∷ [])
+        ∙ append-nil (asked_events (told ++ events_in asks)) ∙ front
     by (outcome.Trapped kind) = front
     by (outcome.Undefined u) = front
     by outcome.OutOfSteps = front
@@ -122,7 +144,8 @@ call_lines hosts k told asks o count = by o
         let counted : length (values_in (told ++ events_in asks)) ≡ k = ap length same ∙ count in
         omega (arith, counted)
 
-    by : (o : Outcome) → event_lines hosts 0 (told_by told asks o) ++ last_line (Call k) (came_out o) ≡ lines ++ lines_behind hosts asks (Call k) o
+    by : (o : Outcome) → event_lines hosts 0 (told_by told asks o) ++ last_line (Call k) (came_out o)
+        ≡ lines ++ lines_behind hosts asks (Call k) o
     by (outcome.Ended value) =
         append-nil (event_lines hosts 0 ((told ++ events_in asks) ++ CallEnded value ∷ []))
         ∙ event_lines_append hosts 0 (told ++ events_in asks) (CallEnded value ∷ [])

@@ -1,5 +1,34 @@
 -- Loops that write the lines of one thing after another.
-use Rattle.std.proofs.Common.{◌≡◌, ℕ, suc, zero, ◌+◌, ◌-◌, ◌<◌, ◌≤◌, List, [], ◌∷◌, ◌++◌, append_assoc, drop, get_or, length, map, take, take-append-drop, drop-cons, add-one, Option, refl, sym, ap, ◌∙◌, subst, arith}
+use Rattle.std.proofs.Common.{
+  ◌≡◌,
+  ℕ,
+  suc,
+  zero,
+  ◌+◌,
+  ◌-◌,
+  ◌<◌,
+  ◌≤◌,
+  List,
+  [],
+  ◌∷◌,
+  ◌++◌,
+  append_assoc,
+  drop,
+  get_or,
+  length,
+  map,
+  take,
+  take-append-drop,
+  drop-cons,
+  add-one,
+  Option,
+  refl,
+  sym,
+  ap,
+  ◌∙◌,
+  subst,
+  arith,
+}
 use Rattle.std.specs.Prelude.{Result, Ok, Err, flat_map}
 use Rattle.std.specs.List.{range_with_len}
 use Rattle.std.proofs.Math.Seq.{take-suc}
@@ -40,9 +69,11 @@ module _ {A : Type 0} (lines : A → List ℕ) where
       }
 
   -- the one behind these is not written whole
-  pub stopped_at : (old middle new : Option (List ℕ)) (before between after : ℕ) (done : List A) (x : A) (rest all : List A) (e : WriteAnswer)
+  pub stopped_at : (old middle new : Option (List ℕ)) (before between after : ℕ) (done : List A) (x : A) (rest all : List A)
+      (e : WriteAnswer)
       → all ≡ done ++ x ∷ rest → AreWritten lines old middle before between done
-      → Writes {A = Unit {0}} middle new between after (lines x) (Err e) → Writes {A = Unit {0}} old new before after (flat_map lines all) (Err e)
+      → Writes {A = Unit {0}} middle new between after (lines x) (Err e)
+      → Writes {A = Unit {0}} old new before after (flat_map lines all) (Err e)
   stopped_at old middle new before between after done x rest all e split are stopped =
       subst (λ text. Writes {A = Unit {0}} old new before after text (Err e))
       (sym (flat_map-append lines done (x ∷ rest)) ∙ ap (flat_map lines) (sym split))
@@ -50,7 +81,8 @@ module _ {A : Type 0} (lines : A → List ℕ) where
       (as_call old middle before between done are)
       (stops_writing e middle new between after (lines x) (flat_map lines rest) stopped))
 
-  pub all_written : (old now : Option (List ℕ)) (before after : ℕ) (done all : List A) → done ≡ all → AreWritten lines old now before after done
+  pub all_written : (old now : Option (List ℕ)) (before after : ℕ) (done all : List A) → done ≡ all
+      → AreWritten lines old now before after done
       → Writes {A = Unit {0}} old now before after (flat_map lines all) (Ok tt)
   all_written old now before after done all same are =
       subst (λ xs. Writes {A = Unit {0}} old now before after (flat_map lines xs) (Ok tt)) same (as_call old now before after done are)

@@ -8,7 +8,16 @@ use Rattle.w2c_base.specs.Run.{Host}
 use Rattle.c_meaning.specs.State.{CValue, Number, Pointer, FuncPointer, Element, Memory, Name, Objects, Table}
 use Rattle.crun.specs.Shown.{bytes_of, elements_count, memories_of, number_held, object_in, tables_of, vars_of}
 use Rattle.crun_lines.specs.StateLines.{element_lines, length_line, memory_lines, table_lines, variable_line, variable_lines}
-use Rattle.crun_cli.specs.Showing.{length_and_elements, line_of_element, lines_if_found, lines_of_element, lines_of_memory, lines_of_table, lines_of_variable, pages_and_rows}
+use Rattle.crun_cli.specs.Showing.{
+  length_and_elements,
+  line_of_element,
+  lines_if_found,
+  lines_of_element,
+  lines_of_memory,
+  lines_of_table,
+  lines_of_variable,
+  pages_and_rows,
+}
 
 module _ (units : List Objects) (u : ℕ) (name : Name) where
   number_lines : (held : Option CValue) (value : Value) → if_found held number_held ≡ Some value
@@ -50,7 +59,8 @@ module _ (units : List Objects) (u : ℕ) (name : Name) where
         one (Some e) = refl
 
     table_lines_are : (held : Option Table) (count : ℕ) → Some count ≡ option_map elements_count held
-        → length_line u name count ++ flat_map (λ i. line_of_element hosts u name i (if_found held (λ t. at_index t.elements i))) (range_with_len 0 count)
+        → length_line u name count ++ flat_map (λ i. line_of_element hosts u name i (if_found held (λ t. at_index t.elements i)))
+        (range_with_len 0 count)
         ≡ lines_if_found (table_lines hosts u) name held
     table_lines_are None count is = absurd cc
     table_lines_are (Some t) count is =

@@ -1,5 +1,29 @@
 -- The lines of the state are those of the units' objects, each found by its name.
-use Rattle.std.proofs.Common.{◌≡◌, ℕ, zero, suc, ◌+◌, List, [], ◌∷◌, ◌++◌, append_assoc, get_or, length, map, zip, Option, Some, None, refl, sym, ap, ◌∙◌, subst, arith}
+use Rattle.std.proofs.Common.{
+  ◌≡◌,
+  ℕ,
+  zero,
+  suc,
+  ◌+◌,
+  List,
+  [],
+  ◌∷◌,
+  ◌++◌,
+  append_assoc,
+  get_or,
+  length,
+  map,
+  zip,
+  Option,
+  Some,
+  None,
+  refl,
+  sym,
+  ap,
+  ◌∙◌,
+  subst,
+  arith,
+}
 use Rattle.std.specs.Prelude.{Bool, true, false, bytes_eq, flat_map, if◌then◌else◌, option_map, slice_get}
 use Rattle.std.specs.List.{range_with_len, AllByRecursion}
 use Rattle.std.specs.declared.cmp.Ordering.{Ordering}
@@ -48,7 +72,8 @@ module _ {A : Type 0} where
   abbrev Found : List (Name × A) → Name × A → Type 0
   Found entries e = named e.0 entries ≡ Some e.1
 
-  behind : (x : Name × A) (entries rest : List (Name × A)) → AllByRecursion (Differ x.0) (keys_of rest) → AllByRecursion (Found entries) rest
+  behind : (x : Name × A) (entries rest : List (Name × A)) → AllByRecursion (Differ x.0) (keys_of rest)
+      → AllByRecursion (Found entries) rest
       → AllByRecursion (Found (x ∷ entries)) rest
   behind x entries [] differ all = tt
   behind x entries (e ∷ rest) differ all =
@@ -126,15 +151,19 @@ module _ (hosts : List Host) (units : List Objects) (names : Naming) where
       -- by the objects that the unit has
       text : UnitNames → Option Objects → List ℕ
       text n got =
-          (flat_map (λ e. lines_if_found (variable_lines u) e.0 (if_found got (λ x. named e.0 (vars_of x)))) (in_order (numbered_from 0 n.vars))
-          ++ flat_map (λ e. lines_if_found (memory_lines u) e.0 (if_found got (λ x. named e.0 (memories_of x)))) (in_order (numbered_from 0 n.memories)))
-          ++ flat_map (λ e. lines_if_found (table_lines hosts u) e.0 (if_found got (λ x. named e.0 (tables_of x)))) (in_order (numbered_from 0 n.tables))
+          (flat_map (λ e. lines_if_found (variable_lines u) e.0 (if_found got (λ x. named e.0 (vars_of x))))
+          (in_order (numbered_from 0 n.vars))
+          ++ flat_map (λ e. lines_if_found (memory_lines u) e.0 (if_found got (λ x. named e.0 (memories_of x))))
+          (in_order (numbered_from 0 n.memories)))
+          ++ flat_map (λ e. lines_if_found (table_lines hosts u) e.0 (if_found got (λ x. named e.0 (tables_of x))))
+          (in_order (numbered_from 0 n.tables))
 
   shown_from : (all : List (List tree.Item)) (k : ℕ) (rest : List (List tree.Item)) (os : List UnitObjects)
       → AreStored (map unit_names rest) os
       → ((j : ℕ) → slice_get units (k + j) ≡ slice_get (units_of names (map unit_names rest) os) j)
       → ((j : ℕ) → slice_get all (k + j) ≡ slice_get rest j)
-      → flat_map (unit_lines hosts) (zip (range_with_len k (length (units_of names (map unit_names rest) os))) (units_of names (map unit_names rest) os))
+      → flat_map (unit_lines hosts)
+      (zip (range_with_len k (length (units_of names (map unit_names rest) os))) (units_of names (map unit_names rest) os))
       ≡ flat_map (λ u. lines_of_items hosts units u (items_at all u)) (range_with_len k (length rest))
   shown_from all k [] [] stored units_are all_are = refl
   shown_from all k [] (o ∷ os) stored units_are all_are = absurd stored

@@ -16,7 +16,20 @@ use Rattle.crun.specs.declared.outcome.Standing.TheVariants as standing
 use Rattle.crun.specs.Sessions.{objects_of, program_of, standing_of, told_by, IsLast, IsOutcome, Stands, State}
 use Rattle.crun_cli.specs.Playing.{HasPlayed, IsBehind, IsLeft, IsSince, IsStored}
 use Rattle.crun_cli.specs.Views.{lines_behind, status_of_outcome}
-use Rattle.crun_cli.proofs.Behind.{call_behind, call_left, call_played, call_wanting, inits_behind, inits_left, inits_played, inits_wanting, is_ended, since_next, since_start, IsEnded}
+use Rattle.crun_cli.proofs.Behind.{
+  call_behind,
+  call_left,
+  call_played,
+  call_wanting,
+  inits_behind,
+  inits_left,
+  inits_played,
+  inits_wanting,
+  is_ended,
+  since_next,
+  since_start,
+  IsEnded,
+}
 
 pub ready_of_end : (o : Outcome) → IsEnded o → standing_of o ≡ standing.Ready
 ready_of_end o (value, is) = ap standing_of is
@@ -25,14 +38,17 @@ ready_of_end o (value, is) = ap standing_of is
 
 module _ {H : Type 0} (m : HostModule H) (before s : State H) (x c : SymbolCall) (seen : x ≡ c)
     (linked : s.linked ≡ before.linked) (steps : s.steps ≡ before.steps) (same : hosts_of m s.hosts ≡ hosts_of m before.hosts)
-    (asked : (asks : List Asked) × Asks m before.hosts before.journal asks s.hosts s.journal) (index from : ℕ) (from_is : from ≡ length before.journal)
-    (e : State H) (done : List SymbolCall) (old now : Option (List ℕ)) (count : length done ≡ index) (behind : IsBehind m e before done old now) where
+    (asked : (asks : List Asked) × Asks m before.hosts before.journal asks s.hosts s.journal) (index from : ℕ)
+    (from_is : from ≡ length before.journal)
+    (e : State H) (done : List SymbolCall) (old now : Option (List ℕ)) (count : length done ≡ index)
+    (behind : IsBehind m e before done old now) where
   since : IsSince m e s
   since = since_next m e before s asked.0 behind.since linked steps same asked.1
 
   -- memory was wanting
   pub call_wants : ((calls rest : List SymbolCall) (told : List Event) → Stands m before calls told → (more : List Ask)
-      × (asks_in (c_run (program_of m before) (calls ++ x ∷ rest) before.steps (replies_in s.journal)).events ≡ map ask_of s.journal ++ more))
+      × (asks_in (c_run (program_of m before) (calls ++ x ∷ rest) before.steps (replies_in s.journal)).events
+      ≡ map ask_of s.journal ++ more))
       → (more : List SymbolCall) → IsLeft m e s (done ++ c ∷ more) old now
   call_wants wanting more =
       let found = wanting done more behind.told behind.stands in
@@ -41,7 +57,8 @@ module _ {H : Type 0} (m : HostModule H) (before s : State H) (x c : SymbolCall)
       ≡ map ask_of s.journal ++ rest)) seen found)
 
   module _ (o : Outcome)
-      (ran : (calls rest : List SymbolCall) (told : List Event) (asks : List Asked) → Stands m before calls told → s.journal ≡ before.journal ++ asks
+      (ran : (calls rest : List SymbolCall) (told : List Event) (asks : List Asked) → Stands m before calls told → s.journal
+      ≡ before.journal ++ asks
       → IsLast o rest → IsOutcome o (Call (length calls)) s.journal (told_by told asks o) (objects_of s)
       (c_run (program_of m before) (calls ++ x ∷ rest) before.steps (replies_in s.journal)))
       (stands : s.standing ≡ standing.Ready → (calls : List SymbolCall) (told : List Event) (asks : List Asked) → Stands m before calls told
@@ -50,7 +67,8 @@ module _ {H : Type 0} (m : HostModule H) (before s : State H) (x c : SymbolCall)
     abbrev text : List ℕ
     text = lines_behind (hosts_of m s.hosts) (drop from s.journal) (Call index) o
 
-    here : (rest : List SymbolCall) → IsLast o rest → IsOutcome o (Call (length done)) s.journal (told_by behind.told asked.0 o) (objects_of s)
+    here : (rest : List SymbolCall) → IsLast o rest
+        → IsOutcome o (Call (length done)) s.journal (told_by behind.told asked.0 o) (objects_of s)
         (c_run (program_of m before) (done ++ c ∷ rest) before.steps (replies_in s.journal))
     here rest last = subst (λ y. IsOutcome o (Call (length done)) s.journal (told_by behind.told asked.0 o) (objects_of s)
         (c_run (program_of m before) (done ++ y ∷ rest) before.steps (replies_in s.journal))) seen
@@ -76,10 +94,12 @@ module _ {H : Type 0} (m : HostModule H) (before s : State H) (x c : SymbolCall)
 
     pub call_is_left : SaysPart now new text → (more : List SymbolCall) → IsLeft m e s (done ++ c ∷ more) old new
     call_is_left part more =
-        call_left m e before s done c old now behind since asked.0 asked.1.written o new here stand (subst (SaysPart now new) text_is part) more
+        call_left m e before s done c old now behind since asked.0 asked.1.written o new here stand
+        (subst (SaysPart now new) text_is part) more
 
 -- the status, as an answer where there is one
-pub played_if_some : (r : Option ℕ) (o : Outcome) (P : ℕ → Type 0) → r ≡ status_of_outcome o → ((status : ℕ) → status_of_outcome o ≡ Some status → P status)
+pub played_if_some : (r : Option ℕ) (o : Outcome) (P : ℕ → Type 0) → r ≡ status_of_outcome o
+    → ((status : ℕ) → status_of_outcome o ≡ Some status → P status)
     → IfSome r P
 played_if_some None o P is some = tt
 played_if_some (Some status) o P is some = some status (sym is)

@@ -69,7 +69,8 @@ module _ {H : Type 0} (hm : HostModule H) (hosts : List H) (words : List Name) w
 
   pub run_refused : (m : Contents) (old new : Option (List ℕ)) (status : ℕ) (why : Reason) → Ran hm hosts words m old new status
       → Asks m (Stops why) → (status ≡ status_of why) ⊎ (status ≡ 5)
-  run_refused m old new status why (units, calls, steps, shown, job, ran) refused = absurd (no_run m units calls steps shown why job refused)
+  run_refused m old new status why (units, calls, steps, shown, job, ran) refused = absurd
+      (no_run m units calls steps shown why job refused)
 
   module _ (told : Told) (reads reads' : ℕ) (named : Option Name) (old new : Option (List ℕ)) (faults faults' : ℕ) where
     abbrev Stopped : Reason → Type 0
@@ -188,7 +189,8 @@ module _ {H : Type 0} (hm : HostModule H) (hosts : List H) (words : List Name) w
         said (inl line) = line
         said (inr five) = absurd (omega (arith, five, came))
 
-    pub stop_nothing : (why : Reason) (status : ℕ) → Stopped why → IsStatus status why → (status ≡ 2) ⊎ (status ≡ 3) ⊎ (status ≡ 6) → new ≡ old
+    pub stop_nothing : (why : Reason) (status : ℕ) → Stopped why → IsStatus status why → (status ≡ 2) ⊎ (status ≡ 3) ⊎ (status ≡ 6) → new
+        ≡ old
     stop_nothing Usage status stop is came = stop.1
     stop_nothing CallsTooLong status stop is came = stop.1
     stop_nothing (CallsLine number) status stop is came = stop.1

@@ -1,5 +1,32 @@
 -- Why the work stopped, from why it was not begun or why the run was left.
-use Rattle.std.proofs.Common.{◌≡◌, ◌≢◌, ◌⊎◌, inl, inr, ℕ, true, false, List, [], ◌∷◌, ◌++◌, append_assoc, take, drop, drop-cons, length, map, Option, Some, refl, sym, ap, ◌∙◌, subst, arith}
+use Rattle.std.proofs.Common.{
+  ◌≡◌,
+  ◌≢◌,
+  ◌⊎◌,
+  inl,
+  inr,
+  ℕ,
+  true,
+  false,
+  List,
+  [],
+  ◌∷◌,
+  ◌++◌,
+  append_assoc,
+  take,
+  drop,
+  drop-cons,
+  length,
+  map,
+  Option,
+  Some,
+  refl,
+  sym,
+  ap,
+  ◌∙◌,
+  subst,
+  arith,
+}
 use Rattle.std.specs.Prelude.{Bool, slice_get, flat_map, IsErrOf, Err}
 use Rattle.std.proofs.lemmas.Option.{slice_get-get_or}
 use Rattle.w2c_io.specs.declared.answers.WriteAnswer.{WriteAnswer}
@@ -42,7 +69,8 @@ module _ {H : Type 0} (hm : HostModule H) (hosts : List H) (words : List Name) (
         → StopsWork hm hosts words told reads reads' named old new faults faults' WantOfMemory
     wanting_work part = λ m tells. inr (units, calls, steps, shown, job m tells, part)
 
-    pub has_ran : (status : ℕ) → HasRun hm hosts units calls steps shown old new status → Tells told (λ m. Ran hm hosts words m old new status)
+    pub has_ran : (status : ℕ) → HasRun hm hosts units calls steps shown old new status
+        → Tells told (λ m. Ran hm hosts words m old new status)
     has_ran status ran m tells = (units, calls, steps, shown, job m tells, ran)
 
 status_of_run : (o : Outcome) (status : ℕ) → HasStatus o status → IsRunStatus status

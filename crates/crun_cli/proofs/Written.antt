@@ -27,14 +27,16 @@ part_in_front old new a b (part, (rest, is), gained) =
     (part, (rest ++ b, ap (λ l. l ++ b) is ∙ append_assoc part rest b), gained)
 
 -- a part of a text behind one that is written
-pub part_behind : (old middle new : Option (List ℕ)) (a b : List ℕ) → middle ≡ extended old a → SaysPart middle new b → SaysPart old new (a ++ b)
+pub part_behind : (old middle new : Option (List ℕ)) (a b : List ℕ) → middle ≡ extended old a → SaysPart middle new b
+    → SaysPart old new (a ++ b)
 part_behind old middle new a b written (part, (rest, is), gained) = (
   a ++ part,
   (rest, ap (λ l. a ++ l) is ∙ sym (append_assoc a part rest)),
   gained ∙ ap (λ o. extended o part) written ∙ extended_twice old a part,
 )
 
-pub whole_behind : (old middle new : Option (List ℕ)) (a b : List ℕ) → middle ≡ extended old a → new ≡ extended middle b → new ≡ extended old (a ++ b)
+pub whole_behind : (old middle new : Option (List ℕ)) (a b : List ℕ) → middle ≡ extended old a → new ≡ extended middle b → new
+    ≡ extended old (a ++ b)
 whole_behind old middle new a b written gained = gained ∙ ap (λ o. extended o b) written ∙ extended_twice old a b
 
 -- ---- why a call failed
@@ -45,14 +47,16 @@ no_cause x before after le = record { later = le; failed = λ is. absurd cc }
 pub memory_cause : {A : Type 0} (before after : ℕ) → before ≤ after → WriteCause {A = A} before after (Err answer.Memory)
 memory_cause before after le = record { later = le; failed = λ is. absurd cc }
 
-pub cause_from : {A : Type 0} (start before after : ℕ) (r : Result A WriteAnswer) → start ≤ before → WriteCause before after r → WriteCause start after r
+pub cause_from : {A : Type 0} (start before after : ℕ) (r : Result A WriteAnswer) → start ≤ before → WriteCause before after r
+    → WriteCause start after r
 cause_from start before after r le cause = record {
   later = omega (arith, le, cause.later);
   failed = λ e. rose_from start before after le (cause.failed e);
 }
 
 -- the same cause for a call with another value
-pub cause_of : {A B : Type 0} (before after : ℕ) (e : WriteAnswer) → WriteCause {A = A} before after (Err e) → WriteCause {A = B} before after (Err e)
+pub cause_of : {A B : Type 0} (before after : ℕ) (e : WriteAnswer) → WriteCause {A = A} before after (Err e)
+    → WriteCause {A = B} before after (Err e)
 cause_of before after e cause = record {
   later = cause.later;
   failed = λ is. cause.failed (let same : e ≡ answer.Failed = cc in ap Err same);
@@ -63,10 +67,12 @@ cause_of before after e cause = record {
 pub wrote_nothing : {A : Type 0} (x : A) (old : Option (List ℕ)) (faults : ℕ) → Writes old old faults faults [] (Ok x)
 wrote_nothing x old faults = record { whole = none_written old; part = tt; cause = no_cause x faults faults (omega arith) }
 
-pub wants_memory : {A : Type 0} (old : Option (List ℕ)) (faults : ℕ) (text : List ℕ) → Writes {A = A} old old faults faults text (Err answer.Memory)
+pub wants_memory : {A : Type 0} (old : Option (List ℕ)) (faults : ℕ) (text : List ℕ)
+    → Writes {A = A} old old faults faults text (Err answer.Memory)
 wants_memory old faults text = record { whole = tt; part = says_nothing old text; cause = memory_cause faults faults (omega arith) }
 
-pub then_writes : {A B : Type 0} (x : A) (r : Result B WriteAnswer) (old middle new : Option (List ℕ)) (before between after : ℕ) (a b : List ℕ)
+pub then_writes : {A B : Type 0} (x : A) (r : Result B WriteAnswer) (old middle new : Option (List ℕ)) (before between after : ℕ)
+    (a b : List ℕ)
     → Writes old middle before between a (Ok x) → Writes middle new between after b r → Writes old new before after (a ++ b) r
 then_writes x (Ok y) old middle new before between after a b first second = record {
   whole = whole_behind old middle new a b first.whole second.whole;
@@ -98,6 +104,7 @@ pub line_as : {E : Type 0} (line : Result (List ℕ) E) (text other : List ℕ) 
     → IfOk line (λ bytes. bytes ≡ other)
 line_as line text other same is = subst (λ t. IfOk line (λ bytes. bytes ≡ t)) same is
 
-pub writes_text : {A : Type 0} (r : Result A WriteAnswer) (old new : Option (List ℕ)) (before after : ℕ) (text other : List ℕ) → text ≡ other
+pub writes_text : {A : Type 0} (r : Result A WriteAnswer) (old new : Option (List ℕ)) (before after : ℕ) (text other : List ℕ) → text
+    ≡ other
     → Writes old new before after text r → Writes old new before after other r
 writes_text r old new before after text other same wrote = subst (λ t. Writes old new before after t r) same wrote

@@ -21,7 +21,16 @@ use Rattle.crun.specs.Sessions.{objects_of, State}
 use Rattle.crun_lines.specs.declared.names.Numbered.{Numbered}
 use Rattle.crun_lines.specs.NameOrder.{in_order, numbered_from}
 use Rattle.crun_lines.specs.Views.{entry_of}
-use Rattle.crun_lines.specs.StateLines.{element_line, function_text, length_line, memory_lines, pages_line, row_lines, table_lines, variable_lines}
+use Rattle.crun_lines.specs.StateLines.{
+  element_line,
+  function_text,
+  length_line,
+  memory_lines,
+  pages_line,
+  row_lines,
+  table_lines,
+  variable_lines,
+}
 use Rattle.crun_cli.specs.declared.names.Kind.{Kind}
 use Rattle.crun_cli.specs.declared.names.Kind.TheVariants as kind
 

@@ -17,6 +17,8 @@ returns-in-Err-show-clause-part g c =
     let e = c.args.session.now in
     let calls = calls_seen c.args.calls.now in
     let shown : true ≡ c.args.shows_state = search rules in
-    subst (λ b. HasPart g.H.HostModule e.hosts (map unit_of e.linked.0) calls e.steps b (g.O.Sink.told c.args.out.now) (g.O.Sink.told c.show.new.out))
-    shown (shown_part g.H.HostModule e c.play_all.new.session calls (g.O.Sink.told c.args.out.now) (g.O.Sink.told c.play_all.new.out) c.in-Ok.status
+    subst (λ b. HasPart g.H.HostModule e.hosts (map unit_of e.linked.0) calls e.steps b (g.O.Sink.told c.args.out.now)
+    (g.O.Sink.told c.show.new.out))
+    shown (shown_part g.H.HostModule e c.play_all.new.session calls (g.O.Sink.told c.args.out.now) (g.O.Sink.told c.play_all.new.out)
+    c.in-Ok.status
     c.in-Ok.ensures.played (g.O.Sink.told c.show.new.out) c.in-Err-show.ensures.part)

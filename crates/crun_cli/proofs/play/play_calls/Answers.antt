@@ -1,4 +1,30 @@
-use Rattle.std.proofs.Common.{◌≡◌, ◌∙◌, ◌+◌, ◌<◌, ◌≤◌, [], ◌∷◌, ◌++◌, ℕ, List, Option, IfSome, true, Some, None, refl, sym, ap, subst, arith, take, drop, map, length, rules}
+use Rattle.std.proofs.Common.{
+  ◌≡◌,
+  ◌∙◌,
+  ◌+◌,
+  ◌<◌,
+  ◌≤◌,
+  [],
+  ◌∷◌,
+  ◌++◌,
+  ℕ,
+  List,
+  Option,
+  IfSome,
+  true,
+  Some,
+  None,
+  refl,
+  sym,
+  ap,
+  subst,
+  arith,
+  take,
+  drop,
+  map,
+  length,
+  rules,
+}
 use Rattle.c_tree.specs.View.{unit_of}
 use Rattle.c_meaning.specs.Linking.{fits, Program, SymbolCall}
 use Rattle.crun.specs.Sessions.{program_of, State}
@@ -21,7 +47,8 @@ returns-in-Ok-Some-clause-played g c = λ e old behind.
     c.in-Ok-Some.field-0-is c.in-Ok-Some.ensures.played in
     subst (λ cs. HasPlayed g.H.HostModule e c.play_call.new.session cs old (g.O.Sink.told c.play_call.new.out) c.in-Ok-Some.status)
     (calls_split calls k item lt c.index-calls-index.is)
-    (played e (take k (calls_seen calls)) (drop (k + 1) (calls_seen calls)) old (calls_before calls k lt) (c.loop-index.invariant.behind e old behind))
+    (played e (take k (calls_seen calls)) (drop (k + 1) (calls_seen calls)) old (calls_before calls k lt)
+    (c.loop-index.invariant.behind e old behind))
 
 pub returns-in-Err-clause-left : goal.returns-in-Err-clause-left
 returns-in-Err-clause-left g c = λ e old behind.
@@ -56,5 +83,6 @@ returns-clause-played g c = λ e old behind.
     let k = c.loop-index.index in
     let past : length (calls_seen calls) ≤ k = omega (arith, c.loop-index-test.false, length-map calls call_seen) in
     all_played g.H.HostModule e c.loop-index.session (calls_seen calls) old (g.O.Sink.told c.loop-index.out)
-    (subst (λ cs. IsBehind g.H.HostModule e c.loop-index.session cs old (g.O.Sink.told c.loop-index.out)) (take_all k (calls_seen calls) past)
+    (subst (λ cs. IsBehind g.H.HostModule e c.loop-index.session cs old (g.O.Sink.told c.loop-index.out))
+    (take_all k (calls_seen calls) past)
     (c.loop-index.invariant.behind e old behind))

@@ -17,7 +17,8 @@ returns-in-Err g c =
     let at : slice_get s.linked.0 u ≡ Some c.unit.result.now = search rules in
     let count = length s.linked.0 in
     writes_text (Err c.in-Err.answer) _ _ _ _ _ _ (sym (all_shown g.H.HostModule s c.requires.stored))
-    (stopped_at (lines_of_unit g.H.HostModule s) _ _ _ _ _ _ (range_with_len 0 u) u (range_with_len (u + 1) (count - (u + 1))) (range_with_len 0 count)
+    (stopped_at (lines_of_unit g.H.HostModule s) _ _ _ _ _ _ (range_with_len 0 u) u (range_with_len (u + 1) (count - (u + 1)))
+    (range_with_len 0 count)
     c.in-Err.answer (range_split u count (search rules)) c.loop-unit.invariant
     (writes_text (Err c.in-Err.answer) _ _ _ _ _ _
     (ap (lines_of_items (hosts_of g.H.HostModule s.hosts) (objects_of s) u)

@@ -19,5 +19,6 @@ returns-in-Some g c =
     c.put_line.ensures (lines_of_element hosts (objects_of s) c.args.unit c.args.name.now c.args.at)
     (line_as c.element_line.result _ _
     (ap (λ text. element_line c.args.unit c.args.name.now c.args.at text c.in-Some.element.sig) c.function_in-function.ensures
-    ∙ ap (line_of_element hosts c.args.unit c.args.name.now c.args.at) (sym (ap (option_map (element_seen names)) c.in-Some.is) ∙ c.element.ensures))
+    ∙ ap (line_of_element hosts c.args.unit c.args.name.now c.args.at)
+    (sym (ap (option_map (element_seen names)) c.in-Some.is) ∙ c.element.ensures))
     c.element_line.ensures)

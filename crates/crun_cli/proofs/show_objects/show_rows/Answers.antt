@@ -23,4 +23,5 @@ loop-row-preserved g c =
     let row = c.loop-row.row in
     let lines = row_line c.args.unit c.args.name.now c.args.memory.now.bytes in
     subst (AreWritten lines _ _ _ _) (sym (range_next row))
-    (one_more lines c.in-Ok.field-0 _ _ _ _ _ _ (range_with_len 0 row) row c.loop-row.invariant (c.in-Ok.ensures (lines row) c.row_line.ensures))
+    (one_more lines c.in-Ok.field-0 _ _ _ _ _ _ (range_with_len 0 row) row c.loop-row.invariant
+    (c.in-Ok.ensures (lines row) c.row_line.ensures))

@@ -11,5 +11,6 @@ pub returns-in-Some : goal.returns-in-Some
 returns-in-Some g c =
     let s = c.args.session.now in
     writes_text c.show_length.result _ _ _ _ _ _
-    (table_there (objects_of s) c.args.unit c.args.name.now (hosts_of g.H.HostModule s.hosts) c.in-Some.count (sym c.in-Some.is ∙ c.table_len.ensures))
+    (table_there (objects_of s) c.args.unit c.args.name.now (hosts_of g.H.HostModule s.hosts) c.in-Some.count
+    (sym c.in-Some.is ∙ c.table_len.ensures))
     c.show_length.ensures

@@ -9,4 +9,5 @@ returns-in-Some g c =
     let units = objects_of c.args.session.now in
     c.put_line.ensures (lines_of_variable units c.args.unit c.args.name.now)
     (line_as c.variable_line.result _ _
-    (variable_there units c.args.unit c.args.name.now c.variable.result c.in-Some.value c.variable.ensures c.in-Some.is) c.variable_line.ensures)
+    (variable_there units c.args.unit c.args.name.now c.variable.result c.in-Some.value c.variable.ensures c.in-Some.is)
+    c.variable_line.ensures)

@@ -20,9 +20,13 @@ pub returns-in-Err-clause-stop : goal.returns-in-Err-clause-stop
 returns-in-Err-clause-stop g c =
     let files = g.F.Files in
     let symbols_are : c_symbols c.as_slice-2.result.now ≡ c_symbols (symbols_of_hosts (hosts_of g.H.HostModule c.args.hosts.items)) =
-    ap c_symbols (c.as_slice-2.ensures.value ∙ c.in-Ok.ensures.symbols ∙ ap (λ hs. symbols_of_hosts (hosts_of g.H.HostModule hs)) c.as_slice.ensures.value) in
-    before_work g.H.HostModule c.args.hosts.items (texts c.args.words.now) (files.told c.args.files.now) (files.read_faults c.args.files.now)
-    (files.read_faults c.of_words.new.files) (files.fault_name c.of_words.new.files) (g.O.Sink.told c.args.out.now) (g.O.Sink.faults c.args.out.now)
+    ap c_symbols (c.as_slice-2.ensures.value ∙ c.in-Ok.ensures.symbols
+    ∙ ap (λ hs. symbols_of_hosts (hosts_of g.H.HostModule hs)) c.as_slice.ensures.value) in
+    before_work g.H.HostModule c.args.hosts.items (texts c.args.words.now) (files.told c.args.files.now)
+    (files.read_faults c.args.files.now)
+    (files.read_faults c.of_words.new.files) (files.fault_name c.of_words.new.files) (g.O.Sink.told c.args.out.now)
+    (g.O.Sink.faults c.args.out.now)
     (reason_of c.in-Err.stop)
     (subst (λ symbols. StopsBefore (texts c.args.words.now) symbols (files.told c.args.files.now) (files.read_faults c.args.files.now)
-    (files.read_faults c.of_words.new.files) (files.fault_name c.of_words.new.files) (reason_of c.in-Err.stop)) symbols_are c.in-Err.ensures.stop)
+    (files.read_faults c.of_words.new.files) (files.fault_name c.of_words.new.files) (reason_of c.in-Err.stop)) symbols_are
+    c.in-Err.ensures.stop)
