@@ -1,27 +1,20 @@
 -- Arguments are evaluated from left to right.
-use Rattle.std.proofs.Common.{◌≡◌, ℕ, zero, suc, ◌+◌, ◌≤◌, append_assoc, List, [], ◌∷◌, ◌++◌, length, drop, map, Err, Result, Some, refl, sym, ap, ◌∙◌, subst}
+use Rattle.std.proofs.Common.{◌≡◌, ℕ, ◌+◌, ◌≤◌, append_assoc, List, [], ◌∷◌, ◌++◌, length, drop, map, Err, Some, refl, sym, ap, ◌∙◌}
 use Rattle.std.specs.Prelude.{slice_get}
-use Rattle.std.specs.List.{AllByRecursion}
 use Rattle.std.proofs.lemmas.List.{drop_all, append-nil, map_push}
-use Rattle.w2c_base.specs.declared.value.Value.{Value}
 use Rattle.c_tree.specs.Tree as tree
-use Rattle.c_meaning.specs.State.{CValue, Number, Machine, Running, Evaluated, Is, Bad, NoRule, then_evaluate}
+use Rattle.c_meaning.specs.State.{CValue, Machine, Running, Evaluated, Is, Bad, NoRule, then_evaluate}
 use Rattle.c_meaning.specs.Linking.{Program}
 use Rattle.c_meaning.specs.Step.{evaluate_arg, evaluate_args}
 use Rattle.c_machine.specs.declared.evaluation.Fault.{Fault}
 use Rattle.c_machine.specs.declared.evaluation.Fault.TheVariants as fault
-use Rattle.c_machine.specs.Numbers.{IsNumberArg}
-use Rattle.c_machine.specs.Scope.{args_evaluated, evaluated}
+use Rattle.c_machine.specs.Scope.{evaluated}
 use Rattle.c_machine.proofs.NameTables.{drop_front}
 
 bad : (f : Fault) (go : CValue → Evaluated (List CValue)) (more : List CValue → Evaluated (List CValue))
     → then_evaluate (then_evaluate (evaluated {A = CValue} (Err f)) go) more ≡ evaluated (Err f)
 bad (fault.Undefined kind) go more = refl
 bad fault.NoRule go more = refl
-
-pub again : (f : Fault) → then_evaluate (evaluated {A = Value} (Err f)) (λ v. Is (Number v)) ≡ evaluated {A = CValue} (Err f)
-again (fault.Undefined kind) = refl
-again fault.NoRule = refl
 
 same : (e : Evaluated (List CValue)) → e ≡ then_evaluate e (λ vs. Is ([] ++ vs))
 same (Is vs) = refl
@@ -68,13 +61,3 @@ module _ {V : Type 0} (view : V → CValue) where
   evaluates_all p m r done i args past so_far =
       so_far ∙ ap (λ l. then_evaluate (evaluate_args p m r l) (λ vs. Is (map view done ++ vs))) (drop_all i args past)
       ∙ ap Is (append-nil (map view done))
-
-pub number_arg : (args : List tree.Arg) (i : ℕ) (a : tree.Arg) → slice_get args i ≡ Some a → AllByRecursion IsNumberArg args → IsNumberArg a
-number_arg [] i a at all = absurd cc
-number_arg (b ∷ args) zero a at all = let e : b ≡ a = cc in subst IsNumberArg e all.0
-number_arg (b ∷ args) (suc i) a at all = number_arg args i a at all.1
-
-pub args_fault : {V : Type 0} (items : V → List Value) (r : Result V Fault) (f : Fault) → r ≡ Err f
-    → args_evaluated items r ≡ evaluated (Err f)
-args_fault items r (fault.Undefined kind) is = ap (args_evaluated items) is
-args_fault items r fault.NoRule is = ap (args_evaluated items) is

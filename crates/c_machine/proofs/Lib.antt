@@ -5,11 +5,5 @@ pub mod Arguments
 pub mod Variables
 pub mod Jumps
 pub mod Locals
-pub mod Assigns
 pub mod Functions
 pub mod Begins
-pub mod Effects
-pub mod Returns
-pub mod Calls
-pub mod Runs
-pub mod Ways

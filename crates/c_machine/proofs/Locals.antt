@@ -1,7 +1,7 @@
 -- Locals behind parameters, one by one.
-use Rattle.std.proofs.Common.{◌≡◌, ℕ, zero, suc, ◌+◌, ◌≤◌, List, [], ◌∷◌, ◌++◌, append_assoc, length, take, drop, map, Option, Some, None, refl, sym, ap, ◌∙◌, subst, arith}
+use Rattle.std.proofs.Common.{◌≡◌, ℕ, zero, suc, ◌+◌, ◌≤◌, List, [], ◌∷◌, ◌++◌, length, take, drop, map, Option, Some, None}
+use Rattle.std.proofs.Common.{append_assoc, refl, sym, ap, ◌∙◌, arith}
 use Rattle.std.specs.Prelude.{slice_get, option_map, zip}
-use Rattle.std.specs.List.{AllByRecursion}
 use Rattle.std.proofs.lemmas.List.{append-nil, map_push, length-map, drop_all, take_all}
 use Rattle.w2c_base.specs.Lookup.{if_found}
 use Rattle.c_tree.specs.Tree as tree
@@ -9,7 +9,6 @@ use Rattle.c_meaning.specs.State.{Name, CValue, Vars}
 use Rattle.c_meaning.specs.Machine.{initial_of}
 use Rattle.c_meaning.specs.Step.{locals_of, bind}
 use Rattle.c_machine.specs.Names.{local_name}
-use Rattle.c_machine.specs.Numbers.{IsNumberLocal, IsNumberType}
 use Rattle.c_machine.specs.Threads.{WithLocals}
 use Rattle.c_machine.proofs.NameTables.{drop_front}
 use Rattle.c_machine.proofs.Variables.{zip-push, length-push}
@@ -88,12 +87,6 @@ grows_all view params values locals i so_far past g =
     (drop_all i locals past)
     ∙ ap Some (append-nil (vars_in view (params ++ map local_name (take i locals)) so_far)
     ∙ ap (λ ls. vars_in view (params ++ map local_name ls) so_far) (take_all i locals past))
-
-pub number_local : (locals : List tree.Local) (i : ℕ) (l : tree.Local) → slice_get locals i ≡ Some l
-    → AllByRecursion IsNumberLocal locals → IsNumberType l.0
-number_local [] i l at all = absurd cc
-number_local (x ∷ locals) zero l at all = let e : x ≡ l = cc in subst IsNumberLocal e all.0
-number_local (x ∷ locals) (suc i) l at all = number_local locals i l at all.1
 
 -- parameters are bound in order
 pub bind_all : {V : Type 0} (view : V → CValue) (names : List Name) (values : List V) → length names ≡ length values

@@ -8,7 +8,6 @@ pub mod Grammar
 pub mod Spelled
 pub mod WellFormed
 pub mod Tests
-pub mod ConstantUnit
 pub mod Runtime
 pub mod Scope
 pub mod Rules

@@ -9,7 +9,6 @@ use Rattle.std.proofs.lemmas.Int.{ints}
 use Rattle.std.proofs.lemmas.List.{length-replicate}
 use Rattle.std.proofs.lemmas.List.FromFn.{length-map-range_with_len}
 use Rattle.leb_bytes.specs.Run.{InRange}
-use Rattle.wasm_tree.specs.ConstantTree.{signed_reading}
 use Rattle.wasm_tree.specs.Instructions.{end_code, then_code, Call}
 use Rattle.wasm_spelling.specs.Bytes.{AreBytes}
 use Rattle.wasm_spelling.specs.Fields.{Fields, finished}
@@ -18,7 +17,7 @@ use Rattle.wasm_spelling.specs.ModuleFields.{types, imports, functions, tables, 
 use Rattle.wasm_spelling.specs.Places.{IsFormed}
 use Rattle.wasm_writing.specs.ShortFile.{magic, short_fields, version}
 use Rattle.wasm_writing.proofs.Whole.{short_file_spells}
-use Rattle.w2c_gen.specs.Generated.{body_of, code_with, generated, of_first_type, operator, run_name}
+use Rattle.w2c_gen.specs.Generated.{body_of, code_with, generated, of_first_type, operator, run_name, signed_reading}
 use Rattle.w2c_gen.specs.GeneratedFile.{IsGeneratedFile}
 use Rattle.w2c_gen.specs.Numbers.{number_at}
 use Rattle.w2c_gen.proofs.Within.{Within, within_more, within_finished, within_byte, within_text, within_here, within_provided, within_number, within_signed, within_window, within_empty, within_filled}

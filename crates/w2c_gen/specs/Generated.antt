@@ -1,10 +1,9 @@
 -- The generated module of n functions (WebAssembly Core 1.0, 2.5). Each computes with its argument and a number of its
 -- own, and most then call the function before them, so that a call of the last runs through at most a thousand. Every
 -- place is 0.
-use Rattle.std.specs.Prelude.{ℕ, zero, suc, ◌-◌, ◌%◌, ◌==◌, if◌then◌else◌, List, [], ◌∷◌, map, replicate, Some, None}
+use Rattle.std.specs.Prelude.{ℕ, ℤ, pos, zero, suc, ◌-◌, ◌-ℤ◌, ◌%◌, ◌^◌, ◌==◌, nat_lt, if◌then◌else◌, List, [], ◌∷◌, map, replicate, Some, None}
 use Rattle.std.specs.List.{range_with_len}
 use Rattle.w2c_base.specs.declared.value.ValType.TheVariants as type
-use Rattle.wasm_tree.specs.ConstantTree.{signed_reading}
 use Rattle.wasm_tree.specs.Instructions.{Code, end_code, then_code, Kind, LocalGet, I32Const, Call, Binary, Add, Sub, Mul, Xor}
 use Rattle.wasm_tree.specs.declared.entries.TypeEntry.{TypeEntry}
 use Rattle.wasm_tree.specs.declared.entries.FuncEntry.{FuncEntry}
@@ -13,6 +12,10 @@ use Rattle.wasm_tree.specs.declared.entries.ExportKind.TheVariants.{Func as Expo
 use Rattle.wasm_tree.specs.declared.entries.BodyEntry.{BodyEntry}
 use Rattle.wasm_tree.specs.declared.tree.Module.{Module}
 use Rattle.w2c_gen.specs.Numbers.{number_at}
+
+-- 32 bits read with a sign
+abbrev pub signed_reading : ℕ → ℤ
+signed_reading n = if nat_lt n (2 ^ 31) then pos n else (pos n -ℤ pos (2 ^ 32))
 
 -- the operator of a remainder by four
 abbrev pub operator : ℕ → Kind

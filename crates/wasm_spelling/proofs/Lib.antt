@@ -15,7 +15,6 @@ pub mod Parts
 pub mod Sections
 pub mod SectionsAgain
 pub mod Whole
-pub mod ConstantSpelled
 pub mod Behind
 pub mod WithinCode
 pub mod WithinModule

@@ -1,8 +1,5 @@
 // Laws of the format. Each is the contract of a function that does nothing.
 ghost use Rattle.std.specs.Prelude.{◌≡◌, ℕ, ◌≤◌, ◌⊎◌, List, length};
-ghost use Rattle.wasm_tree.specs.ConstantModule.{IsConstantModule};
-ghost use Rattle.wasm_tree.specs.ConstantTree.{tree_of_constant};
-ghost use Rattle.wasm_tree.specs.declared.constant_module.ConstantInstr.{ConstantInstr as Constant};
 ghost use Rattle.wasm_tree.specs.declared.tree.Module.{Module as Tree};
 ghost use Rattle.wasm_spelling.specs.declared.fault.ReadFault.{ReadFault as Fault};
 ghost use Rattle.wasm_spelling.specs.ModuleFields.{Spells};
@@ -21,12 +18,6 @@ pub fn each_file_has_one_reading()
         → Upto bytes fault → Upto bytes other → fault ≡ other }
     ensures not_both { (bytes : List ℕ) (tree : Tree) (fault : Fault)
         → Spells tree bytes → Upto bytes fault → ⊥ }
-{}
-
-/// The file of a module of one constant function spells the tree of this module.
-pub fn constant_modules_are_spelled()
-    ensures { (bytes name : List ℕ) (code : List Constant)
-        → IsConstantModule bytes name code → Spells (tree_of_constant name code) bytes }
 {}
 
 /// A module that has a file, places aside, keeps within the limits of reading. What a file spells has a file.

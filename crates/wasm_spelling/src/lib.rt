@@ -8,7 +8,4 @@ mod laws;
 
 pub use cases::file_cases;
 pub use fault::{Cause, ReadFault, Which};
-pub use laws::{
-    a_formed_module_keeps_within_the_limits, constant_modules_are_spelled,
-    each_file_has_one_reading,
-};
+pub use laws::{a_formed_module_keeps_within_the_limits, each_file_has_one_reading};

@@ -1,4 +1,3 @@
-pub mod OneSpelling
 pub mod Lists
 pub mod ExactTable
 pub mod Imports

@@ -1,7 +1,5 @@
 pub mod AccessWidths
 pub mod Appended
-pub mod ConstantModule
-pub mod ConstantTree
 pub mod InstructionTable
 pub mod Forms
 pub mod IndexSpaces

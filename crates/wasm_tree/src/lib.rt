@@ -2,14 +2,12 @@
 #![tactic(auto)]
 
 mod code;
-mod constant_module;
 mod defined;
 mod entries;
 mod instruction_table;
 mod tree;
 
 pub use code::{Code, ElsePart, Indexes, Instr, Kind, MemArg};
-pub use constant_module::{ConstantCode, ConstantInstr, ConstantModule, one_constant_module};
 pub use defined::bodies_stand_behind_imports;
 pub use entries::{
     BodyEntries, BodyEntry, ElementEntries, ElementEntry, Export, ExportKind, Exports, FuncEntries,

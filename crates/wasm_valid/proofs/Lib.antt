@@ -3,7 +3,6 @@ pub mod Exact
 pub mod Completions
 pub mod FirstFaults
 pub mod Verdicts
-pub mod ConstantModules
 pub mod Files
 pub mod Piles
 pub mod Needs

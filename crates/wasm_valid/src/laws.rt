@@ -1,8 +1,5 @@
 // Laws of the definitions. Each is the contract of a function that does nothing.
 ghost use Rattle.std.specs.Prelude.{◌≡◌, ◌≤◌, ◌⊎◌, ℕ, List, length};
-ghost use Rattle.wasm_tree.specs.ConstantModule.{IsConstantModule};
-ghost use Rattle.wasm_tree.specs.ConstantTree.{tree_of_constant};
-ghost use Rattle.wasm_tree.specs.declared.constant_module.ConstantInstr.{ConstantInstr as Constant};
 ghost use Rattle.wasm_tree.specs.declared.entries.BodyEntry.{BodyEntry as Body};
 ghost use Rattle.wasm_valid.specs.declared.fault.Fault.{Fault as BodyFault};
 ghost use Rattle.wasm_valid.specs.Context.{Context};
@@ -35,10 +32,4 @@ pub fn each_file_has_one_verdict()
     ensures some { (bytes : List ℕ) → length bytes ≤ 8388608 → (verdict : FileVerdict) × IsVerdictOn bytes verdict }
     ensures one { (bytes : List ℕ) (verdict other : FileVerdict)
         → IsVerdictOn bytes verdict → IsVerdictOn bytes other → verdict ≡ other }
-{}
-
-/// The tree of a module of one constant function is valid.
-pub fn constant_modules_are_valid()
-    ensures { (bytes name : List ℕ) (code : List Constant)
-        → IsConstantModule bytes name code → IsValid (tree_of_constant name code) }
 {}

@@ -19,7 +19,7 @@ mod valid;
 pub use cases::{body_cases, module_cases};
 pub use fault::{Fault, ValidCause, ValidRefusal};
 pub use laws::{
-    constant_modules_are_valid, each_body_has_a_typing_or_one_first_fault,
-    each_file_has_one_verdict, each_module_has_one_verdict,
+    each_body_has_a_typing_or_one_first_fault, each_file_has_one_verdict,
+    each_module_has_one_verdict,
 };
 pub use valid::ValidModule;
