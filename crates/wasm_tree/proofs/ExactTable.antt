@@ -4,7 +4,7 @@ use Rattle.std.proofs.Common.{◌≡◌, ℕ, Bool, true, false, cond, eqb, List
 use Rattle.std.specs.List.{AllByRecursion}
 use Rattle.std.proofs.lemmas.Bool.{eqb-true}
 use Rattle.w2c_base.specs.declared.value.ValType.TheVariants as type
-use Rattle.wasm_tree.specs.Instructions.{Kind, Unreachable, Nop, Return, Drop, Select, MemorySize, MemoryGrow, Block, Loop, If, Br, BrIf, BrTable, Call, CallIndirect, LocalGet, LocalSet, LocalTee, GlobalGet, GlobalSet, Load, Store, I32Const, I64Const, Eqz, Compare, Unary, Binary, I32WrapI64, I64ExtendI32S, I64ExtendI32U, Eq, Ne, LtS, LtU, GtS, GtU, LeS, LeU, GeS, GeU, Clz, Ctz, Popcnt, Add, Sub, Mul, DivS, DivU, RemS, RemU, And, Or, Xor, Shl, ShrS, ShrU, Rotl, Rotr, I32Load, I64Load, I32Load8S, I32Load8U, I32Load16S, I32Load16U, I64Load8S, I64Load8U, I64Load16S, I64Load16U, I64Load32S, I64Load32U, I32Store, I64Store, I32Store8, I32Store16, I64Store8, I64Store16, I64Store32}
+use Rattle.wasm_tree.specs.Instructions.{Kind, Unreachable, Nop, Return, Drop, Select, MemorySize, MemoryGrow, MemoryCopy, MemoryFill, Block, Loop, If, Br, BrIf, BrTable, Call, CallIndirect, LocalGet, LocalSet, LocalTee, GlobalGet, GlobalSet, Load, Store, I32Const, I64Const, Eqz, Compare, Unary, Binary, I32WrapI64, I64ExtendI32S, I64ExtendI32U, Extend, Eq, Ne, LtS, LtU, GtS, GtU, LeS, LeU, GeS, GeU, Clz, Ctz, Popcnt, Add, Sub, Mul, DivS, DivU, RemS, RemU, And, Or, Xor, Shl, ShrS, ShrU, Rotl, Rotr, I32Load, I64Load, I32Load8S, I32Load8U, I32Load16S, I32Load16U, I64Load8S, I64Load8U, I64Load16S, I64Load16U, I64Load32S, I64Load32U, I32Store, I64Store, I32Store8, I32Store16, I64Store8, I64Store16, I64Store32, I32Extend8S, I32Extend16S, I64Extend8S, I64Extend16S, I64Extend32S}
 use Rattle.wasm_tree.specs.InstructionTable.{Form, Row, rows, first_row, row_of}
 use Rattle.wasm_tree.specs.Forms.{HasRow, Makes}
 
@@ -54,6 +54,8 @@ has_row (Store I64Store16 m) f h = h
 has_row (Store I64Store32 m) f h = h
 has_row MemorySize f h = h
 has_row MemoryGrow f h = h
+has_row MemoryCopy f h = h
+has_row MemoryFill f h = h
 has_row (I32Const n) f h = h
 has_row (I64Const n) f h = h
 has_row (Eqz type.I32) f h = h
@@ -117,13 +119,18 @@ has_row (Binary type.I64 Rotr) f h = h
 has_row I32WrapI64 f h = h
 has_row I64ExtendI32S f h = h
 has_row I64ExtendI32U f h = h
+has_row (Extend I32Extend8S) f h = h
+has_row (Extend I32Extend16S) f h = h
+has_row (Extend I64Extend8S) f h = h
+has_row (Extend I64Extend16S) f h = h
+has_row (Extend I64Extend32S) f h = h
 
 abbrev RowMakes : Row → Type 0
 RowMakes r = Makes r.opcode r.form
 
 all_make : AllByRecursion RowMakes rows
 all_make =
-    ((refl, refl), ((refl, refl), (λ n. (refl, refl), (λ n. (refl, refl), (λ ls d. (refl, refl), ((refl, refl), (λ n. (refl, refl), (λ n. (refl, refl), ((refl, refl), ((refl, refl), (λ n. (refl, refl), (λ n. (refl, refl), (λ n. (refl, refl), (λ n. (refl, refl), (λ n. (refl, refl), (λ m. (refl, refl), (λ m. (refl, refl), (λ m. (refl, refl), (λ m. (refl, refl), (λ m. (refl, refl), (λ m. (refl, refl), (λ m. (refl, refl), (λ m. (refl, refl), (λ m. (refl, refl), (λ m. (refl, refl), (λ m. (refl, refl), (λ m. (refl, refl), (λ m. (refl, refl), (λ m. (refl, refl), (λ m. (refl, refl), (λ m. (refl, refl), (λ m. (refl, refl), (λ m. (refl, refl), (λ m. (refl, refl), ((refl, refl), ((refl, refl), (λ n. (refl, refl), (λ n. (refl, refl), ((refl, refl), ((refl, refl), ((refl, refl), ((refl, refl), ((refl, refl), ((refl, refl), ((refl, refl), ((refl, refl), ((refl, refl), ((refl, refl), ((refl, refl), ((refl, refl), ((refl, refl), ((refl, refl), ((refl, refl), ((refl, refl), ((refl, refl), ((refl, refl), ((refl, refl), ((refl, refl), ((refl, refl), ((refl, refl), ((refl, refl), ((refl, refl), ((refl, refl), ((refl, refl), ((refl, refl), ((refl, refl), ((refl, refl), ((refl, refl), ((refl, refl), ((refl, refl), ((refl, refl), ((refl, refl), ((refl, refl), ((refl, refl), ((refl, refl), ((refl, refl), ((refl, refl), ((refl, refl), ((refl, refl), ((refl, refl), ((refl, refl), ((refl, refl), ((refl, refl), ((refl, refl), ((refl, refl), ((refl, refl), ((refl, refl), ((refl, refl), ((refl, refl), ((refl, refl), ((refl, refl), ((refl, refl), ((refl, refl), ((refl, refl), ((refl, refl), ((refl, refl), ((refl, refl), ((refl, refl), ((refl, refl), tt)))))))))))))))))))))))))))))))))))))))))))))))))))))))))))))))))))))))))))))))))))))))))))))))))))
+    ((refl, refl), ((refl, refl), (λ n. (refl, refl), (λ n. (refl, refl), (λ ls d. (refl, refl), ((refl, refl), (λ n. (refl, refl), (λ n. (refl, refl), ((refl, refl), ((refl, refl), (λ n. (refl, refl), (λ n. (refl, refl), (λ n. (refl, refl), (λ n. (refl, refl), (λ n. (refl, refl), (λ m. (refl, refl), (λ m. (refl, refl), (λ m. (refl, refl), (λ m. (refl, refl), (λ m. (refl, refl), (λ m. (refl, refl), (λ m. (refl, refl), (λ m. (refl, refl), (λ m. (refl, refl), (λ m. (refl, refl), (λ m. (refl, refl), (λ m. (refl, refl), (λ m. (refl, refl), (λ m. (refl, refl), (λ m. (refl, refl), (λ m. (refl, refl), (λ m. (refl, refl), (λ m. (refl, refl), (λ m. (refl, refl), ((refl, refl), ((refl, refl), (λ n. (refl, refl), (λ n. (refl, refl), ((refl, refl), ((refl, refl), ((refl, refl), ((refl, refl), ((refl, refl), ((refl, refl), ((refl, refl), ((refl, refl), ((refl, refl), ((refl, refl), ((refl, refl), ((refl, refl), ((refl, refl), ((refl, refl), ((refl, refl), ((refl, refl), ((refl, refl), ((refl, refl), ((refl, refl), ((refl, refl), ((refl, refl), ((refl, refl), ((refl, refl), ((refl, refl), ((refl, refl), ((refl, refl), ((refl, refl), ((refl, refl), ((refl, refl), ((refl, refl), ((refl, refl), ((refl, refl), ((refl, refl), ((refl, refl), ((refl, refl), ((refl, refl), ((refl, refl), ((refl, refl), ((refl, refl), ((refl, refl), ((refl, refl), ((refl, refl), ((refl, refl), ((refl, refl), ((refl, refl), ((refl, refl), ((refl, refl), ((refl, refl), ((refl, refl), ((refl, refl), ((refl, refl), ((refl, refl), ((refl, refl), ((refl, refl), ((refl, refl), ((refl, refl), ((refl, refl), ((refl, refl), ((refl, refl), ((refl, refl), ((refl, refl), ((refl, refl), ((refl, refl), ((refl, refl), ((refl, refl), ((refl, refl), (((refl, refl), ((refl, refl), tt)), tt)))))))))))))))))))))))))))))))))))))))))))))))))))))))))))))))))))))))))))))))))))))))))))))))))))))))))
 
 chosen_row : (opcode : ℕ) (first r : Row) (more : Option Row) (b : Bool) → eqb first.opcode opcode ≡ b → RowMakes first → (more ≡ Some r → Makes opcode r.form) → cond b (Some first) more ≡ Some r → Makes opcode r.form
 chosen_row opcode first r more true e m later is =

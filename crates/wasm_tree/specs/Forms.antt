@@ -1,9 +1,10 @@
 -- The row of an instruction: the form that its opcode's row has, and that each instruction of a row
 -- has the row's opcode and form.
 use Rattle.std.specs.Prelude.{◌≡◌, ℕ, ℤ, List, Option, Some, None}
+use Rattle.std.specs.List.{AllByRecursion}
 use Rattle.wasm_tree.specs.declared.code.MemArg.{MemArg}
-use Rattle.wasm_tree.specs.Instructions.{Kind, MemorySize, MemoryGrow, Block, Loop, If, Br, BrIf, BrTable, Call, CallIndirect, LocalGet, LocalSet, LocalTee, GlobalGet, GlobalSet, Load, Store, I32Const, I64Const}
-use Rattle.wasm_tree.specs.InstructionTable.{Form, nothing, an_index, a_mem_arg, labels, a_type, a_zero, an_i32, an_i64, Row, row_of}
+use Rattle.wasm_tree.specs.Instructions.{Kind, MemorySize, MemoryGrow, MemoryCopy, MemoryFill, Block, Loop, If, Br, BrIf, BrTable, Call, CallIndirect, LocalGet, LocalSet, LocalTee, GlobalGet, GlobalSet, Load, Store, I32Const, I64Const}
+use Rattle.wasm_tree.specs.InstructionTable.{Form, nothing, an_index, a_mem_arg, labels, a_type, a_zero, an_i32, an_i64, a_sub_opcode, Row, row_of, prefixed}
 use Rattle.wasm_tree.specs.Opcodes.{opcode_of}
 
 -- the form of an instruction that is no block
@@ -25,6 +26,8 @@ form_of (Load op arg) = Some (a_mem_arg (Load op))
 form_of (Store op arg) = Some (a_mem_arg (Store op))
 form_of MemorySize = Some (a_zero MemorySize)
 form_of MemoryGrow = Some (a_zero MemoryGrow)
+form_of MemoryCopy = Some a_sub_opcode
+form_of MemoryFill = Some a_sub_opcode
 form_of (I32Const number) = Some (an_i32 I32Const)
 form_of (I64Const number) = Some (an_i64 I64Const)
 form_of kind = Some (nothing kind)
@@ -48,3 +51,4 @@ Makes opcode (a_type make) = (n : ℕ) → (opcode_of (make n) ≡ opcode) × (f
 Makes opcode (a_zero kind) = (opcode_of kind ≡ opcode) × (form_of kind ≡ Some (a_zero kind))
 Makes opcode (an_i32 make) = (n : ℤ) → (opcode_of (make n) ≡ opcode) × (form_of (make n) ≡ Some (an_i32 make))
 Makes opcode (an_i64 make) = (n : ℤ) → (opcode_of (make n) ≡ opcode) × (form_of (make n) ≡ Some (an_i64 make))
+Makes opcode a_sub_opcode = AllByRecursion (λ r. (opcode_of r.kind ≡ opcode) × (form_of r.kind ≡ Some a_sub_opcode)) prefixed

@@ -4,7 +4,7 @@ use Rattle.std.specs.Prelude.{ℕ, ℤ, List, [], ◌∷◌, Option, Some, None,
 use Rattle.w2c_base.specs.declared.value.ValType.{ValType}
 use Rattle.w2c_base.specs.declared.value.ValType.TheVariants as type
 use Rattle.wasm_tree.specs.declared.code.MemArg.{MemArg}
-use Rattle.wasm_tree.specs.Instructions.{Kind, Unreachable, Nop, Return, Drop, Select, MemorySize, MemoryGrow, Br, BrIf, BrTable, Call, CallIndirect, LocalGet, LocalSet, LocalTee, GlobalGet, GlobalSet, Load, Store, I32Const, I64Const, Eqz, Compare, Unary, Binary, I32WrapI64, I64ExtendI32S, I64ExtendI32U, Eq, Ne, LtS, LtU, GtS, GtU, LeS, LeU, GeS, GeU, Clz, Ctz, Popcnt, Add, Sub, Mul, DivS, DivU, RemS, RemU, And, Or, Xor, Shl, ShrS, ShrU, Rotl, Rotr, I32Load, I64Load, I32Load8S, I32Load8U, I32Load16S, I32Load16U, I64Load8S, I64Load8U, I64Load16S, I64Load16U, I64Load32S, I64Load32U, I32Store, I64Store, I32Store8, I32Store16, I64Store8, I64Store16, I64Store32}
+use Rattle.wasm_tree.specs.Instructions.{Kind, Unreachable, Nop, Return, Drop, Select, MemorySize, MemoryGrow, MemoryCopy, MemoryFill, Br, BrIf, BrTable, Call, CallIndirect, LocalGet, LocalSet, LocalTee, GlobalGet, GlobalSet, Load, Store, I32Const, I64Const, Eqz, Compare, Unary, Binary, I32WrapI64, I64ExtendI32S, I64ExtendI32U, Extend, Eq, Ne, LtS, LtU, GtS, GtU, LeS, LeU, GeS, GeU, Clz, Ctz, Popcnt, Add, Sub, Mul, DivS, DivU, RemS, RemU, And, Or, Xor, Shl, ShrS, ShrU, Rotl, Rotr, I32Load, I64Load, I32Load8S, I32Load8U, I32Load16S, I32Load16U, I64Load8S, I64Load8U, I64Load16S, I64Load16U, I64Load32S, I64Load32U, I32Store, I64Store, I32Store8, I32Store16, I64Store8, I64Store16, I64Store32, I32Extend8S, I32Extend16S, I64Extend8S, I64Extend16S, I64Extend32S}
 
 -- the immediates, in order
 pub data Form : Type 0 where
@@ -19,6 +19,8 @@ pub data Form : Type 0 where
   -- the byte 00
   a_zero : Kind → Form
   an_i32 an_i64 : (ℤ → Kind) → Form
+  -- a number that says which instruction it is, and so many bytes 00: see `prefixed`
+  a_sub_opcode : Form
 
 -- operands to results; for some instructions the place in the module says more
 pub data Typing : Type 0 where
@@ -134,6 +136,12 @@ rows =
     ∷ row 0xA7 (nothing I32WrapI64) (of_types (type.I64 ∷ []) (type.I32 ∷ []))
     ∷ row 0xAC (nothing I64ExtendI32S) (of_types (type.I32 ∷ []) (type.I64 ∷ []))
     ∷ row 0xAD (nothing I64ExtendI32U) (of_types (type.I32 ∷ []) (type.I64 ∷ []))
+    ∷ row 0xC0 (nothing (Extend I32Extend8S)) (of_types (type.I32 ∷ []) (type.I32 ∷ []))
+    ∷ row 0xC1 (nothing (Extend I32Extend16S)) (of_types (type.I32 ∷ []) (type.I32 ∷ []))
+    ∷ row 0xC2 (nothing (Extend I64Extend8S)) (of_types (type.I64 ∷ []) (type.I64 ∷ []))
+    ∷ row 0xC3 (nothing (Extend I64Extend16S)) (of_types (type.I64 ∷ []) (type.I64 ∷ []))
+    ∷ row 0xC4 (nothing (Extend I64Extend32S)) (of_types (type.I64 ∷ []) (type.I64 ∷ []))
+    ∷ row 0xFC a_sub_opcode (of_types (type.I32 ∷ type.I32 ∷ type.I32 ∷ []) [])
     ∷ []
 
 abbrev pub first_row : ℕ → List Row → Option Row
@@ -142,3 +150,23 @@ first_row opcode (r ∷ rest) = if r.opcode == opcode then Some r else first_row
 
 abbrev pub row_of : ℕ → Option Row
 row_of opcode = first_row opcode rows
+
+-- the instructions whose opcode is the byte FC (Core 2.0, 5.4.6): a row has the sub-opcode, the instruction, and how many bytes
+-- 00 stand behind the sub-opcode
+pub record Prefixed : Type 0 where
+  pub sub_opcode : ℕ
+  pub kind : Kind
+  pub zeros : ℕ
+
+abbrev prefixed_row : ℕ → Kind → ℕ → Prefixed
+prefixed_row sub_opcode kind zeros = record { sub_opcode = sub_opcode; kind = kind; zeros = zeros }
+
+abbrev pub prefixed : List Prefixed
+prefixed = prefixed_row 10 MemoryCopy 2 ∷ prefixed_row 11 MemoryFill 1 ∷ []
+
+abbrev first_prefixed : ℕ → List Prefixed → Option Prefixed
+first_prefixed sub_opcode [] = None
+first_prefixed sub_opcode (r ∷ rest) = if r.sub_opcode == sub_opcode then Some r else first_prefixed sub_opcode rest
+
+abbrev pub prefixed_of : ℕ → Option Prefixed
+prefixed_of sub_opcode = first_prefixed sub_opcode prefixed

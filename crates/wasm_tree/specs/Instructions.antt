@@ -1,4 +1,5 @@
--- Instructions as trees without where they lie in memory (WebAssembly Core 1.0, 2.4).
+-- Instructions as trees without where they lie in memory (WebAssembly Core 1.0, 2.4; Core 2.0 for the extensions of the low
+-- bits of a number, `memory.copy` and `memory.fill`).
 -- A place is a byte offset in the file.
 use Rattle.std.specs.Prelude.{ℕ, ℤ, List, Option}
 use Rattle.w2c_base.specs.declared.value.ValType.{ValType}
@@ -24,6 +25,10 @@ pub data LoadOp : Type 0 where
 pub data StoreOp : Type 0 where
   I32Store I64Store I32Store8 I32Store16 I64Store8 I64Store16 I64Store32 : StoreOp
 
+-- the low bits of a number, extended by their sign
+pub data ExtendOp : Type 0 where
+  I32Extend8S I32Extend16S I64Extend8S I64Extend16S I64Extend32S : ExtendOp
+
 mutual
   -- instructions in order, each with the place of its opcode
   pub data Code : Type 0 where
@@ -32,7 +37,7 @@ mutual
 
   -- what an instruction is, with its immediates
   pub data Kind : Type 0 where
-    Unreachable Nop Return Drop Select MemorySize MemoryGrow : Kind
+    Unreachable Nop Return Drop Select MemorySize MemoryGrow MemoryCopy MemoryFill : Kind
     Block Loop : (result : Option ValType) → (code : Code) → (end_place : ℕ) → Kind
     If : (result : Option ValType) → (code : Code) → (otherwise : Otherwise) → (end_place : ℕ) → Kind
     Br BrIf : (label : ℕ) → Kind
@@ -48,6 +53,7 @@ mutual
     Unary : ValType → UnaryOp → Kind
     Binary : ValType → BinaryOp → Kind
     I32WrapI64 I64ExtendI32S I64ExtendI32U : Kind
+    Extend : ExtendOp → Kind
 
   -- the second branch of an `if`
   pub data Otherwise : Type 0 where

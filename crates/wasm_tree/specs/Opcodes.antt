@@ -2,7 +2,7 @@
 use Rattle.std.specs.Prelude.{ℕ}
 use Rattle.w2c_base.specs.declared.value.ValType.{ValType}
 use Rattle.w2c_base.specs.declared.value.ValType.TheVariants as type
-use Rattle.wasm_tree.specs.Instructions.{UnaryOp, BinaryOp, CompareOp, LoadOp, StoreOp, Kind, Unreachable, Nop, Return, Drop, Select, MemorySize, MemoryGrow, Block, Loop, If, Br, BrIf, BrTable, Call, CallIndirect, LocalGet, LocalSet, LocalTee, GlobalGet, GlobalSet, Load, Store, I32Const, I64Const, Eqz, Compare, Unary, Binary, I32WrapI64, I64ExtendI32S, I64ExtendI32U, Eq, Ne, LtS, LtU, GtS, GtU, LeS, LeU, GeS, GeU, Clz, Ctz, Popcnt, Add, Sub, Mul, DivS, DivU, RemS, RemU, And, Or, Xor, Shl, ShrS, ShrU, Rotl, Rotr, I32Load, I64Load, I32Load8S, I32Load8U, I32Load16S, I32Load16U, I64Load8S, I64Load8U, I64Load16S, I64Load16U, I64Load32S, I64Load32U, I32Store, I64Store, I32Store8, I32Store16, I64Store8, I64Store16, I64Store32}
+use Rattle.wasm_tree.specs.Instructions.{UnaryOp, BinaryOp, CompareOp, LoadOp, StoreOp, ExtendOp, Kind, Unreachable, Nop, Return, Drop, Select, MemorySize, MemoryGrow, MemoryCopy, MemoryFill, Block, Loop, If, Br, BrIf, BrTable, Call, CallIndirect, LocalGet, LocalSet, LocalTee, GlobalGet, GlobalSet, Load, Store, I32Const, I64Const, Eqz, Compare, Unary, Binary, I32WrapI64, I64ExtendI32S, I64ExtendI32U, Extend, Eq, Ne, LtS, LtU, GtS, GtU, LeS, LeU, GeS, GeU, Clz, Ctz, Popcnt, Add, Sub, Mul, DivS, DivU, RemS, RemU, And, Or, Xor, Shl, ShrS, ShrU, Rotl, Rotr, I32Load, I64Load, I32Load8S, I32Load8U, I32Load16S, I32Load16U, I64Load8S, I64Load8U, I64Load16S, I64Load16U, I64Load32S, I64Load32U, I32Store, I64Store, I32Store8, I32Store16, I64Store8, I64Store16, I64Store32, I32Extend8S, I32Extend16S, I64Extend8S, I64Extend16S, I64Extend32S}
 
 -- memory instructions (5.4.4)
 abbrev pub load_opcode : LoadOp → ℕ
@@ -27,6 +27,13 @@ store_opcode I32Store16 = 0x3B
 store_opcode I64Store8 = 0x3C
 store_opcode I64Store16 = 0x3D
 store_opcode I64Store32 = 0x3E
+
+abbrev pub extend_opcode : ExtendOp → ℕ
+extend_opcode I32Extend8S = 0xC0
+extend_opcode I32Extend16S = 0xC1
+extend_opcode I64Extend8S = 0xC2
+extend_opcode I64Extend16S = 0xC3
+extend_opcode I64Extend32S = 0xC4
 
 -- numeric instructions (5.4.5)
 abbrev pub compare_opcode : ValType → CompareOp → ℕ
@@ -118,6 +125,8 @@ opcode_of (Load op arg) = load_opcode op
 opcode_of (Store op arg) = store_opcode op
 opcode_of MemorySize = 0x3F
 opcode_of MemoryGrow = 0x40
+opcode_of MemoryCopy = 0xFC
+opcode_of MemoryFill = 0xFC
 opcode_of (I32Const number) = 0x41
 opcode_of (I64Const number) = 0x42
 opcode_of (Eqz ty) = eqz_opcode ty
@@ -127,3 +136,4 @@ opcode_of (Binary ty op) = binary_opcode ty op
 opcode_of I32WrapI64 = 0xA7
 opcode_of I64ExtendI32S = 0xAC
 opcode_of I64ExtendI32U = 0xAD
+opcode_of (Extend op) = extend_opcode op

@@ -5,11 +5,11 @@ use Rattle.std.proofs.Common.{ap, ◌∙◌}
 use Rattle.w2c_base.specs.declared.value.ValType.{ValType}
 use Rattle.wasm_tree.specs.declared.code.MemArg.{MemArg}
 use Rattle.wasm_tree.specs.Instructions as tree
-use Rattle.wasm_tree.specs.Instructions.{UnaryOp, BinaryOp, CompareOp, LoadOp, StoreOp, Code, Kind, Otherwise, end_code, then_code, no_else, else_code}
+use Rattle.wasm_tree.specs.Instructions.{UnaryOp, BinaryOp, CompareOp, LoadOp, StoreOp, ExtendOp, Code, Kind, Otherwise, end_code, then_code, no_else, else_code}
 
 -- an instruction with no code inside it
 pub data Plain : Type 0 where
-  Unreachable Nop Return Drop Select MemorySize MemoryGrow : Plain
+  Unreachable Nop Return Drop Select MemorySize MemoryGrow MemoryCopy MemoryFill : Plain
   Br BrIf : ℕ → Plain
   BrTable : List ℕ → ℕ → Plain
   Call : ℕ → Plain
@@ -23,6 +23,7 @@ pub data Plain : Type 0 where
   Unary : ValType → UnaryOp → Plain
   Binary : ValType → BinaryOp → Plain
   I32WrapI64 I64ExtendI32S I64ExtendI32U : Plain
+  Extend : ExtendOp → Plain
 
 abbrev pub kind_of : Plain → Kind
 kind_of Unreachable = tree.Unreachable
@@ -32,6 +33,8 @@ kind_of Drop = tree.Drop
 kind_of Select = tree.Select
 kind_of MemorySize = tree.MemorySize
 kind_of MemoryGrow = tree.MemoryGrow
+kind_of MemoryCopy = tree.MemoryCopy
+kind_of MemoryFill = tree.MemoryFill
 kind_of (Br i) = tree.Br i
 kind_of (BrIf i) = tree.BrIf i
 kind_of (BrTable is d) = tree.BrTable is d
@@ -53,6 +56,7 @@ kind_of (Binary t op) = tree.Binary t op
 kind_of I32WrapI64 = tree.I32WrapI64
 kind_of I64ExtendI32S = tree.I64ExtendI32S
 kind_of I64ExtendI32U = tree.I64ExtendI32U
+kind_of (Extend op) = tree.Extend op
 
 pub data Mark : Type 0 where
   ends : Mark
@@ -71,6 +75,8 @@ marks (then_code p tree.Drop c) = marks c ++ is_plain p Drop ∷ []
 marks (then_code p tree.Select c) = marks c ++ is_plain p Select ∷ []
 marks (then_code p tree.MemorySize c) = marks c ++ is_plain p MemorySize ∷ []
 marks (then_code p tree.MemoryGrow c) = marks c ++ is_plain p MemoryGrow ∷ []
+marks (then_code p tree.MemoryCopy c) = marks c ++ is_plain p MemoryCopy ∷ []
+marks (then_code p tree.MemoryFill c) = marks c ++ is_plain p MemoryFill ∷ []
 marks (then_code p (tree.Br i) c) = marks c ++ is_plain p (Br i) ∷ []
 marks (then_code p (tree.BrIf i) c) = marks c ++ is_plain p (BrIf i) ∷ []
 marks (then_code p (tree.BrTable is d) c) = marks c ++ is_plain p (BrTable is d) ∷ []
@@ -92,6 +98,7 @@ marks (then_code p (tree.Binary t op) c) = marks c ++ is_plain p (Binary t op) �
 marks (then_code p tree.I32WrapI64 c) = marks c ++ is_plain p I32WrapI64 ∷ []
 marks (then_code p tree.I64ExtendI32S c) = marks c ++ is_plain p I64ExtendI32S ∷ []
 marks (then_code p tree.I64ExtendI32U c) = marks c ++ is_plain p I64ExtendI32U ∷ []
+marks (then_code p (tree.Extend op) c) = marks c ++ is_plain p (Extend op) ∷ []
 marks (then_code p (tree.Block r b e) c) = marks c ++ (marks b ++ is_block p r e ∷ [])
 marks (then_code p (tree.Loop r b e) c) = marks c ++ (marks b ++ is_loop p r e ∷ [])
 marks (then_code p (tree.If r b no_else e) c) = marks c ++ (marks b ++ is_one_sided p r e ∷ [])
@@ -131,6 +138,8 @@ unmark-marks (then_code p tree.Drop c) s = then_one (marks c) _ c s (unmark-mark
 unmark-marks (then_code p tree.Select c) s = then_one (marks c) _ c s (unmark-marks c s)
 unmark-marks (then_code p tree.MemorySize c) s = then_one (marks c) _ c s (unmark-marks c s)
 unmark-marks (then_code p tree.MemoryGrow c) s = then_one (marks c) _ c s (unmark-marks c s)
+unmark-marks (then_code p tree.MemoryCopy c) s = then_one (marks c) _ c s (unmark-marks c s)
+unmark-marks (then_code p tree.MemoryFill c) s = then_one (marks c) _ c s (unmark-marks c s)
 unmark-marks (then_code p (tree.Br i) c) s = then_one (marks c) _ c s (unmark-marks c s)
 unmark-marks (then_code p (tree.BrIf i) c) s = then_one (marks c) _ c s (unmark-marks c s)
 unmark-marks (then_code p (tree.BrTable is d) c) s = then_one (marks c) _ c s (unmark-marks c s)
@@ -152,6 +161,7 @@ unmark-marks (then_code p (tree.Binary t op) c) s = then_one (marks c) _ c s (un
 unmark-marks (then_code p tree.I32WrapI64 c) s = then_one (marks c) _ c s (unmark-marks c s)
 unmark-marks (then_code p tree.I64ExtendI32S c) s = then_one (marks c) _ c s (unmark-marks c s)
 unmark-marks (then_code p tree.I64ExtendI32U c) s = then_one (marks c) _ c s (unmark-marks c s)
+unmark-marks (then_code p (tree.Extend op) c) s = then_one (marks c) _ c s (unmark-marks c s)
 unmark-marks (then_code p (tree.Block r b e) c) s = then_one (marks c) _ c s (unmark-marks c s) ∙ then_one (marks b) _ b (c ∷ s) (unmark-marks b (c ∷ s))
 unmark-marks (then_code p (tree.Loop r b e) c) s = then_one (marks c) _ c s (unmark-marks c s) ∙ then_one (marks b) _ b (c ∷ s) (unmark-marks b (c ∷ s))
 unmark-marks (then_code p (tree.If r b no_else e) c) s = then_one (marks c) _ c s (unmark-marks c s) ∙ then_one (marks b) _ b (c ∷ s) (unmark-marks b (c ∷ s))

@@ -5,7 +5,7 @@ use Rattle.wasm_tree.specs.declared.code.Instr.{Instr}
 use Rattle.wasm_tree.specs.declared.code.Kind.{Kind as RustKind}
 use Rattle.wasm_tree.specs.declared.code.Kind.TheVariants as kind
 use Rattle.wasm_tree.specs.declared.code.ElsePart.{ElsePart}
-use Rattle.wasm_tree.specs.Instructions.{Code, end_code, then_code, Kind, Otherwise, no_else, else_code, Unreachable, Nop, Return, Drop, Select, MemorySize, MemoryGrow, Block, Loop, If, Br, BrIf, BrTable, Call, CallIndirect, LocalGet, LocalSet, LocalTee, GlobalGet, GlobalSet, Load, Store, I32Const, I64Const, Eqz, Compare, Unary, Binary, I32WrapI64, I64ExtendI32S, I64ExtendI32U, Eq, Ne, LtS, LtU, GtS, GtU, LeS, LeU, GeS, GeU, Clz, Ctz, Popcnt, Add, Sub, Mul, DivS, DivU, RemS, RemU, And, Or, Xor, Shl, ShrS, ShrU, Rotl, Rotr, I32Load, I64Load, I32Load8S, I32Load8U, I32Load16S, I32Load16U, I64Load8S, I64Load8U, I64Load16S, I64Load16U, I64Load32S, I64Load32U, I32Store, I64Store, I32Store8, I32Store16, I64Store8, I64Store16, I64Store32}
+use Rattle.wasm_tree.specs.Instructions.{Code, end_code, then_code, Kind, Otherwise, no_else, else_code, Unreachable, Nop, Return, Drop, Select, MemorySize, MemoryGrow, MemoryCopy, MemoryFill, Block, Loop, If, Br, BrIf, BrTable, Call, CallIndirect, LocalGet, LocalSet, LocalTee, GlobalGet, GlobalSet, Load, Store, I32Const, I64Const, Eqz, Compare, Unary, Binary, I32WrapI64, I64ExtendI32S, I64ExtendI32U, Extend, Eq, Ne, LtS, LtU, GtS, GtU, LeS, LeU, GeS, GeU, Clz, Ctz, Popcnt, Add, Sub, Mul, DivS, DivU, RemS, RemU, And, Or, Xor, Shl, ShrS, ShrU, Rotl, Rotr, I32Load, I64Load, I32Load8S, I32Load8U, I32Load16S, I32Load16U, I64Load8S, I64Load8U, I64Load16S, I64Load16U, I64Load32S, I64Load32U, I32Store, I64Store, I32Store8, I32Store16, I64Store8, I64Store16, I64Store32, I32Extend8S, I32Extend16S, I64Extend8S, I64Extend16S, I64Extend32S}
 use Rattle.wasm_tree.specs.Appended.{InstrTree}
 
 abbrev pub otherwise_tree : Option ElsePart → Otherwise
@@ -49,6 +49,8 @@ kind_tree (kind.I64Store16 arg) = Store I64Store16 arg
 kind_tree (kind.I64Store32 arg) = Store I64Store32 arg
 kind_tree kind.MemorySize = MemorySize
 kind_tree kind.MemoryGrow = MemoryGrow
+kind_tree kind.MemoryCopy = MemoryCopy
+kind_tree kind.MemoryFill = MemoryFill
 kind_tree (kind.I32Const number) = I32Const number
 kind_tree (kind.I64Const number) = I64Const number
 kind_tree kind.I32Eqz = Eqz type.I32
@@ -112,6 +114,11 @@ kind_tree kind.I64Rotr = Binary type.I64 Rotr
 kind_tree kind.I32WrapI64 = I32WrapI64
 kind_tree kind.I64ExtendI32S = I64ExtendI32S
 kind_tree kind.I64ExtendI32U = I64ExtendI32U
+kind_tree kind.I32Extend8S = Extend I32Extend8S
+kind_tree kind.I32Extend16S = Extend I32Extend16S
+kind_tree kind.I64Extend8S = Extend I64Extend8S
+kind_tree kind.I64Extend16S = Extend I64Extend16S
+kind_tree kind.I64Extend32S = Extend I64Extend32S
 kind_tree (kind.Block result code end_place) = Block result code end_place
 kind_tree (kind.Loop result code end_place) = Loop result code end_place
 kind_tree (kind.If result code otherwise end_place) = If result code (otherwise_tree otherwise) end_place

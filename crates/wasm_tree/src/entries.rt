@@ -86,6 +86,13 @@ pub struct Start {
     pub place: u32,
 }
 
+/// How many data segments there are, where a section says so before the bodies (Core 2.0, 5.5.16).
+#[derive(Clone, Copy, Debug, PartialEq, Eq)]
+pub struct DataCount {
+    pub count: u32,
+    pub place: u32,
+}
+
 /// A function in an element segment.
 #[derive(Clone, Copy, Debug, PartialEq, Eq)]
 pub struct FuncRef {

@@ -3,7 +3,7 @@ ghost use Rattle.std.specs.Prelude.{◌≡◌};
 ghost use Rattle.std.specs.Option.{option_copied};
 
 use crate::{
-    BodyEntries, ElementEntries, Exports, FuncEntries, GlobalEntries, ImportKind, Imports,
+    BodyEntries, DataCount, ElementEntries, Exports, FuncEntries, GlobalEntries, ImportKind, Imports,
     LimitsEntries, SegmentEntries, Start, TypeEntries,
 };
 use w2c_base::{FuncType, ValType};
@@ -21,6 +21,7 @@ pub struct Module {
     pub exports: Exports,
     pub start: Option<Start>,
     pub elements: ElementEntries,
+    pub data_count: Option<DataCount>,
     pub segments: SegmentEntries,
     pub bodies: BodyEntries,
 }
@@ -140,6 +141,7 @@ mod tests {
             exports: Exports::new(alloc),
             start: None,
             elements: ElementEntries::new(alloc),
+            data_count: None,
             segments: SegmentEntries::new(alloc),
             bodies: BodyEntries::new(alloc),
         };
