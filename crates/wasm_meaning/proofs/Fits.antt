@@ -11,9 +11,10 @@ use Rattle.w2c_base.specs.declared.trap.TrapKind.TheVariants.{DivByZero, IntOver
 use Rattle.std.specs.List.{AllByRecursion}
 use Rattle.w2c_base.specs.Values.{bits}
 use Rattle.w2c_base.specs.LittleEndian.{little_endian, bytes_at}
-use Rattle.wasm_tree.specs.Instructions.{UnaryOp, Clz, Ctz, Popcnt, BinaryOp, Add, Sub, Mul, DivS, DivU, RemS, RemU, And, Or, Xor, Shl, ShrS, ShrU, Rotl, Rotr, LoadOp, I32Load, I64Load, I32Load8S, I32Load8U, I32Load16S, I32Load16U, I64Load8S, I64Load8U, I64Load16S, I64Load16U, I64Load32S, I64Load32U}
+use Rattle.wasm_tree.specs.Instructions.{UnaryOp, Clz, Ctz, Popcnt, BinaryOp, Add, Sub, Mul, DivS, DivU, RemS, RemU, And, Or, Xor, Shl, ShrS, ShrU, Rotl, Rotr, LoadOp, I32Load, I64Load, I32Load8S, I32Load8U, I32Load16S, I32Load16U, I64Load8S, I64Load8U, I64Load16S, I64Load16U, I64Load32S, I64Load32U, ExtendOp}
+use Rattle.wasm_tree.specs.AccessWidths.{extend_width, extend_type}
 use Rattle.wasm_meaning.specs.Memories.{load_access, load_number, extended}
-use Rattle.wasm_meaning.specs.Operators.{Answer, Gives, Traps, AnswerFits, signed, pattern_of, overflows, unary, binary}
+use Rattle.wasm_meaning.specs.Operators.{Answer, Gives, Traps, AnswerFits, signed, pattern_of, overflows, unary, binary, extend_s}
 
 pub pattern_below : (N : ℕ) (z : ℤ) → pattern_of N z < 2 ^ N
 pattern_below N (pos a) = mod-lt a (pow_pos N)
@@ -116,3 +117,6 @@ load_fits op bytes address h =
     (Gives (extended op (little_endian (bytes_at bytes address (load_access op).width)))) (Traps MemoryOut)
     (extended_fits op (little_endian (bytes_at bytes address (load_access op).width)) (read_below bytes address (load_access op).width h))
     tt
+
+pub extend_fits : (op : ExtendOp) (x : ℕ) → extend_s (extend_width op) (bits (extend_type op)) x < 2 ^ bits (extend_type op)
+extend_fits op x = pattern_below (bits (extend_type op)) _

@@ -10,12 +10,12 @@ use Rattle.w2c_base.specs.declared.trap.TrapKind.TheVariants as trap
 use Rattle.w2c_base.specs.Lookup.{if_found}
 use Rattle.w2c_base.specs.Values.{types_of, equal_types, equal_func_types, is_result, zeros}
 use Rattle.w2c_base.specs.Run.{Reply, Gave, HostTrapped, Ask, Event, Trail, asked}
-use Rattle.wasm_tree.specs.Instructions.{Code, end_code, then_code, Kind, Otherwise, no_else, else_code, Unreachable, Nop, Return, Drop, Block, Loop, If, Br, BrIf, BrTable, Call, CallIndirect}
+use Rattle.wasm_tree.specs.Instructions.{Code, end_code, then_code, Kind, Otherwise, no_else, else_code, Unreachable, Nop, Return, Drop, Block, Loop, If, Br, BrIf, BrTable, Call, CallIndirect, MemoryCopy, MemoryFill}
 use Rattle.wasm_tree.specs.declared.entries.BodyEntry.{BodyEntry}
 use Rattle.wasm_tree.specs.IndexSpaces.{declared_locals}
 use Rattle.wasm_meaning.specs.LinkedSet.{LinkedSet, FuncAddress, ModuleFunc, HostFunc, func_at, table_at, type_at, func_type, body_of}
 use Rattle.wasm_meaning.specs.Store as store
-use Rattle.wasm_meaning.specs.Execution.{Stop, Trapped, Asks, OutOfSteps, Stuck, Result, Normal, Branch, Returned, Stops, Called, Back, CallStops, Calls, Done, Leaves, Faults, NoRule, spend, did, dropped, and_then, top, onto, leave, turn, turns, choose, pick, came_back, invoke, call, call_element, call_indirect, exec, exec_kind, exec_else, plain, gives_all, gives_top, gave, finish, enter, replied, call_within}
+use Rattle.wasm_meaning.specs.Execution.{Stop, Trapped, Asks, OutOfSteps, Stuck, Result, Normal, Branch, Returned, Stops, Called, Back, CallStops, Calls, Done, Leaves, Faults, NoRule, spend, spend_all, did, did_all, count_on, dropped, and_then, top, onto, leave, turn, turns, choose, pick, came_back, invoke, call, call_element, call_indirect, exec, exec_kind, exec_else, plain, gives_all, gives_top, gave, finish, enter, replied, call_within}
 
 -- the second is the first with so much more left, where the first was not out of steps
 abbrev pub Longer : ℕ → Result → Result → Type 0
@@ -61,6 +61,17 @@ did_longer : (d n : ℕ) (state : store.State) (o : Done) → Longer d (did n st
 did_longer d n state (Leaves stack after) = refl
 did_longer d n state (Faults kind) = refl
 did_longer d n state NoRule = refl
+
+spent_all : (d count n : ℕ) (state : store.State) (go : ℕ → Result) → ((m : ℕ) → Longer d (go m) (go (m + d)))
+    → Longer d (spend_all count n state go) (spend_all count (n + d) state go)
+spent_all d zero n state go h = h n
+spent_all d (suc count) n state go h =
+    spent d n state (λ left. spend_all count left state go) (λ m. spent_all d count m state go h)
+
+did_all_longer : (d count n : ℕ) (state : store.State) (o : Done) → Longer d (did_all count n state o) (did_all count (n + d) state o)
+did_all_longer d count n state (Leaves stack after) = spent_all d count n state (λ left. Normal left stack after) (λ m. refl)
+did_all_longer d count n state (Faults kind) = refl
+did_all_longer d count n state NoRule = refl
 
 and_then_longer : (d : ℕ) (r s : Result) (go : ℕ → List Value → store.State → Result) → Longer d r s
     → ((n : ℕ) (stack : List Value) (state : store.State) → Longer d (go n stack state) (go (n + d) stack state))
@@ -196,6 +207,10 @@ call_indirect_longer d s calls h (Some t) (Some want) n (I64 i ∷ stack) state 
 plain_longer : (d : ℕ) (o : Done) (n : ℕ) (state : store.State) → Longer d (spend n state (λ left. did left state o)) (spend (n + d) state (λ left. did left state o))
 plain_longer d o n state = spent d n state (λ left. did left state o) (λ m. did_longer d m state o)
 
+counted_longer : (d count : ℕ) (o : Done) (n : ℕ) (state : store.State)
+    → Longer d (spend n state (λ left. did_all count left state o)) (spend (n + d) state (λ left. did_all count left state o))
+counted_longer d count o n state = spent d n state (λ left. did_all count left state o) (λ m. did_all_longer d count m state o)
+
 mutual
   exec_longer : (d : ℕ) (s : LinkedSet) (calls : Calls) → LongerCalls d calls
       → (p : ℕ) (code : Code) (n : ℕ) (stack : List Value) (state : store.State)
@@ -240,6 +255,8 @@ mutual
       (λ left. call_indirect s calls (if_found (table_at s p 0) (store.table_in state.store)) (type_at s p type_index) left stack state)
       (λ m. call_indirect_longer d s calls h (if_found (table_at s p 0) (store.table_in state.store))
       (type_at s p type_index) m stack state)
+  kind_longer d s calls h p MemoryCopy n stack state = counted_longer d (count_on stack) (plain s p MemoryCopy stack state) n state
+  kind_longer d s calls h p MemoryFill n stack state = counted_longer d (count_on stack) (plain s p MemoryFill stack state) n state
   kind_longer d s calls h p kind n stack state = plain_longer d (plain s p kind stack state) n state
 
   else_longer : (d : ℕ) (s : LinkedSet) (calls : Calls) → LongerCalls d calls

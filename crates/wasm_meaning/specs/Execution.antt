@@ -1,5 +1,6 @@
--- The execution of instructions with a budget of steps (WebAssembly Core 1.0, 4.4). `nop`, `drop`,
--- `block`, `loop` and the ends of blocks cost nothing, every other instruction one step.
+-- The execution of instructions with a budget of steps (WebAssembly Core 1.0, 4.4; Core 2.0, 4.4.7 for copied and filled
+-- bytes). `nop`, `drop`, `block`, `loop` and the ends of blocks cost nothing. `memory.copy` and `memory.fill` cost one step and
+-- one more for each byte, unless they trap, every other instruction one step.
 use Rattle.std.specs.Prelude.{ℕ, zero, suc, ◌+◌, ◌%◌, ◌^◌, ◌==◌, Bool, false, ◌&&◌, List, [], ◌∷◌, ◌++◌, if◌then◌else◌, take, drop, reverse, length, slice_get, slice_set, Option, Some, None, unwrap_or}
 use Rattle.w2c_base.specs.declared.value.ValType.{ValType}
 use Rattle.w2c_base.specs.declared.value.ValType.TheVariants as type
@@ -11,11 +12,12 @@ use Rattle.w2c_base.specs.declared.trap.TrapKind.TheVariants as trap
 use Rattle.w2c_base.specs.Values.{bits, value, number_of, type_of, types_of, equal_type, equal_types, equal_func_types, is_result, zeros}
 use Rattle.w2c_base.specs.Lookup.{if_found}
 use Rattle.w2c_base.specs.Run.{Reply, Gave, HostTrapped, Ask, Event, Trail, asked}
-use Rattle.wasm_tree.specs.Instructions.{Code, end_code, then_code, Kind, Otherwise, no_else, else_code, LoadOp, StoreOp, Unreachable, Nop, Return, Drop, Select, MemorySize, MemoryGrow, Block, Loop, If, Br, BrIf, BrTable, Call, CallIndirect, LocalGet, LocalSet, LocalTee, GlobalGet, GlobalSet, Load, Store, I32Const, I64Const, Eqz, Compare, Unary, Binary, I32WrapI64, I64ExtendI32S, I64ExtendI32U}
+use Rattle.wasm_tree.specs.Instructions.{Code, end_code, then_code, Kind, Otherwise, no_else, else_code, LoadOp, StoreOp, Unreachable, Nop, Return, Drop, Select, MemorySize, MemoryGrow, MemoryCopy, MemoryFill, Block, Loop, If, Br, BrIf, BrTable, Call, CallIndirect, LocalGet, LocalSet, LocalTee, GlobalGet, GlobalSet, Load, Store, I32Const, I64Const, Eqz, Compare, Unary, Binary, I32WrapI64, I64ExtendI32S, I64ExtendI32U, Extend}
+use Rattle.wasm_tree.specs.AccessWidths.{extend_width, extend_type}
 use Rattle.wasm_tree.specs.declared.entries.BodyEntry.{BodyEntry}
 use Rattle.wasm_tree.specs.IndexSpaces.{declared_locals}
 use Rattle.wasm_meaning.specs.Operators.{Answer, Gives, Traps, pattern_of, truth, extend_s, unary, binary, compare}
-use Rattle.wasm_meaning.specs.Memories.{load_access, store_access, load_number, store_number}
+use Rattle.wasm_meaning.specs.Memories.{load_access, store_access, load_number, store_number, copy_bytes, fill_bytes}
 use Rattle.wasm_meaning.specs.LinkedSet.{LinkedSet, FuncAddress, ModuleFunc, HostFunc, GlobalAddress, func_at, table_at, memory_at, global_at, type_at, func_type, global_type, body_of}
 use Rattle.wasm_meaning.specs.Store as store
 
@@ -110,11 +112,14 @@ on_memory (Some owner) state go = elim (store.memory_in state.store owner) [ Non
 abbrev pub loaded : LoadOp → store.Memory → ℕ → List Value → store.State → Done
 loaded op m address stack state = answered (load_access op).ty (load_number op m.bytes address) stack state
 
+-- the bytes that a memory has then, or a trap
+abbrev pub written : ℕ → store.Memory → Option (List ℕ) → List Value → store.State → Done
+written owner m None stack state = Faults trap.MemoryOut
+written owner m (Some bytes) stack state =
+    Leaves stack (in_store state (store.with_memory state.store owner (record { bytes = bytes; max = m.max })))
+
 abbrev pub stored : StoreOp → ℕ → store.Memory → ℕ → ℕ → List Value → store.State → Done
-stored op owner m address n stack state = elim (store_number op m.bytes address n) [
-  | None ↦ Faults trap.MemoryOut
-  | Some bytes ↦ Leaves stack (in_store state (store.with_memory state.store owner (record { bytes = bytes; max = m.max })))
-]
+stored op owner m address n stack state = written owner m (store_number op m.bytes address n) stack state
 
 abbrev pub grown : ℕ → store.Memory → ℕ → List Value → store.State → Done
 grown owner m more stack state = elim (store.grown m more) [
@@ -137,6 +142,8 @@ plain s p (Binary t op) stack state = two_operands t stack (λ x y under.
 plain s p I32WrapI64 (I64 x ∷ stack) state = Leaves (I32 (x % 2 ^ 32) ∷ stack) state
 plain s p I64ExtendI32S (I32 x ∷ stack) state = Leaves (I64 (extend_s 32 64 x) ∷ stack) state
 plain s p I64ExtendI32U (I32 x ∷ stack) state = Leaves (I64 x ∷ stack) state
+plain s p (Extend op) stack state = one_operand (extend_type op) stack (λ x under.
+    Leaves (value (extend_type op) (extend_s (extend_width op) (bits (extend_type op)) x) ∷ under) state)
 plain s p Select stack state = selected stack state
 plain s p (LocalGet index) stack state = pushed (slice_get state.locals index) stack state
 plain s p (LocalSet index) (v ∷ stack) state = local_set index v stack state
@@ -151,6 +158,10 @@ plain s p (Store op arg) (v ∷ I32 base ∷ stack) state =
     else NoRule
 plain s p MemorySize stack state = on_memory (memory_at s p 0) state (λ owner m. Leaves (I32 (store.pages m) ∷ stack) state)
 plain s p MemoryGrow (I32 more ∷ stack) state = on_memory (memory_at s p 0) state (λ owner m. grown owner m more stack state)
+plain s p MemoryCopy (I32 count ∷ I32 from ∷ I32 to ∷ stack) state = on_memory (memory_at s p 0) state (λ owner m.
+    written owner m (copy_bytes m.bytes to from count) stack state)
+plain s p MemoryFill (I32 count ∷ I32 n ∷ I32 to ∷ stack) state = on_memory (memory_at s p 0) state (λ owner m.
+    written owner m (fill_bytes m.bytes to n count) stack state)
 plain s p _ stack state = NoRule
 
 -- one step is paid, where the budget has one
@@ -158,10 +169,26 @@ abbrev pub spend : ℕ → store.State → (ℕ → Result) → Result
 spend zero state go = Stops OutOfSteps state
 spend (suc n) state go = go n
 
+-- so many steps are paid
+abbrev pub spend_all : (count budget : ℕ) → store.State → (ℕ → Result) → Result
+spend_all zero n state go = go n
+spend_all (suc count) n state go = spend n state (λ left. spend_all count left state go)
+
 abbrev pub did : ℕ → store.State → Done → Result
 did n before (Leaves stack state) = Normal n stack state
 did n before (Faults kind) = Stops (Trapped kind) before
 did n before NoRule = Stops Stuck before
+
+-- what is done is paid by so many steps more, before anything is written
+abbrev pub did_all : (count budget : ℕ) → store.State → Done → Result
+did_all count n before (Leaves stack state) = spend_all count n before (λ left. Normal left stack state)
+did_all count n before (Faults kind) = Stops (Trapped kind) before
+did_all count n before NoRule = Stops Stuck before
+
+-- how many bytes `memory.copy` and `memory.fill` write: the uppermost operand
+abbrev pub count_on : List Value → ℕ
+count_on (I32 count ∷ stack) = count
+count_on _ = 0
 
 abbrev pub dropped : ℕ → List Value → store.State → Result
 dropped n [] state = Stops Stuck state
@@ -289,6 +316,10 @@ abbrev mutual
       call s calls (func_at s p index) left stack state)
   exec_kind s calls p (CallIndirect type_index) n stack state = spend n state (λ left.
       call_indirect s calls (if_found (table_at s p 0) (store.table_in state.store)) (type_at s p type_index) left stack state)
+  exec_kind s calls p MemoryCopy n stack state = spend n state (λ left.
+      did_all (count_on stack) left state (plain s p MemoryCopy stack state))
+  exec_kind s calls p MemoryFill n stack state = spend n state (λ left.
+      did_all (count_on stack) left state (plain s p MemoryFill stack state))
   exec_kind s calls p kind n stack state = spend n state (λ left. did left state (plain s p kind stack state))
 
   -- the second branch of an `if`

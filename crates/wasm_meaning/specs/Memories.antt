@@ -1,6 +1,6 @@
--- Loads and stores on the bytes of a memory (WebAssembly Core 1.0, 4.4.4). The address is base plus
--- offset as unbounded numbers.
-use Rattle.std.specs.Prelude.{ℕ, ◌+◌, ◌*◌, Bool, true, false, if◌then◌else◌, nat_le, List, length, Option, Some, None}
+-- Loads and stores on the bytes of a memory (WebAssembly Core 1.0, 4.4.4), where the address is base plus offset as
+-- unbounded numbers; and bytes copied and filled (Core 2.0, 4.4.7).
+use Rattle.std.specs.Prelude.{ℕ, ◌+◌, ◌*◌, ◌%◌, Bool, true, false, ◌&&◌, if◌then◌else◌, nat_le, List, length, replicate, Option, Some, None}
 use Rattle.w2c_base.specs.declared.value.ValType.{ValType}
 use Rattle.w2c_base.specs.declared.trap.TrapKind.TheVariants.{MemoryOut}
 use Rattle.w2c_base.specs.Values.{bits}
@@ -44,4 +44,18 @@ abbrev pub store_number : StoreOp → List ℕ → ℕ → ℕ → Option (List 
 store_number op bytes address n =
     if nat_le (address + (store_access op).width) (length bytes)
     then Some (with_bytes bytes address (low_bytes (store_access op).width n))
+    else None
+
+-- the bytes after so many old ones at one place are written at another, or none where either range passes the end
+abbrev pub copy_bytes : List ℕ → (to from count : ℕ) → Option (List ℕ)
+copy_bytes bytes to from count =
+    if nat_le (from + count) (length bytes) && nat_le (to + count) (length bytes)
+    then Some (with_bytes bytes to (bytes_at bytes from count))
+    else None
+
+-- the bytes after so many places hold the low byte of a number, or none where they pass the end
+abbrev pub fill_bytes : List ℕ → (at number count : ℕ) → Option (List ℕ)
+fill_bytes bytes at number count =
+    if nat_le (at + count) (length bytes)
+    then Some (with_bytes bytes at (replicate count (number % 256)))
     else None

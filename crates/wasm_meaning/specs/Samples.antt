@@ -66,6 +66,7 @@ no_module = record {
   exports = [];
   start = None;
   elements = [];
+  data_count = None;
   segments = [];
   bodies = [];
 }
@@ -82,6 +83,7 @@ with_funcs types of_types bodies exports m = record {
   exports = exports;
   start = m.start;
   elements = m.elements;
+  data_count = None;
   segments = m.segments;
   bodies = bodies;
 }
@@ -98,6 +100,7 @@ with_globals globals = record {
   exports = [];
   start = None;
   elements = [];
+  data_count = None;
   segments = [];
   bodies = [];
 }
@@ -160,6 +163,7 @@ indirect_calls = with_funcs
       exports = [];
       start = None;
       elements = element (pos 0) 0 ∷ element (pos 2) 1 ∷ [];
+      data_count = None;
       segments = [];
       bodies = [];
     })
@@ -181,6 +185,7 @@ host_ticks = with_funcs
       exports = [];
       start = None;
       elements = [];
+      data_count = None;
       segments = [];
       bodies = [];
     })
@@ -205,6 +210,7 @@ only_tables tables imports elements start = record {
   exports = record { name = codes "t"; kind = ExportTable; index = 0; name_place = 0; index_place = 0 } ∷ [];
   start = start;
   elements = elements;
+  data_count = None;
   segments = [];
   bodies = [];
 }
@@ -255,6 +261,7 @@ only_memory memories imports exports = record {
   exports = exports;
   start = None;
   elements = [];
+  data_count = None;
   segments = [];
   bodies = [];
 }
@@ -306,6 +313,7 @@ small_memory segments = with_funcs
       exports = [];
       start = None;
       elements = [];
+      data_count = None;
       segments = segments;
       bodies = [];
     })
@@ -352,6 +360,7 @@ imports_global start = with_funcs
       exports = [];
       start = start;
       elements = [];
+      data_count = None;
       segments = [];
       bodies = [];
     })

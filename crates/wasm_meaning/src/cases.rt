@@ -4,10 +4,10 @@ ghost use Rattle.w2c_base.specs.declared.trap.TrapKind.TheVariants as trap;
 ghost use Rattle.w2c_base.specs.declared.value.ValType.TheVariants as type;
 ghost use Rattle.w2c_base.specs.declared.value.Value.TheVariants.{I32, I64};
 ghost use Rattle.w2c_base.specs.Run.{Gave, HostTrapped, Asked, CallEnded, Init, values_in, Call as CallPhase};
-ghost use Rattle.wasm_tree.specs.Instructions.{Return, Select, If, BrIf, Call, LocalGet, LocalSet, Load, Store, I64Const, else_code, I32Load8U, I32Store, I32Store8, Add, Sub, DivS, DivU, RemS, Shl, ShrS, Rotl, Rotr, Clz, Ctz, Popcnt, LtS, LtU, I32Load, I32Load8S, I64Load32S, I64Store16, Unreachable, Drop, Nop, Block, Loop, Br, I32Const, Binary};
+ghost use Rattle.wasm_tree.specs.Instructions.{Return, Select, If, BrIf, Call, LocalGet, LocalSet, Load, Store, I64Const, else_code, I32Load8U, I32Store, I32Store8, Add, Sub, DivS, DivU, RemS, Shl, ShrS, Rotl, Rotr, Clz, Ctz, Popcnt, LtS, LtU, I32Load, I32Load8S, I64Load32S, I64Store16, Unreachable, Drop, Nop, Block, Loop, Br, I32Const, Binary, MemoryCopy, MemoryFill, Extend, I32Extend8S};
 ghost use Rattle.wasm_meaning.specs.Operators.{Gives, Traps, unary, binary, compare, extend_s};
 ghost use Rattle.wasm_meaning.specs.LinkedSet.{IsLinked, ModuleFunc, body_of, func_type};
-ghost use Rattle.wasm_meaning.specs.Memories.{load_number, store_number};
+ghost use Rattle.wasm_meaning.specs.Memories.{load_number, store_number, copy_bytes, fill_bytes};
 ghost use Rattle.wasm_meaning.specs.Execution.{Normal, Returned, Stops, Trapped, Asks, OutOfSteps, Stuck};
 ghost use Rattle.wasm_meaning.specs.Run.{Ended, Fits, Stopped, wasm_run};
 ghost use Rattle.wasm_meaning.specs.Samples as sample;
@@ -28,6 +28,9 @@ pub fn operator_cases()
     ensures minus_1_is_less_than_0 { compare LtS 64 18446744073709551615 0 ≡ true }
     ensures greatest_is_not_less_than_0 { compare LtU 64 18446744073709551615 0 ≡ false }
     ensures sign_of_a_byte { extend_s 8 32 128 ≡ 4294967168 }
+    ensures sign_of_32_bits { extend_s 32 64 2147483648 ≡ 18446744071562067968 }
+    ensures bits_above_do_not_count { extend_s 8 32 385 ≡ 4294967169 }
+    ensures no_sign { extend_s 16 64 65663 ≡ 127 }
 {}
 
 /// Counts of bits.
@@ -49,6 +52,15 @@ pub fn memory_cases()
     ensures sign_of_32_loaded_bits { load_number I64Load32S (0 ∷ 0 ∷ 0 ∷ 128 ∷ []) 0 ≡ Gives 18446744071562067968 }
     ensures store_keeps_the_low_bytes { store_number I64Store16 (1 ∷ 2 ∷ 3 ∷ 4 ∷ []) 1 65538 ≡ Some (1 ∷ 2 ∷ 0 ∷ 4 ∷ []) }
     ensures store_past_the_end { store_number I64Store16 (1 ∷ 2 ∷ []) 1 7 ≡ None }
+    ensures copy_upwards { copy_bytes (1 ∷ 2 ∷ 3 ∷ 4 ∷ 5 ∷ []) 1 0 3 ≡ Some (1 ∷ 1 ∷ 2 ∷ 3 ∷ 5 ∷ []) }
+    ensures copy_downwards { copy_bytes (1 ∷ 2 ∷ 3 ∷ 4 ∷ 5 ∷ []) 0 1 3 ≡ Some (2 ∷ 3 ∷ 4 ∷ 4 ∷ 5 ∷ []) }
+    ensures copy_from_past_the_end { copy_bytes (1 ∷ 2 ∷ 3 ∷ []) 0 2 2 ≡ None }
+    ensures copy_to_past_the_end { copy_bytes (1 ∷ 2 ∷ 3 ∷ []) 2 0 2 ≡ None }
+    ensures no_bytes_at_the_end { copy_bytes (1 ∷ 2 ∷ []) 2 2 0 ≡ Some (1 ∷ 2 ∷ []) }
+    ensures no_bytes_past_the_end { copy_bytes (1 ∷ 2 ∷ []) 0 3 0 ≡ None }
+    ensures fill { fill_bytes (1 ∷ 2 ∷ 3 ∷ []) 1 263 2 ≡ Some (1 ∷ 7 ∷ 7 ∷ []) }
+    ensures fill_past_the_end { fill_bytes (1 ∷ 2 ∷ 3 ∷ []) 2 0 2 ≡ None }
+    ensures fill_nothing_past_the_end { fill_bytes (1 ∷ 2 ∷ 3 ∷ []) 4 0 0 ≡ None }
 {}
 
 /// Runs of small modules.
@@ -115,6 +127,18 @@ pub fn access_cases()
     ensures store_to_imported { sample.run_on_memory 1 (LocalGet 0 ∷ I32Const (pos 9) ∷ Store I32Store8 (record { align = 0; offset = 4 }) ∷ []) (I32 0) ≡ Normal 6 [] (sample.memory_state (1 ∷ 2 ∷ 3 ∷ 4 ∷ 9 ∷ []) (I32 0)) }
     ensures store_of_another_type { sample.run_on_memory 0 (LocalGet 0 ∷ I64Const (pos 9) ∷ Store I32Store8 (record { align = 0; offset = 0 }) ∷ []) (I32 0) ≡ Stops Stuck (sample.memory_state (1 ∷ 2 ∷ 3 ∷ 4 ∷ 5 ∷ []) (I32 0)) }
     ensures store_past_the_end { sample.run_on_memory 1 (LocalGet 0 ∷ I32Const (pos 9) ∷ Store I32Store (record { align = 0; offset = 2 }) ∷ []) (I32 0) ≡ Stops (Trapped trap.MemoryOut) (sample.memory_state (1 ∷ 2 ∷ 3 ∷ 4 ∷ 5 ∷ []) (I32 0)) }
+{}
+
+/// Bytes copied and filled, and a number extended: what they leave, and what they cost.
+pub fn bulk_cases()
+    ensures copy { sample.run_on_memory 0 (I32Const (pos 1) ∷ I32Const (pos 0) ∷ LocalGet 0 ∷ MemoryCopy ∷ []) (I32 3) ≡ Normal 2 [] (sample.memory_state (1 ∷ 1 ∷ 2 ∷ 3 ∷ 5 ∷ []) (I32 3)) }
+    ensures copy_in_imported { sample.run_on_memory 1 (I32Const (pos 0) ∷ I32Const (pos 1) ∷ LocalGet 0 ∷ MemoryCopy ∷ []) (I32 3) ≡ Normal 2 [] (sample.memory_state (2 ∷ 3 ∷ 4 ∷ 4 ∷ 5 ∷ []) (I32 3)) }
+    ensures copy_past_the_end { sample.run_on_memory 0 (I32Const (pos 1) ∷ I32Const (pos 0) ∷ LocalGet 0 ∷ MemoryCopy ∷ []) (I32 5) ≡ Stops (Trapped trap.MemoryOut) (sample.memory_state (1 ∷ 2 ∷ 3 ∷ 4 ∷ 5 ∷ []) (I32 5)) }
+    ensures copy_of_no_bytes { sample.run_on_memory 0 (I32Const (pos 5) ∷ I32Const (pos 5) ∷ LocalGet 0 ∷ MemoryCopy ∷ []) (I32 0) ≡ Normal 5 [] (sample.memory_state (1 ∷ 2 ∷ 3 ∷ 4 ∷ 5 ∷ []) (I32 0)) }
+    ensures copy_of_no_bytes_past_the_end { sample.run_on_memory 0 (I32Const (pos 6) ∷ I32Const (pos 0) ∷ LocalGet 0 ∷ MemoryCopy ∷ []) (I32 0) ≡ Stops (Trapped trap.MemoryOut) (sample.memory_state (1 ∷ 2 ∷ 3 ∷ 4 ∷ 5 ∷ []) (I32 0)) }
+    ensures fill { sample.run_on_memory 0 (I32Const (pos 1) ∷ I32Const (pos 263) ∷ LocalGet 0 ∷ MemoryFill ∷ []) (I32 4) ≡ Normal 1 [] (sample.memory_state (1 ∷ 7 ∷ 7 ∷ 7 ∷ 7 ∷ []) (I32 4)) }
+    ensures fill_in_too_few_steps { sample.run_on_memory 0 (Nop ∷ I32Const (pos 0) ∷ I32Const (pos 7) ∷ I32Const (pos 0) ∷ Drop ∷ I32Const (pos 0) ∷ Drop ∷ LocalGet 0 ∷ MemoryFill ∷ []) (I32 4) ≡ Stops OutOfSteps (sample.memory_state (1 ∷ 2 ∷ 3 ∷ 4 ∷ 5 ∷ []) (I32 4)) }
+    ensures extend { sample.run_code (I32Const (pos 384) ∷ Extend I32Extend8S ∷ []) (I32 0) 9 ≡ Normal 7 (I32 4294967168 ∷ []) (sample.state_of (I32 0)) }
 {}
 
 /// Calls that fit, and functions that an index stands for.

@@ -5,21 +5,23 @@ ghost use Rattle.w2c_base.specs.declared.value.ValType.{ValType};
 ghost use Rattle.w2c_base.specs.Run.{Reply};
 ghost use Rattle.w2c_base.specs.Values.{bits, type_of};
 ghost use Rattle.w2c_base.specs.declared.value.Value.{Value};
-ghost use Rattle.wasm_tree.specs.Instructions.{BinaryOp, LoadOp, UnaryOp};
+ghost use Rattle.wasm_tree.specs.Instructions.{BinaryOp, ExtendOp, LoadOp, UnaryOp};
+ghost use Rattle.wasm_tree.specs.AccessWidths.{extend_width, extend_type};
 ghost use Rattle.wasm_meaning.specs.Memories.{load_access, load_number};
-ghost use Rattle.wasm_meaning.specs.Operators.{AnswerFits, unary, binary};
+ghost use Rattle.wasm_meaning.specs.Operators.{AnswerFits, unary, binary, extend_s};
 ghost use Rattle.wasm_meaning.specs.LinkedSet.{LinkedSet};
 ghost use Rattle.wasm_meaning.specs.Execution.{Done, OutOfSteps, of_one_type, of_type};
 ghost use Rattle.wasm_meaning.specs.Run.{ListedCall, Stopped, wasm_run};
 
-/// The law that what an operator gives, or a load from bytes, has its width.
-#[tactic(auto, using(crate::proofs::Fits::binary_fits, crate::proofs::Fits::unary_fits, crate::proofs::Fits::load_fits))]
+/// The law that what an operator gives, a load from bytes or an extended number has its width.
+#[tactic(auto, using(crate::proofs::Fits::binary_fits, crate::proofs::Fits::unary_fits, crate::proofs::Fits::load_fits, crate::proofs::Fits::extend_fits))]
 pub fn operators_fit()
     ensures binary { (t : ValType) (op : BinaryOp) (x y : ℕ) → x < 2 ^ bits t → y < 2 ^ bits t
         → AnswerFits (bits t) (binary op (bits t) x y) }
     ensures unary { (t : ValType) (op : UnaryOp) (x : ℕ) → x < 2 ^ bits t → unary op (bits t) x < 2 ^ bits t }
     ensures load { (op : LoadOp) (bytes : List ℕ) (address : ℕ) → AllByRecursion (λ b. b < 256) bytes
         → AnswerFits (bits (load_access op).ty) (load_number op bytes address) }
+    ensures extended { (op : ExtendOp) (x : ℕ) → extend_s (extend_width op) (bits (extend_type op)) x < 2 ^ bits (extend_type op) }
 {}
 
 /// The laws that a run which is not out of steps is the same with a larger budget, and that one
