@@ -1,4 +1,5 @@
--- The fields of a module in binary order (WebAssembly Core 1.0, 5.3 to 5.5), and which bytes spell it. The
+-- The fields of a module in binary order (WebAssembly Core 1.0, 5.3 to 5.5; Core 2.0, 5.5.16, for the number of data segments), and
+-- which bytes spell it. The
 -- limits stand as conditions at the fields of which they speak.
 use Rattle.std.specs.Prelude.{ℕ, ◌+◌, ◌-◌, List, [], ◌∷◌, length, Bool, true, false, Option, Some, None, is_none, nat_le, nat_lt, ◌==◌, ◌≤◌}
 use Rattle.std.specs.Str.{is_utf8}
@@ -17,13 +18,14 @@ use Rattle.wasm_tree.specs.declared.entries.ExportKind.{ExportKind}
 use Rattle.wasm_tree.specs.declared.entries.ExportKind.TheVariants as exported
 use Rattle.wasm_tree.specs.declared.entries.Export.{Export}
 use Rattle.wasm_tree.specs.declared.entries.Start.{Start}
+use Rattle.wasm_tree.specs.declared.entries.DataCount.{DataCount}
 use Rattle.wasm_tree.specs.declared.entries.FuncRef.{FuncRef}
 use Rattle.wasm_tree.specs.declared.entries.ElementEntry.{ElementEntry}
 use Rattle.wasm_tree.specs.declared.entries.SegmentEntry.{SegmentEntry}
 use Rattle.wasm_tree.specs.declared.entries.Run.{Run}
 use Rattle.wasm_tree.specs.declared.entries.BodyEntry.{BodyEntry}
 use Rattle.wasm_tree.specs.declared.tree.Module.{Module}
-use Rattle.wasm_tree.specs.Instructions.{Code, end_code, then_code, Kind, no_else, else_code, Block, Loop, If, Br, BrIf, BrTable, Call, CallIndirect, LocalGet, LocalSet, LocalTee, GlobalGet, GlobalSet, Load, Store, MemorySize, MemoryGrow, I32Const, I64Const}
+use Rattle.wasm_tree.specs.Instructions.{Code, end_code, then_code, Kind, no_else, else_code, Block, Loop, If, Br, BrIf, BrTable, Call, CallIndirect, LocalGet, LocalSet, LocalTee, GlobalGet, GlobalSet, Load, Store, MemorySize, MemoryGrow, MemoryCopy, MemoryFill, I32Const, I64Const}
 use Rattle.wasm_tree.specs.Opcodes.{opcode_of}
 use Rattle.wasm_spelling.specs.Limits.{most_parameters, most_results, most_name_bytes, most_functions, most_locals, most_all_locals, most_blocks, most_memory_pages, most_table_elements, most_module_bytes}
 use Rattle.wasm_spelling.specs.Fields.{Custom, Fields, finished, byte, number, signed, text, here, provided, window, either, for_some, Spelled}
@@ -110,6 +112,8 @@ immediates (Load op arg) rest = number arg.align (number arg.offset rest)
 immediates (Store op arg) rest = number arg.align (number arg.offset rest)
 immediates MemorySize rest = byte 0x00 rest
 immediates MemoryGrow rest = byte 0x00 rest
+immediates MemoryCopy rest = number 10 (byte 0x00 (byte 0x00 rest))
+immediates MemoryFill rest = number 11 (byte 0x00 rest)
 immediates (I32Const n) rest = signed 32 n rest
 immediates (I64Const n) rest = signed 64 n rest
 immediates kind rest = rest
@@ -216,10 +220,10 @@ customs rest = for_some (λ cs. each custom cs rest)
 
 -- the sections other than custom ones
 pub data Part : Type 0 where
-  types imports functions tables memories globals exports start elements code segments : Part
+  types imports functions tables memories globals exports start elements data_count code segments : Part
 
 abbrev pub parts : List Part
-parts = types ∷ imports ∷ functions ∷ tables ∷ memories ∷ globals ∷ exports ∷ start ∷ elements ∷ code ∷ segments ∷ []
+parts = types ∷ imports ∷ functions ∷ tables ∷ memories ∷ globals ∷ exports ∷ start ∷ elements ∷ data_count ∷ code ∷ segments ∷ []
 
 abbrev pub id_of : Part → ℕ
 id_of types = 1
@@ -231,12 +235,33 @@ id_of globals = 6
 id_of exports = 7
 id_of start = 8
 id_of elements = 9
+id_of data_count = 12
 id_of code = 10
 id_of segments = 11
+
+-- the place in the order of sections
+abbrev pub rank_of : Part → ℕ
+rank_of types = 1
+rank_of imports = 2
+rank_of functions = 3
+rank_of tables = 4
+rank_of memories = 5
+rank_of globals = 6
+rank_of exports = 7
+rank_of start = 8
+rank_of elements = 9
+rank_of data_count = 10
+rank_of code = 11
+rank_of segments = 12
 
 abbrev pub start_content : Option Start → Fields → Fields
 start_content None rest = provided false rest
 start_content (Some s) rest = start_entry s rest
+
+-- the number of data segments
+abbrev pub data_count_content : Option DataCount → ℕ → Fields → Fields
+data_count_content None found rest = provided false rest
+data_count_content (Some d) found rest = here d.place (number d.count (provided (d.count == found) rest))
 
 -- what a section contains
 abbrev pub content : Part → Module → Fields → Fields
@@ -249,6 +274,7 @@ content globals t rest = vector global_entry t.globals rest
 content exports t rest = vector export_entry t.exports rest
 content start t rest = start_content t.start rest
 content elements t rest = vector element_entry t.elements rest
+content data_count t rest = data_count_content t.data_count (length t.segments) rest
 content code t rest = number (length t.bodies) (bodies 0 t.bodies rest)
 content segments t rest = vector segment_entry t.segments rest
 
@@ -263,6 +289,7 @@ is_empty globals t = length t.globals == 0
 is_empty exports t = length t.exports == 0
 is_empty start t = is_none t.start
 is_empty elements t = length t.elements == 0
+is_empty data_count t = is_none t.data_count
 is_empty code t = length t.bodies == 0
 is_empty segments t = length t.segments == 0
 

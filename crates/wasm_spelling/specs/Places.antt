@@ -10,6 +10,7 @@ use Rattle.wasm_tree.specs.declared.entries.LimitsEntry.{LimitsEntry}
 use Rattle.wasm_tree.specs.declared.entries.GlobalEntry.{GlobalEntry}
 use Rattle.wasm_tree.specs.declared.entries.Export.{Export}
 use Rattle.wasm_tree.specs.declared.entries.Start.{Start}
+use Rattle.wasm_tree.specs.declared.entries.DataCount.{DataCount}
 use Rattle.wasm_tree.specs.declared.entries.FuncRef.{FuncRef}
 use Rattle.wasm_tree.specs.declared.entries.ElementEntry.{ElementEntry}
 use Rattle.wasm_tree.specs.declared.entries.SegmentEntry.{SegmentEntry}
@@ -66,6 +67,10 @@ abbrev pub bare_start : Option Start → Option Start
 bare_start None = None
 bare_start (Some s) = Some (record s { place = 0 })
 
+abbrev pub bare_data_count : Option DataCount → Option DataCount
+bare_data_count None = None
+bare_data_count (Some d) = Some (record d { place = 0 })
+
 abbrev pub bare_func_ref : FuncRef → FuncRef
 bare_func_ref f = record f { place = 0 }
 
@@ -89,6 +94,7 @@ bare_module t = record {
   exports = map bare_export t.exports;
   start = bare_start t.start;
   elements = map bare_element t.elements;
+  data_count = bare_data_count t.data_count;
   segments = map bare_segment t.segments;
   bodies = map bare_body t.bodies;
 }

@@ -16,6 +16,7 @@ use Rattle.wasm_tree.specs.declared.entries.ExportKind.{ExportKind}
 use Rattle.wasm_tree.specs.declared.entries.ExportKind.TheVariants as kind
 use Rattle.wasm_tree.specs.declared.entries.Export.{Export}
 use Rattle.wasm_tree.specs.declared.entries.Start.{Start}
+use Rattle.wasm_tree.specs.declared.entries.DataCount.{DataCount}
 use Rattle.wasm_tree.specs.declared.entries.FuncRef.{FuncRef}
 use Rattle.wasm_tree.specs.declared.entries.ElementEntry.{ElementEntry}
 use Rattle.wasm_tree.specs.declared.entries.SegmentEntry.{SegmentEntry}
@@ -23,7 +24,7 @@ use Rattle.wasm_tree.specs.declared.entries.Run.{Run}
 use Rattle.wasm_tree.specs.declared.entries.BodyEntry.{BodyEntry}
 use Rattle.wasm_tree.specs.declared.tree.Module.{Module}
 use Rattle.wasm_tree.specs.Instructions.{Code, end_code, then_code, Kind, no_else, else_code, Block, Loop, If}
-use Rattle.wasm_tree.specs.InstructionTable.{Form, nothing, an_index, a_mem_arg, labels, a_type, a_zero, an_i32, an_i64}
+use Rattle.wasm_tree.specs.InstructionTable.{Form, nothing, an_index, a_mem_arg, labels, a_type, a_zero, an_i32, an_i64, a_sub_opcode}
 use Rattle.wasm_spelling.specs.declared.fault.ReadFault.{ReadFault}
 use Rattle.wasm_spelling.specs.declared.fault.ReadFault.TheVariants.{Limit}
 use Rattle.wasm_spelling.specs.declared.fault.Cause.{Cause}
@@ -32,8 +33,8 @@ use Rattle.wasm_spelling.specs.declared.fault.Which.{Which}
 use Rattle.wasm_spelling.specs.declared.fault.Which.TheVariants as which
 use Rattle.wasm_spelling.specs.At.{At}
 use Rattle.wasm_spelling.specs.Limits.{most_name_bytes, most_blocks, most_memory_pages, most_table_elements}
-use Rattle.wasm_spelling.specs.ModuleFields.{Part, types, imports, functions, tables, memories, globals, exports, start, elements, code, segments}
-use Rattle.wasm_spelling.specs.Steps.{◌>>=◌, malformed, Reader, done, reads, checked, byte_at, number_at, signed32_at, signed64_at, bytes_at, rest_at, exactly, within, utf8_of, type_of, block_type_of, flag_of, kind_of, zero_of, Head, the_end, the_else, a_block, a_loop, a_form, head_of, run_count_at, body_count_at, SectionId, no_section, a_custom, a_part, section_id_at}
+use Rattle.wasm_spelling.specs.ModuleFields.{Part, types, imports, functions, tables, memories, globals, exports, start, elements, data_count, code, segments}
+use Rattle.wasm_spelling.specs.Steps.{◌>>=◌, malformed, Reader, done, reads, checked, byte_at, number_at, signed32_at, signed64_at, bytes_at, rest_at, exactly, within, utf8_of, type_of, block_type_of, flag_of, kind_of, zero_of, Head, the_end, the_else, a_block, a_loop, a_form, head_of, run_count_at, body_count_at, data_count_at, sub_opcode_of, SectionId, no_section, a_custom, a_part, section_id_at}
 use Rattle.wasm_spelling.specs.Table.{Entry, of_types, of_parameters, of_results, of_imports, of_functions, of_tables, of_memories, of_globals, of_exports, of_elements, of_segments, of_indexes, of_runs, count_at, at_first}
 
 abbrev pub place_at : Reader ℕ
@@ -145,6 +146,8 @@ form_at (a_type make) = reads number_at (λ n. reads zero_at (λ u. done (make n
 form_at (a_zero kind) = reads (exactly_at 0x00 cause.ZeroByteExpected) (λ u. done kind)
 form_at (an_i32 make) = reads signed32_at (λ n. done (make n))
 form_at (an_i64 make) = reads signed64_at (λ n. done (make n))
+form_at a_sub_opcode = reads (checked number_at sub_opcode_of) (λ r.
+    reads (times_at (exactly_at 0x00 cause.ZeroByteExpected) r.zeros) (λ us. done r.kind))
 
 -- what closes instructions, with its place
 pub data Ender : Type 0 where
@@ -258,6 +261,9 @@ export_entry_at =
 unfoldable pub start_at : Reader Start
 start_at = reads place_at (λ place. reads number_at (λ n. done (record { index = n; place = place })))
 
+unfoldable pub data_count_entry_at : Reader DataCount
+data_count_entry_at = reads place_at (λ place. reads data_count_at (λ n. done (record { count = n; place = place })))
+
 unfoldable pub func_ref_at : Reader FuncRef
 func_ref_at = reads place_at (λ place. reads number_at (λ n. done (record { index = n; place = place })))
 
@@ -306,6 +312,7 @@ content_at globals t = reads (vector_at of_globals global_entry_at) (λ x. done 
 content_at exports t = reads (vector_at of_exports export_entry_at) (λ x. done (record t { exports = x }))
 content_at start t = reads start_at (λ x. done (record t { start = Some x }))
 content_at elements t = reads (vector_at of_elements element_entry_at) (λ x. done (record t { elements = x }))
+content_at data_count t = reads data_count_entry_at (λ x. done (record t { data_count = Some x }))
 content_at code t = reads bodies_at (λ x. done (record t { bodies = x }))
 content_at segments t = reads (vector_at of_segments segment_entry_at) (λ x. done (record t { segments = x }))
 
@@ -333,7 +340,7 @@ abbrev pub all_sections_at : Module → Reader Module
 all_sections_at t a = sections_at (suc (length a.left)) t a
 
 abbrev pub no_module : Module
-no_module = record { types = []; imports = []; funcs = []; tables = []; memories = []; globals = []; exports = []; start = None; elements = []; segments = []; bodies = [] }
+no_module = record { types = []; imports = []; funcs = []; tables = []; memories = []; globals = []; exports = []; start = None; elements = []; data_count = None; segments = []; bodies = [] }
 
 unfoldable pub magic_at : Reader (Unit {0})
 magic_at =

@@ -1,5 +1,5 @@
 -- Reading one field at a place of a window, with its first fault. A number's own fault comes before a fault of
--- its value (WebAssembly Core 1.0, 5.2 to 5.4).
+-- its value (WebAssembly Core 1.0, 5.2 to 5.4; Core 2.0, 5.4.6 and 5.5.16).
 use Rattle.std.specs.Prelude.{ℕ, zero, suc, ℤ, ◌+◌, List, [], ◌∷◌, length, take, drop, Bool, true, false, ◌||◌, ◌&&◌, not, Option, Some, None, Result, Ok, Err, nat_lt, nat_le, ◌==◌, if◌then◌else◌}
 use Rattle.std.specs.Str.{is_utf8}
 use Rattle.leb_bytes.specs.declared.fault.LebFault.{LebFault}
@@ -9,7 +9,7 @@ use Rattle.w2c_base.specs.declared.value.ValType.{ValType}
 use Rattle.w2c_base.specs.declared.value.ValType.TheVariants.{I32, I64}
 use Rattle.wasm_tree.specs.declared.entries.ExportKind.{ExportKind}
 use Rattle.wasm_tree.specs.declared.entries.ExportKind.TheVariants as kind
-use Rattle.wasm_tree.specs.InstructionTable.{Form, row_of}
+use Rattle.wasm_tree.specs.InstructionTable.{Form, row_of, Prefixed, prefixed_of}
 use Rattle.wasm_tree.specs.Forms.{form_in}
 use Rattle.wasm_spelling.specs.declared.fault.ReadFault.{ReadFault}
 use Rattle.wasm_spelling.specs.declared.fault.ReadFault.TheVariants.{Malformed, Float, Limit}
@@ -19,7 +19,7 @@ use Rattle.wasm_spelling.specs.declared.fault.Which.{Which}
 use Rattle.wasm_spelling.specs.declared.fault.Which.TheVariants as which
 use Rattle.wasm_spelling.specs.At.{At, Counts}
 use Rattle.wasm_spelling.specs.Limits.{most_locals, most_all_locals}
-use Rattle.wasm_spelling.specs.ModuleFields.{Part, types, imports, functions, tables, memories, globals, exports, start, elements, code, segments}
+use Rattle.wasm_spelling.specs.ModuleFields.{Part, types, imports, functions, tables, memories, globals, exports, start, elements, data_count, code, segments, rank_of}
 
 infixl 10 ◌>>=◌
 abbrev pub ◌>>=◌ : {A B : Type 0} → Result A ReadFault → (A → Result B ReadFault) → Result B ReadFault
@@ -121,6 +121,14 @@ zero_of place n = if n == 0 then Ok tt else malformed place cause.ZeroByteExpect
 
 -- ---- opcodes (5.4)
 
+-- the instruction of a sub-opcode
+abbrev pub sub_opcode_in : Option Prefixed → ℕ → Result Prefixed ReadFault
+sub_opcode_in None place = malformed place cause.BadOpcode
+sub_opcode_in (Some r) place = Ok r
+
+abbrev pub sub_opcode_of : ℕ → ℕ → Result Prefixed ReadFault
+sub_opcode_of place n = sub_opcode_in (prefixed_of n) place
+
 abbrev pub among : ℕ → ℕ → ℕ → Bool
 among low high b = nat_le low b && nat_le b high
 
@@ -185,6 +193,27 @@ bodies_counted place x =
 abbrev pub body_count_at : Reader ℕ
 body_count_at a = number_at a >>= bodies_counted a.place
 
+-- what the data count section says
+abbrev pub data_counted : ℕ × At → Result (ℕ × At) ReadFault
+data_counted x = Ok (x.0, record x.1 { counts = record x.1.counts { data_count = Some x.0 } })
+
+abbrev pub data_count_at : Reader ℕ
+data_count_at a = number_at a >>= data_counted
+
+-- there is no such section, or it says this number
+abbrev pub agrees_with : Option ℕ → ℕ → Bool
+agrees_with None n = true
+agrees_with (Some count) n = n == count
+
+-- of data segments: as many as the data count section says
+abbrev pub segments_counted : ℕ → ℕ × At → Result (ℕ × At) ReadFault
+segments_counted place x =
+    if agrees_with x.1.counts.data_count x.0
+    then Ok (x.0, record x.1 { counts = record x.1.counts { data_read = true } }) else malformed place cause.CountDiffers
+
+abbrev pub segment_count_at : Reader ℕ
+segment_count_at a = number_at a >>= segments_counted a.place
+
 -- ---- section ids (5.5.2)
 
 -- a custom section, or another one
@@ -206,26 +235,31 @@ part_of id =
     else if id == 9 then Some elements
     else if id == 10 then Some code
     else if id == 11 then Some segments
+    else if id == 12 then Some data_count
     else None
 
 -- no function lacks its body
 abbrev pub bodies_done : Counts → Bool
 bodies_done c = c.code_read || (c.functions == 0)
 
+-- the data section was read where there must be one
+abbrev pub data_done : Counts → Bool
+data_done c = c.data_read || agrees_with c.data_count 0
+
 abbrev pub section_begins : ℕ → ℕ → List ℕ → Counts → Option Part → Result (SectionId × At) ReadFault
 section_begins place id left c None =
     if id == 0 then Ok (a_custom, record { place = place + 1; left = left; counts = c }) else malformed place cause.BadSectionId
 section_begins place id left c (Some part) =
-    if nat_lt c.last_id id
+    if nat_lt c.last_rank (rank_of part)
     then (if not (id == 11) || bodies_done c
-    then Ok (a_part part, record { place = place + 1; left = left; counts = record c { last_id = id } })
+    then Ok (a_part part, record { place = place + 1; left = left; counts = record c { last_rank = rank_of part } })
     else malformed place cause.CountDiffers)
     else malformed place cause.SectionOrder
 
 -- the id of a section, or the end of the file
 abbrev pub section_id_of : ℕ → List ℕ → Counts → Result (SectionId × At) ReadFault
 section_id_of place [] c =
-    if bodies_done c then Ok (no_section, record { place = place; left = []; counts = c }) else malformed place cause.CountDiffers
+    if bodies_done c && data_done c then Ok (no_section, record { place = place; left = []; counts = c }) else malformed place cause.CountDiffers
 section_id_of place (id ∷ left) c = section_begins place id left c (part_of id)
 
 abbrev pub section_id_at : Reader SectionId

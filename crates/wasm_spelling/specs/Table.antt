@@ -1,18 +1,18 @@
 -- The first fault of a file, by one flat table: a field that is expected is spelled by some bytes, and further
 -- fields then stand in its place (WebAssembly Core 1.0, 5.3 to 5.5).
-use Rattle.std.specs.Prelude.{◌≡◌, ℕ, zero, suc, ◌-◌, List, [], ◌∷◌, ◌++◌, length, take, drop, Bool, true, false, Result, Ok, Err, nat_lt, ◌==◌, if◌then◌else◌}
+use Rattle.std.specs.Prelude.{◌≡◌, ℕ, zero, suc, ◌-◌, List, [], ◌∷◌, ◌++◌, length, take, drop, Bool, true, false, Result, Ok, Err, None, nat_lt, ◌==◌, if◌then◌else◌}
 use Rattle.wasm_tree.specs.declared.entries.ExportKind.{ExportKind}
 use Rattle.wasm_tree.specs.declared.entries.ExportKind.TheVariants as kind
-use Rattle.wasm_tree.specs.InstructionTable.{Form, nothing, an_index, a_mem_arg, labels, a_type, a_zero, an_i32, an_i64}
+use Rattle.wasm_tree.specs.InstructionTable.{Form, nothing, an_index, a_mem_arg, labels, a_type, a_zero, an_i32, an_i64, a_sub_opcode}
 use Rattle.wasm_spelling.specs.declared.fault.ReadFault.{ReadFault}
 use Rattle.wasm_spelling.specs.declared.fault.Cause.{Cause}
 use Rattle.wasm_spelling.specs.declared.fault.Cause.TheVariants as cause
 use Rattle.wasm_spelling.specs.declared.fault.Which.TheVariants as which
 use Rattle.wasm_spelling.specs.At.{At, Counts}
 use Rattle.wasm_spelling.specs.Limits.{most_parameters, most_results, most_name_bytes, most_functions, most_blocks, most_memory_pages, most_table_elements}
-use Rattle.wasm_spelling.specs.ModuleFields.{Part, types, imports, functions, tables, memories, globals, exports, start, elements, code, segments}
+use Rattle.wasm_spelling.specs.ModuleFields.{Part, types, imports, functions, tables, memories, globals, exports, start, elements, data_count, code, segments}
 use Rattle.wasm_spelling.specs.Steps as steps
-use Rattle.wasm_spelling.specs.Steps.{◌>>=◌, malformed, checked, byte_at, number_at, signed32_at, signed64_at, bytes_at, rest_at, within, utf8_of, type_of, block_type_of, flag_of, kind_of, zero_of, Head, the_end, the_else, a_block, a_loop, an_if, a_form, head_of, functions_counted, no_locals, run_count_at, body_count_at, SectionId, no_section, a_custom, a_part, section_id_at}
+use Rattle.wasm_spelling.specs.Steps.{◌>>=◌, malformed, checked, byte_at, number_at, signed32_at, signed64_at, bytes_at, rest_at, within, utf8_of, type_of, block_type_of, flag_of, kind_of, zero_of, Head, the_end, the_else, a_block, a_loop, an_if, a_form, head_of, functions_counted, no_locals, run_count_at, body_count_at, segment_count_at, data_count_at, sub_opcode_of, SectionId, no_section, a_custom, a_part, section_id_at}
 
 -- what the entries of a vector are
 pub data Entry : Type 0 where
@@ -40,7 +40,7 @@ pub data Field : Type 0 where
   run : Field
   -- instructions, where so many blocks may still be opened and an `else` may stand or not
   instructions : (room : ℕ) → (may_else : Bool) → Field
-  block_type signed32 signed64 zero_number : Field
+  block_type signed32 signed64 zero_number sub_opcode segment_total : Field
 
 -- where reading stands, what follows the innermost window in each window around it, and the fields expected
 pub record State : Type 0 where
@@ -85,6 +85,7 @@ content_of globals = vector of_globals ∷ []
 content_of exports = vector of_exports ∷ []
 content_of start = index ∷ []
 content_of elements = vector of_elements ∷ []
+content_of data_count = segment_total ∷ []
 content_of code = bodies ∷ []
 content_of segments = vector of_segments ∷ []
 
@@ -113,6 +114,7 @@ form_fields (a_type make) = index ∷ zero_number ∷ []
 form_fields (a_zero kind) = exactly 0x00 cause.ZeroByteExpected ∷ []
 form_fields (an_i32 make) = signed32 ∷ []
 form_fields (an_i64 make) = signed64 ∷ []
+form_fields a_sub_opcode = sub_opcode ∷ []
 
 abbrev pub head_fields : ℕ → Bool → Head → List Field
 head_fields room may_else the_end = []
@@ -128,6 +130,7 @@ count_at of_parameters a = checked number_at (within most_parameters which.Param
 count_at of_results a = checked number_at (within most_results which.Results) a
 count_at of_functions a = checked number_at (within most_functions which.Functions) a >>= functions_counted
 count_at of_runs a = number_at a >>= no_locals
+count_at of_segments a = segment_count_at a
 count_at _ a = number_at a
 
 -- ---- the table
@@ -179,6 +182,8 @@ row block_type a = on (checked byte_at block_type_of a) none_more
 row signed32 a = on (signed32_at a) none_more
 row signed64 a = on (signed64_at a) none_more
 row zero_number a = on (checked number_at zero_of a) none_more
+row sub_opcode a = on (checked number_at sub_opcode_of a) (λ r. times r.zeros (exactly 0x00 cause.ZeroByteExpected ∷ []))
+row segment_total a = on (data_count_at a) none_more
 
 -- ---- the machine
 
@@ -195,7 +200,7 @@ after zero s = Ok s
 after (suc n) s = step s >>= after n
 
 abbrev pub no_counts : Counts
-no_counts = record { last_id = 0; functions = 0; code_read = false; locals = 0; all_locals = 0 }
+no_counts = record { last_rank = 0; functions = 0; code_read = false; data_count = None; data_read = false; locals = 0; all_locals = 0 }
 
 abbrev pub at_first : List ℕ → At
 at_first bytes = record { place = 0; left = bytes; counts = no_counts }
