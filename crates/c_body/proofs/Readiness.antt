@@ -105,6 +105,8 @@ takes_few c labels (wasm.Load op arg) own outs h = tabled_few (table_type (wasm.
 takes_few c labels (wasm.Store op arg) own outs h = tabled_few (table_type (wasm.Store op arg)) own outs h.2
 takes_few c labels wasm.MemorySize own outs h = tabled_few (table_type wasm.MemorySize) own outs h.1
 takes_few c labels wasm.MemoryGrow own outs h = tabled_few (table_type wasm.MemoryGrow) own outs h.1
+takes_few c labels wasm.MemoryCopy own outs h = tabled_few (table_type wasm.MemoryCopy) own outs h.1
+takes_few c labels wasm.MemoryFill own outs h = tabled_few (table_type wasm.MemoryFill) own outs h.1
 takes_few c labels kind own outs h = tabled_few (table_type kind) own outs h
 
 has_enough : (c : Context) (e : Emitter) (kind : Kind) → KindIsReached c e kind → HasOperands (takes c kind) e.operands
@@ -152,6 +154,10 @@ taken_as_tabled c (wasm.Compare t o) s e = ap taken (the_step s _ e) ∙ sym (ap
     the_step : (s t : Step) → Some s ≡ Some t → s ≡ t
     the_step s t e = cc
 taken_as_tabled c (wasm.Unary t o) s e = ap taken (the_step s _ e) ∙ sym (ap operands_in (unary_typing t o))
+  where
+    the_step : (s t : Step) → Some s ≡ Some t → s ≡ t
+    the_step s t e = cc
+taken_as_tabled c (wasm.Extend o) s e = ap taken (the_step s _ e) ∙ sym (ap operands_in (extend_typing o))
   where
     the_step : (s t : Step) → Some s ≡ Some t → s ≡ t
     the_step s t e = cc

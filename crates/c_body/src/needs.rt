@@ -34,6 +34,8 @@ fn by_step(step: Step) -> Option<Helper>
         Step::Load(which, _, _) => Some(Helper::Load(which)),
         Step::Store(which, _, _) => Some(Helper::Store(which)),
         Step::Size => Some(Helper::Size),
+        Step::Copy => Some(Helper::Copy),
+        Step::Fill => Some(Helper::Fill),
         Step::Const32(_)
         | Step::Const64(_)
         | Step::Eqz(_)

@@ -108,8 +108,8 @@ firsts_few seen (name ∷ names) = go (is_among name seen) (firsts_few seen name
     go true skipped kept = omega (arith, skipped)
     go false skipped kept = omega (arith, kept)
 
-fifty_helpers : length HELPERS ≡ 50
-fifty_helpers = refl
+helper_count : length HELPERS ≡ 57
+helper_count = refl
 
 data_few : (m : Module) → length (data_of m) ≤ length m.segments
 data_few m =
@@ -123,10 +123,10 @@ declared_few m =
     mapped (λ name. (name, declared_type (symbol_type m name))) (firsts [] names) (length m.tree.imports)
     (let few = firsts_few [] names in let e = map_length import_symbol m.tree.imports in omega (arith, few, e))
 
-helpers_few : (m : Module) → length (helpers_of m) ≤ 50
+helpers_few : (m : Module) → length (helpers_of m) ≤ 57
 helpers_few m =
     let few = filter_few (λ which. list_any (λ (b : BodyEntry). any_in (calls_helper which) b.code) m.bodies) HELPERS in
-    let e = fifty_helpers in
+    let e = helper_count in
     omega (arith, few, e)
 
 pointers_few : (m : Module) → length (pointers_of m) ≤ length m.imports + (length m.imports + length m.imports)
@@ -153,7 +153,7 @@ few_items n few =
     let m = n.tree in
     let i = length m.imports in
     let all : length (items n) ≤ (length m.tables + (length m.memories + (length m.globals + (i + (i + i))))) + (length m.segments + (i
-    + (length m.funcs + (50 + (length m.funcs + (length m.exports + 1)))))) =
+    + (length m.funcs + (57 + (length m.funcs + (length m.exports + 1)))))) =
     joined _ _ _ _ (objects_few m)
     (joined _ _ _ _ (data_few m)
     (joined _ _ _ _ (mapped _ (declared_symbols n) _ (declared_few n))

@@ -41,6 +41,7 @@ again = record {
         ∷ [];
     start = None;
     elements = [];
+    data_count = None;
     segments = [];
     bodies = [];
   };

@@ -47,6 +47,7 @@ linked = record {
     exports = export (codes "memory") ExportMemory 0 ∷ export (codes "f") ExportFunc 0 ∷ [];
     start = None;
     elements = [];
+    data_count = None;
     segments = [];
     bodies = record {
       runs = record { count = 1; ty = type.I32 } ∷ [];

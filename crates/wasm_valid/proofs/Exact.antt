@@ -7,7 +7,7 @@ use Rattle.w2c_base.specs.declared.value.ValType.TheVariants.{I32, I64}
 use Rattle.w2c_base.specs.declared.signature.FuncType.{FuncType}
 use Rattle.w2c_base.specs.Values.{equal_type, equal_results}
 use Rattle.w2c_base.proofs.Types.{equal_results-eq, results_equal_themselves}
-use Rattle.wasm_tree.specs.Instructions.{Code, end_code, then_code, Kind, Otherwise, no_else, else_code, Unreachable, Return, Drop, Select, MemorySize, MemoryGrow, Block, Loop, If, Br, BrIf, BrTable, Call, CallIndirect, LocalGet, LocalSet, LocalTee, GlobalGet, GlobalSet, Load, Store}
+use Rattle.wasm_tree.specs.Instructions.{Code, end_code, then_code, Kind, Otherwise, no_else, else_code, Unreachable, Return, Drop, Select, MemorySize, MemoryGrow, MemoryCopy, MemoryFill, Block, Loop, If, Br, BrIf, BrTable, Call, CallIndirect, LocalGet, LocalSet, LocalTee, GlobalGet, GlobalSet, Load, Store}
 use Rattle.wasm_tree.specs.InstructionTable.{Typing, of_types, by_rule}
 use Rattle.wasm_tree.specs.AccessWidths.{load_width, store_width}
 use Rattle.wasm_valid.specs.declared.operand.Operand.{Operand}
@@ -421,6 +421,8 @@ mutual
   kind_exact c labels p (Store op arg) s = plain_exact c labels p (Store op arg) s (access_exact c (table_type (Store op arg)) arg.align (store_width op) s)
   kind_exact c labels p MemorySize s = plain_exact c labels p MemorySize s (memory_exact c (table_type MemorySize) s)
   kind_exact c labels p MemoryGrow s = plain_exact c labels p MemoryGrow s (memory_exact c (table_type MemoryGrow) s)
+  kind_exact c labels p MemoryCopy s = plain_exact c labels p MemoryCopy s (memory_exact c (table_type MemoryCopy) s)
+  kind_exact c labels p MemoryFill s = plain_exact c labels p MemoryFill s (memory_exact c (table_type MemoryFill) s)
   kind_exact c labels p kind s = plain_exact c labels p kind s (tabled_exact (table_type kind) s)
 
   pub else_exact : (c : Context) (labels : Labels) (otherwise : Otherwise) (t : Option ValType) (e : ℕ) → Decided (went (run_else c labels otherwise t e)) (ElseHasType c labels otherwise t)

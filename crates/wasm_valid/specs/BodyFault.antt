@@ -4,7 +4,7 @@ use Rattle.std.specs.List.{list_any}
 use Rattle.w2c_base.specs.declared.value.ValType.{ValType}
 use Rattle.w2c_base.specs.Lookup.{if_found}
 use Rattle.wasm_tree.specs.declared.entries.BodyEntry.{BodyEntry}
-use Rattle.wasm_tree.specs.Instructions.{Code, end_code, then_code, Kind, Otherwise, no_else, else_code, MemorySize, MemoryGrow, Block, Loop, If, Br, BrIf, BrTable, Call, CallIndirect, LocalGet, LocalSet, LocalTee, GlobalGet, GlobalSet, Load, Store}
+use Rattle.wasm_tree.specs.Instructions.{Code, end_code, then_code, Kind, Otherwise, no_else, else_code, MemorySize, MemoryGrow, MemoryCopy, MemoryFill, Block, Loop, If, Br, BrIf, BrTable, Call, CallIndirect, LocalGet, LocalSet, LocalTee, GlobalGet, GlobalSet, Load, Store}
 use Rattle.wasm_tree.specs.AccessWidths.{load_width, store_width}
 use Rattle.wasm_valid.specs.declared.fault.ValidCause.{ValidCause}
 use Rattle.wasm_valid.specs.declared.fault.ValidCause.TheVariants as cause
@@ -74,6 +74,8 @@ cause_of c labels (Load op arg) = first_cause (no_memory c ∷ misaligned arg.al
 cause_of c labels (Store op arg) = first_cause (no_memory c ∷ misaligned arg.align (store_width op) ∷ [])
 cause_of c labels MemorySize = first_cause (no_memory c ∷ [])
 cause_of c labels MemoryGrow = first_cause (no_memory c ∷ [])
+cause_of c labels MemoryCopy = first_cause (no_memory c ∷ [])
+cause_of c labels MemoryFill = first_cause (no_memory c ∷ [])
 cause_of c labels kind = cause.TypeMismatch
 
 -- a token that only its operands can make faulty

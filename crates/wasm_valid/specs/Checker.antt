@@ -3,7 +3,7 @@ use Rattle.std.specs.Prelude.{ℕ, ◌+◌, ◌^◌, List, [], ◌∷◌, ◌++�
 use Rattle.w2c_base.specs.declared.value.ValType.{ValType}
 use Rattle.w2c_base.specs.declared.value.ValType.TheVariants.{I32}
 use Rattle.w2c_base.specs.Values.{equal_type, equal_results}
-use Rattle.wasm_tree.specs.Instructions.{Code, end_code, then_code, Kind, Otherwise, no_else, else_code, Unreachable, Return, Drop, Select, MemorySize, MemoryGrow, Block, Loop, If, Br, BrIf, BrTable, Call, CallIndirect, LocalGet, LocalSet, LocalTee, GlobalGet, GlobalSet, Load, Store}
+use Rattle.wasm_tree.specs.Instructions.{Code, end_code, then_code, Kind, Otherwise, no_else, else_code, Unreachable, Return, Drop, Select, MemorySize, MemoryGrow, MemoryCopy, MemoryFill, Block, Loop, If, Br, BrIf, BrTable, Call, CallIndirect, LocalGet, LocalSet, LocalTee, GlobalGet, GlobalSet, Load, Store}
 use Rattle.wasm_tree.specs.InstructionTable.{Typing, of_types, by_rule}
 use Rattle.wasm_tree.specs.AccessWidths.{load_width, store_width}
 use Rattle.wasm_valid.specs.declared.operand.Operand.{Operand}
@@ -111,6 +111,8 @@ step c labels (Store op arg) s =
     when (has_memory c) (when (nat_le (2 ^ arg.align) (store_width op)) (turn_tabled (table_type (Store op arg)) s))
 step c labels MemorySize s = when (has_memory c) (turn_tabled (table_type MemorySize) s)
 step c labels MemoryGrow s = when (has_memory c) (turn_tabled (table_type MemoryGrow) s)
+step c labels MemoryCopy s = when (has_memory c) (turn_tabled (table_type MemoryCopy) s)
+step c labels MemoryFill s = when (has_memory c) (turn_tabled (table_type MemoryFill) s)
 step c labels kind s = turn_tabled (table_type kind) s
 
 -- a refusal: at which token of the list, from 0 on, and as which fault

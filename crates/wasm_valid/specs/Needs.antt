@@ -1,7 +1,7 @@
 -- What an instruction with a row of its own needs besides its operands: a memory, and an alignment that is not larger than
 -- the access (WebAssembly Core 1.0, 3.3.4). Widths are powers of two here.
 use Rattle.std.specs.Prelude.{ℕ, ◌^◌, List, [], ◌∷◌, Option, Some, None, nat_le}
-use Rattle.wasm_tree.specs.Instructions.{Kind, MemorySize, MemoryGrow, Load, Store, LoadOp, I32Load, I64Load, I32Load8S, I32Load8U, I32Load16S, I32Load16U, I64Load8S, I64Load8U, I64Load16S, I64Load16U, I64Load32S, I64Load32U, StoreOp, I32Store, I64Store, I32Store8, I32Store16, I64Store8, I64Store16, I64Store32}
+use Rattle.wasm_tree.specs.Instructions.{Kind, MemorySize, MemoryGrow, MemoryCopy, MemoryFill, Load, Store, LoadOp, I32Load, I64Load, I32Load8S, I32Load8U, I32Load16S, I32Load16U, I64Load8S, I64Load8U, I64Load16S, I64Load16U, I64Load32S, I64Load32U, StoreOp, I32Store, I64Store, I32Store8, I32Store16, I64Store8, I64Store16, I64Store32}
 use Rattle.wasm_tree.specs.InstructionTable.{Typing, of_types, by_rule}
 use Rattle.wasm_valid.specs.declared.numeric.Needs.{Needs}
 use Rattle.wasm_valid.specs.declared.numeric.Needs.TheVariants.{Nothing, Memory, Access}
@@ -40,6 +40,8 @@ needs_of (Load op arg) = Access arg.align (load_exponent op)
 needs_of (Store op arg) = Access arg.align (store_exponent op)
 needs_of MemorySize = Memory
 needs_of MemoryGrow = Memory
+needs_of MemoryCopy = Memory
+needs_of MemoryFill = Memory
 needs_of kind = Nothing
 
 -- the type and the needs of an instruction, as the program has them

@@ -40,6 +40,7 @@ no_module = record {
   exports = [];
   start = None;
   elements = [];
+  data_count = None;
   segments = [];
   bodies = [];
 }
@@ -56,6 +57,7 @@ one_function code = record {
   exports = [];
   start = None;
   elements = [];
+  data_count = None;
   segments = [];
   bodies = code ∷ [];
 }
@@ -72,6 +74,7 @@ memories_and_exports memories exports = record {
   exports = exports;
   start = None;
   elements = [];
+  data_count = None;
   segments = [];
   bodies = [];
 }

@@ -1,11 +1,11 @@
--- Typing of instructions and of lists of them (WebAssembly Core 1.0, 3.3). A stack is a list of value types, its top
+-- Typing of instructions and of lists of them (WebAssembly Core 1.0, 3.3; Core 2.0, 3.3.7 for bytes copied and filled). A stack is a list of value types, its top
 -- first; the operands and results of a type are written as in the standard, the top last.
 use Rattle.std.specs.Prelude.{◌≡◌, ◌≤◌, ◌^◌, Bool, true, List, [], ◌∷◌, ◌++◌, reverse, IsSome, slice_get, Option, Some, None}
 use Rattle.std.specs.List.{AllByRecursion}
 use Rattle.w2c_base.specs.declared.value.ValType.{ValType}
 use Rattle.w2c_base.specs.declared.value.ValType.TheVariants as type
 use Rattle.w2c_base.specs.declared.signature.FuncType.{FuncType}
-use Rattle.wasm_tree.specs.Instructions.{Code, end_code, then_code, Kind, Otherwise, no_else, else_code, Unreachable, Return, Drop, Select, MemorySize, MemoryGrow, Block, Loop, If, Br, BrIf, BrTable, Call, CallIndirect, LocalGet, LocalSet, LocalTee, GlobalGet, GlobalSet, Load, Store}
+use Rattle.wasm_tree.specs.Instructions.{Code, end_code, then_code, Kind, Otherwise, no_else, else_code, Unreachable, Return, Drop, Select, MemorySize, MemoryGrow, MemoryCopy, MemoryFill, Block, Loop, If, Br, BrIf, BrTable, Call, CallIndirect, LocalGet, LocalSet, LocalTee, GlobalGet, GlobalSet, Load, Store}
 use Rattle.wasm_tree.specs.InstructionTable.{Typing, of_types, by_rule, Row, row_of}
 use Rattle.wasm_tree.specs.Opcodes.{opcode_of}
 use Rattle.wasm_tree.specs.AccessWidths.{load_width, store_width}
@@ -71,6 +71,8 @@ abbrev mutual
       HasMemory c × (2 ^ arg.align ≤ store_width op) × TurnsAsTabled (table_type (Store op arg)) old new
   KindHasType c labels MemorySize old new = HasMemory c × TurnsAsTabled (table_type MemorySize) old new
   KindHasType c labels MemoryGrow old new = HasMemory c × TurnsAsTabled (table_type MemoryGrow) old new
+  KindHasType c labels MemoryCopy old new = HasMemory c × TurnsAsTabled (table_type MemoryCopy) old new
+  KindHasType c labels MemoryFill old new = HasMemory c × TurnsAsTabled (table_type MemoryFill) old new
   -- control instructions (3.3.5). Code inside an instruction goes from the empty stack to the block's result; the label
   -- of a loop carries no value, that of another block its result
   KindHasType c labels Unreachable old new = Leaves [] old new

@@ -35,6 +35,8 @@ const TWO_I32: &[ValType] = &[ValType::I32, ValType::I32];
 
 const TWO_I64: &[ValType] = &[ValType::I64, ValType::I64];
 
+const THREE_I32: &[ValType] = &[ValType::I32, ValType::I32, ValType::I32];
+
 const I32_AND_I64: &[ValType] = &[ValType::I32, ValType::I64];
 
 fn of(operands: &'static [ValType], outcome: Option<ValType>) -> Option<InstrType>
@@ -84,6 +86,11 @@ pub(crate) fn fixed_type(kind: &Kind) -> Option<InstrType>
             result: Some(ValType::I32),
             needs: Needs::Memory,
         }),
+        Kind::MemoryCopy | Kind::MemoryFill => Some(InstrType {
+            operands: THREE_I32,
+            result: None,
+            needs: Needs::Memory,
+        }),
         Kind::I32Load8S(arg) | Kind::I32Load8U(arg) => {
             accessing(ONE_I32, Some(ValType::I32), arg.align, 0)
         }
@@ -108,12 +115,20 @@ pub(crate) fn fixed_type(kind: &Kind) -> Option<InstrType>
         Kind::I64Store16(arg) => accessing(I32_AND_I64, None, arg.align, 1),
         Kind::I64Store32(arg) => accessing(I32_AND_I64, None, arg.align, 2),
         Kind::I64Store(arg) => accessing(I32_AND_I64, None, arg.align, 3),
-        Kind::I32Eqz | Kind::I32Clz | Kind::I32Ctz | Kind::I32Popcnt => {
-            of(ONE_I32, Some(ValType::I32))
-        }
+        Kind::I32Eqz
+        | Kind::I32Clz
+        | Kind::I32Ctz
+        | Kind::I32Popcnt
+        | Kind::I32Extend8S
+        | Kind::I32Extend16S => of(ONE_I32, Some(ValType::I32)),
         Kind::I64ExtendI32S | Kind::I64ExtendI32U => of(ONE_I32, Some(ValType::I64)),
         Kind::I64Eqz | Kind::I32WrapI64 => of(ONE_I64, Some(ValType::I32)),
-        Kind::I64Clz | Kind::I64Ctz | Kind::I64Popcnt => of(ONE_I64, Some(ValType::I64)),
+        Kind::I64Clz
+        | Kind::I64Ctz
+        | Kind::I64Popcnt
+        | Kind::I64Extend8S
+        | Kind::I64Extend16S
+        | Kind::I64Extend32S => of(ONE_I64, Some(ValType::I64)),
         Kind::I32Eq
         | Kind::I32Ne
         | Kind::I32LtS
