@@ -164,7 +164,7 @@ prefixed_row sub_opcode kind zeros = record { sub_opcode = sub_opcode; kind = ki
 abbrev pub prefixed : List Prefixed
 prefixed = prefixed_row 10 MemoryCopy 2 ∷ prefixed_row 11 MemoryFill 1 ∷ []
 
-abbrev first_prefixed : ℕ → List Prefixed → Option Prefixed
+abbrev pub first_prefixed : ℕ → List Prefixed → Option Prefixed
 first_prefixed sub_opcode [] = None
 first_prefixed sub_opcode (r ∷ rest) = if r.sub_opcode == sub_opcode then Some r else first_prefixed sub_opcode rest
 

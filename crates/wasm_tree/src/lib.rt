@@ -10,10 +10,10 @@ mod tree;
 pub use code::{Code, ElsePart, Indexes, Instr, Kind, MemArg};
 pub use defined::bodies_stand_behind_imports;
 pub use entries::{
-    BodyEntries, BodyEntry, DataCount, ElementEntries, ElementEntry, Export, ExportKind, Exports, FuncEntries,
-    FuncEntry, FuncRef, FuncRefs, GlobalEntries, GlobalEntry, Import, ImportKind, Imports, Limits,
-    LimitsEntries, LimitsEntry, Run, Runs, SegmentEntries, SegmentEntry, Start, TypeEntries,
-    TypeEntry,
+    BodyEntries, BodyEntry, DataCount, ElementEntries, ElementEntry, Export, ExportKind, Exports,
+    FuncEntries, FuncEntry, FuncRef, FuncRefs, GlobalEntries, GlobalEntry, Import, ImportKind,
+    Imports, Limits, LimitsEntries, LimitsEntry, Run, Runs, SegmentEntries, SegmentEntry, Start,
+    TypeEntries, TypeEntry,
 };
 pub use instruction_table::the_instruction_table_is_exact;
 pub use tree::Module;

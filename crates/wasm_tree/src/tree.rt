@@ -3,8 +3,8 @@ ghost use Rattle.std.specs.Prelude.{◌≡◌};
 ghost use Rattle.std.specs.Option.{option_copied};
 
 use crate::{
-    BodyEntries, DataCount, ElementEntries, Exports, FuncEntries, GlobalEntries, ImportKind, Imports,
-    LimitsEntries, SegmentEntries, Start, TypeEntries,
+    BodyEntries, DataCount, ElementEntries, Exports, FuncEntries, GlobalEntries, ImportKind,
+    Imports, LimitsEntries, SegmentEntries, Start, TypeEntries,
 };
 use w2c_base::{FuncType, ValType};
 
