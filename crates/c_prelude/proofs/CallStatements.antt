@@ -11,8 +11,8 @@ use Rattle.c_meaning.specs.Step.{Step, Stops, at_rest, place_of, act, with_value
 use Rattle.c_meaning.specs.Run.{Pending, Progress, Going, go_on}
 use Rattle.c_meaning.specs.Reaches.{Reaches}
 use Rattle.c_meaning.proofs.Ways.{step, join_one}
-use Rattle.c_prelude.specs.Calls.{CallEnd, call_begun, call_ended, CallComesTo}
-use Rattle.c_prelude.specs.Statements.{Calls, StatementComesTo}
+use Rattle.c_prelude.specs.Calls.{CallEnd, call_begun, call_ended, CallComesTo, CallComesBetween}
+use Rattle.c_prelude.specs.Statements.{Calls, StatementComesTo, StatementComesBetween}
 
 -- a name that the unit defines stands for that definition
 pub named_here : (p : Program) (u : ℕ) (name : Name) (d : Definition) → definition_at p u name ≡ Some d
@@ -53,17 +53,42 @@ begins p m r target f values rest below calls =
     (named_here p r.unit f.name d calls.defined)
     ∙ ap (λ (found : Option Definition). begin found r.unit m values frames) (calls.defined ∙ sym known))))
 
-pub statement_comes_to : (p : Program) (pending : Pending) (most : ℕ) (m : Machine) (r : Running) (target : Option Name) (f : tree.Func)
-    (values : List CValue) (rest : List tree.Stmt) (end : CallEnd) (below : List Frame)
-    → Calls p m r target f values rest → CallComesTo most f values m end → StatementComesTo p pending most m r target rest end below
-statement_comes_to p pending most m r target f values rest end below calls comes =
+-- a way of the call is one statement more of the statement
+behind : (p : Program) (pending : Pending) (n : ℕ) (m : Machine) (r : Running) (target : Option Name) (f : tree.Func)
+    (values : List CValue) (rest : List tree.Stmt) (below : List Frame) (to : Progress)
+    → (calls : Calls p m r target f values rest)
+    → Reaches p n (call_begun p pending r.unit calls.item f m values (record { target = target; running = at_rest r rest } ∷ below)) to
+    → Reaches p (suc n) (Going pending (record { machine = m; running = r; below = below })) to
+behind p pending n m r target f values rest below to calls way =
     let from : Progress = Going pending (record { machine = m; running = r; below = below }) in
     let frames = record { target = target; running = at_rest r rest } ∷ below in
     let begun : Progress = call_begun p pending r.unit calls.item f m values frames in
     let first : Reaches p 1 from begun = subst (λ (s : Step). Reaches p 1 from (go_on p pending s))
     (begins p m r target f values rest below calls) (step p pending (record { machine = m; running = r; below = below })) in
+    join_one p n from begun to first way
+
+pub statement_comes_to : (p : Program) (pending : Pending) (most : ℕ) (m : Machine) (r : Running) (target : Option Name) (f : tree.Func)
+    (values : List CValue) (rest : List tree.Stmt) (end : CallEnd) (below : List Frame)
+    → Calls p m r target f values rest → CallComesTo most f values m end → StatementComesTo p pending most m r target rest end below
+statement_comes_to p pending most m r target f values rest end below calls comes =
+    let frames = record { target = target; running = at_rest r rest } ∷ below in
     record {
       statements = suc comes.statements;
       few = omega (arith, comes.few);
-      way = join_one p comes.statements from begun (call_ended p pending end frames) first (comes.way p pending r.unit calls.item frames);
+      way = behind p pending comes.statements m r target f values rest below (call_ended p pending end frames) calls
+          (comes.way p pending r.unit calls.item frames);
+    }
+
+pub statement_comes_between : (p : Program) (pending : Pending) (least most : ℕ) (m : Machine) (r : Running) (target : Option Name)
+    (f : tree.Func) (values : List CValue) (rest : List tree.Stmt) (end : CallEnd) (below : List Frame)
+    → Calls p m r target f values rest → CallComesBetween least most f values m end
+    → StatementComesBetween p pending least most m r target rest end below
+statement_comes_between p pending least most m r target f values rest end below calls comes =
+    let frames = record { target = target; running = at_rest r rest } ∷ below in
+    record {
+      statements = suc comes.statements;
+      many = omega (arith, comes.many);
+      few = omega (arith, comes.few);
+      way = behind p pending comes.statements m r target f values rest below (call_ended p pending end frames) calls
+          (comes.way p pending r.unit calls.item frames);
     }

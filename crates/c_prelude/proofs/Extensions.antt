@@ -1,4 +1,4 @@
--- Sign extension, and the helper of i64.extend_i32_s.
+-- Sign extension, and its helpers.
 use Rattle.std.proofs.Common.{◌≡◌, ℕ, zero, suc, ◌+◌, ◌*◌, ◌/◌, ◌%◌, ◌^◌, ◌<◌, arith, refl, sym, ap, ◌∙◌, List, Option, Some}
 use Rattle.std.specs.Prelude.{bit_xor}
 use native.Mathlib.Nat.{add-mod_right, add-div_right, mod-lt}
@@ -6,17 +6,18 @@ use native.Mathlib.Numerals.{one-add}
 use Rattle.std.proofs.lemmas.Nat.{mod-pow-add, pow_pos}
 use lib.Bits.{xor_block, xor_zero_r}
 use Rattle.std.proofs.lemmas.Bool.Decides.{nat_tests}
+use Rattle.w2c_base.specs.declared.value.ValType.{ValType}
 use Rattle.w2c_base.specs.declared.value.ValType.TheVariants as type
-use Rattle.w2c_base.specs.declared.value.Value.TheVariants.{I64}
 use Rattle.wasm_meaning.specs.Operators.{extend_s}
-use Rattle.c_meaning.specs.State.{Number, Machine, Frame}
+use Rattle.c_meaning.specs.State.{Machine, Frame}
 use Rattle.c_meaning.specs.Linking.{Program}
 use Rattle.c_meaning.specs.Step.{give}
 use Rattle.c_meaning.specs.Run.{Pending, Progress, go_on}
+use Rattle.c_prelude.specs.declared.rows.Form.{Form}
 use Rattle.c_prelude.specs.declared.rows.Form.TheVariants as form
-use Rattle.c_prelude.specs.Rows.{ExtendI32S}
+use Rattle.c_prelude.specs.Rows.{ExtendI32S, Extend}
 use Rattle.c_prelude.specs.Helpers.{number_helper}
-use Rattle.c_prelude.specs.Operators.{DoesOperator}
+use Rattle.c_prelude.specs.Operators.{number, DoesOperator}
 use Rattle.c_prelude.proofs.Computed.{computed}
 
 flip_last : (r : ℕ) → r < 2 → bit_xor r 1 ≡ (r + 1) % 2
@@ -73,9 +74,33 @@ c_extend16_64 x = ap (λ v. (v + 18446744073709518848) % 18446744073709551616) (
 pub c_extend32_64 : (x : ℕ) → (bit_xor (x % 4294967296) 2147483648 + 18446744071562067968) % 18446744073709551616 ≡ extend_s 32 64 x
 c_extend32_64 x = ap (λ v. (v + 18446744071562067968) % 18446744073709551616) (turned_top 31 x) ∙ sym (extend32_64 x)
 
--- the run when a u64 was given back
-abbrev given : Program → Pending → Machine → List Frame → ℕ → Option Progress
-given p pending m below n = Some (go_on p pending (give m (Some (Number (I64 n))) below))
+-- the run when a number was given back
+abbrev given : ValType → Program → Pending → Machine → List Frame → ℕ → Option Progress
+given t p pending m below n = Some (go_on p pending (give m (Some (number t n)) below))
 
 pub extend_right : DoesOperator (number_helper (record { ty = type.I64; form = form.ExtendS })) type.I64 ExtendI32S
-extend_right m x p = computed 1 (omega arith) (λ program pending unit item below. ap (given program pending m below) (c_extend32_64 x))
+extend_right m x p = computed 1 (omega arith) (λ program pending unit item below. ap (given type.I64 program pending m below) (c_extend32_64 x))
+
+-- the helpers of the low bits of a number
+abbrev Extends : ValType → Form → ℕ → Type 0
+Extends t f width = DoesOperator (number_helper (record { ty = t; form = f })) t (Extend width)
+
+pub extend8_right_32 : Extends type.I32 form.Extend8S 8
+extend8_right_32 m x p = computed 1 (omega arith) (λ program pending unit item below. ap (given type.I32 program pending m below)
+    (c_extend8_32 x))
+
+pub extend16_right_32 : Extends type.I32 form.Extend16S 16
+extend16_right_32 m x p = computed 1 (omega arith) (λ program pending unit item below. ap (given type.I32 program pending m below)
+    (c_extend16_32 x))
+
+pub extend8_right_64 : Extends type.I64 form.Extend8S 8
+extend8_right_64 m x p = computed 1 (omega arith) (λ program pending unit item below. ap (given type.I64 program pending m below)
+    (c_extend8_64 x))
+
+pub extend16_right_64 : Extends type.I64 form.Extend16S 16
+extend16_right_64 m x p = computed 1 (omega arith) (λ program pending unit item below. ap (given type.I64 program pending m below)
+    (c_extend16_64 x))
+
+pub extend32_right_64 : Extends type.I64 form.Extend32S 32
+extend32_right_64 m x p = computed 1 (omega arith) (λ program pending unit item below. ap (given type.I64 program pending m below)
+    (c_extend32_64 x))

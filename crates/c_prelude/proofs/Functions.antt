@@ -47,6 +47,11 @@ number_static num.I64GtS = record { static = refl; typed = refl; named = refl; f
 number_static num.I64LeS = record { static = refl; typed = refl; named = refl; formed = refl; keeps_rules = refl }
 number_static num.I64GeS = record { static = refl; typed = refl; named = refl; formed = refl; keeps_rules = refl }
 number_static num.I64ExtendI32S = record { static = refl; typed = refl; named = refl; formed = refl; keeps_rules = refl }
+number_static num.I32Extend8S = record { static = refl; typed = refl; named = refl; formed = refl; keeps_rules = refl }
+number_static num.I32Extend16S = record { static = refl; typed = refl; named = refl; formed = refl; keeps_rules = refl }
+number_static num.I64Extend8S = record { static = refl; typed = refl; named = refl; formed = refl; keeps_rules = refl }
+number_static num.I64Extend16S = record { static = refl; typed = refl; named = refl; formed = refl; keeps_rules = refl }
+number_static num.I64Extend32S = record { static = refl; typed = refl; named = refl; formed = refl; keeps_rules = refl }
 
 load_static : (op : LoadOp) → IsOne (helper.Load op)
 load_static load.I32Load = record { static = refl; typed = refl; named = refl; formed = refl; keeps_rules = refl }
@@ -77,6 +82,8 @@ helper_static (helper.Load op) = load_static op
 helper_static (helper.Store op) = store_static op
 helper_static helper.Size = record { static = refl; typed = refl; named = refl; formed = refl; keeps_rules = refl }
 helper_static helper.Element = record { static = refl; typed = refl; named = refl; formed = refl; keeps_rules = refl }
+helper_static helper.Copy = record { static = refl; typed = refl; named = refl; formed = refl; keeps_rules = refl }
+helper_static helper.Fill = record { static = refl; typed = refl; named = refl; formed = refl; keeps_rules = refl }
 
 -- the same of a function that is the helper
 pub made_static : (which : Helper) (f : tree.Func) → f ≡ helper_of which → IsStaticFunction (helper_type which) f
@@ -121,6 +128,11 @@ finds_number num.I64GtS = refl
 finds_number num.I64LeS = refl
 finds_number num.I64GeS = refl
 finds_number num.I64ExtendI32S = refl
+finds_number num.I32Extend8S = refl
+finds_number num.I32Extend16S = refl
+finds_number num.I64Extend8S = refl
+finds_number num.I64Extend16S = refl
+finds_number num.I64Extend32S = refl
 
 finds_load : (op : LoadOp) → Finds (helper.Load op)
 finds_load load.I32Load = refl
@@ -151,6 +163,8 @@ finds (helper.Load op) = finds_load op
 finds (helper.Store op) = finds_store op
 finds helper.Size = refl
 finds helper.Element = refl
+finds helper.Copy = refl
+finds helper.Fill = refl
 
 same : (a b : Helper) → Some a ≡ Some b → a ≡ b
 same a b e = cc

@@ -31,3 +31,11 @@ pub record CallComesTo (most : ℕ) (f : tree.Func) (args : List CValue) (m : Ma
   pub few : statements ≤ most
   pub way : (p : Program) (pending : Pending) (unit item : ℕ) (below : List Frame)
       → Reaches p statements (call_begun p pending unit item f m args below) (call_ended p pending end below)
+
+-- The same within so many statements, and not before so many others.
+pub record CallComesBetween (least most : ℕ) (f : tree.Func) (args : List CValue) (m : Machine) (end : CallEnd) : Type 0 where
+  pub statements : ℕ
+  pub many : least ≤ statements
+  pub few : statements ≤ most
+  pub way : (p : Program) (pending : Pending) (unit item : ℕ) (below : List Frame)
+      → Reaches p statements (call_begun p pending unit item f m args below) (call_ended p pending end below)

@@ -10,7 +10,7 @@ use Rattle.c_tree.specs.FirstBroken.{KeepsRules}
 use Rattle.c_meaning.specs.Primitives.{primitive}
 use Rattle.c_prelude.specs.declared.operation.Helper.{Helper}
 use Rattle.c_prelude.specs.declared.operation.Helper.TheVariants as helper
-use Rattle.c_prelude.specs.Rows.{Operator, Unary, Binary, Compare, ExtendI32S, operator_of, row_of, load_row, store_row}
+use Rattle.c_prelude.specs.Rows.{Operator, Unary, Binary, Compare, ExtendI32S, Extend, operator_of, row_of, load_row, store_row}
 use Rattle.c_prelude.specs.Helpers.{c_type}
 
 abbrev signature : CType → List CType → tree.FuncType
@@ -22,15 +22,18 @@ operator_type t (Unary op) = signature t (t ∷ [])
 operator_type t (Binary op) = signature t (t ∷ t ∷ [])
 operator_type t (Compare op) = signature type.U32 (t ∷ t ∷ [])
 operator_type t ExtendI32S = signature t (type.U32 ∷ [])
+operator_type t (Extend width) = signature t (t ∷ [])
 
 -- a memory, a base, an offset, and for a store the value; a memory; a table, an index and a signature
--- number
+-- number; a memory and three numbers
 abbrev pub helper_type : Helper → tree.FuncType
 helper_type (helper.Num op) = operator_type (c_type (row_of op).ty) (operator_of (row_of op).form)
 helper_type (helper.Load op) = signature (c_type (load_row op).ty) (type.PtrMem ∷ type.U32 ∷ type.U32 ∷ [])
 helper_type (helper.Store op) = signature type.Void (type.PtrMem ∷ type.U32 ∷ type.U32 ∷ c_type (store_row op).ty ∷ [])
 helper_type helper.Size = signature type.U32 (type.PtrMem ∷ [])
 helper_type helper.Element = signature type.FnPtr (type.PtrTab ∷ type.U32 ∷ type.U64 ∷ [])
+helper_type helper.Copy = signature type.Void (type.PtrMem ∷ type.U32 ∷ type.U32 ∷ type.U32 ∷ [])
+helper_type helper.Fill = signature type.Void (type.PtrMem ∷ type.U32 ∷ type.U32 ∷ type.U32 ∷ [])
 
 -- A static function of this type, formed as an item of a unit, that breaks no rule of the subset. Its
 -- name is that of no primitive.

@@ -12,12 +12,12 @@ use Rattle.c_prelude.specs.declared.operation.Helper.TheVariants as helper
 use Rattle.c_prelude.specs.declared.operation.LoadOp.{LoadOp}
 use Rattle.c_prelude.specs.declared.operation.StoreOp.{StoreOp}
 use Rattle.c_prelude.specs.declared.rows.Form.{Form}
-use Rattle.c_prelude.specs.declared.rows.Form.TheVariants.{DivS, DivU, RemS, RemU, ShrS, Rotl, Rotr, Clz, Ctz, Popcnt, LtS, GtS, LeS, GeS, ExtendS}
+use Rattle.c_prelude.specs.declared.rows.Form.TheVariants.{DivS, DivU, RemS, RemU, ShrS, Rotl, Rotr, Clz, Ctz, Popcnt, LtS, GtS, LeS, GeS, ExtendS, Extend8S, Extend16S, Extend32S}
 use Rattle.c_prelude.specs.declared.rows.Row.{Row}
 use Rattle.c_prelude.specs.declared.rows.Access.{Access}
 use Rattle.c_prelude.specs.declared.piece.Piece.{Piece}
-use Rattle.c_prelude.specs.declared.number_tables.TheConstants.{LT_S, GT_S, LE_S, GE_S, DIV_U, REM_U, DIV_S, REM_S, SHR_S, ROTL, ROTR, CLZ_STAGE, CTZ_STAGE, COUNT_END, POPCNT_STAGE, POPCNT_END, EXTEND_S}
-use Rattle.c_prelude.specs.declared.object_tables.TheConstants.{ACCESS, LOAD, LOAD_S, STORE, SIZE, ELEMENT}
+use Rattle.c_prelude.specs.declared.number_tables.TheConstants.{LT_S, GT_S, LE_S, GE_S, DIV_U, REM_U, DIV_S, REM_S, SHR_S, ROTL, ROTR, CLZ_STAGE, CTZ_STAGE, COUNT_END, POPCNT_STAGE, POPCNT_END, EXTEND_S, EXTEND_LOW_S}
+use Rattle.c_prelude.specs.declared.object_tables.TheConstants.{ACCESS, LOAD, LOAD_S, STORE, SIZE, ELEMENT, COPY, FILL}
 use Rattle.c_prelude.specs.Rows.{row_of, prefix_of, form_name, load_row, store_row, load_name, store_name}
 use Rattle.c_prelude.specs.Pieces.{letter, nothing_made, all_placed, staged}
 
@@ -64,6 +64,9 @@ operand_names Clz = codes "x"
 operand_names Ctz = codes "x"
 operand_names Popcnt = codes "x"
 operand_names ExtendS = codes "x"
+operand_names Extend8S = codes "x"
+operand_names Extend16S = codes "x"
+operand_names Extend32S = codes "x"
 operand_names _ = codes "xy"
 
 abbrev pub local_names : Form → List ℕ
@@ -110,10 +113,19 @@ end_of GtS = GT_S
 end_of LeS = LE_S
 end_of GeS = GE_S
 end_of ExtendS = EXTEND_S
+end_of Extend8S = EXTEND_LOW_S
+end_of Extend16S = EXTEND_LOW_S
+end_of Extend32S = EXTEND_LOW_S
 
--- the stages, and what stands behind them: there the size is that of the word which is extended
+-- how many bits what stands behind the stages is about: as many as are extended
+abbrev pub end_size : Form → ℕ
+end_size Extend8S = 8
+end_size Extend16S = 16
+end_size _ = 32
+
+-- the stages, and what stands behind them
 abbrev pub number_stmts : Row → List tree.Stmt
-number_stmts r = (all_placed r.ty 32 (staged r.ty (sizes_of r) nothing_made (stage_of r.form)) (end_of r.form)).stmts
+number_stmts r = (all_placed r.ty (end_size r.form) (staged r.ty (sizes_of r) nothing_made (stage_of r.form)) (end_of r.form)).stmts
 
 abbrev pub number_helper : Row → tree.Func
 number_helper r = static_function
@@ -159,8 +171,9 @@ store_helper op = static_function
 
 -- ---- the size of a memory, and the element of a table with an index and a signature number
 
-abbrev pub object_stmts : List Piece → List tree.Stmt
-object_stmts pieces = (all_placed I32 32 nothing_made pieces).stmts
+-- a body about accesses of so many bits
+abbrev pub object_stmts : ℕ → List Piece → List tree.Stmt
+object_stmts size pieces = (all_placed I32 size nothing_made pieces).stmts
 
 abbrev pub size_helper : tree.Func
 size_helper = static_function
@@ -168,7 +181,7 @@ size_helper = static_function
     type.U32
     ((type.PtrMem, 109) ∷ [])
     ((type.U64, 110) ∷ [])
-    (object_stmts SIZE)
+    (object_stmts 32 SIZE)
 
 abbrev pub element_helper : tree.Func
 element_helper = static_function
@@ -176,7 +189,28 @@ element_helper = static_function
     type.FnPtr
     ((type.PtrTab, 116) ∷ (type.U32, 105) ∷ (type.U64, 115) ∷ [])
     ((type.U64, 107) ∷ (type.U64, 110) ∷ (type.U64, 103) ∷ (type.FnPtr, 102) ∷ [])
-    (object_stmts ELEMENT)
+    (object_stmts 32 ELEMENT)
+
+-- ---- bytes copied and filled: a memory, where they are written, where they are read or what is written, and how many
+
+abbrev pub bytes_params : ℕ → ℕ → List Variable
+bytes_params first second = (type.PtrMem, 109) ∷ (type.U32, first) ∷ (type.U32, second) ∷ (type.U32, 110) ∷ []
+
+abbrev pub copy_helper : tree.Func
+copy_helper = static_function
+    (codes "memory_copy")
+    type.Void
+    (bytes_params 100 115)
+    (all_of type.U64 (codes "abkl") ++ (type.U32, 118) ∷ [])
+    (object_stmts 8 COPY)
+
+abbrev pub fill_helper : tree.Func
+fill_helper = static_function
+    (codes "memory_fill")
+    type.Void
+    (bytes_params 100 118)
+    (all_of type.U64 (codes "akl"))
+    (object_stmts 8 FILL)
 
 abbrev pub helper_of : Helper → tree.Func
 helper_of (helper.Num op) = number_helper (row_of op)
@@ -184,3 +218,5 @@ helper_of (helper.Load op) = load_helper op
 helper_of (helper.Store op) = store_helper op
 helper_of helper.Size = size_helper
 helper_of helper.Element = element_helper
+helper_of helper.Copy = copy_helper
+helper_of helper.Fill = fill_helper

@@ -26,6 +26,7 @@ power t k = if nat_lt k (bits t) then 2 ^ k else 0
 
 abbrev pub number_in : ValType → ℕ → Number → ℕ
 number_in t size number.Zero = 0
+number_in t size number.One = 1
 number_in t size number.Bits = bits t
 number_in t size number.LastBit = bits t - 1
 number_in t size number.Half = 2 ^ (bits t - 1)

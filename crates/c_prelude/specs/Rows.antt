@@ -12,7 +12,7 @@ use Rattle.c_prelude.specs.declared.operation.LoadOp.TheVariants as load
 use Rattle.c_prelude.specs.declared.operation.StoreOp.{StoreOp}
 use Rattle.c_prelude.specs.declared.operation.StoreOp.TheVariants as store
 use Rattle.c_prelude.specs.declared.rows.Form.{Form}
-use Rattle.c_prelude.specs.declared.rows.Form.TheVariants.{DivS, DivU, RemS, RemU, ShrS, Rotl, Rotr, Clz, Ctz, Popcnt, LtS, GtS, LeS, GeS, ExtendS}
+use Rattle.c_prelude.specs.declared.rows.Form.TheVariants.{DivS, DivU, RemS, RemU, ShrS, Rotl, Rotr, Clz, Ctz, Popcnt, LtS, GtS, LeS, GeS, ExtendS, Extend8S, Extend16S, Extend32S}
 use Rattle.c_prelude.specs.declared.rows.Row.{Row}
 use Rattle.c_prelude.specs.declared.rows.Access.{Access}
 
@@ -50,13 +50,19 @@ row_of num.I64GtS = row type.I64 GtS
 row_of num.I64LeS = row type.I64 LeS
 row_of num.I64GeS = row type.I64 GeS
 row_of num.I64ExtendI32S = row type.I64 ExtendS
+row_of num.I32Extend8S = row type.I32 Extend8S
+row_of num.I32Extend16S = row type.I32 Extend16S
+row_of num.I64Extend8S = row type.I64 Extend8S
+row_of num.I64Extend16S = row type.I64 Extend16S
+row_of num.I64Extend32S = row type.I64 Extend32S
 
--- the operator of a form
+-- the operator of a form. `Extend` extends so many low bits of a number by their sign
 pub data Operator : Type 0 where
   Unary : wasm.UnaryOp → Operator
   Binary : wasm.BinaryOp → Operator
   Compare : wasm.CompareOp → Operator
   ExtendI32S : Operator
+  Extend : (width : ℕ) → Operator
 
 abbrev pub operator_of : Form → Operator
 operator_of DivS = Binary wasm.DivS
@@ -74,6 +80,9 @@ operator_of GtS = Compare wasm.GtS
 operator_of LeS = Compare wasm.LeS
 operator_of GeS = Compare wasm.GeS
 operator_of ExtendS = ExtendI32S
+operator_of Extend8S = Extend 8
+operator_of Extend16S = Extend 16
+operator_of Extend32S = Extend 32
 
 -- the load and the store of a name
 abbrev pub load_of : LoadOp → wasm.LoadOp
@@ -134,6 +143,9 @@ form_name GtS = codes "gt_s"
 form_name LeS = codes "le_s"
 form_name GeS = codes "ge_s"
 form_name ExtendS = codes "extend_i32_s"
+form_name Extend8S = codes "extend8_s"
+form_name Extend16S = codes "extend16_s"
+form_name Extend32S = codes "extend32_s"
 
 abbrev pub load_name : LoadOp → List ℕ
 load_name load.I32Load = codes "i32_load"

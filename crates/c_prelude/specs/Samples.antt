@@ -37,8 +37,11 @@ with_bytes bytes = record {
   trail = record { replies = []; events = [] };
 }
 
+abbrev pub sample_bytes : List ℕ
+sample_bytes = 255 ∷ 2 ∷ 3 ∷ 4 ∷ 133 ∷ []
+
 abbrev pub machine : Machine
-machine = with_bytes (255 ∷ 2 ∷ 3 ∷ 4 ∷ 133 ∷ [])
+machine = with_bytes sample_bytes
 
 abbrev pub memory : CValue
 memory = Pointer (Some (object (codes "m0")))
@@ -46,9 +49,12 @@ memory = Pointer (Some (object (codes "m0")))
 abbrev pub table : CValue
 table = Pointer (Some (object (codes "t0")))
 
--- where the call stands after so many statements, and a call that ended
+-- where the call stands after so many statements, also with other bytes in the memory, and a call that ended
+abbrev pub called_with : List ℕ → Helper → List CValue → ℕ → Progress
+called_with bytes which args n = after program n (call_begun program pending 0 0 (helper_of which) (with_bytes bytes) args [])
+
 abbrev pub called : Helper → List CValue → ℕ → Progress
-called which args n = after program n (call_begun program pending 0 0 (helper_of which) machine args [])
+called which args n = called_with sample_bytes which args n
 
 abbrev pub ended : CallEnd → Progress
 ended end = call_ended program pending end []

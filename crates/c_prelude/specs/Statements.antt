@@ -34,3 +34,17 @@ StatementComesTo p pending most m r target rest end below =
     ComesWithin p (suc most)
     (Going pending (record { machine = m; running = r; below = below }))
     (call_ended p pending end (record { target = target; running = at_rest r rest } ∷ below))
+
+-- The run comes there within so many statements and not before so many others, and is not over before.
+pub record ComesBetween (p : Program) (least most : ℕ) (from to : Progress) : Type 0 where
+  pub statements : ℕ
+  pub many : least ≤ statements
+  pub few : statements ≤ most
+  pub way : Reaches p statements from to
+
+-- the same of a call that takes at least so many statements, and the statement one more
+abbrev pub StatementComesBetween : Program → Pending → ℕ → ℕ → Machine → Running → Option Name → List tree.Stmt → CallEnd → List Frame → Type 0
+StatementComesBetween p pending least most m r target rest end below =
+    ComesBetween p (suc least) (suc most)
+    (Going pending (record { machine = m; running = r; below = below }))
+    (call_ended p pending end (record { target = target; running = at_rest r rest } ∷ below))

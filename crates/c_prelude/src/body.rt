@@ -3,8 +3,8 @@ ghost use Rattle.std.specs.Prelude.{◌≡◌};
 ghost use Rattle.c_prelude.specs.Helpers as of;
 
 use crate::number_tables::{
-    CLZ_STAGE, COUNT_END, CTZ_STAGE, DIV_S, DIV_U, EXTEND_S, GE_S, GT_S, LE_S, LT_S, POPCNT_END,
-    POPCNT_STAGE, REM_S, REM_U, ROTL, ROTR, SHR_S,
+    CLZ_STAGE, COUNT_END, CTZ_STAGE, DIV_S, DIV_U, EXTEND_LOW_S, EXTEND_S, GE_S, GT_S, LE_S, LT_S,
+    POPCNT_END, POPCNT_STAGE, REM_S, REM_U, ROTL, ROTR, SHR_S,
 };
 use crate::piece::Piece;
 use crate::rows::{Form, Row};
@@ -36,7 +36,13 @@ pub fn operand_names(form: Form) -> &'static [u8]
     ensures { result.now ≡ of.operand_names form }
 {
     match form {
-        Form::Clz | Form::Ctz | Form::Popcnt | Form::ExtendS => b"x",
+        Form::Clz
+        | Form::Ctz
+        | Form::Popcnt
+        | Form::ExtendS
+        | Form::Extend8S
+        | Form::Extend16S
+        | Form::Extend32S => b"x",
         _ => b"xy",
     }
 }
@@ -106,5 +112,17 @@ pub fn end(form: Form) -> &'static [Piece]
         Form::LeS => &LE_S,
         Form::GeS => &GE_S,
         Form::ExtendS => &EXTEND_S,
+        Form::Extend8S | Form::Extend16S | Form::Extend32S => &EXTEND_LOW_S,
+    }
+}
+
+/// How many bits the pieces behind the stages are about: as many as are extended.
+pub fn end_size(form: Form) -> u32
+    ensures { result ≡ of.end_size form }
+{
+    match form {
+        Form::Extend8S => 8,
+        Form::Extend16S => 16,
+        _ => 32,
     }
 }

@@ -7,11 +7,10 @@ ghost use Rattle.c_meaning.specs.Run.{Pending};
 ghost use Rattle.c_prelude.specs.declared.operation.Helper.{Helper};
 ghost use Rattle.c_prelude.specs.declared.operation.TheConstants.{HELPERS};
 ghost use Rattle.c_prelude.specs.Helpers.{helper_of};
-ghost use Rattle.c_prelude.specs.Calls.{CallComesTo, CallEnd};
-ghost use Rattle.c_prelude.specs.Statements.{Calls, StatementComesTo};
+ghost use Rattle.c_prelude.specs.Calls.{CallComesBetween, CallComesTo, CallEnd};
+ghost use Rattle.c_prelude.specs.Statements.{Calls, StatementComesBetween, StatementComesTo};
 
 /// The law that helpers that differ have names that differ.
-#[tactic(auto, using(crate::proofs::Functions::names_differ))]
 pub fn names_of_helpers_differ()
     ensures { (a b : Helper) → (helper_of a).name ≡ (helper_of b).name → a ≡ b }
 {}
@@ -29,4 +28,12 @@ pub fn call_statements_come_to_the_end_of_the_call()
         (values : List CValue) (rest : List tree.Stmt) (end : CallEnd) (below : List Frame)
         → Calls p m r target f values rest → CallComesTo most f values m end
         → StatementComesTo p pending most m r target rest end below }
+{}
+
+/// The law that such a statement takes at least one statement more than the call at least takes, too.
+pub fn call_statements_take_as_long_as_the_call()
+    ensures { (p : Program) (pending : Pending) (least most : ℕ) (m : Machine) (r : Running) (target : Option Name) (f : tree.Func)
+        (values : List CValue) (rest : List tree.Stmt) (end : CallEnd) (below : List Frame)
+        → Calls p m r target f values rest → CallComesBetween least most f values m end
+        → StatementComesBetween p pending least most m r target rest end below }
 {}

@@ -2,16 +2,16 @@
 ghost use Rattle.std.specs.Prelude.{◌≡◌, ◌++◌, ◌∷◌, [], map, true, Some, IfOk, OnOk};
 ghost use Rattle.c_tree.specs.View.{func_of, stmt_of};
 ghost use Rattle.c_prelude.specs.Pieces as made;
-ghost use Rattle.c_prelude.specs.Helpers.{Variable, static_function, all_of, number_helper, number_stmts, access_stmts, load_helper, store_helper, size_helper, element_helper, helper_of};
+ghost use Rattle.c_prelude.specs.Helpers.{Variable, static_function, all_of, number_helper, number_stmts, access_stmts, load_helper, store_helper, size_helper, element_helper, copy_helper, fill_helper, helper_of};
 ghost use Rattle.c_prelude.specs.Helpers as of;
 ghost use Rattle.c_prelude.specs.Operators.{DoesItsInstruction};
 ghost use Rattle.c_prelude.specs.Functions.{IsStaticFunction, helper_type};
 
 use crate::body::{
-    c_type, end, local_names, operand_names, operand_type, result_type, sizes, stage,
+    c_type, end, end_size, local_names, operand_names, operand_type, result_type, sizes, stage,
 };
 use crate::builder::Builder;
-use crate::object_tables::{ACCESS, ELEMENT, LOAD, LOAD_S, SIZE, STORE};
+use crate::object_tables::{ACCESS, COPY, ELEMENT, FILL, LOAD, LOAD_S, SIZE, STORE};
 use crate::operation::{Helper, LoadOp, StoreOp};
 use crate::parts::{letter, named};
 use crate::piece::{Piece, Setting};
@@ -27,9 +27,13 @@ use w2c_base::{Memory, ValType};
 /// a base and an offset, a store the value too; both trap where the access passes the memory's end
 /// (4.4.4). `Size` takes a pointer to a memory and gives its number of pages. `Element` takes a
 /// pointer to a table, an index and a signature number, and gives the element's function; it traps
-/// past the table's end, else at an empty element, else at one of another signature (4.4.5). A call
-/// ends within 390 statements, that of `Element` within 100. It is static, and named for its
-/// instruction. `Memory` comes only where memory was wanting.
+/// past the table's end, else at an empty element, else at one of another signature (4.4.5). `Copy` and
+/// `Fill` take a pointer to a memory, the first place that is written, then the first that is read or
+/// the number whose low byte is written, and how many bytes there are. They trap where these places
+/// pass the memory's end, before a byte is written, and overlapping bytes are copied as they were
+/// before (Core 2.0, 4.4.7). A call ends within 390 statements, that of `Element` within 100; one that
+/// writes bytes takes more statements than bytes, and at most 20 more for each. It is static, and named
+/// for its instruction. `Memory` comes only where memory was wanting.
 pub fn helper(alloc: Global, which: Helper) -> Result<Func, Memory>
     ensures tree { IfOk result (λ func. func_of func ≡ helper_of which) }
     ensures does { IfOk result (λ func. DoesItsInstruction which (func_of func)) }
@@ -48,6 +52,8 @@ pub fn helper_name(alloc: Global, which: Helper) -> Result<Name, Memory>
         Helper::Store(op) => named(alloc, store_name(op)),
         Helper::Size => named(alloc, b"memory_size"),
         Helper::Element => named(alloc, b"table_element"),
+        Helper::Copy => named(alloc, b"memory_copy"),
+        Helper::Fill => named(alloc, b"memory_fill"),
     }
 }
 
@@ -60,6 +66,8 @@ fn make(alloc: Global, which: Helper) -> Result<Func, Memory>
         Helper::Store(op) => store(alloc, op),
         Helper::Size => size(alloc),
         Helper::Element => element(alloc),
+        Helper::Copy => copy(alloc),
+        Helper::Fill => fill(alloc),
     }
 }
 
@@ -88,7 +96,7 @@ fn number_body(alloc: Global, row: Row) -> Result<Stmts, Memory>
     builder.place_staged(row.ty, sizes(row), stage(row.form))?;
     let setting = Setting {
         ty: row.ty,
-        size: 32,
+        size: end_size(row.form),
     };
     builder.place_all(setting, end(row.form))?;
     Ok(builder.finish())
@@ -140,7 +148,7 @@ fn size(alloc: Global) -> Result<Func, Memory>
     put_param(alloc, &mut params, CType::PtrMem, b'm')?;
     let mut locals = Locals::new(alloc);
     put_local(alloc, &mut locals, CType::U64, b'n')?;
-    let stmts = object_body(alloc, &SIZE)?;
+    let stmts = object_body(alloc, 32, &SIZE)?;
     Ok(function(name, CType::U32, params, locals, stmts))
 }
 
@@ -154,16 +162,37 @@ fn element(alloc: Global) -> Result<Func, Memory>
     put_param(alloc, &mut params, CType::U64, b's')?;
     let mut locals = locals_of(alloc, CType::U64, b"kng")?;
     put_local(alloc, &mut locals, CType::FnPtr, b'f')?;
-    let stmts = object_body(alloc, &ELEMENT)?;
+    let stmts = object_body(alloc, 32, &ELEMENT)?;
     Ok(function(name, CType::FnPtr, params, locals, stmts))
 }
 
-fn object_body(alloc: Global, pieces: &[Piece]) -> Result<Stmts, Memory>
-    ensures { IfOk result (λ stmts. map stmt_of stmts ≡ of.object_stmts pieces.now) }
+fn copy(alloc: Global) -> Result<Func, Memory>
+    ensures { IfOk result (λ func. func_of func ≡ copy_helper) }
+{
+    let name = named(alloc, b"memory_copy")?;
+    let params = bytes_params(alloc, b'd', b's')?;
+    let mut locals = locals_of(alloc, CType::U64, b"abkl")?;
+    put_local(alloc, &mut locals, CType::U32, b'v')?;
+    let stmts = object_body(alloc, 8, &COPY)?;
+    Ok(function(name, CType::Void, params, locals, stmts))
+}
+
+fn fill(alloc: Global) -> Result<Func, Memory>
+    ensures { IfOk result (λ func. func_of func ≡ fill_helper) }
+{
+    let name = named(alloc, b"memory_fill")?;
+    let params = bytes_params(alloc, b'd', b'v')?;
+    let locals = locals_of(alloc, CType::U64, b"akl")?;
+    let stmts = object_body(alloc, 8, &FILL)?;
+    Ok(function(name, CType::Void, params, locals, stmts))
+}
+
+fn object_body(alloc: Global, size: u32, pieces: &[Piece]) -> Result<Stmts, Memory>
+    ensures { IfOk result (λ stmts. map stmt_of stmts ≡ of.object_stmts size pieces.now) }
 {
     let setting = Setting {
         ty: ValType::I32,
-        size: 32,
+        size,
     };
     let mut builder = Builder::new(alloc);
     builder.place_all(setting, pieces)?;
@@ -190,6 +219,18 @@ fn address_params(alloc: Global) -> Result<Params, Memory>
     put_param(alloc, &mut params, CType::PtrMem, b'm')?;
     put_param(alloc, &mut params, CType::U32, b'b')?;
     put_param(alloc, &mut params, CType::U32, b'o')?;
+    Ok(params)
+}
+
+// The memory, two numbers, and how many bytes are written.
+fn bytes_params(alloc: Global, first: u8, second: u8) -> Result<Params, Memory>
+    ensures { IfOk result (λ params. params ≡ map of.param (of.bytes_params first second)) }
+{
+    let mut params = Params::new(alloc);
+    put_param(alloc, &mut params, CType::PtrMem, b'm')?;
+    put_param(alloc, &mut params, CType::U32, first)?;
+    put_param(alloc, &mut params, CType::U32, second)?;
+    put_param(alloc, &mut params, CType::U32, b'n')?;
     Ok(params)
 }
 
@@ -263,7 +304,7 @@ mod tests {
         for which in &HELPERS {
             unit.push(Item::Func(helper(alloc, *which)?))?;
         }
-        assert!(rt; unit.len() == 50);
+        assert!(rt; unit.len() == 57);
         assert!(rt; unit.formed());
         Ok(())
     }
@@ -278,6 +319,10 @@ mod tests {
         let load = helper(alloc, Helper::Load(LoadOp::I64Load16U))?;
         assert_eq!(rt; load.name.as_slice(), b"i64_load16_u".as_slice());
         assert!(rt; matches!(load.result, CType::U64));
+        let copy = helper(alloc, Helper::Copy)?;
+        assert_eq!(rt; copy.name.as_slice(), b"memory_copy".as_slice());
+        assert!(rt; copy.params.len() == 4);
+        assert!(rt; matches!(copy.result, CType::Void));
         Ok(())
     }
 }

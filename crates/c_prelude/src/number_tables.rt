@@ -330,3 +330,15 @@ pub const EXTEND_S: [Piece; 9] = [
     Piece::Op(COp::Sub),
     Piece::Return,
 ];
+
+// return (((x % 256u) ^ 128u) - 128u);
+pub const EXTEND_LOW_S: [Piece; 8] = [
+    Piece::Name(b'x'),
+    Piece::Number(Number::Block),
+    Piece::Op(COp::Rem), // the bits that are extended
+    Piece::Number(Number::Sign),
+    Piece::Op(COp::Xor),
+    Piece::Number(Number::Sign),
+    Piece::Op(COp::Sub),
+    Piece::Return,
+];

@@ -32,6 +32,11 @@ pub enum NumOp {
     I64LeS,
     I64GeS,
     I64ExtendI32S,
+    I32Extend8S,
+    I32Extend16S,
+    I64Extend8S,
+    I64Extend16S,
+    I64Extend32S,
 }
 
 /// A load.
@@ -63,8 +68,8 @@ pub enum StoreOp {
     I64Store32,
 }
 
-/// A helper. `Size` gives a memory's number of pages, and `Element` the function of a table's
-/// element.
+/// A helper. `Size` gives a memory's number of pages, `Element` the function of a table's element,
+/// and `Copy` and `Fill` write bytes of a memory.
 #[derive(Clone, Copy, Debug, PartialEq, Eq)]
 pub enum Helper {
     Num(NumOp),
@@ -72,10 +77,12 @@ pub enum Helper {
     Store(StoreOp),
     Size,
     Element,
+    Copy,
+    Fill,
 }
 
 /// Every helper, once.
-pub const HELPERS: [Helper; 50] = [
+pub const HELPERS: [Helper; 57] = [
     Helper::Num(NumOp::I32DivS),
     Helper::Num(NumOp::I32DivU),
     Helper::Num(NumOp::I32RemS),
@@ -105,6 +112,11 @@ pub const HELPERS: [Helper; 50] = [
     Helper::Num(NumOp::I64LeS),
     Helper::Num(NumOp::I64GeS),
     Helper::Num(NumOp::I64ExtendI32S),
+    Helper::Num(NumOp::I32Extend8S),
+    Helper::Num(NumOp::I32Extend16S),
+    Helper::Num(NumOp::I64Extend8S),
+    Helper::Num(NumOp::I64Extend16S),
+    Helper::Num(NumOp::I64Extend32S),
     Helper::Load(LoadOp::I32Load),
     Helper::Load(LoadOp::I64Load),
     Helper::Load(LoadOp::I32Load8S),
@@ -126,4 +138,6 @@ pub const HELPERS: [Helper; 50] = [
     Helper::Store(StoreOp::I64Store32),
     Helper::Size,
     Helper::Element,
+    Helper::Copy,
+    Helper::Fill,
 ];

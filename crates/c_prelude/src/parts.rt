@@ -86,6 +86,7 @@ pub fn number_in(setting: Setting, n: Number) -> u64
     let size = setting.size;
     match n {
         Number::Zero => 0,
+        Number::One => 1,
         Number::Bits => width(ty) as u64,
         Number::LastBit => (width(ty) - 1) as u64,
         Number::Half => half(ty),

@@ -14,6 +14,7 @@ pub struct Setting {
 #[derive(Clone, Copy)]
 pub enum Number {
     Zero,
+    One,
     /// The width in bits.
     Bits,
     /// The number of the highest bit.

@@ -24,6 +24,9 @@ pub enum Form {
     LeS,
     GeS,
     ExtendS,
+    Extend8S,
+    Extend16S,
+    Extend32S,
 }
 
 /// An operator, and the type of its numbers.
@@ -76,6 +79,11 @@ pub fn number_row(op: NumOp) -> Row
         NumOp::I64LeS => (ValType::I64, Form::LeS),
         NumOp::I64GeS => (ValType::I64, Form::GeS),
         NumOp::I64ExtendI32S => (ValType::I64, Form::ExtendS),
+        NumOp::I32Extend8S => (ValType::I32, Form::Extend8S),
+        NumOp::I32Extend16S => (ValType::I32, Form::Extend16S),
+        NumOp::I64Extend8S => (ValType::I64, Form::Extend8S),
+        NumOp::I64Extend16S => (ValType::I64, Form::Extend16S),
+        NumOp::I64Extend32S => (ValType::I64, Form::Extend32S),
     };
     Row { ty, form }
 }
@@ -155,6 +163,9 @@ pub fn form_name(form: Form) -> &'static [u8]
         Form::LeS => b"le_s",
         Form::GeS => b"ge_s",
         Form::ExtendS => b"extend_i32_s",
+        Form::Extend8S => b"extend8_s",
+        Form::Extend16S => b"extend16_s",
+        Form::Extend32S => b"extend32_s",
     }
 }
 
