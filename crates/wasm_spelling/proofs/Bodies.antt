@@ -73,7 +73,9 @@ pub record Declared (c d : Counts) (n : ℕ) : Type 0 where
   pub all_locals : d.all_locals ≡ c.all_locals + n
   pub functions : d.functions ≡ c.functions
   pub code_read : d.code_read ≡ c.code_read
-  pub last_id : d.last_id ≡ c.last_id
+  pub last_rank : d.last_rank ≡ c.last_rank
+  pub data_count : d.data_count ≡ c.data_count
+  pub data_read : d.data_read ≡ c.data_read
 
 abbrev one_run : Counts → Run → Fields → Fields
 one_run c r rest = number r.count (provided (nat_le (c.locals + r.count) most_locals) (provided (nat_le (c.all_locals + r.count) most_all_locals) (of.value_type r.ty rest)))
@@ -114,7 +116,7 @@ runs_takes : (n : ℕ) (a : At) (v : List Run) (b : At) → times_at run_at n a 
 unfolding times_at
 runs_takes zero a v b e =
     subst (λ (y : List Run × At). Taken a (of.runs a.counts.locals a.counts.all_locals y.0) y.1 × (length y.0 ≡ zero) × Declared a.counts y.1.counts (locals_of y.0)) (ok_is ([], a) (v, b) e)
-    (taken_none a, refl, record { all_locals = omega arith; functions = refl; code_read = refl; last_id = refl })
+    (taken_none a, refl, record { all_locals = omega arith; functions = refl; code_read = refl; last_rank = refl; data_count = refl; data_read = refl })
 runs_takes (suc n) a v b e =
     let x = bind_ok (run_at a) (λ x. times_at run_at n x.1 >>= with_front x.0) (v, b) e in
     let xs = bind_ok (times_at run_at n x.0.1) (with_front x.0.0) (v, b) x.2 in
@@ -131,7 +133,9 @@ runs_takes (suc n) a v b e =
             all_locals = omega (arith, u.2.all_locals, ap (λ (d : Counts). d.all_locals) t.1);
             functions = u.2.functions ∙ ap (λ (d : Counts). d.functions) t.1;
             code_read = u.2.code_read ∙ ap (λ (d : Counts). d.code_read) t.1;
-            last_id = u.2.last_id ∙ ap (λ (d : Counts). d.last_id) t.1;
+            last_rank = u.2.last_rank ∙ ap (λ (d : Counts). d.last_rank) t.1;
+            data_count = u.2.data_count ∙ ap (λ (d : Counts). d.data_count) t.1;
+            data_read = u.2.data_read ∙ ap (λ (d : Counts). d.data_read) t.1;
           },
         )
 
@@ -156,7 +160,9 @@ run_vector_takes a v b e =
             all_locals = u.2.all_locals ∙ ap (λ (d : Counts). d.all_locals + locals_of v) counts_are;
             functions = u.2.functions ∙ ap (λ (d : Counts). d.functions) counts_are;
             code_read = u.2.code_read ∙ ap (λ (d : Counts). d.code_read) counts_are;
-            last_id = u.2.last_id ∙ ap (λ (d : Counts). d.last_id) counts_are;
+            last_rank = u.2.last_rank ∙ ap (λ (d : Counts). d.last_rank) counts_are;
+            data_count = u.2.data_count ∙ ap (λ (d : Counts). d.data_count) counts_are;
+            data_read = u.2.data_read ∙ ap (λ (d : Counts). d.data_read) counts_are;
           },
         )
 
@@ -194,7 +200,7 @@ each_body_takes : (n : ℕ) (a : At) (v : List BodyEntry) (b : At) → times_at 
 unfolding times_at
 each_body_takes zero a v b e =
     subst (λ (y : List BodyEntry × At). Taken a (of.bodies a.counts.all_locals y.0) y.1 × (length y.0 ≡ zero) × Declared a.counts y.1.counts (total y.0)) (ok_is ([], a) (v, b) e)
-    (taken_none a, refl, record { all_locals = omega arith; functions = refl; code_read = refl; last_id = refl })
+    (taken_none a, refl, record { all_locals = omega arith; functions = refl; code_read = refl; last_rank = refl; data_count = refl; data_read = refl })
 each_body_takes (suc n) a v b e =
     let x = bind_ok (body_at a) (λ x. times_at body_at n x.1 >>= with_front x.0) (v, b) e in
     let xs = bind_ok (times_at body_at n x.0.1) (with_front x.0.0) (v, b) x.2 in
@@ -211,7 +217,9 @@ each_body_takes (suc n) a v b e =
         all_locals = omega (arith, u.2.all_locals, t.1.all_locals);
         functions = u.2.functions ∙ t.1.functions;
         code_read = u.2.code_read ∙ t.1.code_read;
-        last_id = u.2.last_id ∙ t.1.last_id;
+        last_rank = u.2.last_rank ∙ t.1.last_rank;
+        data_count = u.2.data_count ∙ t.1.data_count;
+        data_read = u.2.data_read ∙ t.1.data_read;
       },
     )
 
@@ -220,7 +228,9 @@ pub record CodeRead (c d : Counts) (n : ℕ) : Type 0 where
   pub as_many : n ≡ c.functions
   pub functions : d.functions ≡ c.functions
   pub code_read : d.code_read ≡ true
-  pub last_id : d.last_id ≡ c.last_id
+  pub last_rank : d.last_rank ≡ c.last_rank
+  pub data_count : d.data_count ≡ c.data_count
+  pub data_read : d.data_read ≡ c.data_read
 
 pub bodies_takes : (a : At) (v : List BodyEntry) (b : At) → bodies_at a ≡ Ok (v, b) → Taken a (λ rest. number (length v) (of.bodies a.counts.all_locals v rest)) b × CodeRead a.counts b.counts (length v)
 unfolding bodies_at
@@ -245,7 +255,9 @@ bodies_takes a v b e =
             as_many = sym size ∙ eqb-true m c.counts.functions hit ∙ ap (λ (d : Counts). d.functions) t.kept;
             functions = u.2.functions ∙ ap (λ (d : Counts). d.functions) counts_are;
             code_read = u.2.code_read ∙ ap (λ (d : Counts). d.code_read) counts_are;
-            last_id = u.2.last_id ∙ ap (λ (d : Counts). d.last_id) counts_are;
+            last_rank = u.2.last_rank ∙ ap (λ (d : Counts). d.last_rank) counts_are;
+            data_count = u.2.data_count ∙ ap (λ (d : Counts). d.data_count) counts_are;
+            data_read = u.2.data_read ∙ ap (λ (d : Counts). d.data_read) counts_are;
           },
         ))
         (λ _ x. not_ok _ (n, k) x)

@@ -462,12 +462,3 @@ elements_again = vector_again of_elements number element_entry_at of.element_ent
 
 pub elements_follows : Follows (table.vector of_elements ∷ []) (vector_at of_elements element_entry_at)
 elements_follows = vector_follows of_elements element_entry_at element_entry_follows
-
-pub segments_takes : Takes (vector_at of_segments segment_entry_at) (of.vector of.segment_entry)
-segments_takes = vector_takes of_segments number segment_entry_at of.segment_entry number_takes segment_entry_takes
-
-pub segments_again : Again (vector_at of_segments segment_entry_at) (of.vector of.segment_entry)
-segments_again = vector_again of_segments number segment_entry_at of.segment_entry number_again segment_entry_again
-
-pub segments_follows : Follows (table.vector of_segments ∷ []) (vector_at of_segments segment_entry_at)
-segments_follows = vector_follows of_segments segment_entry_at segment_entry_follows

@@ -11,6 +11,7 @@ pub mod CodeAgain
 pub mod CodeFollows
 pub mod Entries
 pub mod Bodies
+pub mod DataCounts
 pub mod Parts
 pub mod Sections
 pub mod SectionsAgain

@@ -1,14 +1,16 @@
--- Sections: custom ones anywhere, the others in rising order of their ids.
-use Rattle.std.proofs.Common.{◌≡◌, ℕ, zero, suc, ◌+◌, ◌<◌, ◌≤◌, Bool, true, false, ◌||◌, not, cond, eqb, ltb, List, [], ◌∷◌, ◌++◌, append_assoc, length, Option, Some, None, Ok, refl, sym, ap, subst, ◌∙◌, inl, inr, arith}
+-- Sections: custom ones anywhere, the others in rising order of their ranks.
+use Rattle.std.proofs.Common.{◌≡◌, ℕ, zero, suc, ◌+◌, ◌-◌, ◌<◌, ◌≤◌, Bool, true, false, ◌||◌, ◌&&◌, not, cond, eqb, ltb, List, [], ◌∷◌, ◌++◌, append_assoc, length, Option, Some, None, Result, Ok, refl, sym, ap, subst, ◌∙◌, inl, inr, arith}
 use Rattle.std.proofs.lemmas.List.{append-nil}
 use Rattle.std.proofs.lemmas.Bool.{eqb-true, ltb-true, cases_lt}
+use Rattle.wasm_tree.specs.declared.entries.DataCount.{DataCount}
 use Rattle.wasm_tree.specs.declared.tree.Module.{Module}
+use Rattle.wasm_spelling.specs.declared.fault.ReadFault.{ReadFault}
 use Rattle.wasm_spelling.specs.declared.fault.Cause.TheVariants as cause
 use Rattle.wasm_spelling.specs.At.{At, Counts}
 use Rattle.wasm_spelling.specs.Fields.{Fields, Custom, Spelled, byte, text, window, finished}
 use Rattle.wasm_spelling.specs.ModuleFields as of
-use Rattle.wasm_spelling.specs.ModuleFields.{each, Part, types, imports, functions, tables, memories, globals, exports, start, elements, code, segments, id_of, content, is_empty, section, sections, custom}
-use Rattle.wasm_spelling.specs.Steps.{◌>>=◌, malformed, Reader, reads, rest_at, part_of, bodies_done, SectionId, no_section, a_custom, a_part, section_begins, section_id_of, section_id_at}
+use Rattle.wasm_spelling.specs.ModuleFields.{each, Part, types, imports, functions, tables, memories, globals, exports, start, elements, data_count, code, segments, id_of, rank_of, content, is_empty, section, sections, custom}
+use Rattle.wasm_spelling.specs.Steps.{◌>>=◌, malformed, Reader, reads, rest_at, part_of, agrees_with, bodies_done, data_done, SectionId, no_section, a_custom, a_part, section_begins, section_id_of, section_id_at}
 use Rattle.wasm_spelling.specs.Table as table
 use Rattle.wasm_spelling.specs.Table.{Field, State, state, used_up, size, content_of, section_fields, row, none_more}
 use Rattle.wasm_spelling.specs.Reading.{any_name_at, content_at, custom_content_at, part_at, custom_at, after_id, sections_at, all_sections_at}
@@ -17,7 +19,8 @@ use Rattle.wasm_spelling.proofs.Took.{SpelledAt, Taken, taken_then, Took, took_t
 use Rattle.wasm_spelling.proofs.Runs.{Runs, lands, Follows, follows_row, follows_both, follows_none, then_reads, runs_now}
 use Rattle.wasm_spelling.proofs.Leaves.{either_way, any_name_takes, any_name_follows, rest_follows}
 use Rattle.wasm_spelling.proofs.Windows.{inner, window_inside, window_taken, window_follows}
-use Rattle.wasm_spelling.proofs.Parts.{Same, Progress, Ready, ready, part_takes, part_moves, part_follows}
+use Rattle.wasm_spelling.proofs.DataCounts.{count_in, Agrees}
+use Rattle.wasm_spelling.proofs.Parts.{Same, content_with, content_is, same_content, same_empty, rank_above, Counted, AddsUp, Progress, Ready, ready, part_takes, part_moves, part_follows}
 
 -- ---- ids
 
@@ -31,6 +34,7 @@ part_has_id globals = refl
 part_has_id exports = refl
 part_has_id start = refl
 part_has_id elements = refl
+part_has_id data_count = refl
 part_has_id code = refl
 part_has_id segments = refl
 
@@ -40,21 +44,19 @@ some_part p = Some p
 same_part : (p q : Part) → some_part p ≡ Some q → p ≡ q
 same_part p q e = cc
 
-pub ids_differ : (p q : Part) → id_of p ≡ id_of q → p ≡ q
+ids_differ : (p q : Part) → id_of p ≡ id_of q → p ≡ q
 ids_differ p q e = same_part p q (sym (part_has_id p) ∙ ap part_of e ∙ part_has_id q)
 
-pub id_above : (p : Part) → (1 ≤ id_of p) × (id_of p ≤ 11)
-id_above types = (omega arith, omega arith)
-id_above imports = (omega arith, omega arith)
-id_above functions = (omega arith, omega arith)
-id_above tables = (omega arith, omega arith)
-id_above memories = (omega arith, omega arith)
-id_above globals = (omega arith, omega arith)
-id_above exports = (omega arith, omega arith)
-id_above start = (omega arith, omega arith)
-id_above elements = (omega arith, omega arith)
-id_above code = (omega arith, omega arith)
-id_above segments = (omega arith, omega arith)
+-- the id of a rank
+abbrev id_at : ℕ → ℕ
+id_at rank = cond (ltb rank 10) rank (cond (eqb rank 10) 12 (rank - 1))
+
+part_has_rank : (p : Part) → id_at (rank_of p) ≡ id_of p
+part_has_rank types = refl
+part_has_rank p = refl
+
+pub ranks_differ : (p q : Part) → rank_of p ≡ rank_of q → p ≡ q
+ranks_differ p q e = ids_differ p q (sym (part_has_rank p) ∙ ap id_at e ∙ part_has_rank q)
 
 -- the part of an id
 id_is : (id : ℕ) (p : Part) → part_of id ≡ Some p → id ≡ id_of p
@@ -70,7 +72,8 @@ id_is id p e =
     choose (eqb id 9) elements _ p e (λ t s. eqb-true id 9 t ∙ ap id_of s) (λ e.
     choose (eqb id 10) code _ p e (λ t s. eqb-true id 10 t ∙ ap id_of s) (λ e.
     choose (eqb id 11) segments _ p e (λ t s. eqb-true id 11 t ∙ ap id_of s) (λ e.
-    none_some _ p e)))))))))))
+    choose (eqb id 12) data_count _ p e (λ t s. eqb-true id 12 t ∙ ap id_of s) (λ e.
+    none_some _ p e))))))))))))
   where
     none_some : (A : Type 0) (p : Part) → ◌≡◌ {A = Option Part} None (Some p) → A
     none_some A p e = absurd cc
@@ -83,9 +86,9 @@ id_is id p e =
 
 -- what an id that was read is
 abbrev pub IdIs : At → SectionId → At → Type 0
-IdIs a no_section b = (a.left ≡ []) × (bodies_done a.counts ≡ true) × (b ≡ record a { left = [] })
+IdIs a no_section b = (a.left ≡ []) × (bodies_done a.counts && data_done a.counts ≡ true) × (b ≡ record a { left = [] })
 IdIs a a_custom b = Took a (byte 0x00) b × (length b.left < length a.left)
-IdIs a (a_part p) b = Taken a (byte (id_of p)) b × (a.counts.last_id < id_of p) × (b.counts ≡ record a.counts { last_id = id_of p }) × (length b.left < length a.left)
+IdIs a (a_part p) b = Taken a (byte (id_of p)) b × (a.counts.last_rank < rank_of p) × (b.counts ≡ record a.counts { last_rank = rank_of p }) × (length b.left < length a.left)
 
 front_taken : (place id : ℕ) (left : List ℕ) (c d : Counts) → Taken (record { place = place; left = id ∷ left; counts = c }) (byte id) (record { place = place + 1; left = left; counts = d })
 front_taken place id left c d = record { spelled = λ fields s. (id ∷ [], left, refl, refl, s); moved = omega arith; within = omega arith }
@@ -97,21 +100,23 @@ begins_is place id left c None h b o e =
     (record { taken = subst (λ n. Taken (record { place = place; left = id ∷ left; counts = c }) (byte n) (record { place = place + 1; left = left; counts = c })) (eqb-true id 0 t) (front_taken place id left c c); kept = refl }, omega arith))
     (λ _ x. not_ok _ (h, b) x)
 begins_is place id left c (Some p) h b o e =
-    either_way (ltb c.last_id id) (cond (not (eqb id 11) || bodies_done c) (yes (a_part p, record { place = place + 1; left = left; counts = record c { last_id = id } })) (malformed place cause.CountDiffers)) (malformed place cause.SectionOrder) (h, b) e
-    (λ less x. either_way (not (eqb id 11) || bodies_done c) (yes (a_part p, record { place = place + 1; left = left; counts = record c { last_id = id } })) (malformed place cause.CountDiffers) (h, b) x
-    (λ _ y. subst (λ (y : SectionId × At). IdIs (record { place = place; left = id ∷ left; counts = c }) y.0 y.1) (ok_is _ (h, b) y)
-    (let same : id ≡ id_of p = id_is id p o in (
-      subst (λ n. Taken (record { place = place; left = id ∷ left; counts = c }) (byte n) (record { place = place + 1; left = left; counts = record c { last_id = id } })) same (front_taken place id left c (record c { last_id = id })),
-      subst (λ n. c.last_id < n) same (ltb-true c.last_id id less),
-      ap (λ n. record c { last_id = n }) same,
+    let begun : At = record { place = place + 1; left = left; counts = record c { last_rank = rank_of p } } in
+    let before : At = record { place = place; left = id ∷ left; counts = c } in
+    let wanted : Result (SectionId × At) ReadFault = cond (not (eqb id 11) || bodies_done c) (yes (a_part p, begun)) (malformed place cause.CountDiffers) in
+    either_way (ltb c.last_rank (rank_of p)) wanted (malformed place cause.SectionOrder) (h, b) e
+    (λ less x. either_way (not (eqb id 11) || bodies_done c) (yes (a_part p, begun)) (malformed place cause.CountDiffers) (h, b) x
+    (λ _ y. subst (λ (y : SectionId × At). IdIs before y.0 y.1) (ok_is _ (h, b) y) (
+      subst (λ n. Taken before (byte n) begun) (id_is id p o) (front_taken place id left c begun.counts),
+      ltb-true c.last_rank (rank_of p) less,
+      refl,
       omega arith,
-    )))
+    ))
     (λ _ y. not_ok _ (h, b) y))
     (λ _ x. not_ok _ (h, b) x)
 
 pub id_takes : (place : ℕ) (left : List ℕ) (c : Counts) (h : SectionId) (b : At) → section_id_of place left c ≡ Ok (h, b) → IdIs (record { place = place; left = left; counts = c }) h b
 id_takes place [] c h b e =
-    either_way (bodies_done c) (yes (no_section, record { place = place; left = []; counts = c })) (malformed place cause.CountDiffers) (h, b) e
+    either_way (bodies_done c && data_done c) (yes (no_section, record { place = place; left = []; counts = c })) (malformed place cause.CountDiffers) (h, b) e
     (λ t x. subst (λ (y : SectionId × At). IdIs (record { place = place; left = []; counts = c }) y.0 y.1) (ok_is _ (h, b) x) (refl, t, refl))
     (λ _ x. not_ok _ (h, b) x)
 id_takes place (id ∷ left) c h b e = begins_is place id left c (part_of id) h b refl e
@@ -142,23 +147,20 @@ custom_taken m a t b e =
 
 -- ---- what is read is spelled
 
--- the parts with these ids and all above
+-- the parts with these ranks and all above
 abbrev pub Rising : ℕ → List Part → Type 0
-Rising n [] = n ≡ 12
-Rising n (p ∷ ps) = (id_of p ≡ n) × Rising (suc n) ps
+Rising n [] = n ≡ 13
+Rising n (p ∷ ps) = (rank_of p ≡ n) × Rising (suc n) ps
 
--- the sections from an id on have no entries
+-- the sections behind a rank have no entries
 abbrev pub Clear : ℕ → Module → Type 0
-Clear last m = (q : Part) → last < id_of q → is_empty q m ≡ true
+Clear last m = (q : Part) → last < rank_of q → is_empty q m ≡ true
 
 abbrev pub Kept : ℕ → Module → Module → Type 0
-Kept last m t = (q : Part) → id_of q ≤ last → Same q m t
-
-same_then : (q : Part) (m n t : Module) → Same q m n → Same q n t → Same q m t
-same_then q m n t x y = (y.0 ∙ x.0, y.1 ∙ x.1)
+Kept last m t = (q : Part) → rank_of q ≤ last → Same q m t
 
 -- nothing is left
-ends_spelled : (t : Module) (ps : List Part) (n : ℕ) → Rising n ps → ((q : Part) → n ≤ id_of q → is_empty q t ≡ true) → (place : ℕ) → Spelled (sections ps t finished) place []
+ends_spelled : (t : Module) (ps : List Part) (n : ℕ) → Rising n ps → ((q : Part) → n ≤ rank_of q → is_empty q t ≡ true) → (place : ℕ) → Spelled (sections ps t finished) place []
 ends_spelled t [] n r empty place = ([], refl)
 ends_spelled t (p ∷ ps) n r empty place = ([], inl (empty p (omega (arith, r.0)), ends_spelled t ps (suc n) r.1 (λ q le. empty q (omega (arith, le))) place))
 
@@ -171,84 +173,114 @@ custom_first t [] a b c took s = customs_first finished a b c took s
 custom_first t (p ∷ ps) a b c took s = customs_first (section p t (sections ps t finished)) a b c took s
 
 -- sections without entries in front of one that stands here
-skips : (t : Module) (p : Part) (a : At) (ps : List Part) (n : ℕ) → Rising n ps → n ≤ id_of p → ((q : Part) → n ≤ id_of q → id_of q < id_of p → is_empty q t ≡ true)
-    → ((qs : List Part) → Rising (suc (id_of p)) qs → SpelledAt (section p t (sections qs t finished)) a) → SpelledAt (sections ps t finished) a
-skips t p a [] n r le empty s = absurd (omega (arith, r, le, (id_above p).1))
-skips t p a (q ∷ qs) n r le empty s = elim (cases_lt n (id_of p)) [
+skips : (t : Module) (p : Part) (a : At) (ps : List Part) (n : ℕ) → Rising n ps → n ≤ rank_of p → ((q : Part) → n ≤ rank_of q → rank_of q < rank_of p → is_empty q t ≡ true)
+    → ((qs : List Part) → Rising (suc (rank_of p)) qs → SpelledAt (section p t (sections qs t finished)) a) → SpelledAt (sections ps t finished) a
+skips t p a [] n r le empty s = absurd (omega (arith, r, le, (rank_above p).1))
+skips t p a (q ∷ qs) n r le empty s = elim (cases_lt n (rank_of p)) [
   | inl less ↦ ([], inl (empty q (omega (arith, r.0)) (omega (arith, r.0, less)), skips t p a qs (suc n) r.1 (omega (arith, less)) (λ x l. empty x (omega (arith, l))) s))
   | inr more ↦
-      let same : q ≡ p = ids_differ q p (omega (arith, r.0, more, le)) in
-      let n_is : n ≡ id_of p = omega (arith, more, le) in
+      let same : q ≡ p = ranks_differ q p (omega (arith, r.0, more, le)) in
+      let n_is : n ≡ rank_of p = omega (arith, more, le) in
       ([], subst (λ (x : Part). SpelledAt (section x t (sections qs t finished)) a) (sym same) (s qs (subst (λ k. Rising (suc k) qs) n_is r.1)))
 ]
 
 pub record SectionsTaken (last : ℕ) (m : Module) (a : At) (t : Module) : Type 0 where
   pub kept : Kept last m t
   pub spelled : (ps : List Part) → Rising (suc last) ps → SpelledAt (sections ps t finished) a
-  pub as_many : length t.funcs ≡ length t.bodies
+  pub adds_up : AddsUp t
 
 -- no function lacks its body where all sections were read
-none_lacks : (m : Module) (c : Counts) (b : Bool) → c.code_read ≡ b → Progress m c → b || eqb c.functions 0 ≡ true → length m.funcs ≡ length m.bodies
+none_lacks : (m : Module) (c : Counts) (b : Bool) → c.code_read ≡ b → Counted m c → b || eqb c.functions 0 ≡ true → length m.funcs ≡ length m.bodies
 none_lacks m c true is p done = p.bodies is
 none_lacks m c false is p done = sym p.functions ∙ eqb-true c.functions 0 done ∙ sym (p.no_bodies is)
 
-at_end : (m : Module) (a : At) → Progress m a.counts → Clear a.counts.last_id m → a.left ≡ [] → bodies_done a.counts ≡ true → SectionsTaken a.counts.last_id m a m
+-- and there are as many data segments as were announced
+all_there : (m : Module) (c : Counts) (b : Bool) → c.data_read ≡ b → Counted m c → b || agrees_with c.data_count 0 ≡ true → Agrees m.data_count (length m.segments)
+all_there m c true is p done = subst (λ (o : Option ℕ). agrees_with o (length m.segments) ≡ true) p.data_count (p.segments is)
+all_there m c false is p done =
+    subst (λ (n : ℕ). Agrees m.data_count n) (sym (p.no_segments is)) (subst (λ (o : Option ℕ). agrees_with o 0 ≡ true) p.data_count done)
+
+at_end : (m : Module) (a : At) → Progress m a.counts → Clear a.counts.last_rank m → a.left ≡ [] → bodies_done a.counts && data_done a.counts ≡ true → SectionsTaken a.counts.last_rank m a m
 at_end m a p clear none done = record {
-  kept = λ q le. (refl, refl);
-  spelled = λ ps r. subst (λ (l : List ℕ). Spelled (sections ps m finished) a.place l) (sym none) (ends_spelled m ps (suc a.counts.last_id) r (λ q le. clear q (omega (arith, le))) a.place);
-  as_many = none_lacks m a.counts a.counts.code_read refl p done;
+  kept = λ q le. refl;
+  spelled = λ ps r. subst (λ (l : List ℕ). Spelled (sections ps m finished) a.place l) (sym none) (ends_spelled m ps (suc a.counts.last_rank) r (λ q le. clear q (omega (arith, le))) a.place);
+  adds_up = record {
+    as_many = none_lacks m a.counts a.counts.code_read refl p.counted (and_left (bodies_done a.counts) (data_done a.counts) done);
+    agrees = all_there m a.counts a.counts.data_read refl p.counted (and_right (bodies_done a.counts) (data_done a.counts) done);
+  };
 }
+  where
+    and_left : (x y : Bool) → x && y ≡ true → x ≡ true
+    and_left true y e = refl
+    and_left false y e = absurd cc
+
+    and_right : (x y : Bool) → x && y ≡ true → y ≡ true
+    and_right true y e = e
+    and_right false y e = absurd cc
 
 at_custom : (last : ℕ) (m : Module) (a d : At) (t : Module) (c : Custom) → Taken a (custom c) d → SectionsTaken last m d t → SectionsTaken last m a t
-at_custom last m a d t c took more = record { kept = more.kept; spelled = λ ps r. custom_first t ps a d c took (more.spelled ps r); as_many = more.as_many }
+at_custom last m a d t c took more = record { kept = more.kept; spelled = λ ps r. custom_first t ps a d c took (more.spelled ps r); adds_up = more.adds_up }
 
 less_differ : (m n : ℕ) → m < n → m ≡ n → ⊥
 less_differ m n l e = absurd (omega (arith, l, e))
 
-at_part : (last : ℕ) (m n : Module) (a c d : At) (t : Module) (p : Part) → last < id_of p → Clear last m → ((q : Part) → (id_of q ≡ id_of p → ⊥) → Same q m n) → Taken a (byte (id_of p)) c → Taken c (window (content p n finished)) d
-    → SectionsTaken (id_of p) n d t → SectionsTaken last m a t
-at_part last m n a c d t p less clear keeps id_taken inside more = record {
-  kept = λ q le. same_then q m n t (keeps q (less_differ (id_of q) (id_of p) (omega (arith, le, less)))) (more.kept q (omega (arith, le, less)));
-  spelled = λ ps r. skips t p a ps (suc last) r (omega (arith, less))
-      (λ q low high. (more.kept q (omega (arith, high))).1 ∙ (keeps q (less_differ (id_of q) (id_of p) high)).1 ∙ clear q (omega (arith, low)))
-      (λ qs rising. inr (id_taken.spelled (window (content p t finished) (sections qs t finished))
-      (subst (λ (f : Fields → Fields). SpelledAt (window (f finished) (sections qs t finished)) c) (sym (more.kept p (omega arith)).0) (inside.spelled (sections qs t finished) (more.spelled qs rising)))));
-  as_many = more.as_many;
-}
+-- a section's content was taken, where as many data segments are expected as its module says
+abbrev pub ContentTaken : Part → Module → At → At → Type 0
+ContentTaken p n c d = (found : ℕ) → (p ≡ data_count → Agrees n.data_count found) → Taken c (window (content_with found p n finished)) d
+
+at_part : (last : ℕ) (m n : Module) (a c d : At) (t : Module) (p : Part) → last < rank_of p → Clear last m → ((q : Part) → (rank_of q ≡ rank_of p → ⊥) → Same q m n) → Taken a (byte (id_of p)) c → ContentTaken p n c d
+    → SectionsTaken (rank_of p) n d t → SectionsTaken last m a t
+at_part last m n a c d t p less clear keeps id_taken inside more =
+    let here_same : Same p n t = more.kept p (omega arith) in
+    let found : ℕ = length t.segments in
+    let agrees : p ≡ data_count → Agrees n.data_count found = λ e. subst (λ (o : Option DataCount). Agrees o found)
+    (sym (ap (λ (x : Module). x.data_count) (subst (λ (q : Part). Same q n t) e here_same))) more.adds_up.agrees in
+    let taken = inside found agrees in
+    let content_same : content_with found p n ≡ content p t = same_content found p n t here_same ∙ sym (content_is p t) in
+    let kept : Kept last m t = λ q le. keeps q (less_differ (rank_of q) (rank_of p) (omega (arith, le, less))) ∙ more.kept q (omega (arith, le, less)) in
+    record {
+      kept = kept;
+      spelled = λ ps r. skips t p a ps (suc last) r (omega (arith, less))
+          (λ q low high. sym (same_empty q m t (keeps q (less_differ (rank_of q) (rank_of p) high) ∙ more.kept q (omega (arith, high)))) ∙ clear q (omega (arith, low)))
+          (λ qs rising. inr (id_taken.spelled (window (content p t finished) (sections qs t finished))
+          (subst (λ (f : Fields → Fields). SpelledAt (window (f finished) (sections qs t finished)) c) content_same (taken.spelled (sections qs t finished) (more.spelled qs rising)))));
+      adds_up = more.adds_up;
+    }
 
 abbrev Rest : (Module → Reader Module) → Type 0
-Rest more = (m : Module) (a : At) (t : Module) (b : At) → Progress m a.counts → Clear a.counts.last_id m → more m a ≡ Ok (t, b) → SectionsTaken a.counts.last_id m a t
+Rest more = (m : Module) (a : At) (t : Module) (b : At) → Progress m a.counts → Clear a.counts.last_rank m → more m a ≡ Ok (t, b) → SectionsTaken a.counts.last_rank m a t
 
 less_differ_back : (m n : ℕ) → n < m → m ≡ n → ⊥
 less_differ_back m n l e = absurd (omega (arith, l, e))
 
-pub section_read : (p : Part) (m : Module) (c : At) (n : Module) (d : At) (before : Counts) → Progress m before → before.last_id < id_of p → c.counts ≡ record before { last_id = id_of p } → part_at p m c ≡ Ok (n, d)
-    → Taken c (window (content p n finished)) d × ((q : Part) → (id_of q ≡ id_of p → ⊥) → Same q m n) × Progress n d.counts × (d.counts.last_id ≡ id_of p)
+pub section_read : (p : Part) (m : Module) (c : At) (n : Module) (d : At) (before : Counts) → Progress m before → before.last_rank < rank_of p → c.counts ≡ record before { last_rank = rank_of p } → part_at p m c ≡ Ok (n, d)
+    → ContentTaken p n c d × ((q : Part) → (rank_of q ≡ rank_of p → ⊥) → Same q m n) × Progress n d.counts × (d.counts.last_rank ≡ rank_of p)
 unfolding part_at
 section_read p m c n d before pr less counts_are e =
     let i = window_inside cause.SectionNotUsedUp (content_at p m) c n d e in
-    let start_is : i.start.counts ≡ record before { last_id = id_of p } = i.stands.kept ∙ counts_are in
+    let start_is : i.start.counts ≡ record before { last_rank = rank_of p } = i.stands.kept ∙ counts_are in
     let r = part_takes p m (inner i.bytes i.start) n i.end (subst (Ready p m) (sym start_is) (ready p m before pr less)) i.read_is in
     let end_is : d.counts ≡ i.end.counts = ap (λ (x : At). x.counts) i.behind_is in
-    (window_taken (content_at p m) c n d i r.taken, r.keeps, subst (Progress n) (sym end_is) r.progress, ap (λ (x : Counts). x.last_id) end_is ∙ r.last ∙ ap (λ (x : Counts). x.last_id) start_is)
+    (λ found agrees. window_taken (content_at p m) c n d i (r.taken found agrees), r.keeps, subst (Progress n) (sym end_is) r.progress, ap (λ (x : Counts). x.last_rank) end_is ∙ r.last ∙ ap (λ (x : Counts). x.last_rank) start_is)
 
-after_takes : (more : Module → Reader Module) → Rest more → (m : Module) (a : At) (h : SectionId) (c : At) (t : Module) (b : At) → Progress m a.counts → Clear a.counts.last_id m → IdIs a h c → after_id more m h c ≡ Ok (t, b) → SectionsTaken a.counts.last_id m a t
+after_takes : (more : Module → Reader Module) → Rest more → (m : Module) (a : At) (h : SectionId) (c : At) (t : Module) (b : At) → Progress m a.counts → Clear a.counts.last_rank m → IdIs a h c → after_id more m h c ≡ Ok (t, b) → SectionsTaken a.counts.last_rank m a t
 after_takes more h m a no_section c t b p clear is e =
-    subst (λ (x : Module). SectionsTaken a.counts.last_id m a x) (ap (λ (y : Module × At). y.0) (ok_is (m, c) (t, b) e)) (at_end m a p clear is.0 is.1)
+    subst (λ (x : Module). SectionsTaken a.counts.last_rank m a x) (ap (λ (y : Module × At). y.0) (ok_is (m, c) (t, b) e)) (at_end m a p clear is.0 is.1)
 after_takes more h m a a_custom c t b p clear is e =
     let y = reads_ok (custom_at m) more c (t, b) e in
     let u = custom_taken m c y.0 y.1 y.2 in
     let counts_are : y.1.counts ≡ a.counts = u.2 ∙ is.0.kept in
-    let rest : SectionsTaken y.1.counts.last_id m y.1 t =
-    h m y.1 t b (subst (Progress m) (sym counts_are) p) (subst (λ (d : Counts). Clear d.last_id m) (sym counts_are) clear) (subst (λ (x : Module). more x y.1 ≡ Ok (t, b)) u.3 y.3) in
-    at_custom a.counts.last_id m a y.1 t u.0 (taken_then a c y.1 is.0.taken u.1) (subst (λ (d : Counts). SectionsTaken d.last_id m y.1 t) counts_are rest)
+    let rest : SectionsTaken y.1.counts.last_rank m y.1 t =
+    h m y.1 t b (subst (Progress m) (sym counts_are) p) (subst (λ (d : Counts). Clear d.last_rank m) (sym counts_are) clear) (subst (λ (x : Module). more x y.1 ≡ Ok (t, b)) u.3 y.3) in
+    at_custom a.counts.last_rank m a y.1 t u.0 (taken_then a c y.1 is.0.taken u.1) (subst (λ (d : Counts). SectionsTaken d.last_rank m y.1 t) counts_are rest)
 after_takes more h m a (a_part p) c t b pr clear is e =
     let y = reads_ok (part_at p m) more c (t, b) e in
     let u = section_read p m c y.0 y.1 a.counts pr is.1 is.2 y.2 in
-    let last : y.1.counts.last_id ≡ id_of p = u.3 in
-    let clear_then : Clear (id_of p) y.0 = λ q less. (u.1 q (less_differ_back (id_of q) (id_of p) less)).1 ∙ clear q (omega (arith, less, is.1)) in
-    let rest : SectionsTaken y.1.counts.last_id y.0 y.1 t = h y.0 y.1 t b u.2 (subst (λ n. Clear n y.0) (sym last) clear_then) y.3 in
-    at_part a.counts.last_id m y.0 a c y.1 t p is.1 clear u.1 is.0 u.0 (subst (λ n. SectionsTaken n y.0 y.1 t) last rest)
+    let last : y.1.counts.last_rank ≡ rank_of p = u.3 in
+    let clear_then : Clear (rank_of p) y.0 = λ q less.
+    sym (same_empty q m y.0 (u.1 q (less_differ_back (rank_of q) (rank_of p) less))) ∙ clear q (omega (arith, less, is.1)) in
+    let rest : SectionsTaken y.1.counts.last_rank y.0 y.1 t = h y.0 y.1 t b u.2 (subst (λ n. Clear n y.0) (sym last) clear_then) y.3 in
+    at_part a.counts.last_rank m y.0 a c y.1 t p is.1 clear u.1 is.0 u.0 (subst (λ n. SectionsTaken n y.0 y.1 t) last rest)
 
 sections_takes : (k : ℕ) → Rest (sections_at k)
 unfolding sections_at
@@ -257,7 +289,7 @@ sections_takes (suc k) m a t b p clear e =
     let h = reads_ok section_id_at (after_id (sections_at k) m) a (t, b) e in
     after_takes (sections_at k) (sections_takes k) m a h.0 h.1 t b p clear (id_takes a.place a.left a.counts h.0 h.1 h.2) h.3
 
-pub all_takes : (m : Module) (a : At) (t : Module) (b : At) → Progress m a.counts → Clear a.counts.last_id m → all_sections_at m a ≡ Ok (t, b) → SectionsTaken a.counts.last_id m a t
+pub all_takes : (m : Module) (a : At) (t : Module) (b : At) → Progress m a.counts → Clear a.counts.last_rank m → all_sections_at m a ≡ Ok (t, b) → SectionsTaken a.counts.last_rank m a t
 all_takes m a t b p clear e = sections_takes (suc (length a.left)) m a t b p clear e
 
 -- ---- the machine

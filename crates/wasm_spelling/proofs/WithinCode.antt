@@ -3,7 +3,7 @@ use Rattle.std.proofs.Common.{◌≡◌, ℕ, suc, ◌+◌, ◌-◌, ◌^◌, �
 use Rattle.std.specs.Prelude.{nat_lt, not}
 use Rattle.std.specs.List.{AllByRecursion}
 use Rattle.std.proofs.lemmas.Bool.{ltb-true, lt-ltb, or_from}
-use Rattle.wasm_tree.specs.Instructions.{Code, end_code, then_code, Kind, no_else, else_code, Block, Loop, If, Br, BrIf, BrTable, Call, CallIndirect, LocalGet, LocalSet, LocalTee, GlobalGet, GlobalSet, Load, Store, MemorySize, MemoryGrow, I32Const, I64Const}
+use Rattle.wasm_tree.specs.Instructions.{Code, end_code, then_code, Kind, no_else, else_code, Block, Loop, If, Br, BrIf, BrTable, Call, CallIndirect, LocalGet, LocalSet, LocalTee, GlobalGet, GlobalSet, Load, Store, MemorySize, MemoryGrow, MemoryCopy, MemoryFill, I32Const, I64Const}
 use Rattle.wasm_tree.specs.Opcodes.{opcode_of}
 use Rattle.wasm_spelling.specs.Fields.{Fields, byte, number, here, provided}
 use Rattle.wasm_spelling.specs.ModuleFields.{each, immediates, block_type_code, code_fields, instr_fields, end_byte}
@@ -63,6 +63,11 @@ immediates_within (Store op arg) rest taken h =
     (not_wide arg.offset offset.0, behind_fewer (taken + 1) (taken + 0) rest (omega arith) offset.1)
 immediates_within MemorySize rest taken h = (refl, behind_fewer (taken + 1) (taken + 0) rest (omega arith) (past_byte taken 0x00 rest h))
 immediates_within MemoryGrow rest taken h = (refl, behind_fewer (taken + 1) (taken + 0) rest (omega arith) (past_byte taken 0x00 rest h))
+immediates_within MemoryCopy rest taken h =
+    let first = past_byte taken 0x00 (byte 0x00 rest) (one_index 10 (byte 0x00 (byte 0x00 rest)) taken h) in
+    (refl, behind_fewer (taken + 1 + 1) (taken + 0) rest (omega arith) (past_byte (taken + 1) 0x00 rest first))
+immediates_within MemoryFill rest taken h =
+    (refl, behind_fewer (taken + 1) (taken + 0) rest (omega arith) (past_byte taken 0x00 rest (one_index 11 (byte 0x00 rest) taken h)))
 immediates_within (I32Const n) rest taken h =
     (refl, behind_fewer (taken + 1) (taken + 0) rest (omega arith) (past_signed taken 32 n rest h))
 immediates_within (I64Const n) rest taken h =

@@ -254,6 +254,7 @@ PartIsWithin of.globals t = length t.globals ≤ most_module_bytes
 PartIsWithin of.exports t = AreWithin most_module_bytes (λ (e : Export). IsName e.name) t.exports
 PartIsWithin of.start t = ⊤
 PartIsWithin of.elements t = AllByRecursion (λ (e : ElementEntry). length e.funcs ≤ most_module_bytes) t.elements
+PartIsWithin of.data_count t = ⊤
 PartIsWithin of.code t = AllByRecursion BodyIsWithin t.bodies
 PartIsWithin of.segments t = AreWithin most_module_bytes SegmentIsWithin t.segments
 
@@ -275,6 +276,7 @@ content_within of.globals t taken h = (counted global_entry (λ g. Unit {0}) glo
 content_within of.exports t taken h = counted export_entry _ export_within t.exports taken h
 content_within of.start t taken h = tt
 content_within of.elements t taken h = (counted element_entry _ element_within t.elements taken h).1
+content_within of.data_count t taken h = tt
 content_within of.code t taken h =
     bodies_within 0 t.bodies finished (taken + 1) (past_number taken (length t.bodies) (bodies 0 t.bodies finished) h).1
 content_within of.segments t taken h = counted segment_entry SegmentIsWithin segment_within t.segments taken h
@@ -293,6 +295,7 @@ empty_within of.globals t e = (none_there most_module_bytes (λ g. Unit {0}) t.g
 empty_within of.exports t e = none_there most_module_bytes _ t.exports e
 empty_within of.start t e = tt
 empty_within of.elements t e = (none_there 0 _ t.elements e).1
+empty_within of.data_count t e = tt
 empty_within of.code t e = (none_there 0 BodyIsWithin t.bodies e).1
 empty_within of.segments t e = none_there most_module_bytes SegmentIsWithin t.segments e
 
@@ -351,7 +354,7 @@ spelled_within t bytes are (s, small) =
     let magic = past_byte 3 0x6D _ (past_byte 2 0x73 _ (past_byte 1 0x61 _ (past_byte 0 0x00 _ whole))) in
     let version = past_byte 7 0x00 _ (past_byte 6 0x00 _ (past_byte 5 0x00 _ (past_byte 4 0x01 _ magic))) in
     let p = past_provided 8 (eqb (length t.funcs) (length t.bodies)) (sections parts t finished) version in
-    let (types, (imports, (functions, (tables, (memories, (globals, (exports, (start, (elements, (code, (segments, _))))))))))) =
+    let (types, (imports, (functions, (tables, (memories, (globals, (exports, (start, (elements, (data_count, (code, (segments, _)))))))))))) =
     sections_within parts t finished 8 p.1 in
     record {
       types = types;
