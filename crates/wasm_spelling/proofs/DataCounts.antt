@@ -41,14 +41,22 @@ data_count_takes a v b e =
     let p = reads_ok place_at _ a (v, b) e in
     let n = reads_ok data_count_at _ p.1 (v, b) p.3 in
     let c = bind_ok (number_at p.1) data_counted (n.0, n.1) n.2 in
-    let t = place_takes a p.0 p.1 p.2 in
-    let u = number_takes p.1 c.0.0 c.0.1 c.1 in
-    let d : Counts = record c.0.1.counts { data_count = Some c.0.0 } in
-    let same : (c.0.0, record c.0.1 { counts = d }) ≡ (n.0, n.1) = ok_is _ (n.0, n.1) c.2 in
-    subst (λ (y : DataCount × At). Taken a (one_count y.0) y.1 × (y.1.counts ≡ record a.counts { data_count = Some y.0.count }))
-    (ok_is (record { count = n.0; place = p.0 }, n.1) (v, b) n.3)
-    (subst (λ (y : ℕ × At). Taken a (λ rest. here p.0 (number y.0 rest)) y.1 × (y.1.counts ≡ record a.counts { data_count = Some y.0 })) same
-    (recounted a c.0.1 d (taken_then a p.1 c.0.1 t.taken u.taken), ap (λ (x : Counts). record x { data_count = Some c.0.0 }) (u.kept ∙ t.kept)))
+    made p.0 p.1 n.0 n.1 c.0.0 c.0.1 (place_takes a p.0 p.1 p.2) (number_takes p.1 c.0.0 c.0.1 c.1) c.2 n.3
+  where
+    made : (place : ℕ) (here_at : At) (n : ℕ) (k : At) (m : ℕ) (c : At) → Took a (here place) here_at → Took here_at (number m) c
+        → data_counted (m, c) ≡ Ok (n, k) → yes {A = DataCount × At} (record { count = n; place = place }, k) ≡ Ok (v, b)
+        → Taken a (one_count v) b × (b.counts ≡ record a.counts { data_count = Some v.count })
+    made place here_at n k m c t u counted is =
+        let d : Counts = record c.counts { data_count = Some m } in
+        let taken : Taken a (λ rest. here place (number m rest)) (record c { counts = d }) =
+        recounted a c d (taken_then a here_at c t.taken u.taken) in
+        let counts_are : d ≡ record a.counts { data_count = Some m } =
+        ap (λ (x : Counts). record x { data_count = Some m }) (u.kept ∙ t.kept) in
+        let same : (m, record c { counts = d }) ≡ (n, k) = ok_is _ (n, k) counted in
+        subst (λ (y : DataCount × At). Taken a (one_count y.0) y.1 × (y.1.counts ≡ record a.counts { data_count = Some y.0.count }))
+        (ok_is (record { count = n; place = place }, k) (v, b) is)
+        (subst (λ (y : ℕ × At). Taken a (λ rest. here place (number y.0 rest)) y.1 × (y.1.counts ≡ record a.counts { data_count = Some y.0 }))
+        same (taken, counts_are))
 
 pub data_count_again : (a : At) (v : DataCount) (rest : Fields) → SpelledAt (one_count v rest) a
     → (b : At) × (data_count_entry_at a ≡ Ok (v, b)) × SpelledAt rest b
@@ -72,7 +80,7 @@ data_count_follows =
 
 pub segments_takes : (a : At) (v : List SegmentEntry) (b : At) → vector_at of_segments segment_entry_at a ≡ Ok (v, b)
     → Taken a (of.vector of.segment_entry v) b × (b.counts ≡ record a.counts { data_read = true })
-        × (agrees_with a.counts.data_count (length v) ≡ true)
+    × (agrees_with a.counts.data_count (length v) ≡ true)
 segments_takes a v b e =
     let n = reads_ok (count_at of_segments) (times_at segment_entry_at) a (v, b) e in
     let c = bind_ok (number_at a) (segments_counted a.place) (n.0, n.1) n.2 in
@@ -81,7 +89,7 @@ segments_takes a v b e =
     counted : (n : ℕ) (k : At) → times_at segment_entry_at n k ≡ Ok (v, b) → (m : ℕ) (c : At) → Took a (number m) c
         → segments_counted a.place (m, c) ≡ Ok (n, k)
         → Taken a (of.vector of.segment_entry v) b × (b.counts ≡ record a.counts { data_read = true })
-            × (agrees_with a.counts.data_count (length v) ≡ true)
+        × (agrees_with a.counts.data_count (length v) ≡ true)
     counted n k e m c t is =
         let here_is : At = record c { counts = record c.counts { data_read = true } } in
         either_way (agrees_with c.counts.data_count m) (yes (m, here_is)) (malformed a.place cause.CountDiffers) (n, k) is (λ hit x.

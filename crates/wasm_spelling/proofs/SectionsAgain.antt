@@ -238,7 +238,7 @@ may_begin p ps n t r as_many c pr = elim (cases_lt n 12) [
       let funcs : Same functions (cut (p ∷ ps) t) t = part_kept (p ∷ ps) n r functions t (omega (arith, more)) in
       let bodies : Same code (cut (p ∷ ps) t) t = part_kept (p ∷ ps) n r code t (omega (arith, more)) in
       or_true (not (eqb (id_of p) 11)) (bodies_done c) (done_by (cut (p ∷ ps) t) c c.code_read refl pr.counted
-          (ap (λ (x : Module). length x.funcs) funcs ∙ as_many ∙ sym (ap (λ (x : Module). length x.bodies) bodies)))
+      (ap (λ (x : Module). length x.funcs) funcs ∙ as_many ∙ sym (ap (λ (x : Module). length x.bodies) bodies)))
 ]
 
 present : (p : Part) (ps : List Part) (n : ℕ) (t : Module) → Rising n (p ∷ ps) → AddsUp t → More ps (suc n) t → (k : ℕ) (b : At) → length b.left < k → Progress (cut (p ∷ ps) t) b.counts → b.counts.last_rank < n

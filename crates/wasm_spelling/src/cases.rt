@@ -6,7 +6,7 @@ ghost use Rattle.wasm_spelling.specs.declared.fault.Which.TheVariants as which;
 ghost use Rattle.wasm_spelling.specs.ModuleFields.{Spells};
 ghost use Rattle.wasm_spelling.specs.Table.{Upto};
 ghost use Rattle.wasm_spelling.specs.Reading.{no_module};
-ghost use Rattle.wasm_spelling.specs.Samples.{head, padded};
+ghost use Rattle.wasm_spelling.specs.Samples.{head, padded, announces_none, copying, copies};
 
 /// The smallest module, and first faults.
 pub fn file_cases()
@@ -21,4 +21,11 @@ pub fn file_cases()
     ensures most_parameters { Upto (head ++ 0x01 ∷ 0x03 ∷ 0x01 ∷ 0x60 ∷ 0x3C ∷ []) (Malformed 13 cause.UnexpectedEnd) }
     ensures pages { Upto (head ++ 0x05 ∷ 0x05 ∷ 0x01 ∷ 0x00 ∷ 0x81 ∷ 0x80 ∷ 0x01 ∷ []) (Limit 12 which.MemoryPages) }
     ensures opcode { Upto (head ++ 0x06 ∷ 0x04 ∷ 0x01 ∷ 0x7F ∷ 0x00 ∷ 0x06 ∷ []) (Malformed 13 cause.BadOpcode) }
+    ensures no_data { Upto (head ++ 0x0C ∷ 0x01 ∷ 0x01 ∷ []) (Malformed 11 cause.CountDiffers) }
+    ensures no_data_wanted { Spells announces_none (head ++ 0x0C ∷ 0x01 ∷ 0x00 ∷ []) }
+    ensures other_data { Upto (head ++ 0x0C ∷ 0x01 ∷ 0x00 ∷ 0x0B ∷ 0x02 ∷ 0x01 ∷ 0x00 ∷ []) (Malformed 13 cause.CountDiffers) }
+    ensures data_count_behind_code { Upto (head ++ 0x0A ∷ 0x01 ∷ 0x00 ∷ 0x0C ∷ 0x01 ∷ 0x00 ∷ []) (Malformed 11 cause.SectionOrder) }
+    ensures section_id { Upto (head ++ 0x0D ∷ 0x00 ∷ []) (Malformed 8 cause.BadSectionId) }
+    ensures sub_opcode { Upto (head ++ 0x06 ∷ 0x05 ∷ 0x01 ∷ 0x7F ∷ 0x00 ∷ 0xFC ∷ 0x0C ∷ []) (Malformed 14 cause.BadOpcode) }
+    ensures copied { Spells copies copying }
 {}
