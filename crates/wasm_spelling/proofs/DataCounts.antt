@@ -1,11 +1,11 @@
 -- The number of data segments: what the data count section says, and the count of the data section, which equals it.
-use Rattle.std.proofs.Common.{◌≡◌, ℕ, ◌+◌, Bool, true, List, [], ◌∷◌, length, Option, Some, None, Result, Ok, refl, sym, ap, subst, ◌∙◌, arith}
+use Rattle.std.proofs.Common.{◌≡◌, ℕ, true, List, [], ◌∷◌, length, Option, Some, None, Result, Ok, refl, sym, ap, subst, ◌∙◌}
 use Rattle.wasm_tree.specs.declared.entries.DataCount.{DataCount}
 use Rattle.wasm_tree.specs.declared.entries.SegmentEntry.{SegmentEntry}
 use Rattle.wasm_spelling.specs.declared.fault.ReadFault.{ReadFault}
 use Rattle.wasm_spelling.specs.declared.fault.Cause.TheVariants as cause
 use Rattle.wasm_spelling.specs.At.{At, Counts}
-use Rattle.wasm_spelling.specs.Fields.{Fields, Spelled, number, here, provided}
+use Rattle.wasm_spelling.specs.Fields.{Fields, Spelled, number, here}
 use Rattle.wasm_spelling.specs.ModuleFields as of
 use Rattle.wasm_spelling.specs.ModuleFields.{each}
 use Rattle.wasm_spelling.specs.Steps.{◌>>=◌, malformed, number_at, agrees_with, data_counted, data_count_at, segments_counted}

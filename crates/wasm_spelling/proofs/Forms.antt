@@ -4,7 +4,7 @@ use Rattle.std.proofs.lemmas.List.{length-replicate, append-nil}
 use Rattle.std.specs.List.{AllByRecursion}
 use Rattle.std.proofs.lemmas.Bool.{eqb-true}
 use Rattle.wasm_tree.specs.declared.code.MemArg.{MemArg}
-use Rattle.wasm_tree.specs.Instructions.{Kind, Unreachable, Nop, Return, Drop, Select, MemorySize, MemoryGrow, MemoryCopy, MemoryFill, Block, Loop, If, Br, BrIf, BrTable, Call, CallIndirect, LocalGet, LocalSet, LocalTee, GlobalGet, GlobalSet, Load, Store, I32Const, I64Const, Eqz, Compare, Unary, Binary, I32WrapI64, I64ExtendI32S, I64ExtendI32U, Extend, I32Extend8S, I32Extend16S, I64Extend8S, I64Extend16S, I64Extend32S}
+use Rattle.wasm_tree.specs.Instructions.{Kind, Unreachable, Nop, Return, Drop, Select, MemorySize, MemoryGrow, MemoryCopy, MemoryFill, Block, Loop, If, Br, BrIf, BrTable, Call, CallIndirect, LocalGet, LocalSet, LocalTee, GlobalGet, GlobalSet, Load, Store, I32Const, I64Const, Eqz, Compare, Unary, Binary, I32WrapI64, I64ExtendI32S, I64ExtendI32U, Extend}
 use Rattle.wasm_tree.specs.InstructionTable.{Form, nothing, an_index, a_mem_arg, labels, a_type, a_zero, an_i32, an_i64, a_sub_opcode, Row, rows, first_row, row_of, Prefixed, prefixed, first_prefixed, prefixed_of}
 use Rattle.wasm_tree.specs.Opcodes.{opcode_of}
 use Rattle.wasm_tree.specs.Forms.{form_of, form_in}

@@ -19,7 +19,7 @@ use Rattle.wasm_spelling.proofs.Took.{SpelledAt, Taken, taken_then, Took, took_t
 use Rattle.wasm_spelling.proofs.Runs.{Runs, lands, Follows, follows_row, follows_both, follows_none, then_reads, runs_now}
 use Rattle.wasm_spelling.proofs.Leaves.{either_way, any_name_takes, any_name_follows, rest_follows}
 use Rattle.wasm_spelling.proofs.Windows.{inner, window_inside, window_taken, window_follows}
-use Rattle.wasm_spelling.proofs.DataCounts.{count_in, Agrees}
+use Rattle.wasm_spelling.proofs.DataCounts.{Agrees}
 use Rattle.wasm_spelling.proofs.Parts.{Same, content_with, content_is, same_content, same_empty, rank_above, Counted, AddsUp, Progress, Ready, ready, part_takes, part_moves, part_follows}
 
 -- ---- ids

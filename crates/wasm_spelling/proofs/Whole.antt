@@ -17,7 +17,7 @@ use Rattle.wasm_spelling.proofs.Tools.{bind_ok, ok_is, reads_ok, reads_again}
 use Rattle.wasm_spelling.proofs.Took.{SpelledAt, Took, took_then, Takes, Again, first_taken, first_again}
 use Rattle.wasm_spelling.proofs.Runs.{Runs, Follows, follows_both}
 use Rattle.wasm_spelling.proofs.Leaves.{exactly_takes, exactly_again, exactly_follows}
-use Rattle.wasm_spelling.proofs.Parts.{Counted, AddsUp, Progress}
+use Rattle.wasm_spelling.proofs.Parts.{Progress}
 use Rattle.wasm_spelling.proofs.Sections.{Rising, all_takes, all_follows}
 use Rattle.wasm_spelling.proofs.SectionsAgain.{spelled_agrees, sections_again}
 
