@@ -115,8 +115,12 @@ run_takes a v b e =
 runs_takes : (n : ℕ) (a : At) (v : List Run) (b : At) → times_at run_at n a ≡ Ok (v, b) → Taken a (of.runs a.counts.locals a.counts.all_locals v) b × (length v ≡ n) × Declared a.counts b.counts (locals_of v)
 unfolding times_at
 runs_takes zero a v b e =
-    subst (λ (y : List Run × At). Taken a (of.runs a.counts.locals a.counts.all_locals y.0) y.1 × (length y.0 ≡ zero) × Declared a.counts y.1.counts (locals_of y.0)) (ok_is ([], a) (v, b) e)
-    (taken_none a, refl, record { all_locals = omega arith; functions = refl; code_read = refl; last_rank = refl; data_count = refl; data_read = refl })
+    subst (λ (y : List Run × At). Taken a (of.runs a.counts.locals a.counts.all_locals y.0) y.1 × (length y.0 ≡ zero) × Declared a.counts y.1.counts (locals_of y.0)) (ok_is ([], a) (v, b) e) (
+      taken_none a,
+      refl,
+      record
+          { all_locals = omega arith; functions = refl; code_read = refl; last_rank = refl; data_count = refl; data_read = refl },
+    )
 runs_takes (suc n) a v b e =
     let x = bind_ok (run_at a) (λ x. times_at run_at n x.1 >>= with_front x.0) (v, b) e in
     let xs = bind_ok (times_at run_at n x.0.1) (with_front x.0.0) (v, b) x.2 in
@@ -199,8 +203,12 @@ total (b ∷ bs) = locals_of b.runs + total bs
 each_body_takes : (n : ℕ) (a : At) (v : List BodyEntry) (b : At) → times_at body_at n a ≡ Ok (v, b) → Taken a (of.bodies a.counts.all_locals v) b × (length v ≡ n) × Declared a.counts b.counts (total v)
 unfolding times_at
 each_body_takes zero a v b e =
-    subst (λ (y : List BodyEntry × At). Taken a (of.bodies a.counts.all_locals y.0) y.1 × (length y.0 ≡ zero) × Declared a.counts y.1.counts (total y.0)) (ok_is ([], a) (v, b) e)
-    (taken_none a, refl, record { all_locals = omega arith; functions = refl; code_read = refl; last_rank = refl; data_count = refl; data_read = refl })
+    subst (λ (y : List BodyEntry × At). Taken a (of.bodies a.counts.all_locals y.0) y.1 × (length y.0 ≡ zero) × Declared a.counts y.1.counts (total y.0)) (ok_is ([], a) (v, b) e) (
+      taken_none a,
+      refl,
+      record
+          { all_locals = omega arith; functions = refl; code_read = refl; last_rank = refl; data_count = refl; data_read = refl },
+    )
 each_body_takes (suc n) a v b e =
     let x = bind_ok (body_at a) (λ x. times_at body_at n x.1 >>= with_front x.0) (v, b) e in
     let xs = bind_ok (times_at body_at n x.0.1) (with_front x.0.0) (v, b) x.2 in

@@ -55,7 +55,8 @@ data_count_takes a v b e =
         let same : (m, record c { counts = d }) ≡ (n, k) = ok_is _ (n, k) counted in
         subst (λ (y : DataCount × At). Taken a (one_count y.0) y.1 × (y.1.counts ≡ record a.counts { data_count = Some y.0.count }))
         (ok_is (record { count = n; place = place }, k) (v, b) is)
-        (subst (λ (y : ℕ × At). Taken a (λ rest. here place (number y.0 rest)) y.1 × (y.1.counts ≡ record a.counts { data_count = Some y.0 }))
+        (subst (λ (y : ℕ × At). Taken a (λ rest. here place (number y.0 rest)) y.1
+        × (y.1.counts ≡ record a.counts { data_count = Some y.0 }))
         same (taken, counts_are))
 
 pub data_count_again : (a : At) (v : DataCount) (rest : Fields) → SpelledAt (one_count v rest) a

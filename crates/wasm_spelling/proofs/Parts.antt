@@ -115,7 +115,8 @@ keeps_elements : (m : Module) (x : List ElementEntry) (q : Part) → (rank_of q 
 keeps_elements m x elements ne = absurd (ne refl)
 keeps_elements m x q ne = refl
 
-keeps_data_count : (m : Module) (x : Option DataCount) (q : Part) → (rank_of q ≡ rank_of data_count → ⊥) → Same q m (record m { data_count = x })
+keeps_data_count : (m : Module) (x : Option DataCount) (q : Part) → (rank_of q ≡ rank_of data_count → ⊥)
+    → Same q m (record m { data_count = x })
 keeps_data_count m x data_count ne = absurd (ne refl)
 keeps_data_count m x q ne = refl
 
@@ -172,7 +173,8 @@ ready p m c h less = record {
 }
 
 -- a part was read that is not counted
-steady : (p : Part) (m t : Module) (c d : Counts) → Ready p m c → d ≡ c → length t.funcs ≡ length m.funcs → length t.bodies ≡ length m.bodies
+steady : (p : Part) (m t : Module) (c d : Counts) → Ready p m c → d ≡ c
+    → length t.funcs ≡ length m.funcs → length t.bodies ≡ length m.bodies
     → t.data_count ≡ m.data_count → length t.segments ≡ length m.segments → Progress t d
 steady p m t c d r same fs bs count ss = subst (λ (x : Counts). Progress t x) (sym same) (record {
   counted = record {
@@ -194,6 +196,18 @@ pub record PartRead (p : Part) (m t : Module) (a b : At) : Type 0 where
   pub progress : Progress t b.counts
   pub last : b.counts.last_rank ≡ a.counts.last_rank
 
+-- a part that is not counted
+uncounted : (p : Part) (m t : Module) (a b : At) → Ready p m a.counts → b.counts ≡ a.counts
+    → ((found : ℕ) → Taken a (content_with found p t) b) → ((q : Part) → (rank_of q ≡ rank_of p → ⊥) → Same q m t)
+    → length t.funcs ≡ length m.funcs → length t.bodies ≡ length m.bodies
+    → t.data_count ≡ m.data_count → length t.segments ≡ length m.segments → PartRead p m t a b
+uncounted p m t a b r kept taken keeps fs bs count ss = record {
+  taken = λ found agrees. taken found;
+  keeps = keeps;
+  progress = steady p m t a.counts b.counts r kept fs bs count ss;
+  last = ap (λ (c : Counts). c.last_rank) kept;
+}
+
 true_false : (A : Type 0) (b : Bool) → b ≡ true → b ≡ false → A
 true_false A b t f = absurd cc
 
@@ -209,12 +223,12 @@ part_takes types m a t b r e =
     let x = reads_ok (vector_at of_types type_entry_at) _ a (t, b) e in
     let u = types_takes a x.0 x.1 x.2 in
     subst (λ (y : Module × At). PartRead types m y.0 a y.1) (ok_is (record m { types = x.0 }, x.1) (t, b) x.3)
-    (record { taken = λ found agrees. u.taken; keeps = keeps_types m x.0; progress = steady types m (record m { types = x.0 }) a.counts x.1.counts r u.kept refl refl refl refl; last = ap (λ (c : Counts). c.last_rank) u.kept })
+    (uncounted types m (record m { types = x.0 }) a x.1 r u.kept (λ found. u.taken) (keeps_types m x.0) refl refl refl refl)
 part_takes imports m a t b r e =
     let x = reads_ok (vector_at of_imports import_at) _ a (t, b) e in
     let u = imports_takes a x.0 x.1 x.2 in
     subst (λ (y : Module × At). PartRead imports m y.0 a y.1) (ok_is (record m { imports = x.0 }, x.1) (t, b) x.3)
-    (record { taken = λ found agrees. u.taken; keeps = keeps_imports m x.0; progress = steady imports m (record m { imports = x.0 }) a.counts x.1.counts r u.kept refl refl refl refl; last = ap (λ (c : Counts). c.last_rank) u.kept })
+    (uncounted imports m (record m { imports = x.0 }) a x.1 r u.kept (λ found. u.taken) (keeps_imports m x.0) refl refl refl refl)
 part_takes functions m a t b r e =
     let x = reads_ok (vector_at of_functions func_entry_at) _ a (t, b) e in
     let u = functions_takes a x.0 x.1 x.2 in
@@ -241,38 +255,39 @@ part_takes tables m a t b r e =
     let x = reads_ok (vector_at of_tables table_entry_at) _ a (t, b) e in
     let u = tables_takes a x.0 x.1 x.2 in
     subst (λ (y : Module × At). PartRead tables m y.0 a y.1) (ok_is (record m { tables = x.0 }, x.1) (t, b) x.3)
-    (record { taken = λ found agrees. u.taken; keeps = keeps_tables m x.0; progress = steady tables m (record m { tables = x.0 }) a.counts x.1.counts r u.kept refl refl refl refl; last = ap (λ (c : Counts). c.last_rank) u.kept })
+    (uncounted tables m (record m { tables = x.0 }) a x.1 r u.kept (λ found. u.taken) (keeps_tables m x.0) refl refl refl refl)
 part_takes memories m a t b r e =
     let x = reads_ok (vector_at of_memories memory_entry_at) _ a (t, b) e in
     let u = memories_takes a x.0 x.1 x.2 in
     subst (λ (y : Module × At). PartRead memories m y.0 a y.1) (ok_is (record m { memories = x.0 }, x.1) (t, b) x.3)
-    (record { taken = λ found agrees. u.taken; keeps = keeps_memories m x.0; progress = steady memories m (record m { memories = x.0 }) a.counts x.1.counts r u.kept refl refl refl refl; last = ap (λ (c : Counts). c.last_rank) u.kept })
+    (uncounted memories m (record m { memories = x.0 }) a x.1 r u.kept (λ found. u.taken) (keeps_memories m x.0) refl refl refl refl)
 part_takes globals m a t b r e =
     let x = reads_ok (vector_at of_globals global_entry_at) _ a (t, b) e in
     let u = globals_takes a x.0 x.1 x.2 in
     subst (λ (y : Module × At). PartRead globals m y.0 a y.1) (ok_is (record m { globals = x.0 }, x.1) (t, b) x.3)
-    (record { taken = λ found agrees. u.taken; keeps = keeps_globals m x.0; progress = steady globals m (record m { globals = x.0 }) a.counts x.1.counts r u.kept refl refl refl refl; last = ap (λ (c : Counts). c.last_rank) u.kept })
+    (uncounted globals m (record m { globals = x.0 }) a x.1 r u.kept (λ found. u.taken) (keeps_globals m x.0) refl refl refl refl)
 part_takes exports m a t b r e =
     let x = reads_ok (vector_at of_exports export_entry_at) _ a (t, b) e in
     let u = exports_takes a x.0 x.1 x.2 in
     subst (λ (y : Module × At). PartRead exports m y.0 a y.1) (ok_is (record m { exports = x.0 }, x.1) (t, b) x.3)
-    (record { taken = λ found agrees. u.taken; keeps = keeps_exports m x.0; progress = steady exports m (record m { exports = x.0 }) a.counts x.1.counts r u.kept refl refl refl refl; last = ap (λ (c : Counts). c.last_rank) u.kept })
+    (uncounted exports m (record m { exports = x.0 }) a x.1 r u.kept (λ found. u.taken) (keeps_exports m x.0) refl refl refl refl)
 part_takes start m a t b r e =
     let x = reads_ok start_at _ a (t, b) e in
     let u = start_takes a x.0 x.1 x.2 in
     subst (λ (y : Module × At). PartRead start m y.0 a y.1) (ok_is (record m { start = Some x.0 }, x.1) (t, b) x.3)
-    (record { taken = λ found agrees. u.taken; keeps = keeps_start m (Some x.0); progress = steady start m (record m { start = Some x.0 }) a.counts x.1.counts r u.kept refl refl refl refl; last = ap (λ (c : Counts). c.last_rank) u.kept })
+    (uncounted start m (record m { start = Some x.0 }) a x.1 r u.kept (λ found. u.taken) (keeps_start m (Some x.0)) refl refl refl refl)
 part_takes elements m a t b r e =
     let x = reads_ok (vector_at of_elements element_entry_at) _ a (t, b) e in
     let u = elements_takes a x.0 x.1 x.2 in
     subst (λ (y : Module × At). PartRead elements m y.0 a y.1) (ok_is (record m { elements = x.0 }, x.1) (t, b) x.3)
-    (record { taken = λ found agrees. u.taken; keeps = keeps_elements m x.0; progress = steady elements m (record m { elements = x.0 }) a.counts x.1.counts r u.kept refl refl refl refl; last = ap (λ (c : Counts). c.last_rank) u.kept })
+    (uncounted elements m (record m { elements = x.0 }) a x.1 r u.kept (λ found. u.taken) (keeps_elements m x.0) refl refl refl refl)
 part_takes data_count m a t b r e =
     let x = reads_ok data_count_entry_at _ a (t, b) e in
     let u = data_count_takes a x.0 x.1 x.2 in
     subst (λ (y : Module × At). PartRead data_count m y.0 a y.1) (ok_is (record m { data_count = Some x.0 }, x.1) (t, b) x.3)
     (record {
-      taken = λ found agrees. taken_then a x.1 x.1 u.0 (taken_provided x.1 (eqb x.0.count found) (same_number x.0.count found (agrees refl)));
+      taken = λ found agrees. taken_then a x.1 x.1 u.0
+          (taken_provided x.1 (eqb x.0.count found) (same_number x.0.count found (agrees refl)));
       keeps = keeps_data_count m (Some x.0);
       last = ap (λ (c : Counts). c.last_rank) u.1;
       progress = subst (λ (c : Counts). Progress (record m { data_count = Some x.0 }) c) (sym u.1) (record {
@@ -333,33 +348,87 @@ part_takes segments m a t b r e =
     })
 
 -- some bytes are taken, whatever the counts
-pub part_moves : (p : Part) (m : Module) (a : At) (t : Module) (b : At) → content_at p m a ≡ Ok (t, b) → (f : Fields → Fields) × Taken a f b
+abbrev pub Moves : At → Module × At → Type 0
+Moves a y = (f : Fields → Fields) × Taken a f y.1
+
+pub part_moves : (p : Part) (m : Module) (a : At) (t : Module) (b : At) → content_at p m a ≡ Ok (t, b) → Moves a (t, b)
 unfolding content_at
-part_moves types m a t b e = let x = reads_ok (vector_at of_types type_entry_at) _ a (t, b) e in let u = types_takes a x.0 x.1 x.2 in subst (λ (y : Module × At). (f : Fields → Fields) × Taken a f y.1) (ok_is (record m { types = x.0 }, x.1) (t, b) x.3) (of.vector of.type_entry x.0, u.taken)
-part_moves imports m a t b e = let x = reads_ok (vector_at of_imports import_at) _ a (t, b) e in let u = imports_takes a x.0 x.1 x.2 in subst (λ (y : Module × At). (f : Fields → Fields) × Taken a f y.1) (ok_is (record m { imports = x.0 }, x.1) (t, b) x.3) (of.vector of.import_entry x.0, u.taken)
-part_moves functions m a t b e = let x = reads_ok (vector_at of_functions func_entry_at) _ a (t, b) e in let u = functions_takes a x.0 x.1 x.2 in subst (λ (y : Module × At). (f : Fields → Fields) × Taken a f y.1) (ok_is (record m { funcs = x.0 }, x.1) (t, b) x.3) (_, u.0)
-part_moves tables m a t b e = let x = reads_ok (vector_at of_tables table_entry_at) _ a (t, b) e in let u = tables_takes a x.0 x.1 x.2 in subst (λ (y : Module × At). (f : Fields → Fields) × Taken a f y.1) (ok_is (record m { tables = x.0 }, x.1) (t, b) x.3) (of.vector of.table_entry x.0, u.taken)
-part_moves memories m a t b e = let x = reads_ok (vector_at of_memories memory_entry_at) _ a (t, b) e in let u = memories_takes a x.0 x.1 x.2 in subst (λ (y : Module × At). (f : Fields → Fields) × Taken a f y.1) (ok_is (record m { memories = x.0 }, x.1) (t, b) x.3) (of.vector of.memory_entry x.0, u.taken)
-part_moves globals m a t b e = let x = reads_ok (vector_at of_globals global_entry_at) _ a (t, b) e in let u = globals_takes a x.0 x.1 x.2 in subst (λ (y : Module × At). (f : Fields → Fields) × Taken a f y.1) (ok_is (record m { globals = x.0 }, x.1) (t, b) x.3) (of.vector of.global_entry x.0, u.taken)
-part_moves exports m a t b e = let x = reads_ok (vector_at of_exports export_entry_at) _ a (t, b) e in let u = exports_takes a x.0 x.1 x.2 in subst (λ (y : Module × At). (f : Fields → Fields) × Taken a f y.1) (ok_is (record m { exports = x.0 }, x.1) (t, b) x.3) (of.vector of.export_entry x.0, u.taken)
-part_moves start m a t b e = let x = reads_ok start_at _ a (t, b) e in let u = start_takes a x.0 x.1 x.2 in subst (λ (y : Module × At). (f : Fields → Fields) × Taken a f y.1) (ok_is (record m { start = Some x.0 }, x.1) (t, b) x.3) (of.start_entry x.0, u.taken)
-part_moves elements m a t b e = let x = reads_ok (vector_at of_elements element_entry_at) _ a (t, b) e in let u = elements_takes a x.0 x.1 x.2 in subst (λ (y : Module × At). (f : Fields → Fields) × Taken a f y.1) (ok_is (record m { elements = x.0 }, x.1) (t, b) x.3) (of.vector of.element_entry x.0, u.taken)
-part_moves data_count m a t b e = let x = reads_ok data_count_entry_at _ a (t, b) e in let u = data_count_takes a x.0 x.1 x.2 in subst (λ (y : Module × At). (f : Fields → Fields) × Taken a f y.1) (ok_is (record m { data_count = Some x.0 }, x.1) (t, b) x.3) (one_count x.0, u.0)
-part_moves code m a t b e = let x = reads_ok bodies_at _ a (t, b) e in let u = bodies_takes a x.0 x.1 x.2 in subst (λ (y : Module × At). (f : Fields → Fields) × Taken a f y.1) (ok_is (record m { bodies = x.0 }, x.1) (t, b) x.3) (_, u.0)
-part_moves segments m a t b e = let x = reads_ok (vector_at of_segments segment_entry_at) _ a (t, b) e in let u = segments_takes a x.0 x.1 x.2 in subst (λ (y : Module × At). (f : Fields → Fields) × Taken a f y.1) (ok_is (record m { segments = x.0 }, x.1) (t, b) x.3) (of.vector of.segment_entry x.0, u.0)
+part_moves types m a t b e =
+    let x = reads_ok (vector_at of_types type_entry_at) _ a (t, b) e in
+    let u = types_takes a x.0 x.1 x.2 in
+    subst (Moves a) (ok_is (record m { types = x.0 }, x.1) (t, b) x.3) (of.vector of.type_entry x.0, u.taken)
+part_moves imports m a t b e =
+    let x = reads_ok (vector_at of_imports import_at) _ a (t, b) e in
+    let u = imports_takes a x.0 x.1 x.2 in
+    subst (Moves a) (ok_is (record m { imports = x.0 }, x.1) (t, b) x.3) (of.vector of.import_entry x.0, u.taken)
+part_moves functions m a t b e =
+    let x = reads_ok (vector_at of_functions func_entry_at) _ a (t, b) e in
+    let u = functions_takes a x.0 x.1 x.2 in
+    subst (Moves a) (ok_is (record m { funcs = x.0 }, x.1) (t, b) x.3) (_, u.0)
+part_moves tables m a t b e =
+    let x = reads_ok (vector_at of_tables table_entry_at) _ a (t, b) e in
+    let u = tables_takes a x.0 x.1 x.2 in
+    subst (Moves a) (ok_is (record m { tables = x.0 }, x.1) (t, b) x.3) (of.vector of.table_entry x.0, u.taken)
+part_moves memories m a t b e =
+    let x = reads_ok (vector_at of_memories memory_entry_at) _ a (t, b) e in
+    let u = memories_takes a x.0 x.1 x.2 in
+    subst (Moves a) (ok_is (record m { memories = x.0 }, x.1) (t, b) x.3) (of.vector of.memory_entry x.0, u.taken)
+part_moves globals m a t b e =
+    let x = reads_ok (vector_at of_globals global_entry_at) _ a (t, b) e in
+    let u = globals_takes a x.0 x.1 x.2 in
+    subst (Moves a) (ok_is (record m { globals = x.0 }, x.1) (t, b) x.3) (of.vector of.global_entry x.0, u.taken)
+part_moves exports m a t b e =
+    let x = reads_ok (vector_at of_exports export_entry_at) _ a (t, b) e in
+    let u = exports_takes a x.0 x.1 x.2 in
+    subst (Moves a) (ok_is (record m { exports = x.0 }, x.1) (t, b) x.3) (of.vector of.export_entry x.0, u.taken)
+part_moves start m a t b e =
+    let x = reads_ok start_at _ a (t, b) e in
+    let u = start_takes a x.0 x.1 x.2 in
+    subst (Moves a) (ok_is (record m { start = Some x.0 }, x.1) (t, b) x.3) (of.start_entry x.0, u.taken)
+part_moves elements m a t b e =
+    let x = reads_ok (vector_at of_elements element_entry_at) _ a (t, b) e in
+    let u = elements_takes a x.0 x.1 x.2 in
+    subst (Moves a) (ok_is (record m { elements = x.0 }, x.1) (t, b) x.3) (of.vector of.element_entry x.0, u.taken)
+part_moves data_count m a t b e =
+    let x = reads_ok data_count_entry_at _ a (t, b) e in
+    let u = data_count_takes a x.0 x.1 x.2 in
+    subst (Moves a) (ok_is (record m { data_count = Some x.0 }, x.1) (t, b) x.3) (one_count x.0, u.0)
+part_moves code m a t b e =
+    let x = reads_ok bodies_at _ a (t, b) e in
+    let u = bodies_takes a x.0 x.1 x.2 in
+    subst (Moves a) (ok_is (record m { bodies = x.0 }, x.1) (t, b) x.3) (_, u.0)
+part_moves segments m a t b e =
+    let x = reads_ok (vector_at of_segments segment_entry_at) _ a (t, b) e in
+    let u = segments_takes a x.0 x.1 x.2 in
+    subst (Moves a) (ok_is (record m { segments = x.0 }, x.1) (t, b) x.3) (of.vector of.segment_entry x.0, u.0)
 
 -- ---- what is spelled is read
 
 pub part_again : (p : Part) (m t : Module) (a : At) (rest : Fields) → Ready p m a.counts → (p ≡ code → length t.bodies ≡ length m.funcs)
-    → (p ≡ segments → agrees_with a.counts.data_count (length t.segments) ≡ true) → SpelledAt (content p t rest) a → (b : At) × (content_at p m a ≡ Ok (put p t m, b)) × SpelledAt rest b
+    → (p ≡ segments → agrees_with a.counts.data_count (length t.segments) ≡ true) → SpelledAt (content p t rest) a → (b : At)
+    × (content_at p m a ≡ Ok (put p t m, b)) × SpelledAt rest b
 unfolding content_at
-part_again types m t a rest r as_many agrees s = let x = types_again a t.types rest s in (x.0, reads_again (vector_at of_types type_entry_at) _ a t.types x.0 _ x.1 refl, x.2)
-part_again imports m t a rest r as_many agrees s = let x = imports_again a t.imports rest s in (x.0, reads_again (vector_at of_imports import_at) _ a t.imports x.0 _ x.1 refl, x.2)
-part_again functions m t a rest r as_many agrees s = let x = functions_again a t.funcs rest s in (x.0, reads_again (vector_at of_functions func_entry_at) _ a t.funcs x.0 _ x.1 refl, x.2)
-part_again tables m t a rest r as_many agrees s = let x = tables_again a t.tables rest s in (x.0, reads_again (vector_at of_tables table_entry_at) _ a t.tables x.0 _ x.1 refl, x.2)
-part_again memories m t a rest r as_many agrees s = let x = memories_again a t.memories rest s in (x.0, reads_again (vector_at of_memories memory_entry_at) _ a t.memories x.0 _ x.1 refl, x.2)
-part_again globals m t a rest r as_many agrees s = let x = globals_again a t.globals rest s in (x.0, reads_again (vector_at of_globals global_entry_at) _ a t.globals x.0 _ x.1 refl, x.2)
-part_again exports m t a rest r as_many agrees s = let x = exports_again a t.exports rest s in (x.0, reads_again (vector_at of_exports export_entry_at) _ a t.exports x.0 _ x.1 refl, x.2)
+part_again types m t a rest r as_many agrees s =
+    let x = types_again a t.types rest s in
+    (x.0, reads_again (vector_at of_types type_entry_at) _ a t.types x.0 _ x.1 refl, x.2)
+part_again imports m t a rest r as_many agrees s =
+    let x = imports_again a t.imports rest s in
+    (x.0, reads_again (vector_at of_imports import_at) _ a t.imports x.0 _ x.1 refl, x.2)
+part_again functions m t a rest r as_many agrees s =
+    let x = functions_again a t.funcs rest s in
+    (x.0, reads_again (vector_at of_functions func_entry_at) _ a t.funcs x.0 _ x.1 refl, x.2)
+part_again tables m t a rest r as_many agrees s =
+    let x = tables_again a t.tables rest s in
+    (x.0, reads_again (vector_at of_tables table_entry_at) _ a t.tables x.0 _ x.1 refl, x.2)
+part_again memories m t a rest r as_many agrees s =
+    let x = memories_again a t.memories rest s in
+    (x.0, reads_again (vector_at of_memories memory_entry_at) _ a t.memories x.0 _ x.1 refl, x.2)
+part_again globals m t a rest r as_many agrees s =
+    let x = globals_again a t.globals rest s in
+    (x.0, reads_again (vector_at of_globals global_entry_at) _ a t.globals x.0 _ x.1 refl, x.2)
+part_again exports m t a rest r as_many agrees s =
+    let x = exports_again a t.exports rest s in
+    (x.0, reads_again (vector_at of_exports export_entry_at) _ a t.exports x.0 _ x.1 refl, x.2)
 part_again start m t a rest r as_many agrees s = started t.start refl s
   where
     started : (o : Option Start) → t.start ≡ o → SpelledAt (of.start_content o rest) a → (b : At) × (reads start_at (λ x b. Ok (record m { start = Some x }, b)) a ≡ Ok (put start t m, b)) × SpelledAt rest b
@@ -367,20 +436,30 @@ part_again start m t a rest r as_many agrees s = started t.start refl s
     started (Some x) is s =
         let y = start_again a x rest s in
         (y.0, reads_again start_at (λ x b. Ok (record m { start = Some x }, b)) a x y.0 _ y.1 (ap (λ (o : Option Start). Ok (record m { start = o }, y.0)) (sym is)), y.2)
-part_again elements m t a rest r as_many agrees s = let x = elements_again a t.elements rest s in (x.0, reads_again (vector_at of_elements element_entry_at) _ a t.elements x.0 _ x.1 refl, x.2)
+part_again elements m t a rest r as_many agrees s =
+    let x = elements_again a t.elements rest s in
+    (x.0, reads_again (vector_at of_elements element_entry_at) _ a t.elements x.0 _ x.1 refl, x.2)
 part_again data_count m t a rest r as_many agrees s = said t.data_count refl s
   where
     said : (o : Option DataCount) → t.data_count ≡ o → SpelledAt (of.data_count_content o (length t.segments) rest) a
-        → (b : At) × (reads data_count_entry_at (λ x b. Ok (record m { data_count = Some x }, b)) a ≡ Ok (put data_count t m, b)) × SpelledAt rest b
+        → (b : At) × (reads data_count_entry_at (λ x b. Ok (record m { data_count = Some x }, b)) a ≡ Ok (put data_count t m, b))
+        × SpelledAt rest b
     said None is s = absurd cc
     said (Some x) is s =
-        let y = data_count_again a x (provided (eqb x.count (length t.segments)) rest) s in
-        (y.0, reads_again data_count_entry_at (λ x b. Ok (record m { data_count = Some x }, b)) a x y.0 _ y.1 (ap (λ (o : Option DataCount). Ok (record m { data_count = o }, y.0)) (sym is)), y.2.1)
+        let y = data_count_again a x (provided (eqb x.count (length t.segments)) rest) s in (
+          y.0,
+          reads_again data_count_entry_at (λ x b. Ok (record m { data_count = Some x }, b)) a x y.0 _ y.1
+              (ap (λ (o : Option DataCount). Ok (record m { data_count = o }, y.0)) (sym is)),
+          y.2.1,
+        )
 part_again code m t a rest r as_many agrees s =
     let none = r.none_yet (omega arith) in
-    let x = bodies_again a t.bodies rest (as_many refl ∙ sym r.counted.functions) (subst (λ (n : ℕ). SpelledAt (number (length t.bodies) (of.bodies n t.bodies rest)) a) (sym none.0) s) in
+    let x = bodies_again a t.bodies rest (as_many refl ∙ sym r.counted.functions)
+    (subst (λ (n : ℕ). SpelledAt (number (length t.bodies) (of.bodies n t.bodies rest)) a) (sym none.0) s) in
     (x.0, reads_again bodies_at _ a t.bodies x.0 _ x.1 refl, x.2)
-part_again segments m t a rest r as_many agrees s = let x = segments_again a t.segments rest (agrees refl) s in (x.0, reads_again (vector_at of_segments segment_entry_at) _ a t.segments x.0 _ x.1 refl, x.2)
+part_again segments m t a rest r as_many agrees s =
+    let x = segments_again a t.segments rest (agrees refl) s in
+    (x.0, reads_again (vector_at of_segments segment_entry_at) _ a t.segments x.0 _ x.1 refl, x.2)
 
 -- ---- the machine
 
@@ -395,6 +474,7 @@ part_follows globals m = follows_both (content_of globals) [] _ _ globals_follow
 part_follows exports m = follows_both (content_of exports) [] _ _ exports_follows (λ x. follows_none {A = Module} (record m { exports = x }))
 part_follows start m = follows_both (content_of start) [] _ _ start_follows (λ x. follows_none {A = Module} (record m { start = Some x }))
 part_follows elements m = follows_both (content_of elements) [] _ _ elements_follows (λ x. follows_none {A = Module} (record m { elements = x }))
-part_follows data_count m = follows_both (content_of data_count) [] _ _ data_count_follows (λ x. follows_none {A = Module} (record m { data_count = Some x }))
+part_follows data_count m = follows_both (content_of data_count) [] _ _ data_count_follows
+    (λ x. follows_none {A = Module} (record m { data_count = Some x }))
 part_follows code m = follows_both (content_of code) [] _ _ bodies_follows (λ x. follows_none {A = Module} (record m { bodies = x }))
 part_follows segments m = follows_both (content_of segments) [] _ _ segments_follows (λ x. follows_none {A = Module} (record m { segments = x }))

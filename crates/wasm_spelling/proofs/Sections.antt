@@ -88,7 +88,8 @@ id_is id p e =
 abbrev pub IdIs : At → SectionId → At → Type 0
 IdIs a no_section b = (a.left ≡ []) × (bodies_done a.counts && data_done a.counts ≡ true) × (b ≡ record a { left = [] })
 IdIs a a_custom b = Took a (byte 0x00) b × (length b.left < length a.left)
-IdIs a (a_part p) b = Taken a (byte (id_of p)) b × (a.counts.last_rank < rank_of p) × (b.counts ≡ record a.counts { last_rank = rank_of p }) × (length b.left < length a.left)
+IdIs a (a_part p) b = Taken a (byte (id_of p)) b × (a.counts.last_rank < rank_of p)
+    × (b.counts ≡ record a.counts { last_rank = rank_of p }) × (length b.left < length a.left)
 
 front_taken : (place id : ℕ) (left : List ℕ) (c d : Counts) → Taken (record { place = place; left = id ∷ left; counts = c }) (byte id) (record { place = place + 1; left = left; counts = d })
 front_taken place id left c d = record { spelled = λ fields s. (id ∷ [], left, refl, refl, s); moved = omega arith; within = omega arith }
@@ -102,7 +103,8 @@ begins_is place id left c None h b o e =
 begins_is place id left c (Some p) h b o e =
     let begun : At = record { place = place + 1; left = left; counts = record c { last_rank = rank_of p } } in
     let before : At = record { place = place; left = id ∷ left; counts = c } in
-    let wanted : Result (SectionId × At) ReadFault = cond (not (eqb id 11) || bodies_done c) (yes (a_part p, begun)) (malformed place cause.CountDiffers) in
+    let wanted : Result (SectionId × At) ReadFault = cond (not (eqb id 11) || bodies_done c) (yes (a_part p, begun))
+    (malformed place cause.CountDiffers) in
     either_way (ltb c.last_rank (rank_of p)) wanted (malformed place cause.SectionOrder) (h, b) e
     (λ less x. either_way (not (eqb id 11) || bodies_done c) (yes (a_part p, begun)) (malformed place cause.CountDiffers) (h, b) x
     (λ _ y. subst (λ (y : SectionId × At). IdIs before y.0 y.1) (ok_is _ (h, b) y) (
@@ -116,7 +118,8 @@ begins_is place id left c (Some p) h b o e =
 
 pub id_takes : (place : ℕ) (left : List ℕ) (c : Counts) (h : SectionId) (b : At) → section_id_of place left c ≡ Ok (h, b) → IdIs (record { place = place; left = left; counts = c }) h b
 id_takes place [] c h b e =
-    either_way (bodies_done c && data_done c) (yes (no_section, record { place = place; left = []; counts = c })) (malformed place cause.CountDiffers) (h, b) e
+    either_way (bodies_done c && data_done c) (yes (no_section, record { place = place; left = []; counts = c }))
+    (malformed place cause.CountDiffers) (h, b) e
     (λ t x. subst (λ (y : SectionId × At). IdIs (record { place = place; left = []; counts = c }) y.0 y.1) (ok_is _ (h, b) x) (refl, t, refl))
     (λ _ x. not_ok _ (h, b) x)
 id_takes place (id ∷ left) c h b e = begins_is place id left c (part_of id) h b refl e
@@ -160,7 +163,8 @@ abbrev pub Kept : ℕ → Module → Module → Type 0
 Kept last m t = (q : Part) → rank_of q ≤ last → Same q m t
 
 -- nothing is left
-ends_spelled : (t : Module) (ps : List Part) (n : ℕ) → Rising n ps → ((q : Part) → n ≤ rank_of q → is_empty q t ≡ true) → (place : ℕ) → Spelled (sections ps t finished) place []
+ends_spelled : (t : Module) (ps : List Part) (n : ℕ) → Rising n ps → ((q : Part) → n ≤ rank_of q → is_empty q t ≡ true) → (place : ℕ)
+    → Spelled (sections ps t finished) place []
 ends_spelled t [] n r empty place = ([], refl)
 ends_spelled t (p ∷ ps) n r empty place = ([], inl (empty p (omega (arith, r.0)), ends_spelled t ps (suc n) r.1 (λ q le. empty q (omega (arith, le))) place))
 
@@ -173,8 +177,10 @@ custom_first t [] a b c took s = customs_first finished a b c took s
 custom_first t (p ∷ ps) a b c took s = customs_first (section p t (sections ps t finished)) a b c took s
 
 -- sections without entries in front of one that stands here
-skips : (t : Module) (p : Part) (a : At) (ps : List Part) (n : ℕ) → Rising n ps → n ≤ rank_of p → ((q : Part) → n ≤ rank_of q → rank_of q < rank_of p → is_empty q t ≡ true)
-    → ((qs : List Part) → Rising (suc (rank_of p)) qs → SpelledAt (section p t (sections qs t finished)) a) → SpelledAt (sections ps t finished) a
+skips : (t : Module) (p : Part) (a : At) (ps : List Part) (n : ℕ) → Rising n ps → n ≤ rank_of p
+    → ((q : Part) → n ≤ rank_of q → rank_of q < rank_of p → is_empty q t ≡ true)
+    → ((qs : List Part) → Rising (suc (rank_of p)) qs → SpelledAt (section p t (sections qs t finished)) a)
+    → SpelledAt (sections ps t finished) a
 skips t p a [] n r le empty s = absurd (omega (arith, r, le, (rank_above p).1))
 skips t p a (q ∷ qs) n r le empty s = elim (cases_lt n (rank_of p)) [
   | inl less ↦ ([], inl (empty q (omega (arith, r.0)) (omega (arith, r.0, less)), skips t p a qs (suc n) r.1 (omega (arith, less)) (λ x l. empty x (omega (arith, l))) s))
@@ -190,20 +196,24 @@ pub record SectionsTaken (last : ℕ) (m : Module) (a : At) (t : Module) : Type 
   pub adds_up : AddsUp t
 
 -- no function lacks its body where all sections were read
-none_lacks : (m : Module) (c : Counts) (b : Bool) → c.code_read ≡ b → Counted m c → b || eqb c.functions 0 ≡ true → length m.funcs ≡ length m.bodies
+none_lacks : (m : Module) (c : Counts) (b : Bool) → c.code_read ≡ b → Counted m c → b || eqb c.functions 0 ≡ true → length m.funcs
+    ≡ length m.bodies
 none_lacks m c true is p done = p.bodies is
 none_lacks m c false is p done = sym p.functions ∙ eqb-true c.functions 0 done ∙ sym (p.no_bodies is)
 
 -- and there are as many data segments as were announced
-all_there : (m : Module) (c : Counts) (b : Bool) → c.data_read ≡ b → Counted m c → b || agrees_with c.data_count 0 ≡ true → Agrees m.data_count (length m.segments)
+all_there : (m : Module) (c : Counts) (b : Bool) → c.data_read ≡ b → Counted m c → b || agrees_with c.data_count 0 ≡ true
+    → Agrees m.data_count (length m.segments)
 all_there m c true is p done = subst (λ (o : Option ℕ). agrees_with o (length m.segments) ≡ true) p.data_count (p.segments is)
 all_there m c false is p done =
     subst (λ (n : ℕ). Agrees m.data_count n) (sym (p.no_segments is)) (subst (λ (o : Option ℕ). agrees_with o 0 ≡ true) p.data_count done)
 
-at_end : (m : Module) (a : At) → Progress m a.counts → Clear a.counts.last_rank m → a.left ≡ [] → bodies_done a.counts && data_done a.counts ≡ true → SectionsTaken a.counts.last_rank m a m
+at_end : (m : Module) (a : At) → Progress m a.counts → Clear a.counts.last_rank m → a.left ≡ []
+    → bodies_done a.counts && data_done a.counts ≡ true → SectionsTaken a.counts.last_rank m a m
 at_end m a p clear none done = record {
   kept = λ q le. refl;
-  spelled = λ ps r. subst (λ (l : List ℕ). Spelled (sections ps m finished) a.place l) (sym none) (ends_spelled m ps (suc a.counts.last_rank) r (λ q le. clear q (omega (arith, le))) a.place);
+  spelled = λ ps r. subst (λ (l : List ℕ). Spelled (sections ps m finished) a.place l) (sym none)
+      (ends_spelled m ps (suc a.counts.last_rank) r (λ q le. clear q (omega (arith, le))) a.place);
   adds_up = record {
     as_many = none_lacks m a.counts a.counts.code_read refl p.counted (and_left (bodies_done a.counts) (data_done a.counts) done);
     agrees = all_there m a.counts a.counts.data_read refl p.counted (and_right (bodies_done a.counts) (data_done a.counts) done);
@@ -219,7 +229,8 @@ at_end m a p clear none done = record {
     and_right false y e = absurd cc
 
 at_custom : (last : ℕ) (m : Module) (a d : At) (t : Module) (c : Custom) → Taken a (custom c) d → SectionsTaken last m d t → SectionsTaken last m a t
-at_custom last m a d t c took more = record { kept = more.kept; spelled = λ ps r. custom_first t ps a d c took (more.spelled ps r); adds_up = more.adds_up }
+at_custom last m a d t c took more = record
+    { kept = more.kept; spelled = λ ps r. custom_first t ps a d c took (more.spelled ps r); adds_up = more.adds_up }
 
 less_differ : (m n : ℕ) → m < n → m ≡ n → ⊥
 less_differ m n l e = absurd (omega (arith, l, e))
@@ -228,7 +239,8 @@ less_differ m n l e = absurd (omega (arith, l, e))
 abbrev pub ContentTaken : Part → Module → At → At → Type 0
 ContentTaken p n c d = (found : ℕ) → (p ≡ data_count → Agrees n.data_count found) → Taken c (window (content_with found p n finished)) d
 
-at_part : (last : ℕ) (m n : Module) (a c d : At) (t : Module) (p : Part) → last < rank_of p → Clear last m → ((q : Part) → (rank_of q ≡ rank_of p → ⊥) → Same q m n) → Taken a (byte (id_of p)) c → ContentTaken p n c d
+at_part : (last : ℕ) (m n : Module) (a c d : At) (t : Module) (p : Part) → last < rank_of p → Clear last m
+    → ((q : Part) → (rank_of q ≡ rank_of p → ⊥) → Same q m n) → Taken a (byte (id_of p)) c → ContentTaken p n c d
     → SectionsTaken (rank_of p) n d t → SectionsTaken last m a t
 at_part last m n a c d t p less clear keeps id_taken inside more =
     let here_same : Same p n t = more.kept p (omega arith) in
@@ -237,42 +249,58 @@ at_part last m n a c d t p less clear keeps id_taken inside more =
     (sym (ap (λ (x : Module). x.data_count) (subst (λ (q : Part). Same q n t) e here_same))) more.adds_up.agrees in
     let taken = inside found agrees in
     let content_same : content_with found p n ≡ content p t = same_content found p n t here_same ∙ sym (content_is p t) in
-    let kept : Kept last m t = λ q le. keeps q (less_differ (rank_of q) (rank_of p) (omega (arith, le, less))) ∙ more.kept q (omega (arith, le, less)) in
+    let kept : Kept last m t = λ q le. keeps q (less_differ (rank_of q) (rank_of p) (omega (arith, le, less)))
+    ∙ more.kept q (omega (arith, le, less)) in
     record {
       kept = kept;
       spelled = λ ps r. skips t p a ps (suc last) r (omega (arith, less))
-          (λ q low high. sym (same_empty q m t (keeps q (less_differ (rank_of q) (rank_of p) high) ∙ more.kept q (omega (arith, high)))) ∙ clear q (omega (arith, low)))
+          (λ q low high. sym (same_empty q m t (keeps q (less_differ (rank_of q) (rank_of p) high) ∙ more.kept q (omega (arith, high))))
+          ∙ clear q (omega (arith, low)))
           (λ qs rising. inr (id_taken.spelled (window (content p t finished) (sections qs t finished))
-          (subst (λ (f : Fields → Fields). SpelledAt (window (f finished) (sections qs t finished)) c) content_same (taken.spelled (sections qs t finished) (more.spelled qs rising)))));
+          (subst (λ (f : Fields → Fields). SpelledAt (window (f finished) (sections qs t finished)) c) content_same
+          (taken.spelled (sections qs t finished) (more.spelled qs rising)))));
       adds_up = more.adds_up;
     }
 
 abbrev Rest : (Module → Reader Module) → Type 0
-Rest more = (m : Module) (a : At) (t : Module) (b : At) → Progress m a.counts → Clear a.counts.last_rank m → more m a ≡ Ok (t, b) → SectionsTaken a.counts.last_rank m a t
+Rest more = (m : Module) (a : At) (t : Module) (b : At) → Progress m a.counts → Clear a.counts.last_rank m → more m a ≡ Ok (t, b)
+    → SectionsTaken a.counts.last_rank m a t
 
 less_differ_back : (m n : ℕ) → n < m → m ≡ n → ⊥
 less_differ_back m n l e = absurd (omega (arith, l, e))
 
-pub section_read : (p : Part) (m : Module) (c : At) (n : Module) (d : At) (before : Counts) → Progress m before → before.last_rank < rank_of p → c.counts ≡ record before { last_rank = rank_of p } → part_at p m c ≡ Ok (n, d)
-    → ContentTaken p n c d × ((q : Part) → (rank_of q ≡ rank_of p → ⊥) → Same q m n) × Progress n d.counts × (d.counts.last_rank ≡ rank_of p)
+pub section_read : (p : Part) (m : Module) (c : At) (n : Module) (d : At) (before : Counts) → Progress m before
+    → before.last_rank < rank_of p → c.counts ≡ record before { last_rank = rank_of p } → part_at p m c ≡ Ok (n, d)
+    → ContentTaken p n c d × ((q : Part) → (rank_of q ≡ rank_of p → ⊥) → Same q m n) × Progress n d.counts
+    × (d.counts.last_rank ≡ rank_of p)
 unfolding part_at
 section_read p m c n d before pr less counts_are e =
     let i = window_inside cause.SectionNotUsedUp (content_at p m) c n d e in
     let start_is : i.start.counts ≡ record before { last_rank = rank_of p } = i.stands.kept ∙ counts_are in
     let r = part_takes p m (inner i.bytes i.start) n i.end (subst (Ready p m) (sym start_is) (ready p m before pr less)) i.read_is in
-    let end_is : d.counts ≡ i.end.counts = ap (λ (x : At). x.counts) i.behind_is in
-    (λ found agrees. window_taken (content_at p m) c n d i (r.taken found agrees), r.keeps, subst (Progress n) (sym end_is) r.progress, ap (λ (x : Counts). x.last_rank) end_is ∙ r.last ∙ ap (λ (x : Counts). x.last_rank) start_is)
+    let end_is : d.counts ≡ i.end.counts = ap (λ (x : At). x.counts) i.behind_is in (
+      λ found agrees. window_taken (content_at p m) c n d i (r.taken found agrees),
+      r.keeps,
+      subst (Progress n) (sym end_is) r.progress,
+      ap
+          (λ (x : Counts). x.last_rank) end_is ∙ r.last ∙ ap (λ (x : Counts). x.last_rank) start_is,
+    )
 
-after_takes : (more : Module → Reader Module) → Rest more → (m : Module) (a : At) (h : SectionId) (c : At) (t : Module) (b : At) → Progress m a.counts → Clear a.counts.last_rank m → IdIs a h c → after_id more m h c ≡ Ok (t, b) → SectionsTaken a.counts.last_rank m a t
+after_takes : (more : Module → Reader Module) → Rest more → (m : Module) (a : At) (h : SectionId) (c : At) (t : Module) (b : At)
+    → Progress m a.counts → Clear a.counts.last_rank m → IdIs a h c → after_id more m h c ≡ Ok (t, b)
+    → SectionsTaken a.counts.last_rank m a t
 after_takes more h m a no_section c t b p clear is e =
-    subst (λ (x : Module). SectionsTaken a.counts.last_rank m a x) (ap (λ (y : Module × At). y.0) (ok_is (m, c) (t, b) e)) (at_end m a p clear is.0 is.1)
+    subst (λ (x : Module). SectionsTaken a.counts.last_rank m a x) (ap (λ (y : Module × At). y.0) (ok_is (m, c) (t, b) e))
+    (at_end m a p clear is.0 is.1)
 after_takes more h m a a_custom c t b p clear is e =
     let y = reads_ok (custom_at m) more c (t, b) e in
     let u = custom_taken m c y.0 y.1 y.2 in
     let counts_are : y.1.counts ≡ a.counts = u.2 ∙ is.0.kept in
     let rest : SectionsTaken y.1.counts.last_rank m y.1 t =
-    h m y.1 t b (subst (Progress m) (sym counts_are) p) (subst (λ (d : Counts). Clear d.last_rank m) (sym counts_are) clear) (subst (λ (x : Module). more x y.1 ≡ Ok (t, b)) u.3 y.3) in
-    at_custom a.counts.last_rank m a y.1 t u.0 (taken_then a c y.1 is.0.taken u.1) (subst (λ (d : Counts). SectionsTaken d.last_rank m y.1 t) counts_are rest)
+    h m y.1 t b (subst (Progress m) (sym counts_are) p) (subst (λ (d : Counts). Clear d.last_rank m) (sym counts_are) clear)
+    (subst (λ (x : Module). more x y.1 ≡ Ok (t, b)) u.3 y.3) in
+    at_custom a.counts.last_rank m a y.1 t u.0 (taken_then a c y.1 is.0.taken u.1)
+    (subst (λ (d : Counts). SectionsTaken d.last_rank m y.1 t) counts_are rest)
 after_takes more h m a (a_part p) c t b pr clear is e =
     let y = reads_ok (part_at p m) more c (t, b) e in
     let u = section_read p m c y.0 y.1 a.counts pr is.1 is.2 y.2 in
@@ -289,7 +317,8 @@ sections_takes (suc k) m a t b p clear e =
     let h = reads_ok section_id_at (after_id (sections_at k) m) a (t, b) e in
     after_takes (sections_at k) (sections_takes k) m a h.0 h.1 t b p clear (id_takes a.place a.left a.counts h.0 h.1 h.2) h.3
 
-pub all_takes : (m : Module) (a : At) (t : Module) (b : At) → Progress m a.counts → Clear a.counts.last_rank m → all_sections_at m a ≡ Ok (t, b) → SectionsTaken a.counts.last_rank m a t
+pub all_takes : (m : Module) (a : At) (t : Module) (b : At) → Progress m a.counts → Clear a.counts.last_rank m → all_sections_at m a
+    ≡ Ok (t, b) → SectionsTaken a.counts.last_rank m a t
 all_takes m a t b p clear e = sections_takes (suc (length a.left)) m a t b p clear e
 
 -- ---- the machine

@@ -111,7 +111,8 @@ differ m n k less is e = absurd (omega (arith, less, is, e))
 
 part_kept : (ps : List Part) (n : ℕ) → Rising n ps → (p : Part) (t : Module) → rank_of p < n → Same p (cut ps t) t
 part_kept [] n r p t less = refl
-part_kept (q ∷ ps) n r p t less = clear_keeps q p (cut ps t) t (differ (rank_of p) n (rank_of q) less r.0) (part_kept ps (suc n) r.1 p t (omega (arith, less)))
+part_kept (q ∷ ps) n r p t less = clear_keeps q p (cut ps t) t (differ (rank_of p) n (rank_of q) less r.0)
+    (part_kept ps (suc n) r.1 p t (omega (arith, less)))
 
 -- ---- a section's id
 
@@ -130,16 +131,21 @@ custom_begins a b e =
     let i = id_begins a.place a.left a.counts 0x00 b e in
     (i.0 ∙ ap (λ (x : At). found a_custom x) (sym i.1), ap (λ (x : At). x.counts) i.1, i.2)
 
-begins : (p : Part) (place id : ℕ) (left : List ℕ) (c : Counts) → part_of id ≡ Some p → ltb c.last_rank (rank_of p) ≡ true → (not (eqb id 11) || bodies_done c) ≡ true
-    → section_begins place id left c (part_of id) ≡ found (a_part p) (record { place = place + 1; left = left; counts = record c { last_rank = rank_of p } })
+begins : (p : Part) (place id : ℕ) (left : List ℕ) (c : Counts) → part_of id ≡ Some p → ltb c.last_rank (rank_of p) ≡ true
+    → (not (eqb id 11) || bodies_done c) ≡ true
+    → section_begins place id left c (part_of id)
+    ≡ found (a_part p) (record { place = place + 1; left = left; counts = record c { last_rank = rank_of p } })
 begins p place id left c is less done = ap (section_begins place id left c) is ∙ rw (less, done) refl
 
-part_begins : (p : Part) (a b : At) → a.counts.last_rank < rank_of p → (not (eqb (id_of p) 11) || bodies_done a.counts) ≡ true → byte_at a ≡ Ok (id_of p, b)
-    → (section_id_at a ≡ found (a_part p) (record b { counts = record a.counts { last_rank = rank_of p } })) × (length b.left < length a.left)
+part_begins : (p : Part) (a b : At) → a.counts.last_rank < rank_of p → (not (eqb (id_of p) 11) || bodies_done a.counts) ≡ true → byte_at a
+    ≡ Ok (id_of p, b)
+    → (section_id_at a ≡ found (a_part p) (record b { counts = record a.counts { last_rank = rank_of p } }))
+    × (length b.left < length a.left)
 part_begins p a b less done e =
     let i = id_begins a.place a.left a.counts (id_of p) b e in (
       i.0 ∙ begins p a.place (id_of p) b.left a.counts (part_has_id p) (lt-ltb a.counts.last_rank (rank_of p) less) done
-          ∙ ap (λ (x : ℕ). found (a_part p) (record { place = x; left = b.left; counts = record a.counts { last_rank = rank_of p } })) (sym (ap (λ (x : At). x.place) i.1)),
+          ∙ ap (λ (x : ℕ). found (a_part p) (record { place = x; left = b.left; counts = record a.counts { last_rank = rank_of p } }))
+          (sym (ap (λ (x : At). x.place) i.1)),
       i.2,
     )
 
@@ -183,22 +189,27 @@ customs_again (x ∷ cs) rest m t c h (suc k) a less same s =
 -- ---- the others
 
 part_section_again : (p : Part) (m t : Module) (a : At) (rest : Fields) → Ready p m a.counts → (p ≡ code → length t.bodies ≡ length m.funcs)
-    → (p ≡ segments → agrees_with a.counts.data_count (length t.segments) ≡ true) → SpelledAt (window (content p t finished) rest) a → (b : At) × (part_at p m a ≡ Ok (put p t m, b)) × SpelledAt rest b
+    → (p ≡ segments → agrees_with a.counts.data_count (length t.segments) ≡ true) → SpelledAt (window (content p t finished) rest) a
+    → (b : At) × (part_at p m a ≡ Ok (put p t m, b)) × SpelledAt rest b
 unfolding part_at
 part_section_again p m t a rest r as_many agrees s =
     let w = window_sealed a (content p t finished) rest s in
     let counted = subst (λ (c : Counts). p ≡ segments → agrees_with c.data_count (length t.segments) ≡ true) (sym w.kept) agrees in
-    let n = part_again p m t (inner w.bytes w.start) finished (subst (λ (c : Counts). Ready p m c) (sym w.kept) r) as_many counted w.inside in
+    let n = part_again p m t (inner w.bytes w.start) finished (subst (λ (c : Counts). Ready p m c) (sym w.kept) r) as_many counted
+    w.inside in
     (behind w.bytes w.start n.0, window_read cause.SectionNotUsedUp (content_at p m) a w.bytes w.start n.0 (put p t m) w.number_is w.fits n.1 n.2, w.after)
 
-done_by : (m : Module) (c : Counts) (b : Bool) → c.code_read ≡ b → Counted m c → length m.funcs ≡ length m.bodies → b || eqb c.functions 0 ≡ true
+done_by : (m : Module) (c : Counts) (b : Bool) → c.code_read ≡ b → Counted m c → length m.funcs ≡ length m.bodies → b || eqb c.functions 0
+    ≡ true
 done_by m c true is p same = refl
 done_by m c false is p same = eq-eqb c.functions 0 (p.functions ∙ same ∙ p.no_bodies is)
 
-data_done_by : (m : Module) (c : Counts) (b : Bool) → c.data_read ≡ b → Counted m c → Agrees m.data_count (length m.segments) → b || agrees_with c.data_count 0 ≡ true
+data_done_by : (m : Module) (c : Counts) (b : Bool) → c.data_read ≡ b → Counted m c → Agrees m.data_count (length m.segments)
+    → b || agrees_with c.data_count 0 ≡ true
 data_done_by m c true is p agrees = refl
 data_done_by m c false is p agrees =
-    subst (λ (n : ℕ). agrees_with c.data_count n ≡ true) (p.no_segments is) (subst (λ (o : Option ℕ). agrees_with o (length m.segments) ≡ true) (sym p.data_count) agrees)
+    subst (λ (n : ℕ). agrees_with c.data_count n ≡ true) (p.no_segments is)
+    (subst (λ (o : Option ℕ). agrees_with o (length m.segments) ≡ true) (sym p.data_count) agrees)
 
 both_true : (b d : Bool) → b ≡ true → d ≡ true → b && d ≡ true
 both_true true d e f = f
@@ -220,10 +231,12 @@ all_read k t a none done =
     (record { place = a.place; left = []; counts = a.counts }, reads_again section_id_at (after_id (sections_at k) t) a no_section (record { place = a.place; left = []; counts = a.counts }) _ id refl)
 
 abbrev More : List Part → ℕ → Module → Type 0
-More ps n t = (k : ℕ) (b : At) → length b.left < k → Progress (cut ps t) b.counts → b.counts.last_rank < n → SpelledAt (sections ps t finished) b → ReadsAll k (cut ps t) t b
+More ps n t = (k : ℕ) (b : At) → length b.left < k → Progress (cut ps t) b.counts → b.counts.last_rank < n
+    → SpelledAt (sections ps t finished) b → ReadsAll k (cut ps t) t b
 
 -- a section that is left out
-absent : (p : Part) (ps : List Part) (n : ℕ) (t : Module) → Rising n (p ∷ ps) → More ps (suc n) t → (k : ℕ) (b : At) → length b.left < k → Progress (cut (p ∷ ps) t) b.counts → b.counts.last_rank < n → is_empty p t ≡ true → SpelledAt (sections ps t finished) b
+absent : (p : Part) (ps : List Part) (n : ℕ) (t : Module) → Rising n (p ∷ ps) → More ps (suc n) t → (k : ℕ) (b : At) → length b.left < k
+    → Progress (cut (p ∷ ps) t) b.counts → b.counts.last_rank < n → is_empty p t ≡ true → SpelledAt (sections ps t finished) b
     → ReadsAll k (cut (p ∷ ps) t) t b
 absent p ps n t r more k b less pr last empty s =
     let same : Same p (cut ps t) t = part_kept ps (suc n) r.1 p t (omega (arith, r.0)) in
@@ -241,7 +254,8 @@ may_begin p ps n t r as_many c pr = elim (cases_lt n 12) [
       (ap (λ (x : Module). length x.funcs) funcs ∙ as_many ∙ sym (ap (λ (x : Module). length x.bodies) bodies)))
 ]
 
-present : (p : Part) (ps : List Part) (n : ℕ) (t : Module) → Rising n (p ∷ ps) → AddsUp t → More ps (suc n) t → (k : ℕ) (b : At) → length b.left < k → Progress (cut (p ∷ ps) t) b.counts → b.counts.last_rank < n
+present : (p : Part) (ps : List Part) (n : ℕ) (t : Module) → Rising n (p ∷ ps) → AddsUp t → More ps (suc n) t → (k : ℕ) (b : At)
+    → length b.left < k → Progress (cut (p ∷ ps) t) b.counts → b.counts.last_rank < n
     → SpelledAt (byte (id_of p) (window (content p t finished) (sections ps t finished))) b → ReadsAll k (cut (p ∷ ps) t) t b
 present p ps n t r adds_up more zero b less pr last s = absurd (omega (arith, less))
 present p ps n t r adds_up more (suc k) b less pr last s =
@@ -250,15 +264,19 @@ present p ps n t r adds_up more (suc k) b less pr last s =
     let id = part_begins p b c.0 before (may_begin p ps n t r adds_up.as_many b.counts pr) c.1 in
     inside c.0 id.0 id.1 c.2 before
   where
-    inside : (c : At) → section_id_at b ≡ found (a_part p) (record c { counts = record b.counts { last_rank = rank_of p } }) → length c.left < length b.left → SpelledAt (window (content p t finished) (sections ps t finished)) c → b.counts.last_rank < rank_of p → ReadsAll (suc k) (cut (p ∷ ps) t) t b
+    inside : (c : At) → section_id_at b ≡ found (a_part p) (record c { counts = record b.counts { last_rank = rank_of p } })
+        → length c.left < length b.left → SpelledAt (window (content p t finished) (sections ps t finished)) c
+        → b.counts.last_rank < rank_of p → ReadsAll (suc k) (cut (p ∷ ps) t) t b
     inside c id shorter s before =
         let m : Module = clear p (cut ps t) in
         let d : At = record c { counts = record b.counts { last_rank = rank_of p } } in
         let many : p ≡ code → length t.bodies ≡ length m.funcs = λ e.
-        sym adds_up.as_many ∙ sym (ap (λ (x : Module). length x.funcs) (part_kept (p ∷ ps) n r functions t (omega (arith, r.0, ap rank_of e)))) in
+        sym adds_up.as_many ∙ sym
+        (ap (λ (x : Module). length x.funcs) (part_kept (p ∷ ps) n r functions t (omega (arith, r.0, ap rank_of e)))) in
         let agrees : p ≡ segments → agrees_with d.counts.data_count (length t.segments) ≡ true = λ e.
         subst (λ (o : Option ℕ). agrees_with o (length t.segments) ≡ true) (sym (pr.counted.data_count
-        ∙ ap (λ (x : Module). count_in x.data_count) (part_kept (p ∷ ps) n r data_count t (omega (arith, r.0, ap rank_of e))))) adds_up.agrees in
+        ∙ ap (λ (x : Module). count_in x.data_count) (part_kept (p ∷ ps) n r data_count t (omega (arith, r.0, ap rank_of e)))))
+        adds_up.agrees in
         let e = part_section_again p m t d (sections ps t finished) (ready p m b.counts pr before) many agrees s in
         let is : put p t m ≡ cut ps t = put_clear p t (cut ps t) (part_kept ps (suc n) r.1 p t (omega (arith, r.0))) in
         let read = section_read p m d (put p t m) e.0 b.counts pr before refl e.1 in
@@ -266,7 +284,8 @@ present p ps n t r adds_up more (suc k) b less pr last s =
         (more k e.0 (omega (arith, less, shorter, (section_shorter p m d (put p t m) e.0 e.1).1.within)) (subst (λ (x : Module). Progress x e.0.counts) is read.2) (omega (arith, read.3, r.0)) e.2) in
         then_all k m (put p t m) t b (a_part p) d e.0 id (λ z eq. reads_again (part_at p m) (sections_at k) d (put p t m) e.0 z e.1 eq) rest
 
-one_section : (p : Part) (ps : List Part) (n : ℕ) (t : Module) → Rising n (p ∷ ps) → AddsUp t → More ps (suc n) t → (k : ℕ) (b : At) → length b.left < k → Progress (cut (p ∷ ps) t) b.counts → b.counts.last_rank < n
+one_section : (p : Part) (ps : List Part) (n : ℕ) (t : Module) → Rising n (p ∷ ps) → AddsUp t → More ps (suc n) t → (k : ℕ) (b : At)
+    → length b.left < k → Progress (cut (p ∷ ps) t) b.counts → b.counts.last_rank < n
     → SpelledAt (section p t (sections ps t finished)) b → ReadsAll k (cut (p ∷ ps) t) t b
 one_section p ps n t r adds_up more k b less pr last (inl s) = absent p ps n t r more k b less pr last s.0 s.1
 one_section p ps n t r adds_up more k b less pr last (inr s) = present p ps n t r adds_up more k b less pr last s
@@ -274,14 +293,19 @@ one_section p ps n t r adds_up more k b less pr last (inr s) = present p ps n t 
 last_section : (t : Module) → AddsUp t → (k : ℕ) (b : At) → length b.left < k → Progress t b.counts → b.left ≡ [] → ReadsAll k t t b
 last_section t adds_up zero b less pr none = absurd (omega (arith, less))
 last_section t adds_up (suc k) b less pr none =
-    all_read k t b none (both_true (bodies_done b.counts) (data_done b.counts) (done_by t b.counts b.counts.code_read refl pr.counted adds_up.as_many) (data_done_by t b.counts b.counts.data_read refl pr.counted adds_up.agrees))
+    all_read k t b none (both_true (bodies_done b.counts) (data_done b.counts)
+    (done_by t b.counts b.counts.code_read refl pr.counted adds_up.as_many)
+    (data_done_by t b.counts b.counts.data_read refl pr.counted adds_up.agrees))
 
 pub sections_again : (ps : List Part) (n : ℕ) (t : Module) → Rising n ps → AddsUp t → More ps n t
 sections_again [] n t r adds_up k a less pr last (cs, s) =
-    customs_again cs finished t t a.counts (λ k b l same x. last_section t adds_up k b l (subst (λ (c : Counts). Progress t c) (sym same) pr) x) k a less refl s
+    customs_again cs finished t t a.counts
+    (λ k b l same x. last_section t adds_up k b l (subst (λ (c : Counts). Progress t c) (sym same) pr) x) k a less refl s
 sections_again (p ∷ ps) n t r adds_up k a less pr last (cs, s) =
     customs_again cs (section p t (sections ps t finished)) (clear p (cut ps t)) t a.counts
-    (λ k b l same x. one_section p ps n t r adds_up (sections_again ps (suc n) t r.1 adds_up) k b l (subst (λ (c : Counts). Progress (clear p (cut ps t)) c) (sym same) pr) (omega (arith, last, ap (λ (c : Counts). c.last_rank) same)) x) k a less refl s
+    (λ k b l same x. one_section p ps n t r adds_up (sections_again ps (suc n) t r.1 adds_up) k b l
+    (subst (λ (c : Counts). Progress (clear p (cut ps t)) c) (sym same) pr)
+    (omega (arith, last, ap (λ (c : Counts). c.last_rank) same)) x) k a less refl s
 
 -- ---- the number of data segments, where all sections are spelled
 
@@ -291,17 +315,21 @@ Somewhere fields = (place : ℕ) × (bytes : List ℕ) × Spelled fields place b
 
 past_customs : (cs : List Custom) (rest : Fields) (place : ℕ) (bytes : List ℕ) → Spelled (each custom cs rest) place bytes → Somewhere rest
 past_customs [] rest place bytes s = (place, bytes, s)
-past_customs (c ∷ cs) rest place bytes (id, sized, _, _, (size, (count, left, _, _, (inside, behind, _, _, s)))) = past_customs cs rest _ behind s
+past_customs (c ∷ cs) rest place bytes (id, sized, _, _, (size, (count, left, _, _, (inside, behind, _, _, s)))) = past_customs cs rest _
+    behind s
 
 -- a section was left out, or it stands somewhere
 abbrev Stands : Module → Part → Type 0
 Stands t p = (is_empty p t ≡ true) ⊎ Somewhere (content p t finished)
 
-past_section : (p : Part) (t : Module) (rest : Fields) (place : ℕ) (bytes : List ℕ) → Spelled (section p t rest) place bytes → Stands t p × Somewhere rest
+past_section : (p : Part) (t : Module) (rest : Fields) (place : ℕ) (bytes : List ℕ) → Spelled (section p t rest) place bytes → Stands t p
+    × Somewhere rest
 past_section p t rest place bytes (inl (empty, s)) = (inl empty, (place, bytes, s))
-past_section p t rest place bytes (inr (id, sized, _, _, (size, (count, left, _, _, (inside, behind, _, (_, s), more))))) = (inr (_, inside, s), (_, behind, more))
+past_section p t rest place bytes
+    (inr (id, sized, _, _, (size, (count, left, _, _, (inside, behind, _, (_, s), more))))) = (inr (_, inside, s), (_, behind, more))
 
-each_stands : (ps : List Part) (t : Module) (place : ℕ) (bytes : List ℕ) → Spelled (sections ps t finished) place bytes → AllByRecursion (Stands t) ps
+each_stands : (ps : List Part) (t : Module) (place : ℕ) (bytes : List ℕ) → Spelled (sections ps t finished) place bytes
+    → AllByRecursion (Stands t) ps
 each_stands [] t place bytes s = tt
 each_stands (p ∷ ps) t place bytes (cs, s) =
     let at_section = past_customs cs (section p t (sections ps t finished)) place bytes s in
@@ -313,7 +341,8 @@ said_and_found None n s = refl
 said_and_found (Some d) n (inl none) = absurd cc
 said_and_found (Some d) n (inr (place, bytes, (_, (_, _, _, _, (same, _))))) = eq-eqb n d.count (sym (eqb-true d.count n same))
 
-pub spelled_agrees : (t : Module) (place : ℕ) (bytes : List ℕ) → Spelled (sections parts t finished) place bytes → Agrees t.data_count (length t.segments)
+pub spelled_agrees : (t : Module) (place : ℕ) (bytes : List ℕ) → Spelled (sections parts t finished) place bytes
+    → Agrees t.data_count (length t.segments)
 spelled_agrees t place bytes s =
     let (_, (_, (_, (_, (_, (_, (_, (_, (_, (said, _)))))))))) = each_stands parts t place bytes s in
     said_and_found t.data_count (length t.segments) said

@@ -84,7 +84,14 @@ version_follows =
 
 nothing_read : (c : Counts) → c ≡ no_counts → Progress no_module c
 nothing_read c e = subst (λ (x : Counts). Progress no_module x) (sym e) (record {
-  counted = record { functions = refl; bodies = λ x. refl; no_bodies = λ x. refl; data_count = refl; segments = λ x. refl; no_segments = λ x. refl };
+  counted = record {
+    functions = refl;
+    bodies = λ x. refl;
+    no_bodies = λ x. refl;
+    data_count = refl;
+    segments = λ x. refl;
+    no_segments = λ x. refl;
+  };
   none_yet = λ x. (refl, refl);
   no_data = λ x. refl;
 })
@@ -108,7 +115,8 @@ file_takes bytes t e =
     let counts_are : v.1.counts ≡ no_counts = vt.kept ∙ mt.kept in
     let s = all_takes no_module v.1 x.0.0 x.0.1 (nothing_read v.1.counts counts_are) (λ q less. all_clear q) v.3 in
     let last : v.1.counts.last_rank ≡ 0 = ap (λ (c : Counts). c.last_rank) counts_are in
-    whole t x.0.0 (ok_is x.0.0 t x.2) a m.1 v.1 mt vt (s.spelled parts (subst (λ n. Rising (suc n) parts) (sym last) rises)) s.adds_up.as_many
+    whole t x.0.0 (ok_is x.0.0 t x.2) a m.1 v.1 mt vt (s.spelled parts (subst (λ n. Rising (suc n) parts) (sym last) rises))
+    s.adds_up.as_many
   where
     whole : (t u : Module) → u ≡ t → (a b c : At) → Took a (four 0x00 0x61 0x73 0x6D) b → Took b (four 0x01 0x00 0x00 0x00) c → SpelledAt (sections parts u finished) c → length u.funcs ≡ length u.bodies → Spelled (module_fields t) a.place a.left
     whole t u is a b c mt vt s as_many =
@@ -126,7 +134,9 @@ file_again bytes t s =
     first_again version_at (λ u. four 0x01 0x00 0x00 0x00) version_again b0 tt rest s0 (λ b1 e1 s1.
     let counts_are : b1.counts ≡ no_counts = (version_takes b0 tt b1 e1).kept ∙ (magic_takes a tt b0 e0).kept in
     let as_many : length t.funcs ≡ length t.bodies = eqb-true (length t.funcs) (length t.bodies) s1.0 in
-    let all = sections_again parts 1 t rises (record { as_many = as_many; agrees = spelled_agrees t b1.place b1.left s1.1 }) (suc (length b1.left)) b1 (omega arith) (nothing_read b1.counts counts_are) (omega (arith, ap (λ (c : Counts). c.last_rank) counts_are)) s1.1 in
+    let all = sections_again parts 1 t rises (record { as_many = as_many; agrees = spelled_agrees t b1.place b1.left s1.1 })
+    (suc (length b1.left)) b1 (omega arith) (nothing_read b1.counts counts_are)
+    (omega (arith, ap (λ (c : Counts). c.last_rank) counts_are)) s1.1 in
     ap (λ (r : Result (Module × At) ReadFault). r >>= tree_of) (reads_again magic_at _ a tt b0 _ e0 (reads_again version_at _ b0 tt b1 (Ok (t, all.0)) e1 all.1))))
 
 -- ---- the machine

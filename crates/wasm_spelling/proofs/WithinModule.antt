@@ -354,7 +354,13 @@ spelled_within t bytes are (s, small) =
     let magic = past_byte 3 0x6D _ (past_byte 2 0x73 _ (past_byte 1 0x61 _ (past_byte 0 0x00 _ whole))) in
     let version = past_byte 7 0x00 _ (past_byte 6 0x00 _ (past_byte 5 0x00 _ (past_byte 4 0x01 _ magic))) in
     let p = past_provided 8 (eqb (length t.funcs) (length t.bodies)) (sections parts t finished) version in
-    let (types, (imports, (functions, (tables, (memories, (globals, (exports, (start, (elements, (data_count, (code, (segments, _)))))))))))) =
+    let (
+      types,
+      (
+        imports,
+        (functions, (tables, (memories, (globals, (exports, (start, (elements, (data_count, (code, (segments, _)))))))))),
+      ),
+    ) =
     sections_within parts t finished 8 p.1 in
     record {
       types = types;
