@@ -1,7 +1,7 @@
 -- Sections: custom ones anywhere, the others in rising order of their ranks.
 use Rattle.std.proofs.Common.{◌≡◌, ℕ, zero, suc, ◌+◌, ◌-◌, ◌<◌, ◌≤◌, Bool, true, false, ◌||◌, ◌&&◌, not, cond, eqb, ltb, List, [], ◌∷◌, ◌++◌, append_assoc, length, Option, Some, None, Result, Ok, refl, sym, ap, subst, ◌∙◌, inl, inr, arith}
 use Rattle.std.proofs.lemmas.List.{append-nil}
-use Rattle.std.proofs.lemmas.Bool.{eqb-true, ltb-true, cases_lt}
+use Rattle.std.proofs.lemmas.Bool.{and_parts, eqb-true, ltb-true, cases_lt}
 use Rattle.wasm_tree.specs.declared.entries.DataCount.{DataCount}
 use Rattle.wasm_tree.specs.declared.tree.Module.{Module}
 use Rattle.wasm_spelling.specs.declared.fault.ReadFault.{ReadFault}
@@ -215,18 +215,10 @@ at_end m a p clear none done = record {
   spelled = λ ps r. subst (λ (l : List ℕ). Spelled (sections ps m finished) a.place l) (sym none)
       (ends_spelled m ps (suc a.counts.last_rank) r (λ q le. clear q (omega (arith, le))) a.place);
   adds_up = record {
-    as_many = none_lacks m a.counts a.counts.code_read refl p.counted (and_left (bodies_done a.counts) (data_done a.counts) done);
-    agrees = all_there m a.counts a.counts.data_read refl p.counted (and_right (bodies_done a.counts) (data_done a.counts) done);
+    as_many = none_lacks m a.counts a.counts.code_read refl p.counted (and_parts (bodies_done a.counts) (data_done a.counts) done).0;
+    agrees = all_there m a.counts a.counts.data_read refl p.counted (and_parts (bodies_done a.counts) (data_done a.counts) done).1;
   };
 }
-  where
-    and_left : (x y : Bool) → x && y ≡ true → x ≡ true
-    and_left true y e = refl
-    and_left false y e = absurd cc
-
-    and_right : (x y : Bool) → x && y ≡ true → y ≡ true
-    and_right true y e = e
-    and_right false y e = absurd cc
 
 at_custom : (last : ℕ) (m : Module) (a d : At) (t : Module) (c : Custom) → Taken a (custom c) d → SectionsTaken last m d t → SectionsTaken last m a t
 at_custom last m a d t c took more = record

@@ -3,7 +3,7 @@ use Rattle.std.proofs.Common.{◌≡◌, ℕ, zero, suc, ◌+◌, ◌<◌, Bool,
 use Rattle.std.specs.Prelude.{is_none}
 use Rattle.std.specs.List.{AllByRecursion}
 use Rattle.std.proofs.lemmas.List.{append-nil}
-use Rattle.std.proofs.lemmas.Bool.{eqb-true, eq-eqb, lt-ltb, cases_lt}
+use Rattle.std.proofs.lemmas.Bool.{and_from, or_right, eqb-true, eq-eqb, lt-ltb, cases_lt}
 use Rattle.wasm_tree.specs.declared.tree.Module.{Module}
 use Rattle.wasm_tree.specs.declared.entries.DataCount.{DataCount}
 use Rattle.wasm_spelling.specs.declared.fault.ReadFault.{ReadFault}
@@ -211,14 +211,6 @@ data_done_by m c false is p agrees =
     subst (λ (n : ℕ). agrees_with c.data_count n ≡ true) (p.no_segments is)
     (subst (λ (o : Option ℕ). agrees_with o (length m.segments) ≡ true) (sym p.data_count) agrees)
 
-both_true : (b d : Bool) → b ≡ true → d ≡ true → b && d ≡ true
-both_true true d e f = f
-both_true false d e f = absurd cc
-
-or_true : (b d : Bool) → d ≡ true → b || d ≡ true
-or_true true d e = refl
-or_true false d e = e
-
 not_data : (p : Part) → rank_of p < 12 → (d : Bool) → not (eqb (id_of p) 11) || d ≡ true
 not_data segments less d = absurd (omega (arith, less))
 not_data p less d = refl
@@ -250,7 +242,7 @@ may_begin p ps n t r as_many c pr = elim (cases_lt n 12) [
   | inr more ↦
       let funcs : Same functions (cut (p ∷ ps) t) t = part_kept (p ∷ ps) n r functions t (omega (arith, more)) in
       let bodies : Same code (cut (p ∷ ps) t) t = part_kept (p ∷ ps) n r code t (omega (arith, more)) in
-      or_true (not (eqb (id_of p) 11)) (bodies_done c) (done_by (cut (p ∷ ps) t) c c.code_read refl pr.counted
+      or_right (not (eqb (id_of p) 11)) (bodies_done c) (done_by (cut (p ∷ ps) t) c c.code_read refl pr.counted
       (ap (λ (x : Module). length x.funcs) funcs ∙ as_many ∙ sym (ap (λ (x : Module). length x.bodies) bodies)))
 ]
 
@@ -293,7 +285,7 @@ one_section p ps n t r adds_up more k b less pr last (inr s) = present p ps n t 
 last_section : (t : Module) → AddsUp t → (k : ℕ) (b : At) → length b.left < k → Progress t b.counts → b.left ≡ [] → ReadsAll k t t b
 last_section t adds_up zero b less pr none = absurd (omega (arith, less))
 last_section t adds_up (suc k) b less pr none =
-    all_read k t b none (both_true (bodies_done b.counts) (data_done b.counts)
+    all_read k t b none (and_from (bodies_done b.counts) (data_done b.counts)
     (done_by t b.counts b.counts.code_read refl pr.counted adds_up.as_many)
     (data_done_by t b.counts b.counts.data_read refl pr.counted adds_up.agrees))
 
