@@ -1,5 +1,6 @@
 //! The binary format of WebAssembly modules: which bytes spell a module, and the first fault of bytes
-//! that spell none (WebAssembly Core 1.0, chapter 5).
+//! that spell none (WebAssembly Core 1.0, chapter 5; of Core 2.0 the data count section, the sign extensions, memory.copy and
+//! memory.fill).
 #![tactic(auto)]
 
 mod cases;
