@@ -1,4 +1,5 @@
 pub mod Blocks
+pub mod ByteLists
 pub mod Bytes
 pub mod CallStatements
 pub mod Comparisons
