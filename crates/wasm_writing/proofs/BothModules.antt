@@ -3,23 +3,36 @@ use Rattle.std.proofs.Common.{◌≡◌, ℕ, List, [], ◌∷◌, length, map, 
 use Rattle.std.specs.Prelude.{is_none}
 use Rattle.std.proofs.lemmas.Bool.{cases_Bool}
 use Rattle.wasm_tree.specs.declared.entries.Start.{Start}
+use Rattle.wasm_tree.specs.declared.entries.DataCount.{DataCount}
 use Rattle.wasm_tree.specs.declared.tree.Module.{Module}
 use Rattle.wasm_spelling.specs.Fields.{Fields, finished, byte, number, provided, window}
 use Rattle.wasm_spelling.specs.Limits.{most_functions}
-use Rattle.wasm_spelling.specs.ModuleFields.{Part, parts, types, imports, functions, tables, memories, globals, exports, start, elements, code, segments, bodies, content, each, element_entry, export_entry, func_entry, global_entry, id_of, import_entry, is_empty, memory_entry, module_fields, segment_entry, start_content, table_entry, type_entry}
+use Rattle.wasm_spelling.specs.ModuleFields.{Part, parts, types, imports, functions, tables, memories, globals, exports, start, elements, data_count, code, segments, bodies, content, data_count_content, each, element_entry, export_entry, func_entry, global_entry, id_of, import_entry, is_empty, memory_entry, module_fields, segment_entry, start_content, table_entry, type_entry}
 use Rattle.wasm_spelling.specs.Limits.{most_module_bytes}
 use Rattle.wasm_writing.specs.Aside.{SpelledAside}
-use Rattle.wasm_spelling.specs.Places.{SpellsAside, bare_body, bare_element, bare_export, bare_func, bare_global, bare_import, bare_limits_entry, bare_module, bare_segment, bare_start, bare_type}
+use Rattle.wasm_spelling.specs.Places.{SpellsAside, bare_body, bare_data_count, bare_element, bare_export, bare_func, bare_global, bare_import, bare_limits_entry, bare_module, bare_segment, bare_start, bare_type}
 use Rattle.wasm_writing.specs.ShortFile.{filled, magic, short_fields, version}
 use Rattle.wasm_writing.proofs.Aside.{short_aside_of, spelled_aside}
 use Rattle.wasm_writing.proofs.Both.{Both, both_here, both_none, both_self, both_short_vector, both_then, both_vector, both_window, length-bare}
 use Rattle.wasm_writing.proofs.BothEntries.{both_bodies, both_element, both_export, both_func, both_global, both_import, both_memory, both_segment, both_table, both_type}
 use Rattle.wasm_writing.proofs.Fills.{Keeps, keeps_both, keeps_byte, keeps_number, keeps_provided}
+use Rattle.wasm_writing.proofs.FillsEntries.{keeps_data_count}
 use Rattle.wasm_writing.proofs.PartLemmas.{filled-empty, filled-full}
 
 both_start : (s : Option Start) → Both (start_content s) (start_content (bare_start s))
 both_start None = both_self (provided false) _ (keeps_provided false)
 both_start (Some s) = both_here s.place 0 (number s.index) (number s.index) (both_self (number s.index) _ (keeps_number s.index))
+
+both_data_count : (d : Option DataCount) (found : ℕ) → Both (data_count_content d found) (data_count_content (bare_data_count d) found)
+both_data_count None found = both_self (provided false) _ (keeps_provided false)
+both_data_count (Some d) found =
+    let counted : Fields → Fields = λ x. number d.count (provided (nat_eq d.count found) x) in
+    both_here d.place 0 counted counted (both_self counted _ (keeps_data_count d.count found))
+
+both_data_count_part : (t : Module) → Both (content data_count t) (content data_count (bare_module t))
+both_data_count_part t =
+    subst (λ n. Both (content data_count t) (data_count_content (bare_data_count t.data_count) n))
+    (sym (length-bare bare_segment t.segments)) (both_data_count t.data_count (length t.segments))
 
 both_code_part : (t : Module) → Both (content code t) (content code (bare_module t))
 both_code_part t =
@@ -36,8 +49,13 @@ both_part globals t = both_vector bare_global global_entry both_global t.globals
 both_part exports t = both_vector bare_export export_entry both_export t.exports
 both_part start t = both_start t.start
 both_part elements t = both_vector bare_element element_entry both_element t.elements
+both_part data_count t = both_data_count_part t
 both_part code t = both_code_part t
 both_part segments t = both_vector bare_segment segment_entry both_segment t.segments
+
+no_count_bare : (d : Option DataCount) → is_none (bare_data_count d) ≡ is_none d
+no_count_bare None = refl
+no_count_bare (Some d) = refl
 
 none_bare : (s : Option Start) → is_none (bare_start s) ≡ is_none s
 none_bare None = refl
@@ -53,6 +71,7 @@ empty_bare globals t = ap (λ n. nat_eq n 0) (length-bare bare_global t.globals)
 empty_bare exports t = ap (λ n. nat_eq n 0) (length-bare bare_export t.exports)
 empty_bare start t = none_bare t.start
 empty_bare elements t = ap (λ n. nat_eq n 0) (length-bare bare_element t.elements)
+empty_bare data_count t = no_count_bare t.data_count
 empty_bare code t = ap (λ n. nat_eq n 0) (length-bare bare_body t.bodies)
 empty_bare segments t = ap (λ n. nat_eq n 0) (length-bare bare_segment t.segments)
 

@@ -1,7 +1,7 @@
 -- Instructions: with some places they are the same but for places.
 use Rattle.std.proofs.Common.{◌≡◌, ℕ, ◌-◌, Option, refl, sym, ap, ◌∙◌, nat_lt}
 use Rattle.w2c_base.specs.declared.value.ValType.{ValType}
-use Rattle.wasm_tree.specs.Instructions.{Code, end_code, then_code, Kind, no_else, else_code, Block, Loop, If, Br, BrIf, BrTable, Call, CallIndirect, LocalGet, LocalSet, LocalTee, GlobalGet, GlobalSet, Load, Store, MemorySize, MemoryGrow, I32Const, I64Const}
+use Rattle.wasm_tree.specs.Instructions.{Code, end_code, then_code, Kind, no_else, else_code, Block, Loop, If, Br, BrIf, BrTable, Call, CallIndirect, LocalGet, LocalSet, LocalTee, GlobalGet, GlobalSet, Load, Store, MemorySize, MemoryGrow, MemoryCopy, MemoryFill, I32Const, I64Const}
 use Rattle.wasm_tree.specs.Opcodes.{opcode_of}
 use Rattle.wasm_spelling.specs.Fields.{Fields, byte, number, here, provided}
 use Rattle.wasm_spelling.specs.ModuleFields.{block_type_code, code_fields, end_byte, expression, immediates, vector}
@@ -24,6 +24,10 @@ keeps_immediates (Load op arg) = keeps_both (number arg.align) (number arg.offse
 keeps_immediates (Store op arg) = keeps_both (number arg.align) (number arg.offset) (keeps_number arg.align) (keeps_number arg.offset)
 keeps_immediates MemorySize = keeps_byte 0x00
 keeps_immediates MemoryGrow = keeps_byte 0x00
+keeps_immediates MemoryCopy =
+    keeps_both (number 10) (λ x. byte 0x00 (byte 0x00 x)) (keeps_number 10)
+    (keeps_both (byte 0x00) (byte 0x00) (keeps_byte 0x00) (keeps_byte 0x00))
+keeps_immediates MemoryFill = keeps_both (number 11) (byte 0x00) (keeps_number 11) (keeps_byte 0x00)
 keeps_immediates (I32Const n) = keeps_signed 32 n
 keeps_immediates (I64Const n) = keeps_signed 64 n
 keeps_immediates kind = keeps_none

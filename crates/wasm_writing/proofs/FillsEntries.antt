@@ -1,5 +1,5 @@
 -- The entries of sections: with some places they are the same but for places.
-use Rattle.std.proofs.Common.{ℕ, ◌+◌, List, [], ◌∷◌, length, Option, None, Some, map, nat_le, refl, ap, ◌∙◌}
+use Rattle.std.proofs.Common.{ℕ, ◌+◌, List, [], ◌∷◌, length, Option, None, Some, map, nat_eq, nat_le, refl, ap, ◌∙◌}
 use Rattle.std.specs.Str.{is_utf8}
 use Rattle.w2c_base.specs.declared.value.ValType.{ValType}
 use Rattle.w2c_base.specs.declared.signature.FuncType.{FuncType}
@@ -128,6 +128,11 @@ fills_export e =
 
 pub fills_start : (s : Start) → Fills {R = ℕ × Unit {0}} (start_entry s) (λ r. start_entry (record s { place = r.0 }))
 fills_start s = fills_here s.place (number s.index) (λ _. number s.index) (keeps_number s.index)
+
+-- a number that must be another one
+pub keeps_data_count : (count found : ℕ) → Keeps (λ x. number count (provided (nat_eq count found) x))
+keeps_data_count count found =
+    keeps_both (number count) (provided (nat_eq count found)) (keeps_number count) (keeps_provided (nat_eq count found))
 
 pub fills_func_ref : (f : FuncRef) → Fills {R = Like bare_func_ref f} (func_ref f) (λ r. func_ref r.0)
 fills_func_ref f =

@@ -13,5 +13,6 @@ part_of part.Globals = spelling.globals
 part_of part.Exports = spelling.exports
 part_of part.Start = spelling.start
 part_of part.Elements = spelling.elements
+part_of part.DataCount = spelling.data_count
 part_of part.Code = spelling.code
 part_of part.Segments = spelling.segments

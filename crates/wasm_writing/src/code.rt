@@ -60,6 +60,15 @@ fn immediates(kind: &Kind, draft: &mut Draft)
         | Kind::I64Store16(arg)
         | Kind::I64Store32(arg) => mem_arg(*arg, draft),
         Kind::MemorySize | Kind::MemoryGrow => draft.byte(0x00),
+        Kind::MemoryCopy => {
+            draft.number(10);
+            draft.byte(0x00);
+            draft.byte(0x00);
+        }
+        Kind::MemoryFill => {
+            draft.number(11);
+            draft.byte(0x00);
+        }
         Kind::I32Const(n) => draft.signed32(*n),
         Kind::I64Const(n) => draft.signed64(*n),
         Kind::Unreachable
@@ -128,6 +137,11 @@ fn immediates(kind: &Kind, draft: &mut Draft)
         | Kind::I32WrapI64
         | Kind::I64ExtendI32S
         | Kind::I64ExtendI32U
+        | Kind::I32Extend8S
+        | Kind::I32Extend16S
+        | Kind::I64Extend8S
+        | Kind::I64Extend16S
+        | Kind::I64Extend32S
         | Kind::Block { .. }
         | Kind::Loop { .. }
         | Kind::If { .. } => {}

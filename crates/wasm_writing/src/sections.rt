@@ -1,7 +1,7 @@
-// Sections (WebAssembly Core 1.0, 5.5.2 to 5.5.14).
+// Sections (WebAssembly Core 1.0, 5.5.2 to 5.5.14; Core 2.0, 5.5.16).
 ghost use Rattle.std.specs.Prelude.{◌≡◌, length};
 ghost use Rattle.wasm_spelling.specs.Fields.{finished, window};
-ghost use Rattle.wasm_spelling.specs.ModuleFields.{each as each_fields, content as content_fields, is_empty as is_empty_of, id_of, start_content, table_entry, memory_entry};
+ghost use Rattle.wasm_spelling.specs.ModuleFields.{each as each_fields, content as content_fields, is_empty as is_empty_of, id_of, start_content, data_count_content, table_entry, memory_entry};
 ghost use Rattle.wasm_writing.specs.Drafts.{Puts};
 ghost use Rattle.wasm_writing.specs.Parts.{part_of};
 ghost use Rattle.wasm_writing.specs.ShortFile.{filled};
@@ -11,7 +11,7 @@ use crate::draft::Draft;
 use crate::types::{memory_type, table_type};
 use crate::vectors::{Entry, count, short_vector, vector};
 use w2c_base::FUNCTIONS;
-use wasm_tree::{LimitsEntry, Module, Start};
+use wasm_tree::{DataCount, LimitsEntry, Module, Start};
 
 /// A section that is not a custom one.
 #[derive(Clone, Copy)]
@@ -25,12 +25,13 @@ pub enum Part {
     Exports,
     Start,
     Elements,
+    DataCount,
     Code,
     Segments,
 }
 
 /// The sections in the order of a file.
-pub const PARTS: [Part; 11] = [
+pub const PARTS: [Part; 12] = [
     Part::Types,
     Part::Imports,
     Part::Functions,
@@ -40,6 +41,7 @@ pub const PARTS: [Part; 11] = [
     Part::Exports,
     Part::Start,
     Part::Elements,
+    Part::DataCount,
     Part::Code,
     Part::Segments,
 ];
@@ -69,6 +71,19 @@ fn start(start: Option<Start>, draft: &mut Draft)
     }
 }
 
+/// Puts the number of data segments, of which there are so many.
+fn data_count(data_count: Option<DataCount>, found: usize, draft: &mut Draft)
+    ensures { Puts (data_count_content data_count found) draft.old draft.new }
+{
+    match data_count {
+        None => draft.refuse(),
+        Some(entry) => {
+            draft.number(entry.count);
+            draft.check(entry.count as usize == found);
+        }
+    }
+}
+
 /// Puts what a section contains.
 fn content(part: Part, m: &Module, draft: &mut Draft)
     ensures { Puts (content_fields (part_of part) m.now) draft.old draft.new }
@@ -89,6 +104,7 @@ fn content(part: Part, m: &Module, draft: &mut Draft)
         Part::Exports => vector(m.exports.as_slice(), draft),
         Part::Start => start(m.start, draft),
         Part::Elements => vector(m.elements.as_slice(), draft),
+        Part::DataCount => data_count(m.data_count, m.segments.len(), draft),
         Part::Code => {
             count(m.bodies.len(), draft);
             bodies(m.bodies.as_slice(), draft);
@@ -111,6 +127,7 @@ fn is_empty(part: Part, m: &Module) -> bool
         Part::Exports => m.exports.len() == 0,
         Part::Start => m.start.is_none(),
         Part::Elements => m.elements.len() == 0,
+        Part::DataCount => m.data_count.is_none(),
         Part::Code => m.bodies.len() == 0,
         Part::Segments => m.segments.len() == 0,
     }
@@ -129,6 +146,7 @@ fn id(part: Part) -> u8
         Part::Exports => 7,
         Part::Start => 8,
         Part::Elements => 9,
+        Part::DataCount => 12,
         Part::Code => 10,
         Part::Segments => 11,
     }

@@ -6,7 +6,7 @@ use builder::{Builder, then};
 use std::alloc::Global;
 use std::test::Fail;
 use w2c_base::{Bytes, Sequence, ValType};
-use wasm_tree::{Code, ExportKind, Kind, Module};
+use wasm_tree::{Code, DataCount, ExportKind, Kind, Module};
 
 /// The file of a module, or None where it has none.
 fn file_of(alloc: Global, module: &Module) -> Result<Option<Bytes>, Fail> {
@@ -67,6 +67,17 @@ fn with_segment(alloc: Global, size: usize) -> Result<Module, Fail> {
     let mut builder = Builder::new(alloc);
     builder.segment(Bytes::from_vec(vec![in alloc; 0u8; size]?))?;
     Ok(builder.module)
+}
+
+#[test]
+fn another_number_of_segments(rt: HostRuntime) -> Result<(), Fail> {
+    let alloc = rt.alloc();
+    let mut module = with_segment(alloc, 1)?;
+    module.data_count = Some(DataCount { count: 1, place: 0 });
+    assert!(rt; module.formed());
+    module.data_count = Some(DataCount { count: 2, place: 0 });
+    assert!(rt; !module.formed());
+    Ok(())
 }
 
 #[test]

@@ -37,6 +37,7 @@ impl Builder {
             exports: Sequence::new(alloc),
             start: None,
             elements: Sequence::new(alloc),
+            data_count: None,
             segments: Sequence::new(alloc),
             bodies: Sequence::new(alloc),
         };

@@ -1,0 +1,11 @@
+use Rattle.std.proofs.Common.{Option, None, subst, sym}
+use Rattle.wasm_tree.specs.declared.entries.DataCount.{DataCount}
+use Rattle.wasm_spelling.specs.ModuleFields.{data_count_content}
+use Rattle.wasm_writing.specs.Drafts.{Puts}
+use Rattle.wasm_writing.proofs.Pieces.{does_not_hold, puts_none}
+use Rattle.wasm_writing.proofs.sections.data_count.Goals as goal
+
+pub returns-in-None : goal.returns-in-None
+returns-in-None c =
+    subst (λ (d : Option DataCount). Puts (data_count_content d c.args.found) c.args.draft.now c.refuse.new.self) (sym c.in-None.is)
+    (puts_none (data_count_content None c.args.found) _ _ does_not_hold c.refuse.ensures)
