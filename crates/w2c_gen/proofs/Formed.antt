@@ -13,7 +13,7 @@ use Rattle.wasm_tree.specs.Instructions.{end_code, then_code, Call}
 use Rattle.wasm_spelling.specs.Bytes.{AreBytes}
 use Rattle.wasm_spelling.specs.Fields.{Fields, finished}
 use Rattle.wasm_spelling.specs.Limits.{most_functions, most_module_bytes}
-use Rattle.wasm_spelling.specs.ModuleFields.{types, imports, functions, tables, memories, globals, exports, start, elements, code, segments, bodies, code_fields, content, each, func_entry, instr_fields}
+use Rattle.wasm_spelling.specs.ModuleFields.{types, imports, functions, tables, memories, globals, exports, start, elements, data_count, code, segments, bodies, code_fields, content, each, func_entry, instr_fields}
 use Rattle.wasm_spelling.specs.Places.{IsFormed}
 use Rattle.wasm_writing.specs.ShortFile.{magic, short_fields, version}
 use Rattle.wasm_writing.proofs.Whole.{short_file_spells}
@@ -133,8 +133,9 @@ file_within n le =
     (within_filled t exports (omega arith) (exports_within n le)
     (within_empty t start refl
     (within_empty t elements refl
+    (within_empty t data_count refl
     (within_filled t code (omega (arith, le)) (code_within n le)
-    (within_empty t segments refl within_finished)))))))))))))
+    (within_empty t segments refl within_finished))))))))))))))
 
 pub generated_formed : (n : ℕ) → n ≤ 20000 → IsFormed (generated n)
 generated_formed n le =

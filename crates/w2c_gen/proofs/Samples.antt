@@ -3,7 +3,7 @@ use Rattle.std.proofs.Common.{ℕ, pos, [], ◌∷◌, ◌++◌, refl, arith}
 use Rattle.w2c_base.specs.SpelledNumber.{SpellsSigned}
 use Rattle.leb_bytes.specs.Shortest.{IsShortest}
 use Rattle.wasm_spelling.specs.Fields.{finished}
-use Rattle.wasm_spelling.specs.ModuleFields.{types, imports, functions, tables, memories, globals, exports, start, elements, code, segments, content}
+use Rattle.wasm_spelling.specs.ModuleFields.{types, imports, functions, tables, memories, globals, exports, start, elements, data_count, code, segments, content}
 use Rattle.wasm_writing.specs.ShortFile.{short_fields}
 use Rattle.w2c_gen.specs.Generated.{generated}
 use Rattle.w2c_gen.specs.GeneratedFile.{IsGeneratedFile}
@@ -54,9 +54,9 @@ one_function =
     (section_short t functions {within = 0x01 ∷ 0x00 ∷ []} refl (omega arith) refl functions_of_one
     (empty_short t tables refl (empty_short t memories refl (empty_short t globals refl
     (section_short t exports {within = one_export 0} refl (omega arith) refl exports_of_one
-    (empty_short t start refl (empty_short t elements refl
+    (empty_short t start refl (empty_short t elements refl (empty_short t data_count refl
     (section_short t code {within = 0x01 ∷ 0x0B ∷ only_body} refl (omega arith) refl code_of_one
-    (empty_short t segments refl finished_short))))))))))))))))))) in
+    (empty_short t segments refl finished_short)))))))))))))))))))) in
     (tested_bytes file_of_one refl, whole.is)
 
 -- ---- two functions
@@ -96,7 +96,7 @@ two_functions =
     (section_short t functions {within = 0x02 ∷ 0x00 ∷ 0x00 ∷ []} refl (omega arith) refl functions_of_two
     (empty_short t tables refl (empty_short t memories refl (empty_short t globals refl
     (section_short t exports {within = one_export 1} refl (omega arith) refl exports_of_two
-    (empty_short t start refl (empty_short t elements refl
+    (empty_short t start refl (empty_short t elements refl (empty_short t data_count refl
     (section_short t code {within = 0x02 ∷ 0x0B ∷ (first_body ++ (0x0D ∷ second_body))} refl (omega arith) refl code_of_two
-    (empty_short t segments refl finished_short))))))))))))))))))) in
+    (empty_short t segments refl finished_short)))))))))))))))))))) in
     (tested_bytes file_of_two refl, whole.is)

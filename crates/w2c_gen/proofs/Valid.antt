@@ -12,9 +12,10 @@ use Rattle.wasm_tree.specs.declared.entries.FuncEntry.{FuncEntry}
 use Rattle.wasm_tree.specs.declared.entries.Export.{Export}
 use Rattle.wasm_tree.specs.declared.entries.ExportKind.TheVariants.{Func as ExportFunc}
 use Rattle.wasm_tree.specs.declared.entries.Start.{Start}
+use Rattle.wasm_tree.specs.declared.entries.DataCount.{DataCount}
 use Rattle.wasm_tree.specs.declared.entries.BodyEntry.{BodyEntry}
 use Rattle.wasm_tree.specs.declared.tree.Module.{Module}
-use Rattle.wasm_spelling.specs.Places.{SameApartFromPlaces, bare_body, bare_code, bare_export, bare_func, bare_kind, bare_start, bare_type}
+use Rattle.wasm_spelling.specs.Places.{SameApartFromPlaces, bare_body, bare_code, bare_data_count, bare_export, bare_func, bare_kind, bare_start, bare_type}
 use Rattle.wasm_valid.specs.Context.{Context, Labels, context_of}
 use Rattle.wasm_valid.specs.Typing.{BodyHasType, HasType, KindHasType}
 use Rattle.wasm_valid.specs.declared.fault.ValidCause.TheVariants as cause
@@ -31,6 +32,10 @@ its_type = number_to_number.ty
 no_start : (s : Option Start) → bare_start s ≡ None → s ≡ None
 no_start None e = refl
 no_start (Some s) e = cc
+
+no_data_count : (d : Option DataCount) → bare_data_count d ≡ None → d ≡ None
+no_data_count None e = refl
+no_data_count (Some d) e = cc
 
 -- ---- functions of the first type
 
@@ -124,6 +129,7 @@ placed n place name_place index_place fs bodies = record {
   exports = export_at n name_place index_place ∷ [];
   start = None;
   elements = [];
+  data_count = None;
   segments = [];
   bodies = bodies;
 }
@@ -160,6 +166,7 @@ generated_valid n u some e =
     let globals = none_of _ u.globals (sym (ap (λ (m : Module). m.globals) e)) in
     let start = no_start u.start (sym (ap (λ (m : Module). m.start) e)) in
     let elements = none_of _ u.elements (sym (ap (λ (m : Module). m.elements) e)) in
+    let data_count = no_data_count u.data_count (sym (ap (λ (m : Module). m.data_count) e)) in
     let segments = none_of _ u.segments (sym (ap (λ (m : Module). m.segments) e)) in
     let its : u.types ≡ record { place = ty.0.place; ty = its_type } ∷ [] =
     ty.1 ∙ ap (λ (t : TypeEntry). record { place = ty.0.place; ty = t.ty } ∷ []) ty.2 in
@@ -175,6 +182,7 @@ generated_valid n u some e =
       exports = exported i;
       start = start i;
       elements = elements i;
+      data_count = data_count i;
       segments = segments i;
       bodies = u.bodies;
     } in

@@ -7,7 +7,7 @@ use Rattle.leb_bytes.specs.Shortest.{IsShortest}
 use Rattle.wasm_tree.specs.declared.tree.Module.{Module}
 use Rattle.wasm_spelling.specs.Bytes.{AreBytes}
 use Rattle.wasm_spelling.specs.Fields.{Fields, finished, byte, number, signed, text, here, provided, window}
-use Rattle.wasm_spelling.specs.ModuleFields.{Part, types, imports, functions, tables, memories, globals, exports, start, elements, code, segments, content, id_of, is_empty}
+use Rattle.wasm_spelling.specs.ModuleFields.{Part, types, imports, functions, tables, memories, globals, exports, start, elements, data_count, code, segments, content, id_of, is_empty}
 use Rattle.wasm_spelling.proofs.Behind.{all_append}
 use Rattle.wasm_writing.specs.Aside.{SpelledBy, SpelledShort}
 use Rattle.wasm_writing.specs.ShortFile.{filled}
@@ -124,6 +124,7 @@ id_small globals = omega arith
 id_small exports = omega arith
 id_small start = omega arith
 id_small elements = omega arith
+id_small data_count = omega arith
 id_small code = omega arith
 id_small segments = omega arith
 

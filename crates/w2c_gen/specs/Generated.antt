@@ -68,6 +68,7 @@ generated n = record {
   exports = run_export (n - 1) ∷ [];
   start = None;
   elements = [];
+  data_count = None;
   segments = [];
   bodies = map (body_of n) (range_with_len 0 n);
 }

@@ -68,6 +68,7 @@ pub fn module_of(alloc: Global, n: u32) -> Result<Module, Memory>
         exports,
         start: None,
         elements: Sequence::new(alloc),
+        data_count: None,
         segments: Sequence::new(alloc),
         bodies,
     })
