@@ -1,5 +1,5 @@
 -- The shortest file of a module (WebAssembly Core 1.0, 5.5): its fields each spelled in the shortest way, sections
--- without entries left out, no custom sections.
+-- without entries left out, the data count section where the module has a data count, no custom sections.
 use Rattle.std.specs.Prelude.{ℕ, List, length, ◌==◌, if◌then◌else◌}
 use Rattle.wasm_tree.specs.declared.tree.Module.{Module}
 use Rattle.wasm_spelling.specs.Fields.{Fields, finished, byte, provided, window}

@@ -1,4 +1,5 @@
-//! The shortest file of a module (WebAssembly Core 1.0, chapter 5), and whether a module has a file.
+//! The shortest file of a module (WebAssembly Core 1.0, chapter 5; of Core 2.0 the data count section, the sign extensions,
+//! memory.copy and memory.fill), and whether a module has a file.
 #![tactic(auto, using(crate::proofs::Pieces::makes_here, crate::proofs::Pieces::fits_here))]
 
 mod bodies;

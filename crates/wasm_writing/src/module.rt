@@ -60,7 +60,7 @@ impl Formed for Module {
 }
 
 /// The shortest file that spells the module, places aside: every number in its shortest spelling, sections
-/// without entries left out, no custom sections.
+/// without entries left out, the data count section where the module has a data count, no custom sections.
 ///
 /// # Errors
 ///

@@ -1,4 +1,4 @@
-// The opcode of each instruction (WebAssembly Core 1.0, 5.4).
+// The opcode of each instruction (WebAssembly Core 1.0, 5.4; Core 2.0, 5.4.6 and 5.4.7).
 ghost use Rattle.std.specs.Prelude.{◌≡◌};
 ghost use Rattle.wasm_tree.specs.Views.{kind_tree};
 ghost use Rattle.wasm_tree.specs.Opcodes.{opcode_of};
