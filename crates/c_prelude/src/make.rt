@@ -31,9 +31,9 @@ use w2c_base::{Memory, ValType};
 /// `Fill` take a pointer to a memory, the first place that is written, then the first that is read or
 /// the number whose low byte is written, and how many bytes there are. They trap where these places
 /// pass the memory's end, before a byte is written, and overlapping bytes are copied as they were
-/// before (Core 2.0, 4.4.7). A call ends within 390 statements, that of `Element` within 100; one that
-/// writes bytes takes more statements than bytes, and at most 20 more for each. It is static, and named
-/// for its instruction. `Memory` comes only where memory was wanting.
+/// before (Core 2.0, 4.4.7). A call ends within 390 statements, that of `Element` within 100; where it
+/// copies or fills bytes it takes more statements than there are bytes, and at most 20 more for each.
+/// It is static, and named for its instruction. `Memory` comes only where memory was wanting.
 pub fn helper(alloc: Global, which: Helper) -> Result<Func, Memory>
     ensures tree { IfOk result (λ func. func_of func ≡ helper_of which) }
     ensures does { IfOk result (λ func. DoesItsInstruction which (func_of func)) }

@@ -19,7 +19,7 @@ pub const ACCESS: [Piece; 14] = [
     Piece::Long(Number::Bytes),
     Piece::Op(COp::Add),
     Piece::Name(b'n'),
-    Piece::If(COp::Gt, b'T'),
+    Piece::If(COp::Gt, b'T'), // the access passes the end
 ];
 
 // v = w2c_get4(m, a); return v; T: w2c_trap(2u); return 0u;
@@ -150,12 +150,12 @@ pub const COPY: [Piece; 85] = [
     Piece::Name(b'k'),
     Piece::Op(COp::Add),
     Piece::Name(b'l'),
-    Piece::If(COp::Gt, b'T'),
+    Piece::If(COp::Gt, b'T'), // the bytes that are written pass the end
     Piece::Name(b'b'),
     Piece::Name(b'k'),
     Piece::Op(COp::Add),
     Piece::Name(b'l'),
-    Piece::If(COp::Gt, b'T'),
+    Piece::If(COp::Gt, b'T'), // the bytes that are read pass the end
     Piece::Name(b'k'),
     Piece::Long(Number::Zero),
     Piece::If(COp::Eq, b'E'),
@@ -238,7 +238,7 @@ pub const FILL: [Piece; 40] = [
     Piece::Name(b'k'),
     Piece::Op(COp::Add),
     Piece::Name(b'l'),
-    Piece::If(COp::Gt, b'T'),
+    Piece::If(COp::Gt, b'T'), // the bytes that are filled pass the end
     Piece::Name(b'k'),
     Piece::Long(Number::Zero),
     Piece::If(COp::Eq, b'E'),
