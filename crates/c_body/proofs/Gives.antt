@@ -20,10 +20,10 @@ use Rattle.c_meaning.proofs.Takes.{put_where_held}
 use Rattle.c_meaning.proofs.Ways.{step}
 use Rattle.c_prelude.specs.declared.operation.Helper.{Helper}
 use Rattle.c_prelude.specs.Helpers.{helper_of}
-use Rattle.c_prelude.specs.Calls.{CallEnd, call_ended, CallComesTo}
+use Rattle.c_prelude.specs.Calls.{CallEnd, call_ended, CallComesTo, CallComesBetween}
 use Rattle.c_prelude.specs.Operators.{number, answered}
-use Rattle.c_prelude.specs.Statements.{ComesWithin}
-use Rattle.c_prelude.proofs.CallStatements.{statement_comes_to}
+use Rattle.c_prelude.specs.Statements.{ComesWithin, ComesBetween}
+use Rattle.c_prelude.proofs.CallStatements.{statement_comes_to, statement_comes_between}
 use Rattle.c_body.specs.Names.{slot}
 use Rattle.c_body.specs.Plain.{operand, set_slot, call_helper}
 use Rattle.c_body.specs.Serves.{Defines}
@@ -254,6 +254,26 @@ pub helper_comes : (g : Site) (m : state.Machine) (vars : state.Vars) (target : 
     (call_ended g.program g.pending end (waiting g target rest vars))
 helper_comes g m vars target which args values rest most end defined is comes =
     statement_comes_to g.program g.pending most m (running g (call_helper target which args ∷ rest) vars) target
+    (helper_of which) values rest end g.below (record {
+      args = args;
+      next = refl;
+      evaluated = is;
+      is_no_primitive = defined.is_no_primitive;
+      item = defined.item;
+      body = defined.body;
+      has_body = defined.has_body;
+      defined = defined.defined;
+    }) comes
+
+pub helper_comes_between : (g : Site) (m : state.Machine) (vars : state.Vars) (target : Option state.Name) (which : Helper)
+    (args : List tree.Arg) (values : List state.CValue) (rest : List tree.Stmt) (least most : ℕ) (end : CallEnd)
+    → Defines g.program g.unit (helper_of which) → evaluate_args g.program m (running g (call_helper target which args ∷ rest) vars)
+    args ≡ Is values
+    → CallComesBetween least most (helper_of which) values m end
+    → ComesBetween g.program (suc least) (suc most) (at g m (call_helper target which args ∷ rest) vars)
+    (call_ended g.program g.pending end (waiting g target rest vars))
+helper_comes_between g m vars target which args values rest least most end defined is comes =
+    statement_comes_between g.program g.pending least most m (running g (call_helper target which args ∷ rest) vars) target
     (helper_of which) values rest end g.below (record {
       args = args;
       next = refl;

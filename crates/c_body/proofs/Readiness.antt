@@ -41,7 +41,7 @@ use Rattle.c_body.proofs.Own.{typed_body, few_params}
 use Rattle.c_body.proofs.Zipped.{pair_at}
 use Rattle.c_body.proofs.Bounds.{within_of}
 use Rattle.c_body.proofs.Heights.{after_typed}
-use Rattle.c_body.proofs.Numeric.{unary_typing, binary_typing}
+use Rattle.c_body.proofs.Numeric.{unary_typing, binary_typing, extend_typing}
 use Rattle.c_body.proofs.RulesOfKinds.{eqz_table, compare_table, load_table, store_table}
 use Rattle.c_body.proofs.CodeLists.{code_more}
 use Rattle.c_body.proofs.Marked.{covered_drop}

@@ -7,7 +7,7 @@ use Rattle.wasm_tree.specs.declared.code.Kind.{Kind}
 use Rattle.c_body.specs.Called.{HasMore}
 use Rattle.c_body.specs.Labels.{any_inside}
 use Rattle.c_body.specs.Needs.{calls}
-use Rattle.c_body.proofs.CalledHelpers.{code_next, code_stops, code_through, more_behind}
+use Rattle.c_body.proofs.CalledHelpers.{code_next, more_behind}
 use Rattle.c_body.proofs.needs.+needs.Goals as goal
 
 pub enter_code-enter_inside-requires : goal.enter_code-enter_inside-requires

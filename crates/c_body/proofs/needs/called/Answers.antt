@@ -1,4 +1,3 @@
-use Rattle.std.proofs.Common.{ap}
 use Rattle.c_body.proofs.CalledHelpers.{bodies_next, bodies_through}
 use Rattle.c_body.proofs.needs.called.Goals as goal
 
