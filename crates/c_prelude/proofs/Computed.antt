@@ -10,7 +10,7 @@ use Rattle.c_prelude.specs.declared.rows.Form.{Form}
 use Rattle.c_prelude.specs.Helpers.{c_type, number_helper, number_stmts}
 use Rattle.c_prelude.specs.Operators.{number}
 use Rattle.c_prelude.proofs.Widths.{operands}
-use Rattle.c_prelude.specs.Calls.{CallEnd, call_begun, call_ended, CallComesTo}
+use Rattle.c_prelude.specs.Calls.{CallEnd, call_begun, call_ended, CallComesTo, CallComesBetween}
 
 -- so many statements lead from the beginning of the call to its end
 abbrev pub Walks : ℕ → tree.Func → List CValue → Machine → CallEnd → Type 0
@@ -42,6 +42,15 @@ pub computed : {most : ℕ} {f : tree.Func} {args : List CValue} {m : Machine} {
     → CallComesTo most f args m end
 computed n few walks = record {
   statements = n;
+  few = few;
+  way = λ p pending unit item below. walk_reaches p n _ _ (walks p pending unit item below);
+}
+
+pub computed_between : {least most : ℕ} {f : tree.Func} {args : List CValue} {m : Machine} {end : CallEnd} (n : ℕ) → least ≤ n → n ≤ most
+    → Walks n f args m end → CallComesBetween least most f args m end
+computed_between n many few walks = record {
+  statements = n;
+  many = many;
   few = few;
   way = λ p pending unit item below. walk_reaches p n _ _ (walks p pending unit item below);
 }

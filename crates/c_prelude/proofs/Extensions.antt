@@ -79,7 +79,8 @@ abbrev given : ValType → Program → Pending → Machine → List Frame → �
 given t p pending m below n = Some (go_on p pending (give m (Some (number t n)) below))
 
 pub extend_right : DoesOperator (number_helper (record { ty = type.I64; form = form.ExtendS })) type.I64 ExtendI32S
-extend_right m x p = computed 1 (omega arith) (λ program pending unit item below. ap (given type.I64 program pending m below) (c_extend32_64 x))
+extend_right m x p = computed 1 (omega arith) (λ program pending unit item below. ap (given type.I64 program pending m below)
+    (c_extend32_64 x))
 
 -- the helpers of the low bits of a number
 abbrev Extends : ValType → Form → ℕ → Type 0

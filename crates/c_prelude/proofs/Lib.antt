@@ -9,6 +9,7 @@ pub mod EachHelper
 pub mod Extensions
 pub mod Functions
 pub mod Halving
+pub mod Holdings
 pub mod Memories
 pub mod Numbers
 pub mod Ones

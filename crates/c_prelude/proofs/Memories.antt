@@ -37,7 +37,7 @@ use Rattle.c_prelude.proofs.Computed.{computed}
 use Rattle.c_prelude.proofs.Widths.{widths, number_of-value, sides, seen}
 use Rattle.c_prelude.proofs.Extensions.{c_extend8_32, c_extend16_32, c_extend8_64, c_extend16_64, c_extend32_64}
 
-no_wrap : (b o : ℕ) → b < 2 ^ 32 → o < 2 ^ 32 → (b + o) % 18446744073709551616 ≡ b + o
+pub no_wrap : (b o : ℕ) → b < 2 ^ 32 → o < 2 ^ 32 → (b + o) % 18446744073709551616 ≡ b + o
 no_wrap b o p q = omega arith
 
 no_wrap_end : (b o k : ℕ) → b < 2 ^ 32 → o < 2 ^ 32 → k ≤ 8 → (b + o + k) % 18446744073709551616 ≡ b + o + k
@@ -45,7 +45,7 @@ no_wrap_end b o k p q r = omega arith
 
 -- ---- the statements
 
-abbrev pub named : List ℕ → tree.Arg
+abbrev named : List ℕ → tree.Arg
 named name = tree.Value (tree.Name name)
 
 -- the address, and the test of its end
@@ -93,7 +93,7 @@ abbrev Turns : tree.Expr → ValType → ValType → (ℕ → ℕ) → Type 0
 Turns e raw t f = (p : Program) (m : Machine) (unit : ℕ) (at : ObjectAddress) (b o a n v : ℕ)
     → evaluate_arg p m (seen unit (loading at b o a n (value raw v))) (tree.Value e) ≡ Is (number t (f v))
 
-abbrev pub begun : Pending → Machine → ℕ → ℕ → List Frame → CType → List tree.Stmt → Vars → Progress
+abbrev begun : Pending → Machine → ℕ → ℕ → List Frame → CType → List tree.Stmt → Vars → Progress
 begun pending m unit item below result stmts vars = Going pending (record {
   machine = m;
   running = record { unit = unit; item = item; result = result; stmts = stmts; rest = stmts; vars = vars };
@@ -101,7 +101,7 @@ begun pending m unit item below result stmts vars = Going pending (record {
 })
 
 -- a call of the function begins with these statements and variables
-abbrev pub Begins : tree.Func → CType → List CValue → Machine → List tree.Stmt → Vars → Type 0
+abbrev Begins : tree.Func → CType → List CValue → Machine → List tree.Stmt → Vars → Type 0
 Begins func result args m stmts vars = (p : Program) (pending : Pending) (unit item : ℕ) (below : List Frame)
     → call_begun p pending unit item func m args below ≡ begun pending m unit item below result stmts vars
 

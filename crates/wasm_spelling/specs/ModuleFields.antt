@@ -1,4 +1,4 @@
--- The fields of a module in binary order (WebAssembly Core 1.0, 5.3 to 5.5; Core 2.0, 5.5.16, for the number of data segments), and
+-- The fields of a module in binary order (WebAssembly Core 1.0, 5.3 to 5.5; Core 2.0, 5.5.15, for the number of data segments), and
 -- which bytes spell it. The limits stand as conditions at the fields of which they speak.
 use Rattle.std.specs.Prelude.{ℕ, ◌+◌, ◌-◌, List, [], ◌∷◌, length, Bool, true, false, Option, Some, None, is_none, nat_le, nat_lt, ◌==◌, ◌≤◌}
 use Rattle.std.specs.Str.{is_utf8}

@@ -1,5 +1,5 @@
 -- Reading one field at a place of a window, with its first fault. A number's own fault comes before a fault of
--- its value (WebAssembly Core 1.0, 5.2 to 5.4; Core 2.0, 5.4.6 and 5.5.16).
+-- its value (WebAssembly Core 1.0, 5.2 to 5.4; Core 2.0, 5.4.6 and 5.5.15).
 use Rattle.std.specs.Prelude.{ℕ, zero, suc, ℤ, ◌+◌, List, [], ◌∷◌, length, take, drop, Bool, true, false, ◌||◌, ◌&&◌, not, Option, Some, None, Result, Ok, Err, nat_lt, nat_le, ◌==◌, if◌then◌else◌}
 use Rattle.std.specs.Str.{is_utf8}
 use Rattle.leb_bytes.specs.declared.fault.LebFault.{LebFault}

@@ -1,5 +1,5 @@
 -- The first fault of a file, by one flat table: a field that is expected is spelled by some bytes, and further
--- fields then stand in its place (WebAssembly Core 1.0, 5.3 to 5.5; Core 2.0, 5.4.6 and 5.5.16).
+-- fields then stand in its place (WebAssembly Core 1.0, 5.3 to 5.5; Core 2.0, 5.4.6 and 5.5.15).
 use Rattle.std.specs.Prelude.{◌≡◌, ℕ, zero, suc, ◌-◌, List, [], ◌∷◌, ◌++◌, length, take, drop, Bool, true, false, Result, Ok, Err, None, nat_lt, ◌==◌, if◌then◌else◌}
 use Rattle.wasm_tree.specs.declared.entries.ExportKind.{ExportKind}
 use Rattle.wasm_tree.specs.declared.entries.ExportKind.TheVariants as kind

@@ -86,7 +86,7 @@ pub struct Start {
     pub place: u32,
 }
 
-/// How many data segments there are, where a section says so before the bodies (Core 2.0, 5.5.16).
+/// How many data segments there are, where a section says so before the bodies (Core 2.0, 5.5.15).
 #[derive(Clone, Copy, Debug, PartialEq, Eq)]
 pub struct DataCount {
     pub count: u32,
