@@ -357,6 +357,8 @@ helper_body (helper.Load op) = (_, refl)
 helper_body (helper.Store op) = (_, refl)
 helper_body helper.Size = (_, refl)
 helper_body helper.Element = (_, refl)
+helper_body helper.Copy = (_, refl)
+helper_body helper.Fill = (_, refl)
 
 pub helper_defined : (m : NamedModule) (which : Helper) → Contains (helpers_of m.tree) which
     → (body : tree.Body) × ((helper_of which).body ≡ Some body)

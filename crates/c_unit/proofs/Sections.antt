@@ -118,6 +118,8 @@ helper_class (helper.Load o) = load_class o
 helper_class (helper.Store o) = store_class o
 helper_class helper.Size = refl
 helper_class helper.Element = refl
+helper_class helper.Copy = refl
+helper_class helper.Fill = refl
 
 abbrev variable : CType → Name → tree.Item
 variable t name = tree.Var t name None

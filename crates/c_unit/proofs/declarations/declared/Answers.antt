@@ -1,7 +1,7 @@
 use Rattle.std.proofs.Common.{map, ap}
 use Rattle.c_body.specs.Symbols.{Typed}
 use Rattle.c_unit.specs.Named.{named_of, pair_of}
-use Rattle.c_unit.proofs.SeenNames.{declares_none, declares_next, declares_all}
+use Rattle.c_unit.proofs.SeenNames.{declares_next, declares_all}
 use Rattle.c_unit.proofs.declarations.declared.Goals as goal
 
 pub loop-import-preserved : goal.loop-import-preserved

@@ -1,4 +1,4 @@
-use Rattle.std.proofs.Common.{◌≡◌, slice_get, option_map, IfOk, subst, refl}
+use Rattle.std.proofs.Common.{◌≡◌, option_map, IfOk, subst, refl}
 use Rattle.c_tree.specs.View.{item_of}
 use Rattle.c_unit.specs.Sources.{module_of}
 use Rattle.c_unit.proofs.Standing.{read, missing, counted_anew, helper_there, helper_past}

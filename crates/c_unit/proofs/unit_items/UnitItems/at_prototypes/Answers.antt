@@ -1,4 +1,4 @@
-use Rattle.std.proofs.Common.{◌≡◌, ℕ, ◌+◌, ◌-◌, ◌<◌, ◌≤◌, length, slice_get, option_map, IfOk, subst, ap, ◌∙◌, arith}
+use Rattle.std.proofs.Common.{◌≡◌, ◌-◌, ◌<◌, ◌≤◌, length, slice_get, option_map, IfOk, subst, ap, ◌∙◌, arith}
 use Rattle.c_tree.specs.View.{item_of}
 use Rattle.c_unit.specs.Sources.{module_of}
 use Rattle.c_unit.specs.Tails.{from_helpers}
