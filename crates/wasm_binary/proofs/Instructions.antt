@@ -1,10 +1,12 @@
 -- Instructions but for blocks: what their opcodes say of what is read behind them.
-use Rattle.std.proofs.Common.{◌≡◌, ℕ, zero, suc, ◌+◌, ◌<◌, ◌≤◌, ◌⊎◌, inl, inr, Bool, true, false, ◌||◌, cond, eqb, List, [], ◌∷◌, Option, Some, None, Result, Ok, Err, refl, sym, ap, subst, ◌∙◌, arith}
-use Rattle.std.specs.List.{AllByRecursion}
-use Rattle.std.proofs.lemmas.Bool.{eqb-true, eq-eqb, cases_lt, and_parts, and_from, leb-true, le-leb}
+use Rattle.std.proofs.Common.{◌≡◌, ℕ, zero, suc, ◌+◌, ◌<◌, ◌≤◌, ◌⊎◌, inl, inr, Bool, true, false, ◌||◌, ◌&&◌}
+use Rattle.std.proofs.Common.{cond, eqb, List, [], ◌∷◌, Option, Some, None, Result, Ok, Err, refl, sym, ap, subst, ◌∙◌, arith}
+use Rattle.std.specs.Prelude.{nat_le}
+use Rattle.std.proofs.lemmas.Bool.{eqb-true, cases_lt, and_parts, leb-true}
 use Rattle.wasm_tree.specs.declared.code.MemArg.{MemArg}
 use Rattle.wasm_tree.specs.Instructions.{Kind, Br, BrIf, Call, LocalGet, LocalSet, LocalTee, GlobalGet, GlobalSet, Load, Store, I32Load, I64Load, I32Load8S, I32Load8U, I32Load16S, I32Load16U, I64Load8S, I64Load8U, I64Load16S, I64Load16U, I64Load32S, I64Load32U, I32Store, I64Store, I32Store8, I32Store16, I64Store8, I64Store16, I64Store32}
-use Rattle.wasm_tree.specs.InstructionTable.{Form, nothing, an_index, a_mem_arg, labels, a_type, a_zero, an_i32, an_i64, Row, rows, first_row, row_of}
+use Rattle.wasm_tree.specs.InstructionTable.{Form, nothing, an_index, a_mem_arg, labels, a_type, a_zero, an_i32, an_i64, a_sub_opcode}
+use Rattle.wasm_tree.specs.InstructionTable.{Row, rows, first_row, row_of}
 use Rattle.wasm_tree.specs.Opcodes.{opcode_of}
 use Rattle.wasm_tree.specs.Forms.{form_of, form_in}
 use Rattle.wasm_tree.proofs.ExactTable.{has_row}
@@ -26,19 +28,12 @@ either : (a b : Bool) → a || b ≡ true → (a ≡ true) ⊎ (b ≡ true)
 either true b e = inl refl
 either false b e = inr e
 
+one : {P Q : Type 0} (a b : Bool) → a || b ≡ true → (a ≡ true → P) → (b ≡ true → Q) → P ⊎ Q
+one true b e p q = inl (p refl)
+one false b e p q = inr (q e)
+
 in_range : (low high b : ℕ) → among low high b ≡ true → (low ≤ b) × (b ≤ high)
 in_range low high b e = let p = and_parts _ _ e in (leb-true low b p.0, leb-true b high p.1)
-
-range_in : (low high b : ℕ) → low ≤ b → b ≤ high → among low high b ≡ true
-range_in low high b l h = and_from _ _ (le-leb low b l) (le-leb b high h)
-
-or_left : (a b : Bool) → a ≡ true → a || b ≡ true
-or_left true b e = refl
-or_left false b e = absurd cc
-
-or_right : (a b : Bool) → b ≡ true → a || b ≡ true
-or_right true b e = refl
-or_right false b e = e
 
 indexed_is : (b : ℕ) → is_indexed b ≡ true → IsIndexed b
 indexed_is b e = elim (either (among 0x0C 0x0D b) (eqb b 0x10 || among 0x20 0x24 b) e) [
@@ -46,21 +41,11 @@ indexed_is b e = elim (either (among 0x0C 0x0D b) (eqb b 0x10 || among 0x20 0x24
   | inr y ↦ elim (either (eqb b 0x10) (among 0x20 0x24 b) y) [ inl x ↦ inr (inl (eqb-true b 0x10 x)) | inr x ↦ inr (inr (in_range 0x20 0x24 b x)) ]
 ]
 
-is_indexed_by : (b : ℕ) → IsIndexed b → is_indexed b ≡ true
-is_indexed_by b (inl x) = or_left _ _ (range_in 0x0C 0x0D b x.0 x.1)
-is_indexed_by b (inr (inl x)) = or_right (among 0x0C 0x0D b) _ (or_left _ _ (eq-eqb b 0x10 x))
-is_indexed_by b (inr (inr x)) = or_right (among 0x0C 0x0D b) _ (or_right (eqb b 0x10) _ (range_in 0x20 0x24 b x.0 x.1))
-
 access_is : (b : ℕ) → is_access b ≡ true → IsAccess b
 access_is b e = elim (either (among 0x28 0x29 b) (among 0x2C 0x37 b || among 0x3A 0x3E b) e) [
   | inl x ↦ inl (in_range 0x28 0x29 b x)
   | inr y ↦ elim (either (among 0x2C 0x37 b) (among 0x3A 0x3E b) y) [ inl x ↦ inr (inl (in_range 0x2C 0x37 b x)) | inr x ↦ inr (inr (in_range 0x3A 0x3E b x)) ]
 ]
-
-is_access_by : (b : ℕ) → IsAccess b → is_access b ≡ true
-is_access_by b (inl x) = or_left _ _ (range_in 0x28 0x29 b x.0 x.1)
-is_access_by b (inr (inl x)) = or_right (among 0x28 0x29 b) _ (or_left _ _ (range_in 0x2C 0x37 b x.0 x.1))
-is_access_by b (inr (inr x)) = or_right (among 0x28 0x29 b) _ (or_right (among 0x2C 0x37 b) _ (range_in 0x3A 0x3E b x.0 x.1))
 
 abbrev some_form : Form → Option Form
 some_form f = Some f
@@ -73,33 +58,59 @@ form_is f g e = cc
 
 -- ---- the opcodes of each kind of rows
 
-abbrev Class : ℕ → Form → Type 0
-Class b (nothing kind) = IsBare b
-Class b (an_index make) = IsIndexed b
-Class b (a_mem_arg make) = IsAccess b
-Class b (labels make) = b ≡ 0x0E
-Class b (a_type make) = b ≡ 0x11
-Class b (a_zero kind) = (b ≡ 0x3F) ⊎ (b ≡ 0x40)
-Class b (an_i32 make) = b ≡ 0x41
-Class b (an_i64 make) = b ≡ 0x42
+is_bare : ℕ → Bool
+is_bare b =
+    nat_le b 0x01 || (eqb b 0x0F || (among 0x1A 0x1B b || (among 0x45 0x5A b || (among 0x67 0x8A b
+    || (eqb b 0xA7 || (among 0xAC 0xAD b || among 0xC0 0xC4 b))))))
 
-abbrev RowClass : Row → Type 0
-RowClass r = Class r.opcode r.form
+bare_is : (b : ℕ) → is_bare b ≡ true → IsBare b
+unfolding is_bare
+bare_is b e =
+    one (nat_le b 0x01) _ e (leb-true b 0x01) (λ e.
+    one (eqb b 0x0F) _ e (eqb-true b 0x0F) (λ e.
+    one (among 0x1A 0x1B b) _ e (in_range 0x1A 0x1B b) (λ e.
+    one (among 0x45 0x5A b) _ e (in_range 0x45 0x5A b) (λ e.
+    one (among 0x67 0x8A b) _ e (in_range 0x67 0x8A b) (λ e.
+    one (eqb b 0xA7) _ e (eqb-true b 0xA7) (λ e.
+    one (among 0xAC 0xAD b) _ e (in_range 0xAC 0xAD b) (in_range 0xC0 0xC4 b)))))))
 
-all_classes : AllByRecursion RowClass rows
-all_classes = (inl (omega arith), (inl (omega arith), (inl (omega arith, omega arith), (inl (omega arith, omega arith), (refl, (inr (inl refl), (inr (inl refl), (refl, (inr (inr (inl (omega arith, omega arith))), (inr (inr (inl (omega arith, omega arith))), (inr (inr (omega arith, omega arith)), (inr (inr (omega arith, omega arith)), (inr (inr (omega arith, omega arith)), (inr (inr (omega arith, omega arith)), (inr (inr (omega arith, omega arith)), (inl (omega arith, omega arith), (inl (omega arith, omega arith), (inr (inl (omega arith, omega arith)), (inr (inl (omega arith, omega arith)), (inr (inl (omega arith, omega arith)), (inr (inl (omega arith, omega arith)), (inr (inl (omega arith, omega arith)), (inr (inl (omega arith, omega arith)), (inr (inl (omega arith, omega arith)), (inr (inl (omega arith, omega arith)), (inr (inl (omega arith, omega arith)), (inr (inl (omega arith, omega arith)), (inr (inl (omega arith, omega arith)), (inr (inl (omega arith, omega arith)), (inr (inr (omega arith, omega arith)), (inr (inr (omega arith, omega arith)), (inr (inr (omega arith, omega arith)), (inr (inr (omega arith, omega arith)), (inr (inr (omega arith, omega arith)), (inl refl, (inr refl, (refl, (refl, (inr (inr (inr (inl (omega arith, omega arith)))), (inr (inr (inr (inl (omega arith, omega arith)))), (inr (inr (inr (inl (omega arith, omega arith)))), (inr (inr (inr (inl (omega arith, omega arith)))), (inr (inr (inr (inl (omega arith, omega arith)))), (inr (inr (inr (inl (omega arith, omega arith)))), (inr (inr (inr (inl (omega arith, omega arith)))), (inr (inr (inr (inl (omega arith, omega arith)))), (inr (inr (inr (inl (omega arith, omega arith)))), (inr (inr (inr (inl (omega arith, omega arith)))), (inr (inr (inr (inl (omega arith, omega arith)))), (inr (inr (inr (inl (omega arith, omega arith)))), (inr (inr (inr (inl (omega arith, omega arith)))), (inr (inr (inr (inl (omega arith, omega arith)))), (inr (inr (inr (inl (omega arith, omega arith)))), (inr (inr (inr (inl (omega arith, omega arith)))), (inr (inr (inr (inl (omega arith, omega arith)))), (inr (inr (inr (inl (omega arith, omega arith)))), (inr (inr (inr (inl (omega arith, omega arith)))), (inr (inr (inr (inl (omega arith, omega arith)))), (inr (inr (inr (inl (omega arith, omega arith)))), (inr (inr (inr (inl (omega arith, omega arith)))), (inr (inr (inr (inr (inl (omega arith, omega arith))))), (inr (inr (inr (inr (inl (omega arith, omega arith))))), (inr (inr (inr (inr (inl (omega arith, omega arith))))), (inr (inr (inr (inr (inl (omega arith, omega arith))))), (inr (inr (inr (inr (inl (omega arith, omega arith))))), (inr (inr (inr (inr (inl (omega arith, omega arith))))), (inr (inr (inr (inr (inl (omega arith, omega arith))))), (inr (inr (inr (inr (inl (omega arith, omega arith))))), (inr (inr (inr (inr (inl (omega arith, omega arith))))), (inr (inr (inr (inr (inl (omega arith, omega arith))))), (inr (inr (inr (inr (inl (omega arith, omega arith))))), (inr (inr (inr (inr (inl (omega arith, omega arith))))), (inr (inr (inr (inr (inl (omega arith, omega arith))))), (inr (inr (inr (inr (inl (omega arith, omega arith))))), (inr (inr (inr (inr (inl (omega arith, omega arith))))), (inr (inr (inr (inr (inl (omega arith, omega arith))))), (inr (inr (inr (inr (inl (omega arith, omega arith))))), (inr (inr (inr (inr (inl (omega arith, omega arith))))), (inr (inr (inr (inr (inl (omega arith, omega arith))))), (inr (inr (inr (inr (inl (omega arith, omega arith))))), (inr (inr (inr (inr (inl (omega arith, omega arith))))), (inr (inr (inr (inr (inl (omega arith, omega arith))))), (inr (inr (inr (inr (inl (omega arith, omega arith))))), (inr (inr (inr (inr (inl (omega arith, omega arith))))), (inr (inr (inr (inr (inl (omega arith, omega arith))))), (inr (inr (inr (inr (inl (omega arith, omega arith))))), (inr (inr (inr (inr (inl (omega arith, omega arith))))), (inr (inr (inr (inr (inl (omega arith, omega arith))))), (inr (inr (inr (inr (inl (omega arith, omega arith))))), (inr (inr (inr (inr (inl (omega arith, omega arith))))), (inr (inr (inr (inr (inl (omega arith, omega arith))))), (inr (inr (inr (inr (inl (omega arith, omega arith))))), (inr (inr (inr (inr (inl (omega arith, omega arith))))), (inr (inr (inr (inr (inl (omega arith, omega arith))))), (inr (inr (inr (inr (inl (omega arith, omega arith))))), (inr (inr (inr (inr (inl (omega arith, omega arith))))), (inr (inr (inr (inr (inr (inl refl))))), (inr (inr (inr (inr (inr (inr (omega arith, omega arith)))))), (inr (inr (inr (inr (inr (inr (omega arith, omega arith)))))), tt)))))))))))))))))))))))))))))))))))))))))))))))))))))))))))))))))))))))))))))))))))))))))))))))))))
+-- whether an opcode is one of those of a kind of rows
+fits : ℕ → Form → Bool
+fits b (nothing kind) = is_bare b
+fits b (an_index make) = is_indexed b
+fits b (a_mem_arg make) = is_access b
+fits b (labels make) = eqb b 0x0E
+fits b (a_type make) = eqb b 0x11
+fits b (a_zero kind) = eqb b 0x3F || eqb b 0x40
+fits b (an_i32 make) = eqb b 0x41
+fits b (an_i64 make) = eqb b 0x42
+fits b a_sub_opcode = eqb b 0xFC
 
-chosen_row : (op : ℕ) (first : Row) (f : Form) (more : Option Row) (b : Bool) → eqb first.opcode op ≡ b → RowClass first → (form_in more ≡ Some f → Class op f) → form_in (cond b (Some first) more) ≡ Some f → Class op f
+all_fit : List Row → Bool
+all_fit [] = true
+all_fit (r ∷ rest) = fits r.opcode r.form && all_fit rest
+
+each_row_fits : all_fit rows ≡ true
+unfolding all_fit fits is_bare
+each_row_fits = refl
+
+chosen_row : (op : ℕ) (first : Row) (f : Form) (more : Option Row) (b : Bool) → eqb first.opcode op ≡ b
+    → fits first.opcode first.form ≡ true → (form_in more ≡ Some f → fits op f ≡ true)
+    → form_in (cond b (Some first) more) ≡ Some f → fits op f ≡ true
 chosen_row op first f more true e m later is =
-    subst (λ n. Class n f) (eqb-true first.opcode op e) (subst (λ (x : Form). Class first.opcode x) (form_is first.form f is) m)
+    let as_f : fits first.opcode f ≡ true = subst (λ (x : Form). fits first.opcode x ≡ true) (form_is first.form f is) m in
+    subst (λ n. fits n f ≡ true) (eqb-true first.opcode op e) as_f
 chosen_row op first f more false e m later is = later is
 
-class_in : (op : ℕ) (rs : List Row) (f : Form) → AllByRecursion RowClass rs → form_in (first_row op rs) ≡ Some f → Class op f
-class_in op [] f all is = no_form _ f is
-class_in op (first ∷ rs) f all is = chosen_row op first f (first_row op rs) (eqb first.opcode op) refl all.0 (class_in op rs f all.1) is
+fits_in : (op : ℕ) (rs : List Row) (f : Form) → all_fit rs ≡ true → form_in (first_row op rs) ≡ Some f → fits op f ≡ true
+unfolding all_fit
+fits_in op [] f all is = no_form _ f is
+fits_in op (first ∷ rs) f all is =
+    let both = and_parts (fits first.opcode first.form) (all_fit rs) all in
+    chosen_row op first f (first_row op rs) (eqb first.opcode op) refl both.0 (fits_in op rs f both.1) is
 
-pub class_of : (op : ℕ) (f : Form) → form_in (row_of op) ≡ Some f → Class op f
-class_of op f is = class_in op rows f all_classes is
+row_fits : (op : ℕ) (f : Form) → form_in (row_of op) ≡ Some f → fits op f ≡ true
+row_fits op f is = fits_in op rows f each_row_fits is
 
 -- ---- the forms of opcodes in a row
 
@@ -227,23 +238,28 @@ pub record OfNone (b : ℕ) : Type 0 where
   pub not_grow : b ≡ 0x40 → ⊥
   pub not_i32 : b ≡ 0x41 → ⊥
   pub not_i64 : b ≡ 0x42 → ⊥
+  pub not_prefix : b ≡ 0xFC → ⊥
 
 true_false : (b : Bool) → b ≡ true → b ≡ false → ⊥
 true_false b t f = cc
 
-no_class : (b : ℕ) (f : Form) → OfNone b → Class b f → ⊥
-no_class b (nothing kind) n c = n.not_bare c
-no_class b (an_index make) n c = absurd (true_false (is_indexed b) (is_indexed_by b c) n.not_indexed)
-no_class b (a_mem_arg make) n c = absurd (true_false (is_access b) (is_access_by b c) n.not_access)
-no_class b (labels make) n c = n.not_labels c
-no_class b (a_type make) n c = n.not_type c
-no_class b (a_zero kind) n (inl c) = n.not_size c
-no_class b (a_zero kind) n (inr c) = n.not_grow c
-no_class b (an_i32 make) n c = n.not_i32 c
-no_class b (an_i64 make) n c = n.not_i64 c
+fits_none : (b : ℕ) (f : Form) → OfNone b → fits b f ≡ true → ⊥
+unfolding fits
+fits_none b (nothing kind) n e = n.not_bare (bare_is b e)
+fits_none b (an_index make) n e = true_false (is_indexed b) e n.not_indexed
+fits_none b (a_mem_arg make) n e = true_false (is_access b) e n.not_access
+fits_none b (labels make) n e = n.not_labels (eqb-true b 0x0E e)
+fits_none b (a_type make) n e = n.not_type (eqb-true b 0x11 e)
+fits_none b (a_zero kind) n e = elim (either (eqb b 0x3F) (eqb b 0x40) e) [
+  | inl x ↦ n.not_size (eqb-true b 0x3F x)
+  | inr y ↦ n.not_grow (eqb-true b 0x40 y)
+]
+fits_none b (an_i32 make) n e = n.not_i32 (eqb-true b 0x41 e)
+fits_none b (an_i64 make) n e = n.not_i64 (eqb-true b 0x42 e)
+fits_none b a_sub_opcode n e = n.not_prefix (eqb-true b 0xFC e)
 
 none_in : (b : ℕ) (o : Option Form) → form_in (row_of b) ≡ o → OfNone b → o ≡ None
-none_in b (Some f) e n = absurd (no_class b f n (class_of b f e))
+none_in b (Some f) e n = absurd (fits_none b f n (row_fits b f e))
 none_in b None e n = refl
 
 as_fails : (A : Type 0) (f : ReadFault) (r : Result A ReadFault) → r ≡ Err f → Fails f r

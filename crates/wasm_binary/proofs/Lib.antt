@@ -2,5 +2,6 @@ pub mod Loop
 pub mod Utf8
 pub mod Instructions
 pub mod Items
+pub mod Section
 pub mod SectionLoop
 pub mod Result

@@ -19,6 +19,7 @@ part_is part.Globals = of.globals
 part_is part.Exports = of.exports
 part_is part.Start = of.start
 part_is part.Elements = of.elements
+part_is part.DataCount = of.data_count
 part_is part.Code = of.code
 part_is part.Segments = of.segments
 

@@ -7,7 +7,15 @@ use Rattle.wasm_binary.specs.declared.rest.Counts.{Counts}
 use Rattle.wasm_binary.specs.declared.rest.Rest.{Rest}
 
 abbrev pub counts_of : Counts → spelling.Counts
-counts_of c = record { last_id = c.last_id; functions = c.functions; code_read = c.code_read; locals = c.locals; all_locals = c.all_locals }
+counts_of c = record {
+  last_rank = c.last_rank;
+  functions = c.functions;
+  code_read = c.code_read;
+  data_count = c.data_count;
+  data_read = c.data_read;
+  locals = c.locals;
+  all_locals = c.all_locals;
+}
 
 -- where the reader stands
 abbrev pub at : Rest → spelling.At

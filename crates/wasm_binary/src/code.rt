@@ -1,7 +1,7 @@
-// Instructions and expressions (WebAssembly Core 1.0, 5.4).
+// Instructions and expressions (WebAssembly Core 1.0, 5.4; Core 2.0, 5.4.6, for the byte FC).
 ghost use Rattle.std.specs.Prelude.{◌≡◌, ◌==◌, ◌&&◌, false, true, option_map};
 ghost use Rattle.wasm_tree.specs.Instructions.{BrTable, CallIndirect, MemorySize, MemoryGrow, I32Const, I64Const};
-ghost use Rattle.wasm_tree.specs.InstructionTable.{labels, a_type, a_zero, an_i32, an_i64};
+ghost use Rattle.wasm_tree.specs.InstructionTable.{labels, a_type, a_zero, an_i32, an_i64, a_sub_opcode};
 ghost use Rattle.wasm_spelling.specs.Steps.{is_float as is_float_of, reads};
 ghost use Rattle.wasm_spelling.specs.Reading.{mem_arg_at, form_at, ender_place, block_of, if_closed, item_at, block_at, code_at, expression_at};
 ghost use Rattle.wasm_binary.specs.View.{Gives, at, seen};
@@ -9,10 +9,10 @@ ghost use Rattle.wasm_binary.specs.Opcodes.{plain_at, fault_of, is_indexed, is_a
 ghost use Rattle.wasm_binary.specs.Enders.{as_kind, as_item, as_code, ender_of, head_of_opener, opener_head};
 
 use crate::fields::{byte, exactly, number, signed32, signed64, zero};
-use crate::opcodes::{access, bare, indexed, takes_index, takes_mem_arg};
+use crate::opcodes::{access, bare, by_sub_opcode, indexed, takes_index, takes_mem_arg};
 use crate::rest::Rest;
 use crate::types::block_type;
-use crate::vectors::vector;
+use crate::vectors::{Entry, times, vector};
 use std::alloc::Global;
 use w2c_base::{BLOCK_DEPTH, ValType};
 use wasm_spelling::{Cause, ReadFault, Which};
@@ -104,6 +104,39 @@ fn constant64(rest: Rest) -> Result<(Kind, Rest), ReadFault>
     Ok((Kind::I64Const(constant), rest))
 }
 
+/// A byte 00 behind a sub-opcode.
+struct ZeroByte;
+
+impl Entry for ZeroByte {
+    ghost use Rattle.wasm_spelling.specs.declared.fault.Cause.TheVariants.{ZeroByteExpected};
+    ghost use Rattle.wasm_spelling.specs.Reading.{exactly_at};
+
+    type Item = ();
+
+    ghost reading = { exactly_at 0x00 ZeroByteExpected };
+
+    fn read(_alloc: Global, rest: Rest) -> Result<(Self::Item, Rest), ReadFault> {
+        let rest = exactly(0x00, Cause::ZeroByteExpected, rest)?;
+        Ok(((), rest))
+    }
+}
+
+/// The instruction behind the byte FC: a sub-opcode, and as many bytes 00 as its row says.
+#[tactic(auto, unfolding(wasm_spelling::specs::Steps::reads, wasm_spelling::specs::Steps::checked, wasm_spelling::specs::Reading::form_at))]
+fn with_sub_opcode(alloc: Global, rest: Rest) -> Result<(Kind, Rest), ReadFault>
+    ensures { Gives as_kind result (form_at a_sub_opcode (at rest.entry)) }
+{
+    let place = rest.place;
+    let (sub_opcode, rest) = number(rest)?;
+    match by_sub_opcode(sub_opcode) {
+        None => Err(ReadFault::Malformed(place, Cause::BadOpcode)),
+        Some(found) => {
+            let (_, rest) = times::<ZeroByte>(alloc, found.zeros, rest)?;
+            Ok((found.kind, rest))
+        }
+    }
+}
+
 /// The instruction of an opcode that an index stands behind.
 fn with_index(place: u32, opcode: u8, rest: Rest) -> Result<(Kind, Rest), ReadFault>
     requires { is_indexed opcode ≡ true }
@@ -155,6 +188,9 @@ fn instruction(alloc: Global, place: u32, opcode: u8, rest: Rest) -> Result<(Kin
     }
     if opcode == 0x42 {
         return constant64(rest);
+    }
+    if opcode == 0xfc {
+        return with_sub_opcode(alloc, rest);
     }
     match bare(opcode) {
         Some(kind) => Ok((kind, rest)),

@@ -50,6 +50,7 @@ fn empty(alloc: Global) -> Module
         exports: Sequence::new(alloc),
         start: None,
         elements: Sequence::new(alloc),
+        data_count: None,
         segments: Sequence::new(alloc),
         bodies: Sequence::new(alloc),
     }
@@ -64,9 +65,11 @@ fn read_file(alloc: Global, bytes: &[u8]) -> Result<Module, ReadFault>
         place: 0,
         left: bytes,
         counts: Counts {
-            last_id: 0,
+            last_rank: 0,
             functions: 0,
             code_read: false,
+            data_count: None,
+            data_read: false,
             locals: 0,
             all_locals: 0,
         },

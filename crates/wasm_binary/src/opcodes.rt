@@ -1,9 +1,9 @@
-// Instructions but for blocks, by their opcodes (WebAssembly Core 1.0, 5.4).
-ghost use Rattle.std.specs.Prelude.{◌≡◌, ◌≤◌, ◌⊎◌, true, Some, IfSome, IfNone};
+// Instructions but for blocks, by their opcodes (WebAssembly Core 1.0, 5.4; Core 2.0, 5.4.6 and 5.4.7).
+ghost use Rattle.std.specs.Prelude.{◌≡◌, ◌≤◌, ◌⊎◌, true, Some, IfSome, IfNone, option_map};
 ghost use Rattle.wasm_tree.specs.Views.{kind_tree};
 ghost use Rattle.wasm_tree.specs.Opcodes.{opcode_of};
-ghost use Rattle.wasm_tree.specs.InstructionTable.{nothing};
-ghost use Rattle.wasm_binary.specs.Opcodes.{Stands, index_of, arg_of, IsBare, is_indexed, is_access};
+ghost use Rattle.wasm_tree.specs.InstructionTable.{nothing, prefixed_of};
+ghost use Rattle.wasm_binary.specs.Opcodes.{Stands, index_of, arg_of, IsBare, is_indexed, is_access, prefixed_row};
 
 use wasm_tree::{Kind, MemArg};
 
@@ -105,6 +105,21 @@ fn i64_operator(opcode: u8) -> Option<Kind>
     }
 }
 
+/// The extension of a number's low bits by their sign.
+fn sign_extension(opcode: u8) -> Option<Kind>
+    ensures some { IfSome result (λ k. Stands opcode (kind_tree k) (nothing (kind_tree k))) }
+    ensures none { IfNone result ((0xC0 ≤ opcode) × (opcode ≤ 0xC4) → ⊥) }
+{
+    match opcode {
+        0xc0 => Some(Kind::I32Extend8S),
+        0xc1 => Some(Kind::I32Extend16S),
+        0xc2 => Some(Kind::I64Extend8S),
+        0xc3 => Some(Kind::I64Extend16S),
+        0xc4 => Some(Kind::I64Extend32S),
+        _ => None,
+    }
+}
+
 /// The instruction of an opcode that has no immediates.
 pub fn bare(opcode: u8) -> Option<Kind>
     ensures some { IfSome result (λ k. Stands opcode (kind_tree k) (nothing (kind_tree k))) }
@@ -123,6 +138,7 @@ pub fn bare(opcode: u8) -> Option<Kind>
         0x50..=0x5a => i64_comparison(opcode),
         0x67..=0x78 => i32_operator(opcode),
         0x79..=0x8a => i64_operator(opcode),
+        0xc0..=0xc4 => sign_extension(opcode),
         _ => None,
     }
 }
@@ -184,6 +200,30 @@ pub fn access(opcode: u8, arg: MemArg) -> Option<Kind>
         0x3c => Some(Kind::I64Store8(arg)),
         0x3d => Some(Kind::I64Store16(arg)),
         0x3e => Some(Kind::I64Store32(arg)),
+        _ => None,
+    }
+}
+
+/// An instruction whose opcode is the byte FC, and how many bytes 00 stand behind its sub-opcode.
+#[derive(Drop)]
+pub struct Prefixed {
+    pub kind: Kind,
+    pub zeros: u32,
+}
+
+/// The instruction of a sub-opcode.
+pub fn by_sub_opcode(sub_opcode: u32) -> Option<Prefixed>
+    ensures { option_map (prefixed_row sub_opcode) result ≡ prefixed_of sub_opcode }
+{
+    match sub_opcode {
+        10 => Some(Prefixed {
+            kind: Kind::MemoryCopy,
+            zeros: 2,
+        }),
+        11 => Some(Prefixed {
+            kind: Kind::MemoryFill,
+            zeros: 1,
+        }),
         _ => None,
     }
 }

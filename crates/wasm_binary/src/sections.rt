@@ -1,11 +1,13 @@
-// Sections (WebAssembly Core 1.0, 5.5.2 and 5.5.3).
+// Sections (WebAssembly Core 1.0, 5.5.2 and 5.5.3; Core 2.0, 5.5.16, for where the data count stands).
 ghost use Rattle.std.specs.Prelude.{◌≡◌, option_map};
-ghost use Rattle.wasm_spelling.specs.Steps.{part_of, section_id_at, bodies_done as are_done};
+ghost use Rattle.wasm_spelling.specs.Steps.{part_of, section_id_at, bodies_done as are_done, data_done as is_done};
+ghost use Rattle.wasm_spelling.specs.ModuleFields.{rank_of};
 ghost use Rattle.wasm_spelling.specs.Reading.{content_at, custom_at, part_at, all_sections_at};
 ghost use Rattle.wasm_binary.specs.View.{Gives, at, seen, counts_of};
 ghost use Rattle.wasm_binary.specs.Sections.{part_is, id_of_heading, behind_id, is_no_section};
 
 use crate::bodies::{bodies, function_entries};
+use crate::data::{data_count, segments};
 use crate::entries::{MemoryEntry, TableEntry, start};
 use crate::fields::any_name;
 use crate::rest::{Counts, Rest};
@@ -13,7 +15,7 @@ use crate::vectors::vector;
 use crate::windows::{ended, window};
 use std::alloc::Global;
 use wasm_spelling::{Cause, ReadFault};
-use wasm_tree::{ElementEntry, Export, GlobalEntry, Import, Module, SegmentEntry, TypeEntry};
+use wasm_tree::{ElementEntry, Export, GlobalEntry, Import, Module, TypeEntry};
 
 /// A section other than a custom one.
 #[derive(Clone, Copy)]
@@ -27,8 +29,31 @@ pub enum Part {
     Exports,
     Start,
     Elements,
+    DataCount,
     Code,
     Segments,
+}
+
+impl Part {
+    /// The place in the order of sections.
+    fn rank(self) -> u8
+        ensures { result ≡ rank_of (part_is self) }
+    {
+        match self {
+            Part::Types => 1,
+            Part::Imports => 2,
+            Part::Functions => 3,
+            Part::Tables => 4,
+            Part::Memories => 5,
+            Part::Globals => 6,
+            Part::Exports => 7,
+            Part::Start => 8,
+            Part::Elements => 9,
+            Part::DataCount => 10,
+            Part::Code => 11,
+            Part::Segments => 12,
+        }
+    }
 }
 
 /// What a section's id says, or that the file ends there.
@@ -54,6 +79,7 @@ fn part_by_id(id: u8) -> Option<Part>
         9 => Some(Part::Elements),
         10 => Some(Part::Code),
         11 => Some(Part::Segments),
+        12 => Some(Part::DataCount),
         _ => None,
     }
 }
@@ -65,6 +91,13 @@ fn bodies_done(counts: Counts) -> bool
     counts.code_read || counts.functions == 0
 }
 
+/// Whether the data section was read where there must be one.
+fn data_done(counts: Counts) -> bool
+    ensures { result ≡ is_done (counts_of counts) }
+{
+    counts.data_read || counts.allows_segments(0)
+}
+
 /// The id of a section, or the end of the file.
 fn next_heading(rest: Rest) -> Result<(Heading, Rest), ReadFault>
     ensures { Gives (λ x. (id_of_heading x.0, at x.1)) result (section_id_at (at rest.entry)) }
@@ -72,7 +105,7 @@ fn next_heading(rest: Rest) -> Result<(Heading, Rest), ReadFault>
     let place = rest.place;
     match rest.left {
         [] => {
-            if bodies_done(rest.counts) {
+            if bodies_done(rest.counts) && data_done(rest.counts) {
                 Ok((Heading::End, rest))
             } else {
                 Err(ReadFault::Malformed(place, Cause::CountDiffers))
@@ -95,14 +128,15 @@ fn next_heading(rest: Rest) -> Result<(Heading, Rest), ReadFault>
                     ))
                 }
                 Some(part) => {
-                    if rest.counts.last_id >= id {
+                    let rank = part.rank();
+                    if rest.counts.last_rank >= rank {
                         return Err(ReadFault::Malformed(place, Cause::SectionOrder));
                     }
                     if id == 11 && !bodies_done(rest.counts) {
                         return Err(ReadFault::Malformed(place, Cause::CountDiffers));
                     }
                     let counts = Counts {
-                        last_id: id,
+                        last_rank: rank,
                         ..rest.counts
                     };
                     Ok((
@@ -176,13 +210,18 @@ fn content(
             module.elements = entries;
             Ok((module, rest))
         }
+        Part::DataCount => {
+            let (entry, rest) = data_count(rest)?;
+            module.data_count = Some(entry);
+            Ok((module, rest))
+        }
         Part::Code => {
             let (entries, rest) = bodies(alloc, rest)?;
             module.bodies = entries;
             Ok((module, rest))
         }
         Part::Segments => {
-            let (entries, rest) = vector::<SegmentEntry>(alloc, rest)?;
+            let (entries, rest) = segments(alloc, rest)?;
             module.segments = entries;
             Ok((module, rest))
         }

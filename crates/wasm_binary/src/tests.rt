@@ -26,3 +26,25 @@ fn linker_module(rt: HostRuntime) -> Result<(), Fail> {
     assert_eq!(rt; body.code.len(), 10);
     Ok(())
 }
+
+/// The data count before a body that copies bytes, and a segment behind it.
+const COUNTED: [u8; 54] = [
+    0x00, 0x61, 0x73, 0x6d, 0x01, 0x00, 0x00, 0x00, 0x01, 0x04, 0x01, 0x60, 0x00, 0x00, 0x03, 0x02,
+    0x01, 0x00, 0x05, 0x03, 0x01, 0x00, 0x01, 0x0c, 0x01, 0x01, 0x0a, 0x0e, 0x01, 0x0c, 0x00, 0x41,
+    0x01, 0x41, 0x02, 0x41, 0x03, 0xfc, 0x0a, 0x00, 0x00, 0x0b, 0x0b, 0x0a, 0x01, 0x00, 0x41, 0x00,
+    0x0b, 0x04, 0x01, 0x02, 0x03, 0x04,
+];
+
+#[test]
+fn counted_segments(rt: HostRuntime) -> Result<(), Fail> {
+    let tree = read_module(rt.alloc(), &COUNTED)
+        .ok()
+        .ok_or("the bytes are a module")?;
+    let data_count = tree.data_count.ok_or("a data count")?;
+    assert_eq!(rt; data_count.count, 1);
+    assert_eq!(rt; data_count.place, 25);
+    assert_eq!(rt; tree.segments.len(), 1);
+    let body = tree.bodies.as_slice().first().ok_or("one body")?;
+    assert_eq!(rt; body.code.len(), 4);
+    Ok(())
+}

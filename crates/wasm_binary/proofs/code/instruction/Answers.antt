@@ -1,7 +1,7 @@
 use Rattle.std.proofs.Common.{sym, subst, refl, ◌∙◌}
 use Rattle.wasm_tree.specs.Views.{kind_tree}
 use Rattle.wasm_tree.specs.Instructions.{BrTable, CallIndirect, MemorySize, MemoryGrow, I32Const, I64Const}
-use Rattle.wasm_tree.specs.InstructionTable.{labels, a_type, a_zero, an_i32, an_i64}
+use Rattle.wasm_tree.specs.InstructionTable.{labels, a_type, a_zero, an_i32, an_i64, a_sub_opcode}
 use Rattle.wasm_spelling.specs.declared.fault.ReadFault.{ReadFault}
 use Rattle.wasm_binary.specs.View.{at, Fails}
 use Rattle.wasm_binary.specs.Opcodes.{plain_at}
@@ -27,6 +27,11 @@ returns-then-opcode-eq65 c = by_opcode as_kind c.constant32.result c.args.place 
 pub returns-then-opcode-eq66 : goal.returns-then-opcode-eq66
 returns-then-opcode-eq66 c = by_opcode as_kind c.constant64.result c.args.place c.args.opcode 66 (an_i64 I64Const) (at c.args.rest) c.if-opcode-eq66.true refl c.constant64.ensures
 
+pub returns-then-opcode-eq252 : goal.returns-then-opcode-eq252
+returns-then-opcode-eq252 c =
+    by_opcode as_kind c.with_sub_opcode.result c.args.place c.args.opcode 252 a_sub_opcode (at c.args.rest) c.if-opcode-eq252.true refl
+    c.with_sub_opcode.ensures
+
 pub returns-in-Some : goal.returns-in-Some
 returns-in-Some c = bare_read c.args.place c.args.opcode (kind_tree c.in-Some.kind) (at c.args.rest) c.in-Some.ensures.some
 
@@ -43,4 +48,5 @@ returns-in-None c =
       not_grow = c.if-opcode-eq64.false;
       not_i32 = c.if-opcode-eq65.false;
       not_i64 = c.if-opcode-eq66.false;
+      not_prefix = c.if-opcode-eq252.false;
     }))
