@@ -1,7 +1,8 @@
 #!/usr/bin/env python3
 """modules.py [FILE]: says of each row of modules what the tables of the binary format and of the typing rules say, without
 the product, and of an accepted one its shortest file where the row is not that. It prints what crates/module_rows/stdout
-should hold. Written from WebAssembly Core 1.0, chapters 3 and 5, and from the limits and causes of this project."""
+should hold. Written from WebAssembly Core 1.0, chapters 3 and 5, from Core 2.0 for sign extension, memory.copy, memory.fill and the
+data count section, and from the limits and causes of this project."""
 import sys
 
 MODULE_BYTES, PARAMETERS, RESULTS, NAME_LENGTH, FUNCTIONS = 8388608, 60, 1, 1024, 100000
@@ -19,6 +20,9 @@ NUMERIC.update({code: ([I32], I32) for code in range(0x67, 0x6a)})
 NUMERIC.update({code: ([I64], I64) for code in range(0x79, 0x7c)})
 NUMERIC.update({code: ([I32, I32], I32) for code in range(0x6a, 0x79)})
 NUMERIC.update({code: ([I64, I64], I64) for code in range(0x7c, 0x8b)})
+NUMERIC.update({0xc0: ([I32], I32), 0xc1: ([I32], I32), 0xc2: ([I64], I64), 0xc3: ([I64], I64), 0xc4: ([I64], I64)})
+ZEROS_BEHIND = {10: 2, 11: 1}
+SECTION_ORDER = (1, 2, 3, 4, 5, 6, 7, 8, 9, 12, 10, 11)
 
 
 class Stop(Exception):
@@ -48,7 +52,7 @@ class Reader:
 
     def __init__(self, data):
         self.data, self.at, self.end, self.file = data, 0, len(data), bytearray()
-        self.functions, self.locals = 0, 0
+        self.functions, self.locals, self.data_count = 0, 0, None
 
     def byte(self):
         if self.at >= self.end:
@@ -236,6 +240,14 @@ class Reader:
             return alignment
         if code in (0x3f, 0x40):
             return self.zero_byte()
+        if code == 0xfc:
+            sub_opcode_at = self.at
+            sub_opcode = self.u32()
+            if sub_opcode not in ZEROS_BEHIND:
+                raise malformed(sub_opcode_at, 'bad opcode')
+            for _ in range(ZEROS_BEHIND[sub_opcode]):
+                self.zero_byte()
+            return None
         if code == 0x41:
             return self.number(32, True)
         if code == 0x42:
@@ -276,6 +288,16 @@ class Reader:
         self.raw(self.u32())
         return index, offset
 
+    def data_section(self):
+        start, count = self.placed()
+        if self.data_count is not None and count != self.data_count:
+            raise malformed(start, 'count differs')
+        return [self.data_segment() for _ in range(count)]
+
+    def data_count_section(self):
+        self.data_count = self.u32()
+        return self.data_count
+
     def custom(self):
         self.name()
         self.at = self.end
@@ -285,32 +307,32 @@ class Reader:
             self.coded((byte,), 'bad magic')
         for byte in b'\1\0\0\0':
             self.coded((byte,), 'bad version')
-        module = {number: [] for number in range(1, 12)}
-        module[8] = None
+        module = {number: [] for number in range(1, 13)}
+        module[8] = module[12] = None
         readers = {1: lambda: self.many(self.func_type), 2: lambda: self.many(self.imported), 3: self.function_section,
                    4: lambda: self.many(self.table_type), 5: lambda: self.many(self.memory_type),
                    6: lambda: self.many(lambda: (self.global_type(), self.expression())),
                    7: lambda: self.many(self.exported), 8: self.placed, 9: lambda: self.many(self.element),
-                   10: self.code_section, 11: lambda: self.many(self.data_segment)}
-        last = 0
+                   10: self.code_section, 11: self.data_section, 12: self.data_count_section}
+        read = []
         while self.at < self.end:
             outside = bytes(self.file)
             start, number = self.at, self.byte()
-            if number > 11:
+            if number > 12:
                 raise malformed(start, 'bad section id')
-            if number != 0 and number <= last:
+            if number != 0 and any(SECTION_ORDER.index(number) <= SECTION_ORDER.index(other) for other in read):
                 raise malformed(start, 'section order')
-            if number == 11 and last < 10 and self.functions:
+            if number == 11 and 10 not in read and self.functions:
                 raise malformed(start, 'count differs')
             if number == 0:
                 self.window(self.custom, 'section not used up')
             else:
-                last = number
+                read.append(number)
                 module[number] = self.window(readers[number], 'section not used up')
             # the shortest file has no custom section, and none without entries
             if number == 0 or module[number] == []:
                 self.file = bytearray(outside)
-        if last < 10 and self.functions:
+        if 10 not in read and self.functions or 11 not in read and self.data_count:
             raise malformed(self.at, 'count differs')
         return module
 
@@ -558,6 +580,9 @@ class Body:
             if code == 0x40:
                 self.pop(I32)
             push(I32)
+        elif code == 0xfc:
+            self.memory()
+            self.pop_all([I32, I32, I32])
         elif code in (0x41, 0x42):
             push(I32 if code == 0x41 else I64)
         else:
