@@ -41,9 +41,10 @@ const fs = require('fs');
 const [module, rounds] = process.argv.slice(1);
 const { run } = new WebAssembly.Instance(new WebAssembly.Module(fs.readFileSync(module)), {}).exports;
 for (let k = 0; k < 3; k++) run(1);
-const begin = process.hrtime.bigint();
+const begin = process.cpuUsage();
 const sum = run(Number(rounds)) >>> 0;
-console.log(sum, Number(process.hrtime.bigint() - begin) / 1e9);
+const { user, system } = process.cpuUsage(begin);
+console.log(sum, (user + system) / 1e6);
 """
 
 

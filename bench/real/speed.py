@@ -1,7 +1,7 @@
 #!/usr/bin/env python3
 """Times the jobs of this folder: compiled natively, and compiled to WebAssembly by clang -O2 and then run as the C of wasm2c with either
-runtime, as the C of WABT's wasm2c in both of its ways to check bounds, and by node. Seconds of processor time inside `run` (for node
-of the clock, when the engine is warm), the least of several runs, each of which gave the same sum. Prints a table.
+runtime, as the C of WABT's wasm2c in both of its ways to check bounds, and by node. Seconds of processor time inside `run` (of node
+when the engine is warm, with all its threads), the least of several runs, each of which gave the same sum. Prints a table.
 Needs gcc, clang with wasm-ld, Debian's wasi-libc and wabt, and node.
 
 speed.py SOURCES [WASM2C]: the folder that sources.sh made, and the program, bin/wasm2c where it is left out.
@@ -13,7 +13,7 @@ import tempfile
 import jobs
 
 ROUNDS = {"kernels": 4, "zlib": 4, "bzip2": 4, "lz4": 40}
-TIMES = 7
+TIMES = 5
 EXPLICIT = ["-DWASM_RT_MEMCHECK_SIGNAL_HANDLER=0", "-DWASM_RT_MAX_CALL_STACK_DEPTH=1024"]
 
 ROWS = [
