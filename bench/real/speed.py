@@ -4,7 +4,8 @@ runtime, as the C of WABT's wasm2c in both of its ways to check bounds, and by n
 when the engine is warm, with all its threads), the least of several runs, each of which gave the same sum. Prints a table.
 Needs gcc, clang with wasm-ld, Debian's wasi-libc and wabt, and node.
 
-speed.py SOURCES [WASM2C]: the folder that sources.sh made, and the program, bin/wasm2c where it is left out.
+speed.py SOURCES [WASM2C [ROW..]]: the folder that sources.sh made; the program, bin/wasm2c where it is left out; and parts of the names of
+rows, where not all are wanted.
 """
 import os
 import sys
@@ -34,6 +35,8 @@ def least(job, command, sums):
     for _ in range(TIMES):
         total, time = jobs.run(*command, str(ROUNDS[job])).split()
         sums.add(total)
+        if len(sums) != 1 or total == "0":
+            sys.exit(f"{job}: the sums differ: {sorted(sums)}")
         times.append(float(time))
     return min(times)
 
@@ -51,7 +54,7 @@ def main():
             jobs.translate(wasm2c, job)
         print("| | " + " | ".join(f"{job} {compiler}" for job, compiler in columns) + " |")
         print("|---|" + "---|" * len(columns))
-        for title, build in ROWS:
+        for title, build in ROWS if len(sys.argv) < 4 else [row for row in ROWS if any(part in row[0] for part in sys.argv[3:])]:
             cells = [f"{least(job, build(job, sources, compiler), sums[job]):.3f}" for job, compiler in columns]
             print(f"| {title} | " + " | ".join(cells) + " |", flush=True)
         cells = [f"{least(job, jobs.node(job), sums[job]):.3f} | " for job in chosen]
@@ -60,8 +63,6 @@ def main():
             jobs.wabt(job, "gcc", "-O3")
             sizes = [os.path.getsize(name) for name in (f"{job}.wasm", f"units/{job}.c", f"wabt/{job}.c")]
             print(f"{job}: {sizes[0]} bytes of WebAssembly, {sizes[1]} of C, {sizes[2]} of WABT's C; sums {sorted(sums[job])}")
-        if any(len(found) != 1 or "0" in found for found in sums.values()):
-            sys.exit("the sums differ")
 
 
 if __name__ == "__main__":
