@@ -3,7 +3,8 @@
 
 compiled.c is compiled to WebAssembly by clang, written.wat is assembled by wat2wasm, and so is a module with a function for each
 numeric instruction, load and store. wasm2c translates all three. The units are
-compiled by gcc and clang, with -O0 and -O2, and with -fsanitize=undefined, and linked with the runtime's files. Each export is
+compiled by gcc and clang, with -O0 and -O2, and with -fsanitize=undefined,address, and linked with the plain runtime's files, and
+with those of the fast one (examples/fast_runtime), as they are and with accesses byte by byte. Each export is
 called with edge values and random ones, in one order, by the unit and by node; results, traps and calls of hosts are compared.
 A trap ends a call and not the program here: w2c_trap of the runtime gives way to one that jumps back to the call.
 Prints for each compiler what differs, and how many warnings of -Wall -Wextra of each kind a unit got. Needs clang with wasm-ld,
@@ -36,6 +37,11 @@ w2cZ_NAMEZ_i();
 """
 
 
+FAST = os.path.join(HERE, "../../examples/fast_runtime")
+# Of each runtime what it is called, the folder of its header and of w2c_rt.c, and flags.
+RUNTIMES = [("plain", "plain", []), ("fast", FAST, []), ("fast, bytewise", FAST, ["-DW2C_RT_BYTEWISE"])]
+
+
 def main_of(name, sigs, calls):
     lines = [MAIN.replace("NAME", name)]
     for export, args in calls:
@@ -64,24 +70,31 @@ def compare(wasm2c, name, given):
         file.write(main_of(name, sigs, calls))
     print(f"{name}: {len(calls)} calls, {wanted.count('= trap')} of them trap")
     for compiler in ["gcc", "clang"]:
-        options = ["-std=c11", "-pedantic", "-Wall", "-Wextra", "-c", f"{name}.c", "-o", "unit.o", "-O2"]
+        options = ["-std=c11", "-pedantic", "-Wall", "-Wextra", "-I", "plain", "-c", f"{name}.c", "-o", "unit.o", "-O2"]
         said = subprocess.run([compiler, *options], capture_output=True, text=True).stderr
         kinds = collections.Counter(re.findall(r"\[(-W[^\]]*)\]", said))
         print(f"    {compiler}: {dict(kinds) or 'no warning'}")
-        for more in [["-O0"], ["-O2"], ["-O2", "-fsanitize=undefined"]]:
-            flags = ["-std=c11", "-w", *more]
-            subprocess.run([compiler, *flags, "-c", f"{name}.c", "-o", "unit.o"], check=True)
-            subprocess.run([compiler, *flags, "-Dw2c_trap=ending_trap", "-c", "w2c_rt.c", "-o", "runtime.o"], check=True)
-            subprocess.run([compiler, *flags, "main.c", "unit.o", "runtime.o", "-o", "program"], check=True)
-            ran = subprocess.run(["./program"], capture_output=True, text=True)
-            same = ran.stdout == wanted and not ran.stderr and ran.returncode == 0
-            print(f"    {compiler} {' '.join(more)}: {'the same' if same else 'DIFFERENT'}")
-            if not same:
-                for ours, theirs in zip(ran.stdout.splitlines(), wanted.splitlines()):
-                    if ours != theirs:
-                        print(f"        unit: {ours}; node: {theirs}")
-                        break
-                print(ran.stderr[:500])
+        for more in [["-O0"], ["-O2"], ["-O2", "-fsanitize=undefined,address"]]:
+            for runtime in RUNTIMES:
+                compare_compiled(compiler, more, runtime, name, wanted)
+
+
+def compare_compiled(compiler, more, runtime, name, wanted):
+    title, folder, defines = runtime
+    flags = ["-std=c11", "-w", *more, *defines, "-I", folder]
+    subprocess.run([compiler, *flags, "-c", f"{name}.c", "-o", "unit.o"], check=True)
+    renamed = "-Dw2c_trap=ending_trap"
+    subprocess.run([compiler, *flags, renamed, "-c", os.path.join(folder, "w2c_rt.c"), "-o", "runtime.o"], check=True)
+    subprocess.run([compiler, *flags, "main.c", "unit.o", "runtime.o", "-o", "program"], check=True)
+    ran = subprocess.run(["./program"], capture_output=True, text=True)
+    same = ran.stdout == wanted and not ran.stderr and ran.returncode == 0
+    print(f"    {compiler} {' '.join(more)}, {title} runtime: {'the same' if same else 'DIFFERENT'}")
+    if not same:
+        for ours, theirs in zip(ran.stdout.splitlines(), wanted.splitlines()):
+            if ours != theirs:
+                print(f"        unit: {ours}; node: {theirs}")
+                break
+        print(ran.stderr[:500])
 
 
 def main():
@@ -89,7 +102,9 @@ def main():
     random.seed(1)
     with tempfile.TemporaryDirectory() as work:
         os.chdir(work)
-        run(wasm2c, "--runtime", ".")
+        # Not beside the units, where it would stand before each other w2c_rt.h.
+        os.mkdir("plain")
+        run(wasm2c, "--runtime", "plain")
         compare(wasm2c, *compiled())
         run("wat2wasm", os.path.join(HERE, "written.wat"), "-o", "written.wasm")
         compare(wasm2c, "written", {"loop": SMALL})
