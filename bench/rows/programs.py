@@ -409,24 +409,8 @@ for size in range(len(TEXT) + 1):
 
 # ---- limits, on both sides
 
-MOST, ALL, UNIT, CALLS = 8388608, 16777216, 67108864, 1048576
-
-
-def filled(row, file, size):
-    """A module of so many bytes, nearly all of them a custom section without a name."""
-    count = size - 8 - 1 - 4
-    return row.module(file, module() + b"\0" + unsigned(count)).fill(file, count)
-
-
-assert len(unsigned(MOST - 13)) == 4
-filled(Row("a module of 8,388,608 bytes"), "m.wasm", MOST).translates("m")
-filled(Row("a module of a byte more"), "m.wasm", MOST + 1).wasm2c(
-    "m.wasm -o m.c", 1, f"wasm2c: m.wasm: limit at {MOST}: module bytes").none("m.c", "m.h")
-filled(filled(Row("modules of 16,777,216 bytes", "set"), "a.wasm", MOST), "b.wasm", MOST).wasm2c("--dir out a.wasm b.wasm", 0)
-filled(filled(Row("modules of 8 bytes more", "set"), "a.wasm", MOST), "b.wasm", MOST).module("c.wasm", module()).wasm2c(
-    "--dir out a.wasm b.wasm c.wasm", 1, "wasm2c: c.wasm: limit at 0: set bytes").none("out/a.c", "out/b.c", "out/c.c")
-filled(filled(Row("modules whose bytes pass the limit inside one", "set").module("a.wasm", ADD), "b.wasm", MOST), "c.wasm", MOST).wasm2c(
-    "--dir out a.wasm b.wasm c.wasm", 1, f"wasm2c: c.wasm: limit at {MOST - len(ADD)}: set bytes").none("out/a.c", "out/b.c", "out/c.c")
+# Those of sizes of megabytes are in ../hostile/extreme.py, over real files.
+CALLS = 1048576
 for count in (16, 17):
     files = [f"m{i}.wasm" for i in range(1, count + 1)]
     row = Row(f"a set of {count} modules", "set")
@@ -450,11 +434,6 @@ for more in (0, 1):
         row.refused("calls u.c", 2, "crun: calls file too long")
     else:
         row.crun("calls u.c", 0)
-    row = Row(f"a unit of {UNIT + more} bytes", "linked").text("none", "").text("u.c", '#include "w2c_rt.h"').fill("u.c", UNIT + more - 20, 10)
-    if more:
-        row.refused("none u.c", 6, "crun: u.c: unit too long")
-    else:
-        row.crun("none u.c", 0)
 for steps, fine in (("0", True), (str(2**64 - 1), True), (str(2**64), False), ("0" * 19 + "9", True), ("0" * 20 + "9", False), ("", False),
                     ("+9", False), ("9x", False)):
     row = Row(f"steps `{steps}`", "linked").text("none", "").text("u.c", *DIVIDES)
