@@ -1,14 +1,16 @@
-# extreme.py WASM2C CRUN: what extreme.sh does, in the current folder.
+# extreme.py WASM2C CRUN [SHARE]: what extreme.sh does, in the current folder. The files of full nesting and of many entries are smaller by
+# SHARE, for programs that are slow; the limits are tried at their size where it is 1.
 import os
 import pathlib
 import subprocess
 import sys
 
 sys.path.insert(0, str(pathlib.Path(__file__).resolve().parents[1] / "rows"))
-from wat import body, exported, func_type, i32, local, module, unsigned  # noqa: E402
+from wat import body, call, exported, func_type, i32, imported, limits, module, segment, unsigned  # noqa: E402
 
-WASM2C, CRUN = sys.argv[1:]
-MODULE, SET, UNIT = 8388608, 16777216, 67108864
+WASM2C, CRUN = sys.argv[1:3]
+SHARE = int(sys.argv[3]) if len(sys.argv) > 3 else 1
+MODULE, UNIT = 8388608, 67108864
 INCLUDE = '#include "w2c_rt.h"\n'
 STACK = 8 * 1024 * 1024
 # In a process of its own, since what a process has used before it becomes another program is counted too.
@@ -87,13 +89,13 @@ FORMS = {
 
 def modules_of_full_nesting():
     for name, (opener, close) in FORMS.items():
-        for size in (MODULE // 2, MODULE):
+        for size in (MODULE // SHARE // 2, MODULE // SHARE):
             pathlib.Path("deep.wasm").write_bytes(nested(size, opener, close))
             sized(f"wasm2c, 500 {name}", WASM2C, ["deep.wasm", "-o", "deep.c"], ["deep.wasm"])
-        for size in (MODULE // 2, MODULE):
+        for size in (MODULE // SHARE // 2, MODULE // SHARE):
             pathlib.Path("deep.wasm").write_bytes(nested(size, opener, close)[:-1] + b"\x06")
             sized(f"wasm2c, 500 {name}, the last byte broken", WASM2C, ["deep.wasm", "-o", "deep.c"], ["deep.wasm"], 1)
-    for size in (MODULE // 16, MODULE // 8):
+    for size in (MODULE // SHARE // 16, MODULE // SHARE // 8):
         files = [f"deep{k}.wasm" for k in range(16)]
         for file in files:
             pathlib.Path(file).write_bytes(nested(size, *FORMS["blocks"]))
@@ -111,10 +113,10 @@ def expressions(size, opener, inner, close):
 def units_of_full_nesting():
     pathlib.Path("one").write_text("u f 1\n")
     for name, parts in {"to the left": ("(", "x", " + x)"), "to the right": ("(x + ", "x", ")"), "of casts": ("(u32) ", "x", "")}.items():
-        for size in (UNIT // 2, UNIT):
+        for size in (UNIT // SHARE // 2, UNIT // SHARE):
             pathlib.Path("deep.c").write_text(expressions(size, *parts))
             sized(f"crun, 100 expressions {name}", CRUN, ["--steps", "9", "--calls", "one", "deep.c"], ["deep.c"], 7)
-    for size in (UNIT // 32, UNIT // 16):
+    for size in (UNIT // SHARE // 32, UNIT // SHARE // 16):
         files = [f"u{k}.c" for k in range(16)]
         for k, file in enumerate(files):
             pathlib.Path(file).write_text(expressions(size, "(", "x", " + x)").replace("w2cZ_uZ", f"w2cZ_u{k}Z"))
@@ -122,33 +124,35 @@ def units_of_full_nesting():
         sized("crun, 16 units of 100 expressions", CRUN, ["--steps", "9", "--calls", "one", *files], files, 7)
 
 
-def many(size, entry, make):
-    return make(size // entry)
-
-
 def files_of_many_entries():
     """Other shapes in which a search for each entry, or a large text for a small one, would show."""
     shapes = {
         "exports": lambda n: module(types=[func_type("", "")], funcs=[0], exports=[exported(f"{k:x}", 0, 0) for k in range(n)], bodies=[body()]),
+        "imports, and as many exports of the last": lambda n: module(
+            types=[func_type("", "")], imports=[imported("", "", 0, b"\0")] * n, exports=[exported(f"{k:x}", 0, n - 1) for k in range(n)]),
         "types": lambda n: module(types=[func_type("i" * (k % 60), "") for k in range(n)]),
         "functions": lambda n: module(types=[func_type("", "")], funcs=[0] * n, bodies=[body()] * n),
-        "locals of 20 functions": lambda n: module(types=[func_type("", "")], funcs=[0] * 20, bodies=[body(runs=[(n // 20, "i")])] * 20),
-        "branches of one table": lambda n: module(types=[func_type("", "")], funcs=[0],
-                                                  bodies=[body(b"\x02\x40" * 499 + i32(0) + b"\x0E" + unsigned(n)
-                                                               + b"".join(unsigned(k % 499) for k in range(n + 1)) + b"\x0B" * 499)]),
-        "calls": lambda n: module(types=[func_type("i" * 60, "")], funcs=[0], bodies=[body((local(0) * 60 + b"\x10\x00") * (n // 60))]),
+        "functions of 60 parameters": lambda n: module(types=[func_type("i" * 60, "")], funcs=[0] * n, bodies=[body()] * n),
+        "segments of a byte": lambda n: module(memories=[limits(1)], data=[segment(0, b"a")] * n),
+        "branches of one table out of 499 blocks": lambda n: module(types=[func_type("", "")], funcs=[0], bodies=[
+            body(b"\x02\x40" * 499, i32(0), b"\x0E", unsigned(n), b"".join(unsigned(k % 499) for k in range(n + 1)), b"\x0B" * 499)]),
+        "calls of an import with names of 1,024 bytes, a fiftieth": lambda n: module(
+            types=[func_type("", "")], imports=[imported("~" * 1024, "~" * 1024, 0, b"\0")], funcs=[0], bodies=[body(call(0) * (n // 50))]),
     }
     for name, make in shapes.items():
-        for count in (50000, 100000):
-            if name == "locals of 20 functions":
-                count *= 10
+        for count in (50000 // SHARE, 100000 // SHARE):
             pathlib.Path("many.wasm").write_bytes(make(count))
             sized(f"wasm2c, {count} {name}", WASM2C, ["many.wasm", "-o", "many.c"], ["many.wasm"])
             print(f"    {os.path.getsize('many.c')} bytes of C")
+    for count in (500000 // SHARE, 1000000 // SHARE):
+        pathlib.Path("many.wasm").write_bytes(module(types=[func_type("", "")], funcs=[0] * 20, bodies=[body(runs=[(count // 20, "i")])] * 20))
+        sized(f"wasm2c, {count} locals in 20 functions", WASM2C, ["many.wasm", "-o", "many.c"], ["many.wasm"])
+        print(f"    {os.path.getsize('many.c')} bytes of C")
 
 
 def main():
-    limits_of_bytes()
+    if SHARE == 1:
+        limits_of_bytes()
     modules_of_full_nesting()
     units_of_full_nesting()
     files_of_many_entries()

@@ -20,4 +20,4 @@ else
 fi
 clang --target=wasm32 -O2 -nostdlib -Wl,--no-entry -Wl,-z,stack-size=65536 -o "$work/compiled.wasm" "$here/../wasm2c/compiled.c"
 cd "$work"
-python3 "$here/refused.py" "$wasm2c" "$crun" "$library"
+python3 -u "$here/refused.py" "$wasm2c" "$crun" "$library"
