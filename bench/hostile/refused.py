@@ -1,4 +1,5 @@
-# refused.py WASM2C CRUN LIBRARY: what refused.sh does, in the current folder, where compiled.wasm stands.
+# refused.py WASM2C CRUN LIBRARY [EVERY]: what refused.sh does, in the current folder, where compiled.wasm stands. Over that module it
+# refuses each request whose number is one more than a multiple of EVERY, all where it is left out.
 import os
 import pathlib
 import subprocess
@@ -7,7 +8,8 @@ import sys
 sys.path.insert(0, str(pathlib.Path(__file__).resolve().parents[1] / "rows"))
 from wat import body, call, element, exported, func_type, global_type, i32, imported, limits, local, module, segment, unsigned  # noqa: E402
 
-WASM2C, CRUN, LIBRARY = sys.argv[1:]
+WASM2C, CRUN, LIBRARY = sys.argv[1:4]
+EVERY = int(sys.argv[4]) if len(sys.argv) > 4 else 1
 MOST = 1000000
 WANT = "{}: want of memory\n"
 LINKER = bytes.fromhex("0061736D0100000001060160017F017F030201000405017001010105030100020608017F0141808804"
@@ -55,7 +57,7 @@ def may_stand(left, whole):
     return k == len(left) or ((left[k] is None or whole[k].startswith(left[k])) and not any(text is not None for text in left[k + 1:]))
 
 
-def in_turn(title, program, name, words, files=()):
+def in_turn(title, program, name, words, files=(), every=1):
     """Refuses each request of this command line in turn, and says how its runs ended."""
     remove(files)
     status, out, err, _ = ran(program, words)
@@ -63,12 +65,12 @@ def in_turn(title, program, name, words, files=()):
     if None in whole:
         sys.exit(f"{title}: status {status}, {err}")
     ended, as_ever, nothing = 0, 0, 0
-    for nth in range(1, MOST):
+    for nth in range(1, MOST, every):
         remove(files)
         came, said, line, made = ran(program, words, nth)
         left = held(files)
         if not made and (came, said, line, left) == (status, out, err, whole):
-            print(f"{title}: of {nth - 1} requests {ended} ended with 5, {nothing} of these with nothing written, and {as_ever} as ever")
+            print(f"{title}: of {ended + as_ever} requests {ended} ended with 5, {nothing} of these with nothing written, and {as_ever} as ever")
             return
         if came == 5 and made and WANT.format(name).startswith(line) and out.startswith(said) and may_stand(left, whole):
             ended += 1
@@ -98,8 +100,9 @@ def main():
     in_turn("wasm2c, generated module", WASM2C, "wasm2c", ["--gen", "3", "-o", "gen.c"], ["gen.c", "gen.h"])
     in_turn("wasm2c, runtime", WASM2C, "wasm2c", ["--runtime", "out"], ["out/w2c_rt.h", "out/w2c_rt.c"])
     in_turn("wasm2c, refused module", WASM2C, "wasm2c", ["one", "-o", "one.c"])
-    in_turn("wasm2c, compiled module", WASM2C, "wasm2c", ["compiled.wasm", "-o", "compiled.c"], ["compiled.c", "compiled.h"])
-    in_turn("crun, compiled module", CRUN, "crun", [*calls("two", "compiled fib 5", "compiled crc 1 3"), "compiled.c"])
+    in_turn("wasm2c, compiled module", WASM2C, "wasm2c", ["compiled.wasm", "-o", "compiled.c"], ["compiled.c", "compiled.h"], EVERY)
+    in_turn("crun, compiled module", CRUN, "crun", [*calls("two", "compiled fib 5", "compiled crc 1 3"), "compiled.c"], every=EVERY)
 
 
-main()
+if __name__ == "__main__":
+    main()
