@@ -115,13 +115,13 @@ def units_of_full_nesting():
     for name, parts in {"to the left": ("(", "x", " + x)"), "to the right": ("(x + ", "x", ")"), "of casts": ("(u32) ", "x", "")}.items():
         for size in (UNIT // SHARE // 2, UNIT // SHARE):
             pathlib.Path("deep.c").write_text(expressions(size, *parts))
-            sized(f"crun, 100 expressions {name}", CRUN, ["--steps", "9", "--calls", "one", "deep.c"], ["deep.c"], 7)
+            sized(f"crun, 100 expressions {name}", CRUN, ["--steps", "3", "--calls", "one", "deep.c"], ["deep.c"], 7)
     for size in (UNIT // SHARE // 32, UNIT // SHARE // 16):
         files = [f"u{k}.c" for k in range(16)]
         for k, file in enumerate(files):
             pathlib.Path(file).write_text(expressions(size, "(", "x", " + x)").replace("w2cZ_uZ", f"w2cZ_u{k}Z"))
         pathlib.Path("one").write_text("u15 f 1\n")
-        sized("crun, 16 units of 100 expressions", CRUN, ["--steps", "9", "--calls", "one", *files], files, 7)
+        sized("crun, 16 units of 100 expressions", CRUN, ["--steps", "3", "--calls", "one", *files], files, 7)
 
 
 def files_of_many_entries():
