@@ -6,6 +6,7 @@ import subprocess
 import sys
 import pathlib
 
+import units
 from wat import (body, call, element, exported, func_type, global_type, i32, imported, limits, local, module, segment, signed,
                  unsigned)
 
@@ -26,6 +27,14 @@ class Row:
 
     def text(self, file, *lines):
         self.lines += [f"line {file} {line}".rstrip() for line in lines]
+        return self
+
+    def fill(self, file, count, byte=0):
+        self.lines.append(f"fill {file} {count} {byte:02x}")
+        return self
+
+    def watch(self, *files):
+        self.lines.append("watch " + " ".join(files))
         return self
 
     def fail(self, call, nth):
@@ -50,6 +59,23 @@ class Row:
 
     def refused(self, words, status, err, steps=100000):
         return self.ran("crun", f"--steps {steps} --calls {words}", status, [], [err])
+
+    def trapping(self, words, status, *out):
+        self.ran("trapping", f"--steps 100000 --calls {words}", status, out, [])
+        self.said = [line.replace("trapping: ", "crun: ") for line in self.said]
+        return self
+
+    def turns(self, call, words, *said):
+        """What runs say in which a call of this kind fails, the first, then the second and so on; the last ones in which none does."""
+        self.lines.append(f"turns {call} {words}")
+        self.said += [f"{call}: {line}" for line in said]
+        return self
+
+    def session(self, steps, unit, *came):
+        """Each symbol with what its call comes to; of the first none is called, it is the init functions."""
+        self.lines.append(" ".join(["session", str(steps), unit] + [symbol for symbol, _ in came[1:]]))
+        self.said += [f"{symbol}: {said}" for symbol, said in came]
+        return self
 
     def calls(self, unit, status, calls, *out, steps=100000):
         """Calls of a unit, from a file of their own."""
@@ -215,6 +241,223 @@ S2 = ['#include "w2c_rt.h"', "static u32 f0(void);", "void w2cZ_twoZ_i(void) { ;
 Row("a unit by hand").text("s2.c", *S2).calls("s2.c", 0, ["two f"], "call 1 = i32:42", steps=8).calls(
     "s2.c", 7, ["two f"], "call 1 out of steps", steps=7).calls("s2.c", 7, ["two f"], "call 1 out of steps", steps=2).calls(
     "s2.c", 7, ["two f"], "init 1 out of steps", steps=1).text("g", "two g").refused("g s2.c", 2, "crun: calls line 1")
+
+# ---- faults of the outside: a call fails, the first of its kind, then the second and so on, to a run in which nothing fails
+
+PAIR = ["out/a.c", "out/a.h", "out/b.c", "out/b.h"]
+
+
+def stands(names, whole, *part):
+    """So many files are whole, then these, and the others are not there."""
+    states = ["whole"] * whole + list(part)
+    states += ["none"] * (len(names) - len(states))
+    return "".join(f", {name} {state}" for name, state in zip(names, states))
+
+
+def line(status, err, names, whole, *part, out="whole"):
+    return f"{status} `{err}` out {out}" + stands(names, whole, *part)
+
+
+def writes(names, part):
+    """What is said where a call that writes fails, file by file, and behind them."""
+    said = [line(4, f"wasm2c: {name}: write fault", names, k, *part) for k, name in enumerate(names)]
+    return said + [line(0, "", names, len(names))]
+
+
+def pair(title):
+    return Row(title, "linked", "set").module("a.wasm", A).module("b.wasm", B)
+
+
+SET = "wasm2c --dir out a.wasm b.wasm"
+pair("a read of a set fails").watch(*PAIR).turns(
+    "read", SET, *[line(3, f"wasm2c: {name}.wasm: read fault", PAIR, 0) for name in "ab"], line(0, "", PAIR, 4))
+pair("a begin of a set fails").watch(*PAIR).turns("begin", SET, *writes(PAIR, []))
+pair("a put of a set fails").watch(*PAIR).turns("put", SET, *writes(PAIR, ["part"]))
+pair("a finish of a set fails").watch(*PAIR).turns("finish", SET, *writes(PAIR, ["whole"]))
+for state, kind in (("as before", "begin"), ("part", "put"), ("whole", "finish")):
+    at = [line(4, f"wasm2c: {name}: write fault", PAIR, k, state, *["as before"] * (3 - k)) for k, name in enumerate(PAIR)]
+    held = pair(f"a {kind} of a set fails where files stand")
+    for name in PAIR:
+        held.text(name, "a text that stood here")
+    held.watch(*PAIR).turns(kind, SET, *at, line(0, "", PAIR, 4))
+ONE = ["g.c", "g.h"]
+SUMMED = "wasm2c: gen 3: " + generated(3).split(":")[1].strip() + " bytes, 3 functions"
+Row("a put of a generated module fails", "gen").watch(*ONE).turns(
+    "put", "wasm2c --gen 3 -o g.c", *[line(4, f"wasm2c: {name}: write fault", ONE, k, "part") for k, name in enumerate(ONE)],
+    line(0, SUMMED, ONE, 2))
+Row("a generated module is not summed up", "gen").watch(*ONE).turns(
+    "err", "wasm2c --gen 3 -o g.c", line(0, "part", ONE, 2), line(0, SUMMED, ONE, 2))
+TEXTS = ["out/w2c_rt.h", "out/w2c_rt.c"]
+for kind, part in [("begin", []), ("put", ["part"]), ("finish", ["whole"])]:
+    Row(f"a {kind} of the runtime fails").watch(*TEXTS).turns(kind, "wasm2c --runtime out", *writes(TEXTS, part))
+Row("the line of a refused file is not written").module("seven.wasm", module()[:7]).watch("seven.c", "seven.h").turns(
+    "err", "wasm2c seven.wasm -o seven.c", line(1, "part", ["seven.c", "seven.h"], 0),
+    line(1, "wasm2c: seven.wasm: malformed at 7: unexpected end", ["seven.c", "seven.h"], 0))
+Row("the line of a file that is not there is not written").turns(
+    "err", "wasm2c a.wasm -o a.c", "3 `part` out whole", "3 `wasm2c: a.wasm: read fault` out whole")
+Row("the line of words without a reading is not written").turns(
+    "err", "wasm2c a.wasm", "2 `part` out whole", "2 `wasm2c: bad command line` out whole")
+UNITS = ["out/a.c", "out/b.c"]
+
+
+def kept(status, err, out="whole"):
+    return line(status, err, UNITS, 0, "as before", "as before", out=out)
+
+
+def linked(title, *needs):
+    row = Row(title, "linked", "set", *needs).module("a.wasm", A).module("b.wasm", B).wasm2c(SET.split(" ", 1)[1], 0)
+    return row.text("three", "b run", "a peek", "b again").watch(*UNITS)
+
+
+RUN = "crun --steps 100000 --calls three out/a.c out/b.c"
+linked("a line of two linked modules is not written").turns("out", RUN, kept(4, "crun: write fault", "part"), kept(0, ""))
+linked("a line of the state is not written", "state").turns(
+    "out", RUN.replace(" out/a", " --state out/a"), kept(4, "crun: write fault", "part"), kept(0, ""))
+linked("a unit or the calls cannot be read").turns(
+    "read", RUN, *[kept(3, f"crun: {name}: read fault", "part") for name in UNITS + ["three"]], kept(0, ""))
+linked("nothing is written that a run of units could fail at").turns("begin", RUN, kept(0, "")).turns("put", RUN, kept(0, "")).turns(
+    "err", RUN, kept(0, ""))
+Row("a line of a run that is out of steps is not written", "linked").text("s2.c", *S2).text("two", "two f", "two f").turns(
+    "out", "crun --steps 10 --calls two s2.c", "4 `crun: write fault` out part", "7 `` out whole")
+Row("a line of a trap is not written", "linked").module("d.wasm", DIVISION).translates("d").text(
+    "two", "d rem 7 2", "d div 1 0").watch("d.c").turns(
+    "out", "crun --steps 100000 --calls two d.c", "4 `crun: write fault` out part, d.c as before", "1 `` out whole, d.c as before")
+Row("a line of what is undefined is not written", "linked").text("u.c", *DIVIDES).text("two", "u q 7 2", "u q 1 0").turns(
+    "out", "crun --steps 100000 --calls two u.c", "4 `crun: write fault` out part", "8 `` out whole")
+Row("the line of a refused unit is not written", "linked").text("f.c", '#include "w2c_rt.h"', "float x;").text("none", "").turns(
+    "err", "crun --steps 9 --calls none f.c", "6 `part` out whole", "6 `crun: f.c: unexpected at 20: wanted item` out whole")
+Row("the line of a refused call is not written", "linked").text("u.c", *DIVIDES).text("one", "u q").turns(
+    "err", "crun --steps 9 --calls one u.c", "2 `part` out whole", "2 `crun: calls line 1` out whole")
+Row("neither stream is written", "linked").text("u.c", *DIVIDES).text("one", "u q 7 2").fail("out", 1).fail("err", 1).turns(
+    "put", "crun --steps 9 --calls one u.c", "4 `crun: wri` out whole")
+
+# ---- hosts that trap, and sessions that are over
+
+TICKS = dict(types=[func_type("", "I"), func_type("", "i")], imports=[imported("env", "tick", 0, unsigned(0))])
+TWICE = module(funcs=[0], exports=[exported("r", 0, 1)], bodies=[body(call(0), call(0), b"\x7C")], **TICKS)
+Row("a host is asked twice", "linked").module("h.wasm", TWICE).translates("h").calls(
+    "h.c", 0, ["h r"], "host env tick = i64:1", "host env tick = i64:2", "call 1 = i64:3")
+Row("a host that traps second", "linked").module("h.wasm", TWICE).translates("h").text("one", "h r").trapping(
+    "one h.c", 1, "host env tick = i64:1", "host env tick = trap", "call 1 trap 11 host trap")
+Row("a host traps in the second call, and no call comes behind it", "linked").module(
+    "h.wasm", module(funcs=[0], exports=[exported("r", 0, 1)], bodies=[body(call(0))], **TICKS)).translates("h").text(
+    "three", "h r", "h r", "h r").trapping(
+    "three h.c", 1, "host env tick = i64:1", "call 1 = i64:1", "host env tick = trap", "call 2 trap 11 host trap")
+Row("a host traps while a module starts", "linked").module("h.wasm", module(
+    types=[func_type("", "I"), func_type("", "")], imports=[imported("env", "tick", 0, unsigned(0))], funcs=[1], start=1,
+    bodies=[body(call(0), call(0), b"\x1A\x1A")])).translates("h").text("none", "").trapping(
+    "none h.c", 1, "host env tick = i64:1", "host env tick = trap", "init 1 trap 11 host trap")
+Row("a line of a host that traps is not written", "linked").module("h.wasm", TWICE).translates("h").text("one", "h r").watch("h.c").turns(
+    "out", "trapping --steps 100000 --calls one h.c", "4 `crun: write fault` out part, h.c as before", "1 `` out whole, h.c as before")
+# g0 counts the calls of f, from 5 on.
+COUNTS = b"\x23\x00" + i32(1) + b"\x6A\x24\x00\x23\x00"
+FROM_5 = dict(globals_=[global_type("i", 1) + i32(5) + b"\x0B"])
+F, R = "w2cZ_sZ_fZ_f", "w2cZ_sZ_fZ_r"
+Row("a session whose init function was trapped is over", "linked").module("s.wasm", module(
+    types=[func_type("", "i")], funcs=[0], memories=[limits(1)], exports=[exported("f", 0, 0)], bodies=[body(COUNTS)],
+    data=[segment(0, b"A"), segment(65536, b"\0")], **FROM_5)).translates("s").session(
+    100000, "s.c", ("init", "trap 10 segment out of bounds; g0 5, asks 0"),
+    *[(F, "over, trap 10 segment out of bounds; g0 5, asks 0")] * 2)
+Row("a session whose host has trapped is over", "linked").module("s.wasm", module(
+    funcs=[1, 0], exports=[exported("f", 0, 1), exported("r", 0, 2)], bodies=[body(COUNTS), body(call(0), call(0), b"\x7C")],
+    **TICKS, **FROM_5)).translates("s").session(
+    100000, "s.c", ("init", "ended; g0 5, asks 0"), (F, "i32:6; g0 6, asks 0"), (R, "trap 11 host trap; g0 6, asks 2"),
+    (F, "over, trap 11 host trap; g0 6, asks 2"), (R, "over, trap 11 host trap; g0 6, asks 2"))
+Row("a session that is out of steps is over", "linked").module("s.wasm", module(
+    types=[func_type("", "i"), func_type("", "")], funcs=[0, 1], exports=[exported("f", 0, 0), exported("r", 0, 1)],
+    bodies=[body(COUNTS), body(b"\x03\x40\x0C\x00\x0B")], **FROM_5)).translates("s").session(
+    1000, "s.c", ("init", "ended; g0 5, asks 0"), (F, "i32:6; g0 6, asks 0"), (R, "out of steps; g0 6, asks 0"),
+    (F, "over, out of steps; g0 6, asks 0"))
+Row("a session in which something was undefined is over", "linked").text(
+    "s.c", '#include "w2c_rt.h"', "static u32 g0 = 5u;", f"u32 {F}(void) {{ g0 = (g0 + 1u); return g0; }}",
+    f"u32 {R}(void) {{ g0 = (g0 / 0u); return g0; }}").session(
+    1000, "s.c", ("init", "ended; g0 5, asks 0"), (F, "i32:6; g0 6, asks 0"), (R, "undefined 1; g0 6, asks 0"),
+    (F, "over, undefined 1; g0 6, asks 0"))
+
+# ---- each cut of a module and of a unit
+
+COUNT_DIFFERS, UNEXPECTED, WHOLE = [20, 27, 32, 42, 58], [9, 17, 21, 28, 33, 43, 59, 87], [8, 16, 86, 99]
+
+
+def cut_module(size):
+    """What is said of the first bytes of the linker module: its sections end at 16, 20, 27, 32, 42, 58, 86 and 99."""
+    if size in WHOLE:
+        return None
+    if size in COUNT_DIFFERS:
+        return f"malformed at {size}: count differs"
+    if size < 8 or size in UNEXPECTED:
+        return f"malformed at {size}: unexpected end"
+    return f"malformed at {max(n for n in UNEXPECTED if n < size)}: size past end"
+
+
+cuts = Row("each cut of the linker module")
+for size in range(len(REAL) + 1):
+    fault = cut_module(size)
+    cuts.module(f"r{size}.wasm", REAL[:size]).wasm2c(f"r{size}.wasm -o r{size}.c", 1 if fault else 0,
+                                                     *[f"wasm2c: r{size}.wasm: {fault}"] if fault else [])
+    if fault:
+        cuts.none(f"r{size}.c", f"r{size}.h")
+TEXT = "".join(text + "\n" for text in DIVIDES)
+cuts = Row("each cut of a unit", "linked").text("none", "")
+for size in range(len(TEXT) + 1):
+    said = units.verdict(TEXT[:size])
+    cuts.module(f"u{size}.c", TEXT[:size].encode())
+    if said == "accepted":
+        cuts.crun(f"none u{size}.c", 0)
+    else:
+        cuts.refused(f"none u{size}.c", 6, f"crun: u{size}.c: {said}")
+
+# ---- limits, on both sides
+
+# Those of sizes of megabytes are in ../hostile/extreme.py, over real files.
+CALLS = 1048576
+for count in (16, 17):
+    files = [f"m{i}.wasm" for i in range(1, count + 1)]
+    row = Row(f"a set of {count} modules", "set")
+    for file in files:
+        row.module(file, ADD)
+    row.wasm2c("--dir out " + " ".join(files), *[0] if count == 16 else [2, "wasm2c: bad command line"])
+    units_ = [file.replace("wasm", "c") for file in files]
+    row = Row(f"a run of {count} units", "linked").text("none", "")
+    for file in units_:
+        row.text(file, '#include "w2c_rt.h"')
+    if count == 16:
+        row.crun("none " + " ".join(units_), 0)
+    else:
+        row.refused("none " + " ".join(units_), 2, "crun: bad command line")
+for count in (1024, 1025):
+    row = Row(f"a module's name of {count} bytes", "words").module("a.wasm", ADD)
+    row.wasm2c("a.wasm -o a.c -n " + "n" * count, *[0] if count == 1024 else [2, "wasm2c: bad command line"])
+for more in (0, 1):
+    row = Row(f"a calls file of {CALLS + more} bytes", "linked").text("u.c", *DIVIDES).fill("calls", CALLS + more, 10)
+    if more:
+        row.refused("calls u.c", 2, "crun: calls file too long")
+    else:
+        row.crun("calls u.c", 0)
+for steps, fine in (("0", True), (str(2**64 - 1), True), (str(2**64), False), ("0" * 19 + "9", True), ("0" * 20 + "9", False), ("", False),
+                    ("+9", False), ("9x", False)):
+    row = Row(f"steps `{steps}`", "linked").text("none", "").text("u.c", *DIVIDES)
+    words = f"--steps={steps} --calls none u.c"
+    row.ran("crun", words, 0 if fine else 2, [], [] if fine else ["crun: bad command line"])
+for arg, fine in ((str(2**32 - 1), True), (str(2**32), False), ("0" * 10 + str(2**32 - 1), True), ("0" * 11 + str(2**32 - 1), False),
+                  ("+1", False), ("1x", False)):
+    row = Row(f"an argument `{arg}`", "linked").text("u.c", *DIVIDES).text("one", f"u q {arg} 1")
+    if fine:
+        row.crun("one u.c", 0, f"call 1 = i32:{int(arg)}")
+    else:
+        row.refused("one u.c", 2, "crun: calls line 1")
+SIXTY = module(types=[func_type("i" * 60, "i")], funcs=[0], exports=[exported("f", 0, 0)], bodies=[body(local(59))])
+Row("a call with 60 arguments", "linked").module("p.wasm", SIXTY).translates("p").calls(
+    "p.c", 0, ["p f " + " ".join(str(i) for i in range(60))], "call 1 = i32:59")
+LOCALS = module(types=[func_type("", "i")], funcs=[0], exports=[exported("f", 0, 0)],
+                bodies=[body(i32(7), b"\x21" + unsigned(49999), local(49999), local(0), b"\x6A", runs=[(50000, "i")])])
+Row("a function of 50,000 locals, run", "linked").module("l.wasm", LOCALS).translates("l").calls("l.c", 0, ["l f"], "call 1 = i32:7")
+WIDE = module(types=[func_type("i", "i")], funcs=[0], tables=[limits(1000000)], exports=[exported("f", 0, 0)],
+              bodies=[body(i32(0), local(0), b"\x11\x00\x00")], elements=[element(999999, [0])])
+for place, said in ((999998, "trap 6 empty element"), (1000000, "trap 5 table out of bounds"), (999999, "trap 6 empty element")):
+    calls_ = [f"t f {place}"]
+    # Element 999,999 is f itself, which calls element 0 with index 0.
+    Row(f"element {place} of 1,000,000", "linked").module("t.wasm", WIDE).translates("t").calls("t.c", 1, calls_, "call 1 " + said)
 
 # ---- what is said
 

@@ -16,10 +16,10 @@ for program in wasm2c_cli crun_cli; do
     rm -rf "$src/main.rt" "$src/tests.rt" "$src/tests"
 done
 mkdir -p "$work/crates/program_rows/src"
-for file in main files programs; do
+for file in main files hosts programs sessions turns; do
     cp "$here/program_rows/$file.rt.txt" "$work/crates/program_rows/src/$file.rt"
 done
-echo 'program_rows: w2c_base w2c_io wasm2c_cli crun_cli' >>"$work/crates.txt"
+echo 'program_rows: w2c_base w2c_io c_read c_check c_link c_hosts crun wasm2c_cli crun_cli' >>"$work/crates.txt"
 python3 "$here/programs.py" stdin "$@" >"$work/rows"
 python3 "$here/programs.py" stdout "$@" >"$work/wanted"
 cd "$work/crates/program_rows"

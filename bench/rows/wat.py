@@ -79,7 +79,11 @@ def element(offset, funcs):
     return b"\0" + i32(offset) + b"\x0B" + vector([unsigned(f) for f in funcs])
 
 
-def module(types=(), imports=(), funcs=(), tables=(), memories=(), globals_=(), exports=(), elements=(), bodies=(), data=()):
+def module(types=(), imports=(), funcs=(), tables=(), memories=(), globals_=(), exports=(), start=None, elements=(),
+           bodies=(), data=()):
     parts = [(1, types), (2, imports), (3, [unsigned(f) for f in funcs]), (4, [b"\x70" + t for t in tables]), (5, memories),
              (6, globals_), (7, exports), (9, elements), (10, bodies), (11, data)]
-    return b"\0asm\1\0\0\0" + b"".join(bytes([number]) + sized(vector(items)) for number, items in parts if items)
+    sections = [(number, vector(items)) for number, items in parts if items]
+    if start is not None:
+        sections.append((8, unsigned(start)))
+    return b"\0asm\1\0\0\0" + b"".join(bytes([number]) + sized(content) for number, content in sorted(sections))
