@@ -24,6 +24,11 @@ returns-in_err-put-clause-part g c =
     (items_of c.args.m.now c.args.name.now) (subst (AppendsPart (files.told c.args.files.now) (files.told c.put.new.self)
     (files.current c.args.files.now)) c.text.ensures (inr c.in_err-put.ensures.part)))
 
+pub returns-in_err-put-clause-cause : goal.returns-in_err-put-clause-cause
+returns-in_err-put-clause-cause g c =
+    let p = err_from_is_err_and c.from_residual-in_err-put.result c.from_residual-in_err-put.ensures.1 in
+    rw (p.1, p.2) c.in_err-put.ensures.cause
+
 pub more-init : goal.more-init
 more-init g c =
     let files = g.F.Files in
@@ -50,6 +55,11 @@ returns-in_err-item-clause-cause g c =
     let files = g.F.Files in
     let p = err_from_is_err_and c.from_residual-in_err-item.result c.from_residual-in_err-item.ensures.1 in
     rw (p.1, p.2) (memory_cause (files.write_faults c.args.files.now) (files.write_faults c.more.files) c.more.invariant.later)
+
+pub returns-in_err-item-clause-fault : goal.returns-in_err-item-clause-fault
+returns-in_err-item-clause-fault g c =
+    let p = err_from_is_err_and c.from_residual-in_err-item.result c.from_residual-in_err-item.ensures.1 in
+    rw (p.1, p.2) c.more.invariant.fault
 
 pub write_item-requires-clause-formed : goal.write_item-requires-clause-formed
 write_item-requires-clause-formed g c =
