@@ -1,9 +1,9 @@
 #!/usr/bin/env python3
 """Compares what crun says of units that wasm2c wrote with what node does with their modules.
 
-The modules are those of ../wasm2c/compare.py that need no host: compiled.c by clang, and one with a function for each numeric
-instruction, load and store. The calls that do not trap are made in one run of crun, and in one instance of node; each call that traps
-is made alone, and crun must end with a trap.
+The modules are those of ../wasm2c/compare.py that need no host: compiled.c and bulk.c by clang, and one with a function for each
+numeric instruction, each load and store, a copy and a fill. The calls that do not trap are made in one run of crun, and in one
+instance of node; each call that traps is made alone, and crun must end with a trap.
 
 compare.py [WASM2C [CRUN]]: the programs, those of bin/ where they are left out. Needs clang with wasm-ld, node, and Debian's wabt.
 """
@@ -16,7 +16,7 @@ import tempfile
 
 HERE = os.path.dirname(os.path.abspath(__file__))
 sys.path.insert(0, os.path.join(HERE, "../wasm2c"))
-from modules import NODE, assembled, compiled, plan, run, signatures  # noqa: E402
+from modules import NODE, assembled, compiled, compiled_with_bulk_memory, plan, run, signatures  # noqa: E402
 
 
 def node(module, sigs, calls):
@@ -73,6 +73,7 @@ def main():
     with tempfile.TemporaryDirectory() as work:
         os.chdir(work)
         compare(*programs, *compiled())
+        compare(*programs, *compiled_with_bulk_memory())
         compare(*programs, *assembled())
 
 

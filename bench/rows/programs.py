@@ -182,6 +182,30 @@ NO_MOST = module(types=[func_type("i", "i")], funcs=[0], memories=[limits(1)], e
                  bodies=[body(local(0), b"\x40\x00")])
 Row("growth above what is grown to", "linked").module("g.wasm", NO_MOST).translates("g").calls(
     "g.c", 0, ["g grow 16384"], "call 1 = i32:4294967295")
+EXTENDS = module(types=[func_type("i", "i"), func_type("I", "I")], funcs=[0, 1], exports=[exported("byte", 0, 0), exported("word", 0, 1)],
+                 bodies=[body(local(0), b"\xC0"), body(local(0), b"\xC4")])
+Row("signs extended", "linked").module("x.wasm", EXTENDS).translates("x").calls(
+    "x.c", 0, ["x byte 128", "x byte 127", "x word 2147483648", "x word 2147483647"],
+    "call 1 = i32:4294967168", "call 2 = i32:127", "call 3 = i64:18446744071562067968", "call 4 = i64:2147483647")
+# Bytes 1 to 4 stand at 0. `copy` and `fill` take the three operands in the order of the stack, and give what `load` gives at 0 then.
+BYTES = module(types=[func_type("iii", "i"), func_type("iii", "")], funcs=[0, 0, 1], memories=[limits(1)],
+               exports=[exported("copy", 0, 0), exported("fill", 0, 1), exported("past", 0, 2)],
+               bodies=[body(local(0), local(1), local(2), b"\xFC\x0A\0\0", i32(0), b"\x28\x02\0"),
+                       body(local(0), local(1), local(2), b"\xFC\x0B\0", i32(0), b"\x28\x02\0"),
+                       body(local(0), local(1), local(2), b"\xFC\x0A\0\0")],
+               data=[segment(0, b"\1\2\3\4")])
+row = Row("bytes copied onto themselves", "linked").module("b.wasm", BYTES).translates("b")
+row.calls("b.c", 0, ["b copy 1 0 3"], "call 1 = i32:50462977").calls("b.c", 0, ["b copy 0 1 3"], "call 1 = i32:67371778")
+row.calls("b.c", 0, ["b copy 0 0 65536", "b fill 1 258 2"], "call 1 = i32:67305985", "call 2 = i32:67240449", steps=10**6)
+row = Row("bytes copied and filled past the end", "linked", "state").module("b.wasm", BYTES).translates("b")
+STATE = ("state 0 m0 pages 1", "state 0 m0 at 0 01020304000000000000000000000000")
+for at, size, ends in [(65536, 0, True), (65537, 0, False), (65535, 2, False), (65535, 1, True), (4294967295, 1, False), (0, 4294967295, False)]:
+    for name, args in [("fill", f"{at} 0 {size}"), ("past", f"{at} 8 {size}"), ("past", f"8 {at} {size}")]:
+        line = ("call 1 = i32:67305985" if name == "fill" else "call 1 = none") if ends else "call 1 trap 2 memory out of bounds"
+        file = f"{name}{len(row.lines)}"
+        row.text(file, f"b {name} {args}").crun(f"{file} --state b.c", 0 if ends else 1, line, *STATE)
+row = Row("bytes filled at the end, its state", "linked", "state").module("b.wasm", BYTES).translates("b")
+row.text("one", "b fill 65535 255 1").crun("one --state b.c", 0, "call 1 = i32:67305985", *STATE, "state 0 m0 at 65520 000000000000000000000000000000ff")
 Row("endless loop", "linked").module("l.wasm", one("", "", b"\x03\x40\x0C\x00\x0B")).translates("l").calls(
     "l.c", 7, ["l f"], "call 1 out of steps", steps=1000)
 DIVIDES = ['#include "w2c_rt.h"', "u32 w2cZ_uZ_fZ_q(u32 x, u32 y) {", "u32 z = 0u;", "z = (x / y);", "return z;", "}"]

@@ -1,12 +1,12 @@
 #!/usr/bin/env python3
 """Compares what units that wasm2c wrote do with what node does with their modules.
 
-compiled.c is compiled to WebAssembly by clang, written.wat is assembled by wat2wasm, and so is a module with a function for each
-numeric instruction, load and store. wasm2c translates all three. The units are
-compiled by gcc and clang, with -O0 and -O2, and with -fsanitize=undefined,address, and linked with the plain runtime's files, and
-with those of the fast one (examples/fast_runtime), as they are and with accesses byte by byte. Each export is
-called with edge values and random ones, in one order, by the unit and by node; results, traps and calls of hosts are compared.
-A trap ends a call and not the program here: w2c_trap of the runtime gives way to one that jumps back to the call.
+compiled.c is compiled to WebAssembly by clang, and bulk.c with sign extension and bulk memory on; written.wat is assembled by
+wat2wasm, and so is a module with a function for each numeric instruction, each load and store, a copy and a fill. wasm2c translates
+all four. The units are compiled by gcc and clang, with -O0 and -O2, and with -fsanitize=undefined,address, and linked with the
+plain runtime's files, and with those of the fast one (examples/fast_runtime), as they are and with accesses byte by byte. Each
+export is called with edge values and random ones, in one order, by the unit and by node; results, traps and calls of hosts are
+compared. A trap ends a call and not the program here: w2c_trap of the runtime gives way to one that jumps back to the call.
 Prints for each compiler what differs, and how many warnings of -Wall -Wextra of each kind a unit got. Needs clang with wasm-ld,
 gcc, node, and Debian's wabt.
 
@@ -21,7 +21,7 @@ import subprocess
 import sys
 import tempfile
 
-from modules import C_TYPES, HERE, NODE, SMALL, assembled, compiled, plan, run, signatures
+from modules import C_TYPES, HERE, NODE, SMALL, assembled, compiled, compiled_with_bulk_memory, plan, run, signatures
 
 
 MAIN = """
@@ -106,6 +106,7 @@ def main():
         os.mkdir("plain")
         run(wasm2c, "--runtime", "plain")
         compare(wasm2c, *compiled())
+        compare(wasm2c, *compiled_with_bulk_memory())
         run("wat2wasm", os.path.join(HERE, "written.wat"), "-o", "written.wasm")
         compare(wasm2c, "written", {"loop": SMALL})
         compare(wasm2c, *assembled())

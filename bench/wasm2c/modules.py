@@ -79,6 +79,17 @@ def compiled():
     }
 
 
+def compiled_with_bulk_memory():
+    """Compiles bulk.c by clang with sign extension and bulk memory on, and gives its name and the calls that are given by hand."""
+    target = ["--target=wasm32", "-mcpu=mvp", "-msign-ext", "-mbulk-memory", "-O2", "-nostdlib", "-Wl,--no-entry"]
+    run("clang", *target, os.path.join(HERE, "bulk.c"), "-o", "bulk.wasm")
+    return "bulk", {
+        "number": [[1], [77]],
+        "move": [[0, 1, 2000], [1, 0, 2000], [9, 9, 50], [2499, 0, 2499], [0, 2499, 0], [700, 100, 1]],
+        "set": [[0, 1, 0], [5, 0x1FF, 2000], [2499, 128, 2499]],
+    }
+
+
 def assembled():
     """Assembles the module of all operators, and gives its name and no calls by hand."""
     with open("operators.wat", "w") as file:
@@ -88,7 +99,7 @@ def assembled():
 
 
 def operators():
-    """A module with a function for each numeric instruction on integers, and for each load and store."""
+    """A module with a function for each numeric instruction on integers, each load and store, and bytes copied and filled."""
     lines = ['(module (memory 1) (data (i32.const 0) "' + "".join(f"\\{37 * i % 256:02x}" for i in range(64)) + '")']
 
     def add(name, params, result, *code):
@@ -115,4 +126,10 @@ def operators():
     of("i32.wrap_i64", ["i64"], "i32")
     of("i64.extend_i32_s", ["i32"], "i64")
     of("i64.extend_i32_u", ["i32"], "i64")
+    for ty in C_TYPES:
+        for width in "8 16 32".split() if ty == "i64" else "8 16".split():
+            of(f"{ty}.extend{width}_s", [ty], ty)
+    for operator in ["copy", "fill"]:
+        code = f"local.get 0 local.get 1 local.get 2 memory.{operator} local.get 0 i32.const 0xfff8 i32.and i64.load"
+        add(f"memory_{operator}", ["i32", "i32", "i32"], "i64", code)
     return "\n".join(lines) + ")\n"
