@@ -1,19 +1,20 @@
 # Compares wasm-validate of Debian's package wabt with the rows of modules: which of them are accepted. WABT's options leave
-# WebAssembly 1.0 where they can. Rows that are refused as floating-point or by a limit of this project are passed over.
+# WebAssembly 1.0 with sign extension and bulk memory where they can. Rows that are refused as floating-point or by a limit of this project are passed over.
 # A table's index in call_indirect is a padded zero too in this project. Where the two differ otherwise it ends with 1.
 import pathlib
 import subprocess
 import sys
 import tempfile
 
-OPTIONS = ["--disable-reference-types", "--disable-bulk-memory", "--disable-multi-value", "--disable-sign-extension",
-           "--disable-saturating-float-to-int", "--disable-simd"]
+OPTIONS = ["--disable-reference-types", "--disable-multi-value", "--disable-saturating-float-to-int", "--disable-simd"]
 # Core 1.0 validates offsets in the whole context (3.4.4, 3.4.5); WABT lets them get imported globals alone.
 KNOWN = {"initializer expression can only reference an imported global", "call_indirect reserved value must be 0"}
 # Rows that WABT accepts although Core 1.0 does not: expressions that end with their section or body in place of an `end`
-# (5.4.6), an offset of no instruction (3.3.7), and an instruction that Core 1.0 does not have.
+# (5.4.6), an offset of no instruction (3.3.7), and an instruction that Core 1.0 does not have. And those that Core 2.0 refuses (5.5.16):
+# a data count that is not the number of segments, where there is no data section.
 ACCEPTED = {"a global, without end", "a body that ends inside a block", "a data segment, no offset", "typed select",
-            "opcode 1c in dead code"}
+            "opcode 1c in dead code", "data count 1 and no data section", "data count 1, and the file ends behind a body",
+            "data count of 4294967295"}
 
 rows = pathlib.Path(__file__).resolve().parents[2] / "crates/module_rows"
 verdicts = dict(line.split(": ", 1)
