@@ -50,7 +50,10 @@ same_failure false x y g (Float p) e = cc
 same_failure false x y g (Limit p w) e = cc
 
 pub part_not_used_up : (part : Part) (m : Module) (a inside behind : At) (n : Module) (end : At) (f : ReadFault)
-    → window_of a ≡ Ok (inside, behind) → content_at part m inside ≡ Ok (n, end) → Fails f (end_of cause.SectionNotUsedUp end behind) → Fails f (part_at part m a)
+    → window_of a ≡ Ok (inside, behind)
+    → content_at part m inside ≡ Ok (n, end)
+    → Fails f (end_of cause.SectionNotUsedUp end behind)
+    → Fails f (part_at part m a)
 unfolding part_at
 part_not_used_up part m a inside behind n end f w r e =
     let whole : part_at part m a ≡ ended cause.SectionNotUsedUp behind.place behind.left (n, end) =

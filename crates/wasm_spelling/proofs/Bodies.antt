@@ -112,10 +112,17 @@ run_takes a v b e =
     subst (λ (z : Run × At). Taken a (one_run a.counts z.0) z.1 × (z.1.counts ≡ locals_counted z.0.count a.counts)) (ok_is (record { count = n.0; ty = y.0 }, y.1) (v, b) y.3)
     (taken_then a n.1 y.1 t.0 u.taken, u.kept ∙ t.1)
 
-runs_takes : (n : ℕ) (a : At) (v : List Run) (b : At) → times_at run_at n a ≡ Ok (v, b) → Taken a (of.runs a.counts.locals a.counts.all_locals v) b × (length v ≡ n) × Declared a.counts b.counts (locals_of v)
+-- so many runs were taken, and the counts have what they declare
+abbrev RunsTaken : At → ℕ → List Run × At → Type 0
+RunsTaken a n y =
+    Taken a (of.runs a.counts.locals a.counts.all_locals y.0) y.1
+    × (length y.0 ≡ n)
+    × Declared a.counts y.1.counts (locals_of y.0)
+
+runs_takes : (n : ℕ) (a : At) (v : List Run) (b : At) → times_at run_at n a ≡ Ok (v, b) → RunsTaken a n (v, b)
 unfolding times_at
 runs_takes zero a v b e =
-    subst (λ (y : List Run × At). Taken a (of.runs a.counts.locals a.counts.all_locals y.0) y.1 × (length y.0 ≡ zero) × Declared a.counts y.1.counts (locals_of y.0)) (ok_is ([], a) (v, b) e) (
+    subst (RunsTaken a zero) (ok_is ([], a) (v, b) e) (
       taken_none a,
       refl,
       record
@@ -124,11 +131,12 @@ runs_takes zero a v b e =
 runs_takes (suc n) a v b e =
     let x = bind_ok (run_at a) (λ x. times_at run_at n x.1 >>= with_front x.0) (v, b) e in
     let xs = bind_ok (times_at run_at n x.0.1) (with_front x.0.0) (v, b) x.2 in
-    subst (λ (y : List Run × At). Taken a (of.runs a.counts.locals a.counts.all_locals y.0) y.1 × (length y.0 ≡ suc n) × Declared a.counts y.1.counts (locals_of y.0)) (ok_is (x.0.0 ∷ xs.0.0, xs.0.1) (v, b) xs.2)
+    subst (RunsTaken a (suc n)) (ok_is (x.0.0 ∷ xs.0.0, xs.0.1) (v, b) xs.2)
     (joined a x.0.0 x.0.1 xs.0.0 xs.0.1 n (run_takes a x.0.0 x.0.1 x.1) (runs_takes n x.0.1 xs.0.0 xs.0.1 xs.1))
   where
-    joined : (a : At) (r : Run) (c : At) (rs : List Run) (b : At) (n : ℕ) → Taken a (one_run a.counts r) c × (c.counts ≡ locals_counted r.count a.counts) → Taken c (of.runs c.counts.locals c.counts.all_locals rs) b × (length rs ≡ n) × Declared c.counts b.counts (locals_of rs)
-        → Taken a (of.runs a.counts.locals a.counts.all_locals (r ∷ rs)) b × (length (r ∷ rs) ≡ suc n) × Declared a.counts b.counts (locals_of (r ∷ rs))
+    joined : (a : At) (r : Run) (c : At) (rs : List Run) (b : At) (n : ℕ) → Taken a (one_run a.counts r) c × (c.counts ≡ locals_counted r.count a.counts)
+        → RunsTaken c n (rs, b)
+        → RunsTaken a (suc n) (r ∷ rs, b)
     joined a r c rs b n t u =
         let more : Taken c (of.runs (a.counts.locals + r.count) (a.counts.all_locals + r.count) rs) b = subst (λ (d : Counts). Taken c (of.runs d.locals d.all_locals rs) b) t.1 u.0 in (
           taken_then a c b t.0 more,
@@ -200,10 +208,17 @@ abbrev total : List BodyEntry → ℕ
 total [] = 0
 total (b ∷ bs) = locals_of b.runs + total bs
 
-each_body_takes : (n : ℕ) (a : At) (v : List BodyEntry) (b : At) → times_at body_at n a ≡ Ok (v, b) → Taken a (of.bodies a.counts.all_locals v) b × (length v ≡ n) × Declared a.counts b.counts (total v)
+-- so many bodies were taken, and the counts have what they declare
+abbrev BodiesTaken : At → ℕ → List BodyEntry × At → Type 0
+BodiesTaken a n y =
+    Taken a (of.bodies a.counts.all_locals y.0) y.1
+    × (length y.0 ≡ n)
+    × Declared a.counts y.1.counts (total y.0)
+
+each_body_takes : (n : ℕ) (a : At) (v : List BodyEntry) (b : At) → times_at body_at n a ≡ Ok (v, b) → BodiesTaken a n (v, b)
 unfolding times_at
 each_body_takes zero a v b e =
-    subst (λ (y : List BodyEntry × At). Taken a (of.bodies a.counts.all_locals y.0) y.1 × (length y.0 ≡ zero) × Declared a.counts y.1.counts (total y.0)) (ok_is ([], a) (v, b) e) (
+    subst (BodiesTaken a zero) (ok_is ([], a) (v, b) e) (
       taken_none a,
       refl,
       record
@@ -212,7 +227,7 @@ each_body_takes zero a v b e =
 each_body_takes (suc n) a v b e =
     let x = bind_ok (body_at a) (λ x. times_at body_at n x.1 >>= with_front x.0) (v, b) e in
     let xs = bind_ok (times_at body_at n x.0.1) (with_front x.0.0) (v, b) x.2 in
-    subst (λ (y : List BodyEntry × At). Taken a (of.bodies a.counts.all_locals y.0) y.1 × (length y.0 ≡ suc n) × Declared a.counts y.1.counts (total y.0)) (ok_is (x.0.0 ∷ xs.0.0, xs.0.1) (v, b) xs.2)
+    subst (BodiesTaken a (suc n)) (ok_is (x.0.0 ∷ xs.0.0, xs.0.1) (v, b) xs.2)
     (joined a x.0.0 x.0.1 xs.0.0 xs.0.1 n (body_takes a x.0.0 x.0.1 x.1) (each_body_takes n x.0.1 xs.0.0 xs.0.1 xs.1))
   where
     joined : (a : At) (r : BodyEntry) (c : At) (rs : List BodyEntry) (b : At) (n : ℕ) → Taken a (window (body_inside a.counts.all_locals r finished)) c × Declared a.counts c.counts (locals_of r.runs)

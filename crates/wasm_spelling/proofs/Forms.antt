@@ -8,6 +8,7 @@ use Rattle.wasm_tree.specs.Instructions.{Kind, Unreachable, Nop, Return, Drop, S
 use Rattle.wasm_tree.specs.InstructionTable.{Form, nothing, an_index, a_mem_arg, labels, a_type, a_zero, an_i32, an_i64, a_sub_opcode, Row, rows, first_row, row_of, Prefixed, prefixed, first_prefixed, prefixed_of}
 use Rattle.wasm_tree.specs.Opcodes.{opcode_of}
 use Rattle.wasm_tree.specs.Forms.{form_of, form_in}
+use Rattle.wasm_tree.proofs.ExactTable.{◌&◌}
 use Rattle.wasm_spelling.specs.declared.fault.Cause.TheVariants as cause
 use Rattle.wasm_spelling.specs.At.{At}
 use Rattle.wasm_spelling.specs.Fields.{Fields, byte, number, signed}
@@ -47,7 +48,29 @@ abbrev RowSpells : Row → Type 0
 RowSpells r = SpellsRow r.opcode r.form
 
 all_spell : AllByRecursion RowSpells rows
-all_spell = (λ room rest. refl, (λ room rest. refl, (λ n room rest. refl, (λ n room rest. refl, (λ ls d room rest. refl, (λ room rest. refl, (λ n room rest. refl, (λ n room rest. refl, (λ room rest. refl, (λ room rest. refl, (λ n room rest. refl, (λ n room rest. refl, (λ n room rest. refl, (λ n room rest. refl, (λ n room rest. refl, (λ m room rest. refl, (λ m room rest. refl, (λ m room rest. refl, (λ m room rest. refl, (λ m room rest. refl, (λ m room rest. refl, (λ m room rest. refl, (λ m room rest. refl, (λ m room rest. refl, (λ m room rest. refl, (λ m room rest. refl, (λ m room rest. refl, (λ m room rest. refl, (λ m room rest. refl, (λ m room rest. refl, (λ m room rest. refl, (λ m room rest. refl, (λ m room rest. refl, (λ m room rest. refl, (λ room rest. refl, (λ room rest. refl, (λ n room rest. refl, (λ n room rest. refl, (λ room rest. refl, (λ room rest. refl, (λ room rest. refl, (λ room rest. refl, (λ room rest. refl, (λ room rest. refl, (λ room rest. refl, (λ room rest. refl, (λ room rest. refl, (λ room rest. refl, (λ room rest. refl, (λ room rest. refl, (λ room rest. refl, (λ room rest. refl, (λ room rest. refl, (λ room rest. refl, (λ room rest. refl, (λ room rest. refl, (λ room rest. refl, (λ room rest. refl, (λ room rest. refl, (λ room rest. refl, (λ room rest. refl, (λ room rest. refl, (λ room rest. refl, (λ room rest. refl, (λ room rest. refl, (λ room rest. refl, (λ room rest. refl, (λ room rest. refl, (λ room rest. refl, (λ room rest. refl, (λ room rest. refl, (λ room rest. refl, (λ room rest. refl, (λ room rest. refl, (λ room rest. refl, (λ room rest. refl, (λ room rest. refl, (λ room rest. refl, (λ room rest. refl, (λ room rest. refl, (λ room rest. refl, (λ room rest. refl, (λ room rest. refl, (λ room rest. refl, (λ room rest. refl, (λ room rest. refl, (λ room rest. refl, (λ room rest. refl, (λ room rest. refl, (λ room rest. refl, (λ room rest. refl, (λ room rest. refl, (λ room rest. refl, (λ room rest. refl, (λ room rest. refl, (λ room rest. refl, (λ room rest. refl, (λ room rest. refl, (λ room rest. refl, (λ room rest. refl, (λ room rest. refl, (λ room rest. refl, (λ room rest. refl, (λ room rest. refl, ((λ room rest. refl, (λ room rest. refl, tt)), tt)))))))))))))))))))))))))))))))))))))))))))))))))))))))))))))))))))))))))))))))))))))))))))))))))))))))))
+all_spell =
+    (λ room rest. refl) & (λ room rest. refl) & (λ n room rest. refl) & (λ n room rest. refl) & (λ ls d room rest. refl) &
+    (λ room rest. refl) & (λ n room rest. refl) & (λ n room rest. refl) & (λ room rest. refl) & (λ room rest. refl) &
+    (λ n room rest. refl) & (λ n room rest. refl) & (λ n room rest. refl) & (λ n room rest. refl) & (λ n room rest. refl) &
+    (λ m room rest. refl) & (λ m room rest. refl) & (λ m room rest. refl) & (λ m room rest. refl) & (λ m room rest. refl) &
+    (λ m room rest. refl) & (λ m room rest. refl) & (λ m room rest. refl) & (λ m room rest. refl) & (λ m room rest. refl) &
+    (λ m room rest. refl) & (λ m room rest. refl) & (λ m room rest. refl) & (λ m room rest. refl) & (λ m room rest. refl) &
+    (λ m room rest. refl) & (λ m room rest. refl) & (λ m room rest. refl) & (λ m room rest. refl) & (λ room rest. refl) &
+    (λ room rest. refl) & (λ n room rest. refl) & (λ n room rest. refl) & (λ room rest. refl) & (λ room rest. refl) &
+    (λ room rest. refl) & (λ room rest. refl) & (λ room rest. refl) & (λ room rest. refl) & (λ room rest. refl) &
+    (λ room rest. refl) & (λ room rest. refl) & (λ room rest. refl) & (λ room rest. refl) & (λ room rest. refl) &
+    (λ room rest. refl) & (λ room rest. refl) & (λ room rest. refl) & (λ room rest. refl) & (λ room rest. refl) &
+    (λ room rest. refl) & (λ room rest. refl) & (λ room rest. refl) & (λ room rest. refl) & (λ room rest. refl) &
+    (λ room rest. refl) & (λ room rest. refl) & (λ room rest. refl) & (λ room rest. refl) & (λ room rest. refl) &
+    (λ room rest. refl) & (λ room rest. refl) & (λ room rest. refl) & (λ room rest. refl) & (λ room rest. refl) &
+    (λ room rest. refl) & (λ room rest. refl) & (λ room rest. refl) & (λ room rest. refl) & (λ room rest. refl) &
+    (λ room rest. refl) & (λ room rest. refl) & (λ room rest. refl) & (λ room rest. refl) & (λ room rest. refl) &
+    (λ room rest. refl) & (λ room rest. refl) & (λ room rest. refl) & (λ room rest. refl) & (λ room rest. refl) &
+    (λ room rest. refl) & (λ room rest. refl) & (λ room rest. refl) & (λ room rest. refl) & (λ room rest. refl) &
+    (λ room rest. refl) & (λ room rest. refl) & (λ room rest. refl) & (λ room rest. refl) & (λ room rest. refl) &
+    (λ room rest. refl) & (λ room rest. refl) & (λ room rest. refl) & (λ room rest. refl) & (λ room rest. refl) &
+    (λ room rest. refl) & (λ room rest. refl) & (λ room rest. refl) & (λ room rest. refl) &
+    ((λ room rest. refl) & (λ room rest. refl) & tt) & tt
 
 abbrev some_form : Form → Option Form
 some_form f = Some f
@@ -58,7 +81,10 @@ no_form A f e = absurd cc
 pub form_is : (f g : Form) → some_form f ≡ some_form g → f ≡ g
 form_is f g e = cc
 
-chosen_row : (op : ℕ) (first : Row) (f : Form) (more : Option Row) (b : Bool) → eqb first.opcode op ≡ b → RowSpells first → (form_in more ≡ Some f → SpellsRow op f) → form_in (cond b (Some first) more) ≡ Some f → SpellsRow op f
+chosen_row : (op : ℕ) (first : Row) (f : Form) (more : Option Row) (b : Bool) → eqb first.opcode op ≡ b → RowSpells first
+    → (form_in more ≡ Some f → SpellsRow op f)
+    → form_in (cond b (Some first) more) ≡ Some f
+    → SpellsRow op f
 chosen_row op first f more true e m later is =
     subst (λ n. SpellsRow n f) (eqb-true first.opcode op e) (subst (λ (x : Form). SpellsRow first.opcode x) (form_is first.form f is) m)
 chosen_row op first f more false e m later is = later is
@@ -75,7 +101,9 @@ some_prefixed : Prefixed → Option Prefixed
 some_prefixed r = Some r
 
 chosen_prefixed : (op n : ℕ) (first r : Prefixed) (more : Option Prefixed) (b : Bool) → eqb first.sub_opcode n ≡ b → SpellsPrefixed op first
-    → (more ≡ Some r → (r.sub_opcode ≡ n) × SpellsPrefixed op r) → cond b (Some first) more ≡ Some r → (r.sub_opcode ≡ n) × SpellsPrefixed op r
+    → (more ≡ Some r → (r.sub_opcode ≡ n) × SpellsPrefixed op r)
+    → cond b (Some first) more ≡ Some r
+    → (r.sub_opcode ≡ n) × SpellsPrefixed op r
 chosen_prefixed op n first r more true e m later is =
     let same : first ≡ r = cc in
     subst (λ (x : Prefixed). (x.sub_opcode ≡ n) × SpellsPrefixed op x) same (eqb-true first.sub_opcode n e, m)
@@ -215,7 +243,8 @@ i64_again : (make : ℤ → Kind) (n : ℤ) → ReadAs (an_i64 make) (make n) (s
 unfolding form_at
 i64_again make n a rest s = first_again _ (signed 64) signed64_again a n rest s (λ b e t. (b, reads_again _ _ a n b _ e refl, t))
 
-prefixed_again : (r : Prefixed) → prefixed_of r.sub_opcode ≡ Some r → ReadAs a_sub_opcode r.kind (λ rest. number r.sub_opcode (zero_bytes r.zeros rest))
+prefixed_again : (r : Prefixed) → prefixed_of r.sub_opcode ≡ Some r → ReadAs a_sub_opcode r.kind
+    (λ rest. number r.sub_opcode (zero_bytes r.zeros rest))
 unfolding form_at
 prefixed_again r is a rest s =
     let n = number_again a r.sub_opcode (zero_bytes r.zeros rest) s in
@@ -260,8 +289,12 @@ form_again (Load op m) f e = with_form (Load op m) _ f (immediates (Load op m)) 
 form_again (Store op m) f e = with_form (Store op m) _ f (immediates (Store op m)) e (arg_again (Store op) m)
 form_again MemorySize f e = with_form MemorySize _ f (immediates MemorySize) e (zero_byte_again MemorySize)
 form_again MemoryGrow f e = with_form MemoryGrow _ f (immediates MemoryGrow) e (zero_byte_again MemoryGrow)
-form_again MemoryCopy f e = with_form MemoryCopy _ f (immediates MemoryCopy) e (prefixed_again (record { sub_opcode = 10; kind = MemoryCopy; zeros = 2 }) refl)
-form_again MemoryFill f e = with_form MemoryFill _ f (immediates MemoryFill) e (prefixed_again (record { sub_opcode = 11; kind = MemoryFill; zeros = 1 }) refl)
+form_again MemoryCopy f e =
+    with_form MemoryCopy _ f (immediates MemoryCopy) e
+    (prefixed_again (record { sub_opcode = 10; kind = MemoryCopy; zeros = 2 }) refl)
+form_again MemoryFill f e =
+    with_form MemoryFill _ f (immediates MemoryFill) e
+    (prefixed_again (record { sub_opcode = 11; kind = MemoryFill; zeros = 1 }) refl)
 form_again (I32Const n) f e = with_form (I32Const n) _ f (immediates (I32Const n)) e (i32_again I32Const n)
 form_again (I64Const n) f e = with_form (I64Const n) _ f (immediates (I64Const n)) e (i64_again I64Const n)
 form_again (Block r c e) f h = no_form _ f h

@@ -340,7 +340,21 @@ abbrev pub all_sections_at : Module → Reader Module
 all_sections_at t a = sections_at (suc (length a.left)) t a
 
 abbrev pub no_module : Module
-no_module = record { types = []; imports = []; funcs = []; tables = []; memories = []; globals = []; exports = []; start = None; elements = []; data_count = None; segments = []; bodies = [] }
+no_module =
+    record {
+      types = [];
+      imports = [];
+      funcs = [];
+      tables = [];
+      memories = [];
+      globals = [];
+      exports = [];
+      start = None;
+      elements = [];
+      data_count = None;
+      segments = [];
+      bodies = [];
+    }
 
 unfoldable pub magic_at : Reader (Unit {0})
 magic_at =

@@ -125,12 +125,32 @@ has_row (Extend I64Extend8S) f h = h
 has_row (Extend I64Extend16S) f h = h
 has_row (Extend I64Extend32S) f h = h
 
+-- what holds of a row, and what holds of those behind it
+infixr 5 ◌&◌
+abbrev pub ◌&◌ : {A B : Type 0} → A → B → A × B
+a & b = (a, b)
+
 abbrev RowMakes : Row → Type 0
 RowMakes r = Makes r.opcode r.form
 
 all_make : AllByRecursion RowMakes rows
 all_make =
-    ((refl, refl), ((refl, refl), (λ n. (refl, refl), (λ n. (refl, refl), (λ ls d. (refl, refl), ((refl, refl), (λ n. (refl, refl), (λ n. (refl, refl), ((refl, refl), ((refl, refl), (λ n. (refl, refl), (λ n. (refl, refl), (λ n. (refl, refl), (λ n. (refl, refl), (λ n. (refl, refl), (λ m. (refl, refl), (λ m. (refl, refl), (λ m. (refl, refl), (λ m. (refl, refl), (λ m. (refl, refl), (λ m. (refl, refl), (λ m. (refl, refl), (λ m. (refl, refl), (λ m. (refl, refl), (λ m. (refl, refl), (λ m. (refl, refl), (λ m. (refl, refl), (λ m. (refl, refl), (λ m. (refl, refl), (λ m. (refl, refl), (λ m. (refl, refl), (λ m. (refl, refl), (λ m. (refl, refl), (λ m. (refl, refl), ((refl, refl), ((refl, refl), (λ n. (refl, refl), (λ n. (refl, refl), ((refl, refl), ((refl, refl), ((refl, refl), ((refl, refl), ((refl, refl), ((refl, refl), ((refl, refl), ((refl, refl), ((refl, refl), ((refl, refl), ((refl, refl), ((refl, refl), ((refl, refl), ((refl, refl), ((refl, refl), ((refl, refl), ((refl, refl), ((refl, refl), ((refl, refl), ((refl, refl), ((refl, refl), ((refl, refl), ((refl, refl), ((refl, refl), ((refl, refl), ((refl, refl), ((refl, refl), ((refl, refl), ((refl, refl), ((refl, refl), ((refl, refl), ((refl, refl), ((refl, refl), ((refl, refl), ((refl, refl), ((refl, refl), ((refl, refl), ((refl, refl), ((refl, refl), ((refl, refl), ((refl, refl), ((refl, refl), ((refl, refl), ((refl, refl), ((refl, refl), ((refl, refl), ((refl, refl), ((refl, refl), ((refl, refl), ((refl, refl), ((refl, refl), ((refl, refl), ((refl, refl), ((refl, refl), ((refl, refl), ((refl, refl), ((refl, refl), ((refl, refl), ((refl, refl), ((refl, refl), ((refl, refl), ((refl, refl), ((refl, refl), ((refl, refl), ((refl, refl), ((refl, refl), (((refl, refl), ((refl, refl), tt)), tt)))))))))))))))))))))))))))))))))))))))))))))))))))))))))))))))))))))))))))))))))))))))))))))))))))))))))
+    (refl, refl) & (refl, refl) & (λ n. (refl, refl)) & (λ n. (refl, refl)) & (λ ls d. (refl, refl)) & (refl, refl) &
+    (λ n. (refl, refl)) & (λ n. (refl, refl)) & (refl, refl) & (refl, refl) & (λ n. (refl, refl)) & (λ n. (refl, refl)) &
+    (λ n. (refl, refl)) & (λ n. (refl, refl)) & (λ n. (refl, refl)) & (λ m. (refl, refl)) & (λ m. (refl, refl)) &
+    (λ m. (refl, refl)) & (λ m. (refl, refl)) & (λ m. (refl, refl)) & (λ m. (refl, refl)) & (λ m. (refl, refl)) &
+    (λ m. (refl, refl)) & (λ m. (refl, refl)) & (λ m. (refl, refl)) & (λ m. (refl, refl)) & (λ m. (refl, refl)) &
+    (λ m. (refl, refl)) & (λ m. (refl, refl)) & (λ m. (refl, refl)) & (λ m. (refl, refl)) & (λ m. (refl, refl)) &
+    (λ m. (refl, refl)) & (λ m. (refl, refl)) & (refl, refl) & (refl, refl) & (λ n. (refl, refl)) & (λ n. (refl, refl)) &
+    (refl, refl) & (refl, refl) & (refl, refl) & (refl, refl) & (refl, refl) & (refl, refl) & (refl, refl) & (refl, refl) &
+    (refl, refl) & (refl, refl) & (refl, refl) & (refl, refl) & (refl, refl) & (refl, refl) & (refl, refl) & (refl, refl) &
+    (refl, refl) & (refl, refl) & (refl, refl) & (refl, refl) & (refl, refl) & (refl, refl) & (refl, refl) & (refl, refl) &
+    (refl, refl) & (refl, refl) & (refl, refl) & (refl, refl) & (refl, refl) & (refl, refl) & (refl, refl) & (refl, refl) &
+    (refl, refl) & (refl, refl) & (refl, refl) & (refl, refl) & (refl, refl) & (refl, refl) & (refl, refl) & (refl, refl) &
+    (refl, refl) & (refl, refl) & (refl, refl) & (refl, refl) & (refl, refl) & (refl, refl) & (refl, refl) & (refl, refl) &
+    (refl, refl) & (refl, refl) & (refl, refl) & (refl, refl) & (refl, refl) & (refl, refl) & (refl, refl) & (refl, refl) &
+    (refl, refl) & (refl, refl) & (refl, refl) & (refl, refl) & (refl, refl) & (refl, refl) & (refl, refl) & (refl, refl) &
+    (refl, refl) & (refl, refl) & ((refl, refl) & (refl, refl) & tt) & tt
 
 chosen_row : (opcode : ℕ) (first r : Row) (more : Option Row) (b : Bool) → eqb first.opcode opcode ≡ b → RowMakes first → (more ≡ Some r → Makes opcode r.form) → cond b (Some first) more ≡ Some r → Makes opcode r.form
 chosen_row opcode first r more true e m later is =

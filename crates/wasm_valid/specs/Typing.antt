@@ -1,5 +1,5 @@
--- Typing of instructions and of lists of them (WebAssembly Core 1.0, 3.3; Core 2.0, 3.3.7 for bytes copied and filled). A stack is a list of value types, its top
--- first; the operands and results of a type are written as in the standard, the top last.
+-- Typing of instructions and of lists of them (WebAssembly Core 1.0, 3.3; Core 2.0, 3.3.7 for bytes copied and filled). A stack is
+-- a list of value types, its top first; the operands and results of a type are written as in the standard, the top last.
 use Rattle.std.specs.Prelude.{◌≡◌, ◌≤◌, ◌^◌, Bool, true, List, [], ◌∷◌, ◌++◌, reverse, IsSome, slice_get, Option, Some, None}
 use Rattle.std.specs.List.{AllByRecursion}
 use Rattle.w2c_base.specs.declared.value.ValType.{ValType}

@@ -72,9 +72,11 @@ unfolding row after checked number_at u32_of
 returns-clause-sub_opcode c = (100, refl)
 
 pub returns-clause-no_data_wanted : goal.returns-clause-no_data_wanted
-unfolding file_at module_at magic_at version_at exactly_at checked reads sections_at part_at content_at window_at data_count_entry_at number_at u32_of
+unfolding file_at module_at magic_at version_at exactly_at checked reads sections_at part_at content_at
+    window_at data_count_entry_at number_at u32_of
 returns-clause-no_data_wanted c = (file_takes (head ++ 0x0C ∷ 0x01 ∷ 0x00 ∷ []) announces_none refl, omega arith)
 
 pub returns-clause-copied : goal.returns-clause-copied
-unfolding file_at module_at magic_at version_at exactly_at checked reads sections_at part_at content_at window_at times_at global_entry_at type_at mutability_at expression_at items_at item_at form_at number_at u32_of
+unfolding file_at module_at magic_at version_at exactly_at checked reads sections_at part_at content_at
+    window_at times_at global_entry_at type_at mutability_at expression_at items_at item_at form_at number_at u32_of
 returns-clause-copied c = (file_takes copying copies refl, omega arith)
