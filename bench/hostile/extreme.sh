@@ -3,13 +3,6 @@
 # sides, and time and most memory of files of two sizes each. Needs the Rattle kit's command rt where the programs are not built yet, and
 # python3. extreme.sh [WASM2C CRUN [SHARE]]: the programs, those of bin/ where they are left out, and by how much smaller the files are.
 set -e
-here=$(cd "$(dirname "$0")" && pwd)
-work=$(mktemp -d)
-trap 'rm -rf "$work"' EXIT
-for name in wasm2c crun; do
-    [ $# != 0 ] || "$here/../../bin/$name" >/dev/null 2>&1 || true
-done
-wasm2c=$(realpath "${1:-$here/../../crates/wasm2c_cli/out/wasm2c_cli}")
-crun=$(realpath "${2:-$here/../../crates/crun_cli/out/crun_cli}")
+. "$(dirname "$0")/programs.sh"
 cd "$work"
 python3 -u "$here/extreme.py" "$wasm2c" "$crun" ${3:-1}

@@ -5,14 +5,7 @@
 # refused.sh [WASM2C CRUN [LIBRARY [EVERY]]]: the programs, those of bin/ where they are left out, what refuses the request of the number
 # REFUSE, and how many requests over the compiled module are passed over, for programs that are slow.
 set -e
-here=$(cd "$(dirname "$0")" && pwd)
-work=$(mktemp -d)
-trap 'rm -rf "$work"' EXIT
-for name in wasm2c crun; do
-    [ $# != 0 ] || "$here/../../bin/$name" >/dev/null 2>&1 || true
-done
-wasm2c=$(realpath "${1:-$here/../../crates/wasm2c_cli/out/wasm2c_cli}")
-crun=$(realpath "${2:-$here/../../crates/crun_cli/out/crun_cli}")
+. "$(dirname "$0")/programs.sh"
 library=$work/refuse.so
 if [ $# -ge 3 ]; then
     library=$(realpath "$3")
