@@ -43,7 +43,8 @@ pub record ComesBetween (p : Program) (least most : ℕ) (from to : Progress) : 
   pub way : Reaches p statements from to
 
 -- the same of a call that takes at least so many statements, and the statement one more
-abbrev pub StatementComesBetween : Program → Pending → ℕ → ℕ → Machine → Running → Option Name → List tree.Stmt → CallEnd → List Frame → Type 0
+abbrev pub StatementComesBetween : Program → Pending → ℕ → ℕ → Machine → Running → Option Name → List tree.Stmt → CallEnd → List Frame
+    → Type 0
 StatementComesBetween p pending least most m r target rest end below =
     ComesBetween p (suc least) (suc most)
     (Going pending (record { machine = m; running = r; below = below }))
