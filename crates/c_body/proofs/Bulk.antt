@@ -1,21 +1,20 @@
 -- The instructions that copy and fill bytes of the memory are followed by their statements. They cost a step for each
 -- byte, and their helpers take more statements than that.
-use Rattle.std.proofs.Common.{◌≡◌, ℕ, zero, suc, ◌+◌, ◌*◌, ◌<◌, ◌≤◌, ◌^◌, ◌%◌, Bool, true, false, ◌&&◌, if◌then◌else◌, nat_le, List, [], ◌∷◌, ◌++◌, length, replicate, take, drop, Option, Some, None, refl, sym, ap, ◌∙◌, subst, arith, length-append, length-take, length-drop}
+use Rattle.std.proofs.Common.{◌≡◌, ℕ, zero, suc, ◌+◌, ◌*◌, ◌<◌, ◌≤◌, ◌^◌, ◌%◌, Bool, true, false, ◌&&◌, if◌then◌else◌, nat_le, List, [], ◌∷◌, ◌++◌, length, replicate, drop, Option, Some, None, refl, sym, ap, ◌∙◌, subst, arith, length-take, length-drop}
 use Rattle.std.proofs.lemmas.List.{length-replicate}
 use Rattle.std.specs.List.{AllByRecursion}
 use Rattle.std.proofs.lemmas.Option.{none-some, same_Some}
 use Rattle.std.proofs.lemmas.Bool.Decides.{nat_tests}
 use Rattle.w2c_base.specs.declared.value.ValType.TheVariants as type
 use Rattle.w2c_base.specs.declared.value.Value.{Value}
-use Rattle.w2c_base.specs.declared.value.Value.TheVariants.{I32, I64}
+use Rattle.w2c_base.specs.declared.value.Value.TheVariants.{I32}
 use Rattle.w2c_base.specs.declared.trap.TrapKind.TheVariants as trap
 use Rattle.w2c_base.specs.LittleEndian.{bytes_at, with_bytes}
 use Rattle.w2c_base.specs.Values.{types_of}
 use Rattle.w2c_base.specs.Lookup.{named}
 use Rattle.wasm_tree.specs.Instructions.{Kind, MemoryCopy, MemoryFill}
-use Rattle.wasm_valid.specs.Context.{Labels}
 use Rattle.wasm_valid.specs.Typing.{Stack, Turns, HasMemory}
-use Rattle.wasm_meaning.specs.LinkedSet.{LinkedSet, memory_at}
+use Rattle.wasm_meaning.specs.LinkedSet.{memory_at}
 use Rattle.wasm_meaning.specs.Memories.{copy_bytes, fill_bytes}
 use Rattle.wasm_meaning.specs.Store as store
 use Rattle.wasm_meaning.specs.Execution as exec
@@ -27,7 +26,6 @@ use Rattle.c_meaning.specs.Primitives.{with_content}
 use Rattle.c_meaning.specs.Step.{evaluate_args}
 use Rattle.c_meaning.specs.Run.{Progress}
 use Rattle.c_meaning.specs.Reaches.{Reaches}
-use Rattle.c_meaning.proofs.Lookups.{bytes_equal}
 use Rattle.c_prelude.specs.declared.operation.Helper.{Helper}
 use Rattle.c_prelude.specs.declared.operation.Helper.TheVariants as helper
 use Rattle.c_prelude.specs.Helpers.{helper_of}
@@ -72,7 +70,8 @@ DoesAll g base rest outs from count before (exec.Faults kind) =
     (left : ℕ) → EndsAlike g.program g.linked g.pending 0 from (suc left) (exec.Trapped kind) before.store before.trail
 DoesAll g base rest outs from count before exec.NoRule = ⊥
 
-module _ (g : Site) (targets : List Target) (exit : Target) (base : List Value) (rest : List tree.Stmt) (outs : Stack) (from : Progress) where
+module _ (g : Site) (targets : List Target) (exit : Target) (base : List Value) (rest : List tree.Stmt) (outs : Stack)
+    (from : Progress) where
   -- so many steps are paid already
   all_paid : (total : ℕ) (stack : List Value) (before now : store.State) → Moves g base rest outs from total stack now
       → (paid count left n : ℕ) → n ≡ paid + left → suc total ≡ paid + count
@@ -188,14 +187,15 @@ module _ (g : Site) (room : ℕ) (calls : exec.Calls) (site : IsSite g room call
   -- the helper's call, by what it comes to
   written_does : (x y count : ℕ) (stack : List Value) → StandsAt g (I32 count ∷ I32 y ∷ I32 x ∷ (stack ++ base)) now m vars
       → (f : MemoryFound g now.store m vars) → outs ≡ types_of stack → (args : List tree.Arg)
-      → evaluate_args g.program m (running g (call_helper None which args ∷ rest) vars) args ≡ Is (given_to (memory_object f.owner) x y count)
+      → evaluate_args g.program m (running g (call_helper None which args ∷ rest) vars) args
+      ≡ Is (given_to (memory_object f.owner) x y count)
       → (result : Option (List ℕ)) → change f.memory.bytes x y count ≡ result
       → ComesToBytes (helper_of which) (given_to (memory_object f.owner) x y count) m (memory_object f.owner) f.other count result
       → DoesAll g base rest outs (at g m (call_helper None which args ∷ rest) vars) count now
       (exec.written f.owner f.memory result stack now)
   written_does x y count stack stood f typed args evaluated None is comes = λ left.
-      let came = helper_comes g m vars None which args (given_to (memory_object f.owner) x y count) rest 390 (TrapsWith m trap.MemoryOut) defined
-      evaluated comes in
+      let came = helper_comes g m vars None which args (given_to (memory_object f.owner) x y count) rest 390
+      (TrapsWith m trap.MemoryOut) defined evaluated comes in
       record {
         machine = m;
         reason = state.Trapped trap.MemoryOut;
@@ -213,8 +213,8 @@ module _ (g : Site) (room : ℕ) (calls : exec.Calls) (site : IsSite g room call
       let together = together_memory g.program g.linked g.count
       (suc g.depth) m now.store now.trail f.owner f.objects f.other other memory f.objects_are f.other_is
       (keeps f.memory f.other x y count bytes is f.agrees) stood.together in
-      let came = helper_comes_between g m vars None which args (given_to (memory_object f.owner) x y count) rest (suc count) (390 + 20 * count)
-      (GivesBack after None) defined evaluated comes in
+      let came = helper_comes_between g m vars None which args (given_to (memory_object f.owner) x y count) rest (suc count)
+      (390 + 20 * count) (GivesBack after None) defined evaluated comes in
       record {
         typed = sym typed;
         machine = after;
@@ -230,7 +230,8 @@ module _ (g : Site) (room : ℕ) (calls : exec.Calls) (site : IsSite g room call
   bytes_do : (x y count : ℕ) (stack : List Value) → HasMemory g.setting.context
       → StandsAt g (I32 count ∷ I32 y ∷ I32 x ∷ (stack ++ base)) now m vars → outs ≡ types_of stack
       → DoesAll g base rest outs (at g m (stmt_at (length (types_of (stack ++ base))) ∷ rest) vars) count now
-      (exec.on_memory (memory_at g.linked g.unit 0) now (λ owner memory. exec.written owner memory (change memory.bytes x y count) stack now))
+      (exec.on_memory (memory_at g.linked g.unit 0) now
+      (λ owner memory. exec.written owner memory (change memory.bytes x y count) stack now))
   bytes_do x y count stack has stood typed =
       let whole : List Value = stack ++ base in
       let h : ℕ = length (types_of whole) in
@@ -266,7 +267,8 @@ module _ (g : Site) (room : ℕ) (calls : exec.Calls) (site : IsSite g room call
   -- the instruction, whatever operands it finds
   bytes_follow : (targets : List Target) (exit : Target) (kind : Kind) (n : ℕ)
       → ((x y count : ℕ) (under : List Value) → exec.plain g.linked g.unit kind (I32 count ∷ I32 y ∷ I32 x ∷ under) now
-      ≡ exec.on_memory (memory_at g.linked g.unit 0) now (λ owner memory. exec.written owner memory (change memory.bytes x y count) under now))
+      ≡ exec.on_memory (memory_at g.linked g.unit 0) now
+      (λ owner memory. exec.written owner memory (change memory.bytes x y count) under now))
       → HasMemory g.setting.context → (stack : List Value) → Turns (type.I32 ∷ type.I32 ∷ type.I32 ∷ []) [] (types_of stack) outs
       → StandsAt g (stack ++ base) now m vars
       → Follows g 0 targets exit base rest outs (at g m (stmt_at (under 3 (types_of (stack ++ base))) ∷ rest) vars) n

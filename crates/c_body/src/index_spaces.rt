@@ -1,8 +1,8 @@
 // What a body's translation reads of its module, made once for all bodies.
-ghost use Rattle.std.specs.Prelude.{◌≡◌, ◌++◌, map, filter, length, slice_get, flat_map, is_some, option_map, IfOk, OnOk};
+ghost use Rattle.std.specs.Prelude.{◌≡◌, map, length, slice_get, is_some, option_map, IfOk};
 ghost use Rattle.std.specs.Option.{option_copied};
 ghost use Rattle.w2c_base.specs.Lookup.{at_index};
-ghost use Rattle.wasm_tree.specs.IndexSpaces.{func_of_import, func_space, global_of_import, global_space, type_in, imported_funcs as imported_func_count};
+ghost use Rattle.wasm_tree.specs.IndexSpaces.{func_space, global_space, type_in, imported_funcs as imported_func_count};
 ghost use Rattle.c_tree.specs.View.{arg_of, expr_of, stmt_of};
 ghost use Rattle.c_body.specs.Objects as objects;
 ghost use Rattle.c_body.specs.Symbols.{global_imports, memory_imports, table_imports, func_imports};
@@ -11,10 +11,11 @@ ghost use Rattle.c_body.specs.Reached.{usable_symbol};
 
 use crate::naming::{func_name, global_name, global_pointer, name_of};
 use crate::symbols::callees;
+use crate::types_by_index::TypesByIndex;
 use c_tree::{Arg, Expr, Name, Stmt};
 use std::alloc::Global;
 use w2c_base::{FuncType, Memory, ValType};
-use wasm_tree::{Import, ImportKind, Module};
+use wasm_tree::{ImportKind, Module};
 use wasm_valid::ValidModule;
 
 /// The index spaces of a module under its name, and how its functions, globals, memory and table are
@@ -24,9 +25,7 @@ pub struct IndexSpaces<'a> {
     pub(crate) checked: &'a ValidModule,
     pub(crate) tree: &'a Module,
     pub(crate) name: &'a [u8],
-    /// The index of each function's type.
-    funcs: Vec<u32>,
-    globals: Vec<(ValType, bool)>,
+    types: TypesByIndex<'a>,
     /// The symbols of the imported functions, where they may be called.
     callees: Vec<Option<Name>>,
     imported_globals: usize,
@@ -34,74 +33,11 @@ pub struct IndexSpaces<'a> {
     imports_table: bool,
     ghost same: { checked.now ≡ tree.now },
     ghost few_params: { HaveFewParams tree.now },
-    ghost funcs_are: { funcs.items ≡ func_space tree.now },
-    ghost globals_are: { globals.items ≡ global_space tree.now },
+    ghost types_are: { types.tree.now ≡ tree.now },
     ghost callees_are: { callees.items ≡ map (usable_symbol (record { name = name.now; tree = tree.now })) (func_imports tree.now) },
     ghost globals_imported: { imported_globals ≡ length (global_imports tree.now) },
     ghost memory_imported: { imports_memory ≡ is_some (slice_get (memory_imports tree.now) 0) },
     ghost table_imported: { imports_table ≡ is_some (slice_get (table_imports tree.now) 0) },
-}
-
-// What an import brings into the index space of functions.
-fn put_func(funcs: &mut Vec<u32>, import: &Import) -> Result<(), Memory>
-    ensures { OnOk result (funcs.new.items ≡ funcs.old.items ++ func_of_import import.now) }
-{
-    match import.kind {
-        ImportKind::Func(type_index) => funcs.push(type_index)?,
-        ImportKind::Table(_) | ImportKind::Memory(_) | ImportKind::Global(_, _) => {}
-    }
-    Ok(())
-}
-
-fn imported_funcs(alloc: Global, m: &Module) -> Result<Vec<u32>, Memory>
-    ensures { IfOk result (λ funcs. funcs.items ≡ flat_map func_of_import m.now.imports) }
-{
-    let mut funcs = Vec::new(alloc);
-    for import in m.imports.as_slice() {
-        put_func(&mut funcs, import)?;
-    }
-    Ok(funcs)
-}
-
-fn all_funcs(alloc: Global, m: &Module) -> Result<Vec<u32>, Memory>
-    ensures { IfOk result (λ funcs. funcs.items ≡ func_space m.now) }
-{
-    let mut funcs = imported_funcs(alloc, m)?;
-    for func in m.funcs.as_slice() {
-        funcs.push(func.type_index)?;
-    }
-    Ok(funcs)
-}
-
-// What an import brings into the index space of globals.
-fn put_global(globals: &mut Vec<(ValType, bool)>, import: &Import) -> Result<(), Memory>
-    ensures { OnOk result (globals.new.items ≡ globals.old.items ++ global_of_import import.now) }
-{
-    match import.kind {
-        ImportKind::Global(ty, mutable) => globals.push((ty, mutable))?,
-        ImportKind::Func(_) | ImportKind::Table(_) | ImportKind::Memory(_) => {}
-    }
-    Ok(())
-}
-
-fn imported_globals(alloc: Global, m: &Module) -> Result<Vec<(ValType, bool)>, Memory>
-    ensures { IfOk result (λ globals. globals.items ≡ flat_map global_of_import m.now.imports) }
-{
-    let mut globals = Vec::new(alloc);
-    for import in m.imports.as_slice() {
-        put_global(&mut globals, import)?;
-    }
-    Ok(globals)
-}
-
-fn all_globals(alloc: Global, m: &Module) -> Result<Vec<(ValType, bool)>, Memory>
-    ensures { IfOk result (λ globals. globals.items ≡ global_space m.now) }
-{
-    let mut globals = imported_globals(alloc, m)?;
-    for global in m.globals.as_slice() {
-        globals.push((global.ty, global.mutable))?;
-    }
-    Ok(globals)
 }
 
 fn count_globals(m: &Module) -> usize
@@ -147,15 +83,13 @@ impl<'a> IndexSpaces<'a> {
         ensures { IfOk result (λ s. named_of s ≡ record { name = name.now; tree = m.now }) }
     {
         let tree = m.module();
-        let funcs = all_funcs(alloc, tree)?;
-        let globals = all_globals(alloc, tree)?;
-        let callees = callees(alloc, name, tree)?;
+        let types = TypesByIndex::new(alloc, tree)?;
+        let callees = callees(alloc, name, &types)?;
         Ok(IndexSpaces {
             checked: m,
             tree,
             name,
-            funcs,
-            globals,
+            types,
             callees,
             imported_globals: count_globals(tree),
             imports_memory: imports_memory(tree),
@@ -176,10 +110,7 @@ impl<'a> IndexSpaces<'a> {
     pub fn ty(&self, type_index: u32) -> Option<&'a FuncType>
         ensures { option_copied result ≡ slice_get (map (λ t. t.ty) self.now.tree.now.types) type_index }
     {
-        match self.tree.types.as_slice().get(type_index as usize) {
-            Some(entry) => Some(&entry.ty),
-            None => None,
-        }
+        self.types.ty(type_index)
     }
 
     /// The type of the function with an index.
@@ -187,18 +118,15 @@ impl<'a> IndexSpaces<'a> {
     pub(crate) fn func_type(&self, index: u32) -> Option<&'a FuncType>
         ensures { option_copied result ≡ at_index (map (type_in self.now.tree.now) (func_space self.now.tree.now)) index }
     {
-        match self.funcs.get(index as usize) {
-            Some(type_index) => self.ty(*type_index),
-            None => None,
-        }
+        self.types.func_type(index)
     }
 
     /// The type of the global with an index.
     pub(crate) fn global_type(&self, index: u32) -> Option<ValType>
         ensures { result ≡ option_map (λ g. g.0) (slice_get (global_space self.now.tree.now) index) }
     {
-        match self.globals.get(index as usize) {
-            Some((ty, _)) => Some(*ty),
+        match self.types.global_type(index) {
+            Some((ty, _)) => Some(ty),
             None => None,
         }
     }

@@ -2,21 +2,23 @@
 ghost use Rattle.std.specs.Prelude.{◌≡◌, ◌++◌, ◌∷◌, [], length, map, filter, option_map, IfOk, OnOk};
 ghost use Rattle.std.specs.Option.{option_copied};
 ghost use Rattle.w2c_base.specs.Lookup.{named};
-ghost use Rattle.wasm_tree.specs.IndexSpaces.{type_in, is_func_import};
+ghost use Rattle.wasm_tree.specs.IndexSpaces.{is_func_import};
 ghost use Rattle.c_tree.specs.Runtime as runtime;
 ghost use Rattle.c_tree.specs.View.{func_type_of};
 ghost use Rattle.c_tree.specs.declared.tree.CType.TheVariants as type;
 ghost use Rattle.c_body.specs.Found.{TellsTypes, all_typed, is_found, told};
 ghost use Rattle.c_body.specs.Reached.{usable_symbol};
 ghost use Rattle.c_body.specs.Symbols as symbols;
+ghost use Rattle.c_body.specs.UnderName.{under_name};
 
 use crate::call::c_func_type;
+use crate::types_by_index::TypesByIndex;
 use c_scope::NameTable;
 use c_tree::{CFuncType, CType, CTypes, Name};
 use std::alloc::Global;
 use w2c_base::{FuncType, Memory, ValType};
 use w2c_mangle::{SymbolKind, export_symbol};
-use wasm_tree::{Export, ExportKind, Import, ImportKind, Module};
+use wasm_tree::{Export, ExportKind, Import, ImportKind};
 
 /// A symbol and the type of its function.
 #[derive(Drop)]
@@ -69,15 +71,6 @@ pub fn global_kind(mutable: bool) -> SymbolKind
     }
 }
 
-fn type_at(tree: &Module, index: u32) -> Option<&FuncType>
-    ensures { option_copied result ≡ type_in tree.now index }
-{
-    match tree.types.as_slice().get(index as usize) {
-        Some(entry) => Some(&entry.ty),
-        None => None,
-    }
-}
-
 // ---- imports
 
 fn import_symbol(alloc: Global, import: &Import) -> Result<Name, Memory>
@@ -97,11 +90,11 @@ fn import_symbol(alloc: Global, import: &Import) -> Result<Name, Memory>
     )
 }
 
-fn import_type(alloc: Global, tree: &Module, import: &Import) -> Result<CFuncType, Memory>
-    ensures { IfOk result (λ t. func_type_of t ≡ symbols.import_type tree.now import.now) }
+fn import_type(alloc: Global, types: &TypesByIndex, import: &Import) -> Result<CFuncType, Memory>
+    ensures { IfOk result (λ t. func_type_of t ≡ symbols.import_type types.now.tree.now import.now) }
 {
     match import.kind {
-        ImportKind::Func(index) => func_type_if(alloc, type_at(tree, index)),
+        ImportKind::Func(index) => func_type_if(alloc, types.ty(index)),
         ImportKind::Table(_) => accessor(alloc, CType::PtrTab),
         ImportKind::Memory(_) => accessor(alloc, CType::PtrMem),
         ImportKind::Global(ty, _) => accessor(alloc, pointer_type(ty)),
@@ -136,10 +129,10 @@ fn global_accessor(alloc: Global, global: Option<(ValType, bool)>) -> Result<CFu
 fn symbol_of_export(
     alloc: Global,
     module_name: &[u8],
-    tree: &Module,
+    types: &TypesByIndex,
     e: &Export,
 ) -> Result<Name, Memory>
-    ensures { IfOk result (λ n. n ≡ symbols.export_symbol (record { name = module_name.now; tree = tree.now }) e.now) }
+    ensures { IfOk result (λ n. n ≡ symbols.export_symbol (under_name module_name.now types.now) e.now) }
 {
     let name = e.name.as_slice();
     match e.kind {
@@ -147,20 +140,20 @@ fn symbol_of_export(
         ExportKind::Table => export_symbol(alloc, module_name, SymbolKind::Table, name),
         ExportKind::Memory => export_symbol(alloc, module_name, SymbolKind::Memory, name),
         ExportKind::Global => {
-            let global = tree.global_type(e.index);
+            let global = types.global_type(e.index);
             global_symbol(alloc, module_name, global, name)
         }
     }
 }
 
-fn export_type(alloc: Global, tree: &Module, e: &Export) -> Result<CFuncType, Memory>
-    ensures { IfOk result (λ t. func_type_of t ≡ symbols.export_type tree.now e.now) }
+fn export_type(alloc: Global, types: &TypesByIndex, e: &Export) -> Result<CFuncType, Memory>
+    ensures { IfOk result (λ t. func_type_of t ≡ symbols.export_type types.now.tree.now e.now) }
 {
     match e.kind {
-        ExportKind::Func => func_type_if(alloc, tree.func_type(e.index)),
+        ExportKind::Func => func_type_if(alloc, types.func_type(e.index)),
         ExportKind::Table => accessor(alloc, CType::PtrTab),
         ExportKind::Memory => accessor(alloc, CType::PtrMem),
-        ExportKind::Global => global_accessor(alloc, tree.global_type(e.index)),
+        ExportKind::Global => global_accessor(alloc, types.global_type(e.index)),
     }
 }
 
@@ -177,36 +170,43 @@ fn put_symbol(found: &mut Vec<Symbol>, name: Name, ty: CFuncType) -> Result<(), 
 fn put_exports(
     alloc: Global,
     module_name: &[u8],
-    tree: &Module,
+    types: &TypesByIndex,
     found: &mut Vec<Symbol>,
 ) -> Result<(), Memory>
-    ensures { OnOk result (all_typed found.new.items ≡ all_typed found.old.items ++ symbols.exported_symbols (record { name = module_name.now; tree = tree.now })) }
+    ensures { OnOk result (all_typed found.new.items ≡
+        all_typed found.old.items ++ symbols.exported_symbols (under_name module_name.now types.now)) }
 {
-    for e in tree.exports.as_slice() {
-        let name = symbol_of_export(alloc, module_name, tree, e)?;
-        put_symbol(found, name, export_type(alloc, tree, e)?)?;
+    for e in types.tree.exports.as_slice() {
+        let name = symbol_of_export(alloc, module_name, types, e)?;
+        put_symbol(found, name, export_type(alloc, types, e)?)?;
     }
     Ok(())
 }
 
-fn put_imports(alloc: Global, tree: &Module, found: &mut Vec<Symbol>) -> Result<(), Memory>
-    ensures { OnOk result (all_typed found.new.items ≡ all_typed found.old.items ++ map (λ i. (symbols.import_symbol i, symbols.import_type tree.now i)) tree.now.imports) }
+fn put_imports(alloc: Global, types: &TypesByIndex, found: &mut Vec<Symbol>) -> Result<(), Memory>
+    ensures { OnOk result (all_typed found.new.items ≡ all_typed found.old.items
+        ++ map (λ i. (symbols.import_symbol i, symbols.import_type types.now.tree.now i)) types.now.tree.now.imports) }
 {
-    for import in tree.imports.as_slice() {
+    for import in types.tree.imports.as_slice() {
         let name = import_symbol(alloc, import)?;
-        put_symbol(found, name, import_type(alloc, tree, import)?)?;
+        put_symbol(found, name, import_type(alloc, types, import)?)?;
     }
     Ok(())
 }
 
 /// The symbols of the exports and then of the imports.
-fn all_symbols(alloc: Global, module_name: &[u8], tree: &Module) -> Result<Vec<Symbol>, Memory>
+fn all_symbols(
+    alloc: Global,
+    module_name: &[u8],
+    types: &TypesByIndex,
+) -> Result<Vec<Symbol>, Memory>
     ensures { IfOk result (λ found. all_typed found.items ≡
-        symbols.exported_symbols (record { name = module_name.now; tree = tree.now }) ++ symbols.imported_symbols (record { name = module_name.now; tree = tree.now })) }
+        symbols.exported_symbols (under_name module_name.now types.now)
+        ++ symbols.imported_symbols (under_name module_name.now types.now)) }
 {
     let mut found = Vec::new(alloc);
-    put_exports(alloc, module_name, tree, &mut found)?;
-    put_imports(alloc, tree, &mut found)?;
+    put_exports(alloc, module_name, types, &mut found)?;
+    put_imports(alloc, types, &mut found)?;
     Ok(found)
 }
 
@@ -278,15 +278,17 @@ fn has_type(table: &NameTable<&CFuncType>, name: &[u8], ty: &CFuncType) -> bool
 fn usable(
     alloc: Global,
     module_name: &[u8],
-    tree: &Module,
+    types: &TypesByIndex,
     table: &NameTable<&CFuncType>,
     import: &Import,
 ) -> Result<Option<Name>, Memory>
-    requires { TellsTypes table.now (symbols.exported_symbols (record { name = module_name.now; tree = tree.now }) ++ symbols.imported_symbols (record { name = module_name.now; tree = tree.now })) }
-    ensures { IfOk result (λ name. name ≡ usable_symbol (record { name = module_name.now; tree = tree.now }) import.now) }
+    requires { TellsTypes table.now
+        (symbols.exported_symbols (under_name module_name.now types.now)
+        ++ symbols.imported_symbols (under_name module_name.now types.now)) }
+    ensures { IfOk result (λ name. name ≡ usable_symbol (under_name module_name.now types.now) import.now) }
 {
     let name = import_symbol(alloc, import)?;
-    let ty = import_type(alloc, tree, import)?;
+    let ty = import_type(alloc, types, import)?;
     if has_type(table, name.as_slice(), &ty) {
         Ok(Some(name))
     } else {
@@ -298,16 +300,19 @@ fn usable(
 fn put_callee(
     alloc: Global,
     module_name: &[u8],
-    tree: &Module,
+    types: &TypesByIndex,
     table: &NameTable<&CFuncType>,
     import: &Import,
     callees: &mut Vec<Option<Name>>,
 ) -> Result<(), Memory>
-    requires { TellsTypes table.now (symbols.exported_symbols (record { name = module_name.now; tree = tree.now }) ++ symbols.imported_symbols (record { name = module_name.now; tree = tree.now })) }
-    ensures { OnOk result (callees.new.items ≡ callees.old.items ++ map (usable_symbol (record { name = module_name.now; tree = tree.now })) (filter is_func_import (import.now ∷ []))) }
+    requires { TellsTypes table.now
+        (symbols.exported_symbols (under_name module_name.now types.now)
+        ++ symbols.imported_symbols (under_name module_name.now types.now)) }
+    ensures { OnOk result (callees.new.items ≡
+        callees.old.items ++ map (usable_symbol (under_name module_name.now types.now)) (filter is_func_import (import.now ∷ []))) }
 {
     match import.kind {
-        ImportKind::Func(_) => callees.push(usable(alloc, module_name, tree, table, import)?)?,
+        ImportKind::Func(_) => callees.push(usable(alloc, module_name, types, table, import)?)?,
         ImportKind::Table(_) | ImportKind::Memory(_) | ImportKind::Global(_, _) => {}
     }
     Ok(())
@@ -317,15 +322,16 @@ fn put_callee(
 pub(crate) fn callees(
     alloc: Global,
     module_name: &[u8],
-    tree: &Module,
+    types: &TypesByIndex,
 ) -> Result<Vec<Option<Name>>, Memory>
-    ensures { IfOk result (λ names. names.items ≡ map (usable_symbol (record { name = module_name.now; tree = tree.now })) (symbols.func_imports tree.now)) }
+    ensures { IfOk result (λ names. names.items ≡
+        map (usable_symbol (under_name module_name.now types.now)) (symbols.func_imports types.now.tree.now)) }
 {
-    let found = all_symbols(alloc, module_name, tree)?;
+    let found = all_symbols(alloc, module_name, types)?;
     let table = types_by_name(alloc, found.as_slice())?;
     let mut names = Vec::new(alloc);
-    for import in tree.imports.as_slice() {
-        put_callee(alloc, module_name, tree, &table, import, &mut names)?;
+    for import in types.tree.imports.as_slice() {
+        put_callee(alloc, module_name, types, &table, import, &mut names)?;
     }
     Ok(names)
 }
