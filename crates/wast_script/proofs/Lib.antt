@@ -1,3 +1,4 @@
 pub mod Gathered
 pub mod Items
 pub mod Readings
+pub mod LineOfWords

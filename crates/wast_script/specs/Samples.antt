@@ -1,9 +1,9 @@
 -- JSON values for closed cases.
-use Rattle.std.specs.Prelude.{[], ◌∷◌, codes}
+use Rattle.std.specs.Prelude.{ℕ, List, [], ◌∷◌, ◌++◌, Some, codes}
 use Prim.Native.String.{String}
 use Rattle.w2c_base.specs.declared.value.Value.TheVariants.{I32}
 use Rattle.serde_json.specs.Data.{Data, array, item, member, no_items, no_members, object, string}
-use Rattle.wast_script.specs.Commands.{Call}
+use Rattle.wast_script.specs.Commands.{AssertReturn, Call, Command, Module}
 
 abbrev pub listed : Data → Data
 listed d = array (item d no_items)
@@ -34,3 +34,16 @@ assertion kind name d =
 
 abbrev pub said_call : Call
 said_call = record { module_name = codes "add"; field_name = codes "add"; args = I32 1 ∷ [] }
+
+-- a module, and an assertion that its sum of 4294967295 and 1 is 0
+abbrev pub two_commands : List ℕ
+two_commands =
+    codes "{\"commands\":[{\"type\":\"module\",\"name\":\"add\",\"filename\":\"add.wasm\"},"
+    ++ codes "{\"type\":\"assert_return\",\"module\":\"add\",\"field\":\"add\","
+    ++ codes "\"args\":[{\"type\":\"i32\",\"value\":\"4294967295\"},{\"type\":\"i32\",\"value\":\"1\"}],"
+    ++ codes "\"expected\":[{\"type\":\"i32\",\"value\":\"0\"}]}]}"
+
+abbrev pub two_commands_are : List Command
+two_commands_are =
+    Module (record { name = codes "add"; filename = codes "add.wasm" })
+    ∷ AssertReturn (record { module_name = codes "add"; field_name = codes "add"; args = I32 4294967295 ∷ I32 1 ∷ [] }) (Some (I32 0)) ∷ []

@@ -5,7 +5,12 @@ use Rattle.wast_script.specs.declared.command.Call.{Call}
 use Rattle.wast_script.specs.declared.command.Command.{Command}
 use Rattle.wast_script.specs.declared.command.Command.TheVariants as command
 use Rattle.wast_script.specs.declared.script.Script.{Script}
+use Rattle.wast_script.specs.declared.stop.Stop.{Stop}
+use Rattle.wast_script.specs.declared.stop.Stop.TheVariants as stop
+use Rattle.wast_script.specs.declared.words.Line.{Line}
 use Rattle.wast_script.specs.Commands as spec
+use Rattle.wast_script.specs.CommandLine as line
+use Rattle.wast_script.specs.Lines as lines
 
 abbrev pub seen_module : ModuleFile → spec.ModuleFile
 seen_module m = record { name = string_bytes m.name; filename = string_bytes m.filename }
@@ -26,3 +31,13 @@ seen_commands commands = map seen_command commands
 
 abbrev pub seen_script : Script → List spec.Command
 seen_script s = seen_commands s.commands.items
+
+abbrev pub seen_line : Line → line.Line
+seen_line l = record { steps = l.steps; script = l.script.now }
+
+abbrev pub reason_of : Stop → lines.Reason
+reason_of stop.Usage = lines.Usage
+reason_of (stop.Unread name) = lines.Unread (string_bytes name)
+reason_of (stop.Refused why) = lines.Refused why
+reason_of stop.Unwritten = lines.Unwritten
+reason_of stop.Memory = lines.WantOfMemory

@@ -1,11 +1,15 @@
-// Closed cases of the definitions of commands: JSON values that were read by hand.
+// Closed cases of the definitions: words, JSON values and texts that were read by hand.
 ghost use Rattle.std.specs.Prelude.{◌≡◌, [], ◌∷◌, codes, None, Some};
 ghost use Rattle.w2c_base.specs.declared.trap.TrapKind.TheVariants.{IntOverflow};
 ghost use Rattle.w2c_base.specs.declared.value.Value.TheVariants.{I32, I64};
 ghost use Rattle.serde_json.specs.Data.{array, no_items, null, number, string, unsigned};
+ghost use Rattle.wast_script.specs.declared.fault.ScriptFault.TheVariants as fault;
+ghost use Rattle.wast_script.specs.CommandLine.{line_of};
 ghost use Rattle.wast_script.specs.Commands.{AssertInvalid, AssertMalformed, AssertReturn, AssertTrap, Invoke, Module};
 ghost use Rattle.wast_script.specs.Forms.{command_of};
 ghost use Rattle.wast_script.specs.Samples.{assertion, call, file_at, listed, module_at, said_call, value_object};
+ghost use Rattle.wast_script.specs.Samples.{two_commands, two_commands_are};
+ghost use Rattle.wast_script.specs.Scripts.{IsFault, IsScript};
 ghost use Rattle.wast_script.specs.Values.{value_of};
 
 /// Values of both types at their bounds, with leading zeros, and objects that stand for none.
@@ -36,4 +40,36 @@ pub fn commands_of_values()
     ensures malformed { command_of (file_at "assert_malformed" "a") ≡ Some (AssertMalformed (codes "a")) }
     ensures no_kind { command_of (file_at "assert_unlinkable" "a") ≡ None }
     ensures no_object { command_of null ≡ None }
+{}
+
+/// The words in more than one order and spelling.
+pub fn lines_that_are_read()
+    ensures in_order { line_of (codes "--steps" ∷ codes "100" ∷ codes "s.json" ∷ []) ≡ Some (record { steps = 100; script = codes "s.json" }) }
+    ensures other_order { line_of (codes "--steps=007" ∷ codes "--" ∷ codes "-s" ∷ []) ≡ Some (record { steps = 7; script = codes "-s" }) }
+    ensures most_steps { line_of (codes "s" ∷ codes "--steps" ∷ codes "18446744073709551615" ∷ [])
+        ≡ Some (record { steps = 18446744073709551615; script = codes "s" }) }
+{}
+
+/// Words that have no reading: the option or the script left out, either twice, an option without its value or unknown, and
+/// numbers of no form.
+pub fn lines_that_are_refused()
+    ensures no_word { line_of [] ≡ None }
+    ensures no_steps { line_of (codes "s" ∷ []) ≡ None }
+    ensures no_script { line_of (codes "--steps" ∷ codes "1" ∷ []) ≡ None }
+    ensures steps_twice { line_of (codes "--steps=1" ∷ codes "--steps=1" ∷ codes "s" ∷ []) ≡ None }
+    ensures two_scripts { line_of (codes "--steps=1" ∷ codes "s" ∷ codes "t" ∷ []) ≡ None }
+    ensures no_value { line_of (codes "s" ∷ codes "--steps" ∷ []) ≡ None }
+    ensures unknown { line_of (codes "--steps=1" ∷ codes "-v" ∷ codes "s" ∷ []) ≡ None }
+    ensures help { line_of (codes "--help" ∷ []) ≡ None }
+    ensures no_number { line_of (codes "--steps=x" ∷ codes "s" ∷ []) ≡ None }
+    ensures too_large { line_of (codes "--steps=18446744073709551616" ∷ codes "s" ∷ []) ≡ None }
+{}
+
+/// Texts: a module and an assertion on it; a command that lacks its members; and a text that is no JSON.
+pub fn texts_of_scripts()
+    ensures two_commands { IsScript two_commands two_commands_are }
+    ensures first_fault { IsFault (codes "{\"commands\":[{\"type\":\"module\"}]}") (fault.Command 1) }
+    ensures no_json { IsFault (codes "{") fault.NotJson }
+    ensures no_objects { IsFault (codes "{\"commands\":[3]}") fault.NoCommands }
+    ensures last_member { IsScript (codes "{\"commands\":3,\"commands\":[]}") [] }
 {}

@@ -1,8 +1,10 @@
 // Each public function on its happy path, and faults of scripts.
-use crate::{Command, ScriptFault, read_script};
+use crate::{Command, ScriptFault, Stop, read_script, read_words, report};
+use crun_words::NoLine;
 use std::alloc::Global;
 use std::test::Fail;
 use w2c_base::{TrapKind, Value};
+use w2c_io::MemSink;
 
 #[test]
 fn a_script(rt: HostRuntime) -> Result<(), Fail> {
@@ -49,5 +51,50 @@ fn faults(rt: HostRuntime) -> Result<(), Fail> {
         read_script(alloc, long.as_slice()).err(),
         Some(ScriptFault::TooLong)
     );
+    Ok(())
+}
+
+fn words(alloc: Global, texts: &[&str]) -> Result<Vec<String>, Fail> {
+    let mut words = Vec::new(alloc);
+    for text in texts {
+        words.push(String::from_str(alloc, text)?)?;
+    }
+    Ok(words)
+}
+
+fn is_usage(alloc: Global, texts: &[&str]) -> Result<bool, Fail> {
+    let words = words(alloc, texts)?;
+    Ok(matches!(read_words(alloc, words.as_slice()), Err(NoLine::Usage)))
+}
+
+#[test]
+fn a_command_line(rt: HostRuntime) -> Result<(), Fail> {
+    let alloc = rt.alloc();
+    let words = words(alloc, &["s.json", "--steps=18446744073709551615"])?;
+    let line = read_words(alloc, words.as_slice()).ok().ok_or("a line")?;
+    assert!(rt; line.steps == 18_446_744_073_709_551_615 && line.script == "s.json");
+    assert!(rt; is_usage(alloc, &["--steps", "1"])?);
+    assert!(rt; is_usage(alloc, &["s.json"])?);
+    assert!(rt; is_usage(alloc, &["--steps", "x", "s.json"])?);
+    assert!(rt; is_usage(alloc, &["--steps", "1", "s.json", "t.json"])?);
+    assert!(rt; is_usage(alloc, &["--help"])?);
+    Ok(())
+}
+
+fn line(alloc: Global, stop: Stop) -> Result<(u8, MemSink), Fail> {
+    let mut err = MemSink::new(alloc);
+    let status = report(alloc, &stop, &mut err);
+    Ok((status, err))
+}
+
+#[test]
+fn lines_of_reasons(rt: HostRuntime) -> Result<(), Fail> {
+    let alloc = rt.alloc();
+    let (status, err) = line(alloc, Stop::Refused(ScriptFault::Command(1)))?;
+    assert!(rt; status == 2 && err.bytes() == b"wast_run: command 1\n".as_slice());
+    let (status, err) = line(alloc, Stop::Refused(ScriptFault::NotJson))?;
+    assert!(rt; status == 2 && err.bytes() == b"wast_run: script is not JSON\n".as_slice());
+    let (status, err) = line(alloc, Stop::Unread(String::from_str(alloc, "a.wasm")?))?;
+    assert!(rt; status == 3 && err.bytes() == b"wast_run: a.wasm: read fault\n".as_slice());
     Ok(())
 }
