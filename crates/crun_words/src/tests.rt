@@ -68,16 +68,17 @@ fn stepping<'a>(alloc: Global) -> Result<Command<'a>, Fail> {
 #[test]
 fn one_option(rt: HostRuntime) -> Result<(), Fail> {
     let alloc = rt.alloc();
-    let words = words(alloc, &["--steps", "x", "y"])?;
+    let read = words(alloc, &["--steps", "x"])?;
     let command = stepping(alloc)?;
     let matches = command
-        .try_get_matches_from(&words[..2])
+        .try_get_matches_from(read.as_slice())
         .ok()
         .ok_or("an option")?;
     assert!(rt; matches.get_str("steps") == Some("x"));
+    let refused = words(alloc, &["--steps"])?;
     let command = stepping(alloc)?;
     let error = command
-        .try_get_matches_from(words.as_slice())
+        .try_get_matches_from(refused.as_slice())
         .err()
         .ok_or("no reading")?;
     assert_eq!(rt; refusal(&error), NoLine::Usage);

@@ -44,7 +44,7 @@ pub fn read_script(alloc: Global, bytes: &[u8]) -> Result<Script, ScriptFault>
     }
 }
 
-/// The script that a JSON value stands for.
+// The script that a JSON value stands for.
 fn script_of(alloc: Global, json: &Json) -> Result<Script, ScriptFault>
     ensures script { IfOk result (λ script. HasCommands (view json.now) (seen_script script)) }
     ensures fault { IfErr result (IsFaultOf (view json.now)) }
@@ -58,6 +58,7 @@ fn script_of(alloc: Global, json: &Json) -> Result<Script, ScriptFault>
     }
 }
 
+// The objects in its array `commands`.
 fn objects(json: &Json) -> Option<&[Json]>
     ensures { option_map (λ items. map view items.now) result ≡ objects_in (view json.now) }
 {
@@ -83,6 +84,7 @@ fn all_objects(items: &[Json]) -> bool
     items.iter().all(|item| item.is_object())
 }
 
+// The commands of objects, or the number of the first that is not of its form.
 fn commands(alloc: Global, objects: &[Json]) -> Result<Vec<Command>, ScriptFault>
     ensures commands { IfOk result (λ commands. all_given command_of (map view objects.now) ≡ Some (seen_commands commands.items)) }
     ensures fault { IfErr result (IsFirstFault (map view objects.now)) }

@@ -92,7 +92,7 @@ fn lines_of_reasons(rt: HostRuntime) -> Result<(), Fail> {
     let alloc = rt.alloc();
     let (status, err) = line(alloc, Stop::Refused(ScriptFault::Command(1)))?;
     assert!(rt; status == 2 && err.bytes() == b"wast_run: command 1\n".as_slice());
-    let (status, err) = line(alloc, Stop::Refused(ScriptFault::NotJson))?;
+    let (status, err) = line(alloc, ScriptFault::NotJson.into())?;
     assert!(rt; status == 2 && err.bytes() == b"wast_run: script is not JSON\n".as_slice());
     let (status, err) = line(alloc, Stop::Unread(String::from_str(alloc, "a.wasm")?))?;
     assert!(rt; status == 3 && err.bytes() == b"wast_run: a.wasm: read fault\n".as_slice());
