@@ -5,7 +5,7 @@ ghost use Rattle.w2c_mangle.specs.Escaping.{escaped};
 ghost use Rattle.crun_words.specs.CallLine.{word_of_name, AreNumbers, Call, IsBytes, IsSymbolOf, SayCall, SaysCall};
 ghost use Rattle.crun_words.specs.Seen.{seen_call};
 
-use crate::number::number;
+use crate::numbers::number;
 use crate::parts::{part_at, parts};
 use std::alloc::Global;
 use w2c_base::{Bytes, Memory, Sequence};

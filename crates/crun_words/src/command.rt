@@ -26,7 +26,8 @@ fn bare<'a>(alloc: Global) -> Command<'a>
     Command::new(alloc, "crun").no_binary_name(true)
 }
 
-fn word_option<'a>(alloc: Global, id: &'a str) -> Arg<'a>
+/// An option of a whole word, `--` and its name, which takes one value.
+pub fn word_option<'a>(alloc: Global, id: &'a str) -> Arg<'a>
     ensures rule { rule_of result ≡ option_rule id.now }
     ensures local { result.global ≡ false }
 {

@@ -10,7 +10,7 @@ mod command;
 mod inputs;
 mod law;
 mod line;
-mod number;
+mod numbers;
 mod parts;
 mod read;
 mod values;
@@ -19,10 +19,12 @@ pub use argument::arguments;
 pub use call::{CallLine, call_line};
 pub use calls_file::{NumberedLine, call_lines};
 pub use cases::{call_lines_that_are_read, lines_that_are_read, lines_that_are_refused};
+pub use command::word_option;
 pub use inputs::{InputStop, Inputs, read_inputs};
 pub use law::{one_call, one_reading};
 pub use line::Line;
-pub use read::{NoLine, read_words};
+pub use numbers::number;
+pub use read::{NoLine, read_words, refusal};
 
 #[cfg(test)]
 mod tests;

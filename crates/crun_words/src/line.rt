@@ -4,7 +4,7 @@ ghost use Rattle.w2c_files.specs.Words.{names_of};
 ghost use Rattle.crun_words.specs.CommandLine.{are_units as are_units_of, line_of_values as line_by_values};
 ghost use Rattle.crun_words.specs.Seen.{seen_line, seen_values};
 
-use crate::number::number;
+use crate::numbers::number;
 use crate::values::Values;
 
 /// How many units one line may name.

@@ -59,8 +59,10 @@ fn line_of_matches<'a>(alloc: Global, matches: &ArgMatches<'a>) -> Result<Line<'
     }
 }
 
-fn refusal(error: &Error) -> NoLine
-    ensures { result ≡ NoLine.Usage → kind_of error.now ≡ ErrorKind.OutOfMemory → ⊥ }
+/// Why `clap` gave no values: want of memory, or words that have no reading.
+pub fn refusal(error: &Error) -> NoLine
+    ensures usage { result ≡ NoLine.Usage → kind_of error.now ≡ ErrorKind.OutOfMemory → ⊥ }
+    ensures memory { result ≡ NoLine.Memory → kind_of error.now ≡ ErrorKind.OutOfMemory }
 {
     if error.kind() == ErrorKind::OutOfMemory {
         NoLine::Memory

@@ -1,6 +1,10 @@
 // Each public function on its happy path, words and lines that are refused, and each stop of reading.
-use crate::{InputStop, NoLine, arguments, call_line, call_lines, read_inputs, read_words};
+use crate::{
+    InputStop, NoLine, arguments, call_line, call_lines, number, read_inputs, read_words, refusal,
+    word_option,
+};
 use c_tree::CType;
+use clap::Command;
 use std::alloc::Global;
 use std::test::Fail;
 use w2c_base::Value;
@@ -53,6 +57,38 @@ fn bad_command_lines(rt: HostRuntime) -> Result<(), Fail> {
     ];
     assert!(rt; is_usage(alloc, &many)?);
     assert!(rt; !is_usage(alloc, &many[..20])?);
+    Ok(())
+}
+
+fn stepping<'a>(alloc: Global) -> Result<Command<'a>, Fail> {
+    let command = Command::new(alloc, "stepping").no_binary_name(true);
+    Ok(command.arg(word_option(alloc, "steps"))?)
+}
+
+#[test]
+fn one_option(rt: HostRuntime) -> Result<(), Fail> {
+    let alloc = rt.alloc();
+    let read = words(alloc, &["--steps", "x"])?;
+    let command = stepping(alloc)?;
+    let matches = command
+        .try_get_matches_from(read.as_slice())
+        .ok()
+        .ok_or("an option")?;
+    assert!(rt; matches.get_str("steps") == Some("x"));
+    let refused = words(alloc, &["--steps"])?;
+    let command = stepping(alloc)?;
+    let error = command
+        .try_get_matches_from(refused.as_slice())
+        .err()
+        .ok_or("no reading")?;
+    assert_eq!(rt; refusal(&error), NoLine::Usage);
+    Ok(())
+}
+
+#[test]
+fn numbers(rt: HostRuntime) -> Result<(), Fail> {
+    assert_eq!(rt; number(b"007"), Some(7));
+    assert_eq!(rt; number(b"18446744073709551616"), None);
     Ok(())
 }
 

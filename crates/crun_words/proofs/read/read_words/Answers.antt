@@ -40,7 +40,7 @@ pub returns-in-Err-clause-usage : goal.returns-in-Err-clause-usage
 returns-in-Err-clause-usage c usage =
     let words = texts c.args.words.now in
     let app : app_of c.in_ok-command.command ≡ crun = search rules in
-    let other : kind_of c.in-Err.error ≡ OutOfMemory → ⊥ = c.refusal.ensures (same_error {T = Line} (c.refusal.result) no_line.Usage usage) in
+    let other : kind_of c.in-Err.error ≡ OutOfMemory → ⊥ = c.refusal.ensures.usage (same_error {T = Line} (c.refusal.result) no_line.Usage usage) in
     let some : is_empty (fault_of (app_of c.in_ok-command.command) words) ≡ false =
     some_fault _ c.try_get_matches_from.result c.in-Err.error c.in-Err.is other (c.try_get_matches_from.ensures.kinds (ap is_simple_and_free app ∙ is_exact)) in
     none_read words (ap (λ (a : App). is_empty (fault_of a words)) (sym app) ∙ some)

@@ -7,7 +7,7 @@ ghost use Rattle.crun_words.specs.Numbers.{is_number as is_number_text, number_b
 use c_lex::value;
 
 /// The number below 2^64 that 1 to 20 decimal digits write, with leading zeros or without. None for any other text.
-pub(crate) fn number(text: &[u8]) -> Option<u64>
+pub fn number(text: &[u8]) -> Option<u64>
     ensures { result ≡ number_below (2 ^ 64) text.now }
 {
     if !is_number(text) {

@@ -1,0 +1,4 @@
+pub mod Gathered
+pub mod Items
+pub mod Readings
+pub mod LineOfWords
