@@ -199,12 +199,12 @@ module _ (ρ : Renaming) (p q : Program) (names : KeepsNames ρ) (made : IsMadeO
         go None is = tt
         go (Some u) is = ext.defined x u is
 
-    external_same : (x : Name) → external_func q x ≡ option_map (address ρ) (external_func p x)
+    pub external_same : (x : Name) → external_func q x ≡ option_map (address ρ) (external_func p x)
     external_same x =
         (λ i. option_or (calls_made x i) (host_same x i))
         ∙ or_map (address ρ) (option_map (λ u. UnitFunc u x) (definer p x)) (option_map (λ (s : HostSymbol). s.address) (host_symbol p x))
 
-    external_kept : (x : Name) → Holds (KeptFunc ρ) (external_func p x)
+    pub external_kept : (x : Name) → Holds (KeptFunc ρ) (external_func p x)
     external_kept x = or_kept (KeptFunc ρ) (option_map (λ u. UnitFunc u x) (definer p x)) (option_map (λ (s : HostSymbol). s.address) (host_symbol p x)) (calls_made_kept x) (host_kept x)
 
     -- a name of a function that the unit does not define

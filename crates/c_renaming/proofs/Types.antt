@@ -21,7 +21,7 @@ module _ (ρ : Renaming) (p q : Program) (meanings : KeepsMeanings ρ p q) where
       ap (λ (hosts : List Host). option_map c_func_type_of (if_found (slice_get hosts h) (λ host. option_map (λ function. function.ty) (slice_get host.functions f))))
       meanings.hosts
 
-  type_found : (o : Option FuncAddress) → Holds (KeptFunc ρ) o → if_found (option_map (address ρ) o) (func_type q) ≡ if_found o (func_type p)
+  pub type_found : (o : Option FuncAddress) → Holds (KeptFunc ρ) o → if_found (option_map (address ρ) o) (func_type q) ≡ if_found o (func_type p)
   type_found None kept = refl
   type_found (Some f) kept = func_type_same f kept
 
