@@ -12,7 +12,7 @@ use Rattle.c_tree.specs.Rules as rule
 use Rattle.c_tree.specs.FirstBroken.{KeepsRules}
 use Rattle.c_trim.specs.Trim.{body_functions, item_functions, stays, kept}
 use Rattle.c_trim.proofs.Lists.{and_both, both_and, all_where, all_left, any_left, any_map, not_true, or_right, any_of_left, map_left, take_front, take_next, one_longer}
-use Rattle.c_trim.proofs.RulesHold.{Hold, ItemHolds, ItemsHold, TextHolds, BodyHolds, item_at, rules_hold, keeps_rules}
+use Rattle.c_trim.proofs.RulesHold.{Hold, ItemHolds, ItemsHold, TextHolds, BodyHolds, item_at, moved, rules_hold, keeps_rules}
 use Rattle.c_trim.proofs.SameScope.{Each, AgreeOn, stmts_hold}
 
 -- what stays names what is needed alone
@@ -166,12 +166,9 @@ module _ (needed : Name → Bool) where
   items_hold : (before items : List tree.Item) → IsClosed needed items → ItemsHold (before ++ items) (length before) items
       → ItemsHold (kept needed (before ++ items)) (length (kept needed before)) (kept needed items)
   items_hold before [] closed hold = tt
-  items_hold before (x ∷ items) closed hold = by (stays needed x) refl (items_hold (before ++ x ∷ []) items closed.1 moved)
+  items_hold before (x ∷ items) closed hold =
+      by (stays needed x) refl (items_hold (before ++ x ∷ []) items closed.1 (moved before x items hold.1))
     where
-      moved : ItemsHold ((before ++ x ∷ []) ++ items) (length (before ++ x ∷ [])) items
-      moved = subst (λ (l : List tree.Item). ItemsHold l (length (before ++ x ∷ [])) items) (sym (append_assoc before (x ∷ []) items))
-          (subst (λ (k : ℕ). ItemsHold (before ++ x ∷ items) k items) (sym (one_longer before x)) hold.1)
-
       front : Bool → List tree.Item
       front b = kept needed before ++ (if b then x ∷ [] else [])
 

@@ -3,3 +3,8 @@ pub mod RulesHold
 pub mod SameScope
 pub mod KeptRules
 pub mod Needed
+pub mod KeptText
+pub mod Programs
+pub mod Distinct
+pub mod Links
+pub mod AlikeRuns

@@ -1,5 +1,5 @@
 -- A unit keeps the rules where each of its items and statements does.
-use Rattle.std.proofs.Common.{◌≡◌, ℕ, ◌+◌, Bool, true, false, not, if◌then◌else◌, List, [], ◌∷◌, ◌++◌, length, map, filter, flat_map, take, Option, Some, None, slice_get, refl, ap, ◌∙◌}
+use Rattle.std.proofs.Common.{◌≡◌, ℕ, ◌+◌, Bool, true, false, not, if◌then◌else◌, List, [], ◌∷◌, ◌++◌, length, map, filter, flat_map, take, Option, Some, None, slice_get, refl, sym, ap, ◌∙◌, subst, append_assoc}
 use Rattle.std.specs.Prelude.{zip, ⊤}
 use Rattle.std.specs.List.{AllByRecursion, range_with_len}
 use Rattle.w2c_base.specs.Lookup.{numbered}
@@ -7,7 +7,7 @@ use Rattle.c_tree.specs.Tree as tree
 use Rattle.c_tree.specs.Scope.{Scope}
 use Rattle.c_tree.specs.Rules.{Place, StmtPlace, item_rules, stmt_rules}
 use Rattle.c_tree.specs.FirstBroken.{BrokenAt, KeepsRules, broken_of, broken_in_stmt, broken_in_body, broken_in_item, broken_rules}
-use Rattle.c_trim.proofs.Lists.{first_none, append_none, map_none}
+use Rattle.c_trim.proofs.Lists.{first_none, append_none, map_none, one_longer}
 
 -- each rule holds at a place
 abbrev pub Hold : {P : Type 0} → List (ℕ × (P → Bool)) → P → Type 0
@@ -135,3 +135,10 @@ rules_hold unit keeps = items_hold unit 0 unit (first_none (broken_rules unit) k
 
 pub keeps_rules : (unit : List tree.Item) → ItemsHold unit 0 unit → KeepsRules unit
 keeps_rules unit hold = ap (λ found. slice_get found 0) (none_in_items unit 0 unit hold)
+
+-- the same items behind one item more
+pub moved : (before : List tree.Item) (x : tree.Item) (items : List tree.Item) → ItemsHold (before ++ x ∷ items) (length before + 1) items
+    → ItemsHold ((before ++ x ∷ []) ++ items) (length (before ++ x ∷ [])) items
+moved before x items hold =
+    subst (λ (l : List tree.Item). ItemsHold l (length (before ++ x ∷ [])) items) (sym (append_assoc before (x ∷ []) items))
+    (subst (λ (k : ℕ). ItemsHold (before ++ x ∷ items) k items) (sym (one_longer before x)) hold)

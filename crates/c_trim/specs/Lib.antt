@@ -1,2 +1,3 @@
 pub mod Trim
+pub mod Runs
 pub mod Samples

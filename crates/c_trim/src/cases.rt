@@ -3,6 +3,11 @@ ghost use Rattle.std.specs.Prelude.{◌≡◌, true, false, List, [], ◌∷◌,
 ghost use Rattle.c_tree.specs.Tree as tree;
 ghost use Rattle.c_tree.specs.FirstBroken.{broken_rules};
 ghost use Rattle.c_trim.specs.Trim.{IsTrimmed, external_names, leads, names};
+ghost use Rattle.w2c_base.specs.declared.value.Value.TheVariants.{I32};
+ghost use Rattle.c_meaning.specs.State.{Undefined};
+ghost use Rattle.c_meaning.specs.Run.{Stopped, c_run};
+ghost use Rattle.c_meaning.specs.Samples.{call_with};
+ghost use Rattle.c_trim.specs.Runs.{among, new_number, new_outcome, new_place};
 ghost use Rattle.c_trim.specs.Samples as sample;
 
 /// Chains of names.
@@ -21,6 +26,19 @@ pub fn sample_cases()
     ensures not_named { broken_rules sample.not_named ≡ [] }
     ensures each_other { broken_rules sample.each_other ≡ [] }
     ensures by_element { broken_rules (sample.by_element true) ≡ [] }
+{}
+
+/// Where a division by 0 stands before and after trimming, and the numbers of items.
+pub fn place_cases()
+    ensures before { (c_run (among [] sample.not_named [] []) (call_with (I32 1) (I32 0) ∷ []) 2 []).outcome
+        ≡ Stopped (Undefined 1 (record { unit = 0; item = 1; statement = 1 })) }
+    ensures after { (c_run (among [] (sample.quotient ∷ []) [] []) (call_with (I32 1) (I32 0) ∷ []) 2 []).outcome
+        ≡ Stopped (Undefined 1 (record { unit = 0; item = 0; statement = 1 })) }
+    ensures new { new_outcome (λ name. false) sample.not_named 0 (Stopped (Undefined 1 (record { unit = 0; item = 1; statement = 1 })))
+        ≡ Stopped (Undefined 1 (record { unit = 0; item = 0; statement = 1 })) }
+    ensures other_unit { new_place (λ name. false) sample.not_named 1 (record { unit = 0; item = 1; statement = 1 })
+        ≡ record { unit = 0; item = 1; statement = 1 } }
+    ensures behind_both { new_number (λ name. false) sample.each_other 4 ≡ 0 }
 {}
 
 /// What stays: of a unit with a function that is not named, of one with two that only call each other, and of one

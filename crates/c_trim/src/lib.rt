@@ -5,5 +5,8 @@
 mod cases;
 mod laws;
 
-pub use cases::{chain_cases, sample_cases, trimmed_cases};
-pub use laws::{one_trimmed_unit, trimmed_units_are_checked, trimming_twice_is_trimming_once};
+pub use cases::{chain_cases, place_cases, sample_cases, trimmed_cases};
+pub use laws::{
+    one_trimmed_unit, trimmed_units_are_checked, trimmed_units_link_and_run_as_before,
+    trimming_twice_is_trimming_once,
+};
