@@ -16,7 +16,7 @@ use Rattle.c_trim.proofs.Lists.{by_test, and_both, each, all_of_both, take_front
 use Rattle.c_trim.proofs.RulesHold.{ItemsHold, moved}
 
 -- the two may be declared one after the other
-abbrev may_follow : tree.Item → tree.Item → Bool
+abbrev pub may_follow : tree.Item → tree.Item → Bool
 may_follow x y = not (bytes_eq (name_of x) (name_of y)) || rule.may_both_stand x y
 
 follow_all : (before items : List tree.Item) → ItemsHold (before ++ items) (length before) items
@@ -31,11 +31,11 @@ follow_all before (y ∷ items) hold = (
       (follow_all (before ++ y ∷ []) items (moved before y items hold.1)),
 )
 
-abbrev InOrder : List tree.Item → Type 0
+abbrev pub InOrder : List tree.Item → Type 0
 InOrder [] = ⊤
 InOrder (x ∷ items) = AllByRecursion (λ (y : tree.Item). may_follow x y ≡ true) items × InOrder items
 
-in_order : (before items : List tree.Item) → ItemsHold (before ++ items) (length before) items → InOrder items
+pub in_order : (before items : List tree.Item) → ItemsHold (before ++ items) (length before) items → InOrder items
 in_order before [] hold = tt
 in_order before (x ∷ items) hold = (
   each (λ (z : tree.Item). list_all (λ y. may_follow y z) (before ++ x ∷ []) ≡ true) (λ (z : tree.Item). may_follow x z ≡ true)

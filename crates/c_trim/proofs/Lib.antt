@@ -8,3 +8,9 @@ pub mod Programs
 pub mod Distinct
 pub mod Links
 pub mod AlikeRuns
+pub mod Steps
+pub mod Marking
+pub mod Spread
+pub mod Exact
+pub mod InPlace
+pub mod Refused

@@ -61,6 +61,15 @@ all_left {A} p keep (x ∷ xs) e =
     by true here behind = both_and (p x) (list_all p (filter keep xs)) here behind
     by false here behind = behind
 
+pub any_of_both : {A : Type 0} (p : A → Bool) (xs ys : List A) → list_any p (xs ++ ys) ≡ (list_any p xs || list_any p ys)
+any_of_both p [] ys = refl
+any_of_both {A} p (x ∷ xs) ys = by (p x) (any_of_both p xs ys)
+  where
+    by : (b : Bool) → list_any p (xs ++ ys) ≡ (list_any p xs || list_any p ys)
+        → (b || list_any p (xs ++ ys)) ≡ ((b || list_any p xs) || list_any p ys)
+    by true behind = refl
+    by false behind = behind
+
 -- what passes a test and stays is found still
 pub any_left : {A : Type 0} (p keep : A → Bool) → ((a : A) → p a ≡ true → keep a ≡ true) → (xs : List A) → list_any p xs ≡ true
     → list_any p (filter keep xs) ≡ true

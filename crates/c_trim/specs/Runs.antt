@@ -1,13 +1,13 @@
 -- The runs of units in which one is trimmed: the same ones, but for the item of what is undefined in that unit.
 use Rattle.std.specs.Prelude.{◌≡◌, ℕ, ◌-◌, ◌==◌, Bool, not, if◌then◌else◌, List, ◌∷◌, ◌++◌, length, filter, take, slice_get, Some}
-use Rattle.w2c_base.specs.Run.{Host}
+use Rattle.w2c_base.specs.Run.{Host, Reply}
 use Rattle.c_tree.specs.Tree as tree
 use Rattle.c_tree.specs.Scope.{Name}
 use Rattle.c_tree.specs.FirstBroken.{KeepsRules}
 use Rattle.c_meaning.specs.State.{Place, Stop, Trapped, Undefined, Asks, Stuck}
-use Rattle.c_meaning.specs.Linking.{Program}
-use Rattle.c_meaning.specs.Run.{CRun, Outcome, Ended, Stopped, OutOfSteps}
-use Rattle.c_trim.specs.Trim.{stays}
+use Rattle.c_meaning.specs.Linking.{Program, SymbolCall, fits, link_refusal}
+use Rattle.c_meaning.specs.Run.{CRun, Outcome, Ended, Stopped, OutOfSteps, c_run}
+use Rattle.c_trim.specs.Trim.{IsTrimmed, stays}
 
 -- a unit among others, linked with hosts
 abbrev pub among : List (List tree.Item) → List tree.Item → List (List tree.Item) → List Host → Program
@@ -51,3 +51,16 @@ pub record RunsAlike (needed : Name → Bool) (unit : List tree.Item) (k : ℕ) 
   pub events : other.events ≡ run.events
   pub objects : other.units ≡ run.units
   pub outcome : other.outcome ≡ new_outcome needed unit k run.outcome
+
+-- The second unit, which is the first one trimmed, may stand in its place, wherever that is among units that keep the rules:
+-- they link or are refused as before, the same calls fit, and they run alike.
+pub record RunsInPlaceOf (unit t : List tree.Item) : Type 0 where
+  pub trimmed : IsTrimmed unit t
+  pub link : (before after : List (List tree.Item)) (hosts : List Host) → AllKeepRules (before ++ unit ∷ after)
+      → link_refusal (among before t after hosts) ≡ link_refusal (among before unit after hosts)
+  pub fit : (before after : List (List tree.Item)) (hosts : List Host) → AllKeepRules (before ++ unit ∷ after)
+      → (c : SymbolCall) → fits (among before t after hosts) c ≡ fits (among before unit after hosts) c
+  pub run : (before after : List (List tree.Item)) (hosts : List Host) → AllKeepRules (before ++ unit ∷ after)
+      → (calls : List SymbolCall) (m : ℕ) (replies : List Reply)
+      → RunsAlike trimmed.needed unit (length before)
+      (c_run (among before unit after hosts) calls m replies) (c_run (among before t after hosts) calls m replies)
