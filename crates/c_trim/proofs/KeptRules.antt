@@ -1,0 +1,201 @@
+-- What stays of a unit keeps the rules that the unit keeps, where the functions that it names stay.
+use Rattle.std.proofs.Common.{◌≡◌, ℕ, ◌+◌, ◌&&◌, ◌||◌, Bool, true, false, not, if◌then◌else◌, List, [], ◌∷◌, ◌++◌, length, map, filter_map, take, bytes_eq, is_some, Option, Some, None, refl, sym, ap, ◌∙◌, subst, append_assoc}
+use Rattle.std.specs.List.{AllByRecursion, list_all, list_any}
+use Rattle.std.proofs.lemmas.List.{append-nil}
+use Rattle.std.proofs.lemmas.List.Elements.{filter-append}
+use Rattle.std.proofs.lemmas.Slice.Eq.{bytes_eq-Decides}
+use Rattle.w2c_base.specs.Lookup.{named}
+use Rattle.c_tree.specs.Tree as tree
+use Rattle.c_tree.specs.Scope as scope
+use Rattle.c_tree.specs.Scope.{Name, name_of, is_among}
+use Rattle.c_tree.specs.Rules as rule
+use Rattle.c_tree.specs.FirstBroken.{KeepsRules}
+use Rattle.c_trim.specs.Trim.{body_functions, item_functions, stays, kept}
+use Rattle.c_trim.proofs.Lists.{and_both, both_and, all_where, all_left, any_left, any_map, not_true, or_right, any_of_left, map_left, take_front, take_next, one_longer}
+use Rattle.c_trim.proofs.RulesHold.{Hold, ItemHolds, ItemsHold, TextHolds, BodyHolds, item_at, moved, rules_hold, keeps_rules}
+use Rattle.c_trim.proofs.SameScope.{Each, AgreeOn, stmts_hold}
+
+-- what stays names what is needed alone
+abbrev pub IsClosed : (Name → Bool) → List tree.Item → Type 0
+IsClosed needed items = AllByRecursion (λ (item : tree.Item). stays needed item ≡ true → Each needed (item_functions item)) items
+
+module _ (needed : Name → Bool) where
+  -- ---- what is declared
+
+  no_variable : (x : tree.Item) → stays needed x ≡ false → scope.variable_of x ≡ None
+  no_variable (tree.Array name count bytes) e = cc
+  no_variable (tree.Var ty name number) e = cc
+  no_variable (tree.Function f) e = refl
+
+  no_array : (x : tree.Item) → stays needed x ≡ false → scope.array_of x ≡ None
+  no_array (tree.Array name count bytes) e = cc
+  no_array (tree.Var ty name number) e = cc
+  no_array (tree.Function f) e = refl
+
+  abbrev functions_in : List tree.Item → List (Name × tree.FuncType)
+  functions_in items = filter_map scope.function_of items
+
+  same_function : (x : Name) → needed x ≡ true → (items : List tree.Item)
+      → named x (functions_in (kept needed items)) ≡ named x (functions_in items)
+  same_function x is [] = refl
+  same_function x is (tree.Array name count bytes ∷ items) = same_function x is items
+  same_function x is (tree.Var ty name number ∷ items) = same_function x is items
+  same_function x is (tree.Function f ∷ items) =
+      by (stays needed (tree.Function f)) (bytes_eq f.name x) refl refl (same_function x is items)
+    where
+      rest : List tree.Item
+      rest = kept needed items
+
+      by : (b c : Bool) → stays needed (tree.Function f) ≡ b → bytes_eq f.name x ≡ c
+          → named x (functions_in rest) ≡ named x (functions_in items)
+          → named x (functions_in (if b then tree.Function f ∷ rest else rest))
+          ≡ (if c then Some (scope.func_type_of f) else named x (functions_in items))
+      by true true stay same behind = ap (λ t. if t then Some (scope.func_type_of f) else named x (functions_in rest)) same
+      by true false stay same behind = ap (λ t. if t then Some (scope.func_type_of f) else named x (functions_in rest)) same ∙ behind
+      by false true stay same behind =
+          let e : f.name ≡ x = (bytes_eq-Decides f.name x).0 same in
+          let must : needed f.name ≡ true = ap needed e ∙ is in
+          absurd (never f.is_static (needed f.name) stay must)
+        where
+          never : (b c : Bool) → (not b || c) ≡ false → c ≡ true → ⊥
+          never true true e f = cc
+          never true false e f = cc
+          never false c e f = cc
+      by false false stay same behind = behind
+
+  agree : (items : List tree.Item) → AgreeOn needed items (kept needed items)
+  agree items = record {
+    variables = map_left scope.variable_of (stays needed) no_variable items;
+    arrays = map_left scope.array_of (stays needed) no_array items;
+    functions = λ x is. same_function x is items;
+  }
+
+  -- ---- one item, between those before it and those behind it
+
+  module _ (before : List tree.Item) (x : tree.Item) (behind : List tree.Item) (here : stays needed x ≡ true) where
+    abbrev u : List tree.Item
+    u = before ++ x ∷ behind
+
+    abbrev t : List tree.Item
+    t = kept needed u
+
+    abbrev at : ℕ
+    at = length (kept needed before)
+
+    parts : t ≡ kept needed before ++ x ∷ kept needed behind
+    parts = filter-append (stays needed) before (x ∷ behind)
+        ∙ ap (λ b. kept needed before ++ (if b then x ∷ kept needed behind else kept needed behind)) here
+
+    abbrev clashes : tree.Item → Bool
+    clashes other = not (bytes_eq (name_of other) (name_of x)) || rule.may_both_stand other x
+
+    declared_once : rule.is_declared_once (item_at u (length before) x) ≡ true → rule.is_declared_once (item_at t at x) ≡ true
+    declared_once e =
+        ap (λ l. list_all clashes (take at l)) parts
+        ∙ ap (list_all clashes) (take_front (kept needed before) (x ∷ kept needed behind))
+        ∙ all_left clashes (stays needed) before (sym (ap (list_all clashes) (take_front before (x ∷ behind))) ∙ e)
+
+    name_hidden : (name : Name) → not (is_among name (map name_of u)) ≡ true → not (is_among name (map name_of t)) ≡ true
+    name_hidden name e = ap not (any_map (bytes_eq name) name_of t
+        ∙ any_of_left (λ y. bytes_eq name (name_of y)) (stays needed) u
+        (sym (any_map (bytes_eq name) name_of u) ∙ not_true (is_among name (map name_of u)) e))
+
+    hides : (names : List Name) → rule.hides_none u names ≡ true → rule.hides_none t names ≡ true
+    hides names e = all_where _ _ name_hidden names e
+
+    own_distinct : (y : tree.Item) → rule.own_names_are_distinct (item_at u (length before) y) ≡ true
+        → rule.own_names_are_distinct (item_at t at y) ≡ true
+    own_distinct (tree.Array name count bytes) e = refl
+    own_distinct (tree.Var ty name number) e = refl
+    own_distinct (tree.Function f) e =
+        let names : List Name = rule.local_names (tree.Function f) in
+        let two = and_both (rule.params_are_named f) (rule.are_distinct names && rule.hides_none u names) e in
+        let last = and_both (rule.are_distinct names) (rule.hides_none u names) two.1 in
+        both_and (rule.params_are_named f) (rule.are_distinct names && rule.hides_none t names) two.0
+        (both_and (rule.are_distinct names) (rule.hides_none t names) last.0 (hides names last.1))
+
+    defined_static : (y : tree.Item) → stays needed y ≡ true → rule.is_defined_if_static (item_at u (length before) y) ≡ true
+        → rule.is_defined_if_static (item_at t at y) ≡ true
+    defined_static (tree.Array name count bytes) stay e = refl
+    defined_static (tree.Var ty name number) stay e = refl
+    defined_static (tree.Function f) stay e = by f.is_static stay e
+      where
+        same_stays : needed f.name ≡ true → (y : tree.Item) → rule.defines f.name y ≡ true → stays needed y ≡ true
+        same_stays is (tree.Array name count bytes) e = refl
+        same_stays is (tree.Var ty name number) e = refl
+        same_stays is (tree.Function g) e =
+            let same = and_both (bytes_eq g.name f.name) (is_some g.body) e in
+            or_right (not g.is_static) (needed g.name) (ap needed ((bytes_eq-Decides g.name f.name).0 same.0) ∙ is)
+
+        by : (b : Bool) → (not b || needed f.name) ≡ true → (not b || list_any (rule.defines f.name) u) ≡ true
+            → (not b || list_any (rule.defines f.name) t) ≡ true
+        by false stay e = refl
+        by true stay e = any_left (rule.defines f.name) (stays needed) (same_stays stay) u e
+
+    item_rules_hold : Hold rule.item_rules (item_at u (length before) x) → Hold rule.item_rules (item_at t at x)
+    item_rules_hold hold = (
+      declared_once hold.0,
+      (hold.1.0, (hold.1.1.0, (hold.1.1.1.0, (defined_static x here hold.1.1.1.1.0, (own_distinct x hold.1.1.1.1.1.0, hold.1.1.1.1.1.1))))),
+    )
+
+    declared_agree : AgreeOn needed (take (length before + 1) u) (take (at + 1) t)
+    declared_agree =
+        subst (λ (l : List tree.Item). AgreeOn needed l (take (at + 1) t)) (sym (take_next before x behind))
+        (subst (λ (l : List tree.Item). AgreeOn needed (before ++ x ∷ []) l)
+        (sym (ap (take (at + 1)) parts ∙ take_next (kept needed before) x (kept needed behind) ∙ sym last))
+        (agree (before ++ x ∷ [])))
+      where
+        last : kept needed (before ++ x ∷ []) ≡ kept needed before ++ x ∷ []
+        last = filter-append (stays needed) before (x ∷ []) ∙ ap (λ b. kept needed before ++ (if b then x ∷ [] else [])) here
+
+    body_holds : (f : tree.Func) (o : Option tree.Body) → Each needed (body_functions o) → BodyHolds u (length before) f o
+        → BodyHolds t at f o
+    body_holds f None all hold = tt
+    body_holds f (Some b) all hold = stmts_hold needed (take (length before + 1) u) (take (at + 1) t) declared_agree f b 0 b.stmts all hold
+
+    text_holds : (y : tree.Item) → Each needed (item_functions y) → TextHolds u (length before) y → TextHolds t at y
+    text_holds (tree.Array name count bytes) all hold = tt
+    text_holds (tree.Var ty name number) all hold = tt
+    text_holds (tree.Function f) all hold = body_holds f f.body all hold
+
+    item_holds : Each needed (item_functions x) → ItemHolds u (length before) x → ItemHolds t at x
+    item_holds all hold = (item_rules_hold hold.0, text_holds x all hold.1)
+
+  -- ---- all items
+
+  items_hold : (before items : List tree.Item) → IsClosed needed items → ItemsHold (before ++ items) (length before) items
+      → ItemsHold (kept needed (before ++ items)) (length (kept needed before)) (kept needed items)
+  items_hold before [] closed hold = tt
+  items_hold before (x ∷ items) closed hold =
+      by (stays needed x) refl (items_hold (before ++ x ∷ []) items closed.1 (moved before x items hold.1))
+    where
+      front : Bool → List tree.Item
+      front b = kept needed before ++ (if b then x ∷ [] else [])
+
+      all : List tree.Item
+      all = kept needed (before ++ x ∷ items)
+
+      -- the items behind, in the unit, with the number that they have there
+      back : (b : Bool) → stays needed x ≡ b
+          → ItemsHold (kept needed ((before ++ x ∷ []) ++ items)) (length (kept needed (before ++ x ∷ []))) (kept needed items)
+          → ItemsHold all (length (front b)) (kept needed items)
+      back b is rest =
+          subst (λ (l : List tree.Item). ItemsHold (kept needed l) (length (front b)) (kept needed items))
+          (append_assoc before (x ∷ []) items)
+          (subst (λ (l : List tree.Item). ItemsHold (kept needed ((before ++ x ∷ []) ++ items)) (length l) (kept needed items))
+          (filter-append (stays needed) before (x ∷ []) ∙ ap front is) rest)
+
+      by : (b : Bool) → stays needed x ≡ b
+          → ItemsHold (kept needed ((before ++ x ∷ []) ++ items)) (length (kept needed (before ++ x ∷ []))) (kept needed items)
+          → ItemsHold all (length (kept needed before)) (if b then x ∷ kept needed items else kept needed items)
+      by true is rest = (
+        item_holds before x items is (closed.0 is) hold.0,
+        subst (λ (k : ℕ). ItemsHold all k (kept needed items)) (one_longer (kept needed before) x) (back true is rest),
+      )
+      by false is rest =
+          subst (λ (l : List tree.Item). ItemsHold all (length l) (kept needed items))
+          (append-nil (kept needed before)) (back false is rest)
+
+pub kept_keeps_rules : (needed : Name → Bool) (unit : List tree.Item) → IsClosed needed unit → KeepsRules unit
+    → KeepsRules (kept needed unit)
+kept_keeps_rules needed unit closed keeps = keeps_rules (kept needed unit) (items_hold needed [] unit closed (rules_hold unit keeps))

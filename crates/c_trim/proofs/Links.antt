@@ -1,0 +1,136 @@
+-- Units in which one is trimmed link as before, and the same calls fit.
+use Rattle.std.proofs.Common.{◌≡◌, ℕ, zero, suc, ◌+◌, ◌&&◌, ◌||◌, Bool, true, false, not, if◌then◌else◌, List, [], ◌∷◌, ◌++◌, length, flat_map, take, is_some, slice_get, Option, Some, None, refl, sym, ap, ◌∙◌}
+use Rattle.std.specs.Prelude.{zip}
+use Rattle.std.specs.List.{list_any, range_with_len}
+use Rattle.w2c_base.specs.Lookup.{if_found}
+use Rattle.w2c_base.specs.Run.{Host}
+use Rattle.c_tree.specs.Tree as tree
+use Rattle.c_tree.specs.Runtime.{same_func_type}
+use Rattle.c_tree.specs.Scope.{Name, func_type_of}
+use Rattle.c_meaning.specs.Linking.{Program, SymbolCall, LinkRefusal, NotDefined, Twice, TypeDiffers, defined_for_all, external_func, external_functions, fits, func_type, host_symbol, link_refusal, twice, unresolved}
+use Rattle.c_renaming.specs.Renaming.{Renaming}
+use Rattle.c_renaming.specs.Trimming as whole
+use Rattle.c_renaming.proofs.Made.{external_same, external_kept}
+use Rattle.c_renaming.proofs.Trimmed.{made, externals, names_kept, test_same}
+use Rattle.c_renaming.proofs.Types.{calls_fit, type_found}
+use Rattle.c_trim.specs.Trim.{stays, kept, TellsNeeded}
+use Rattle.c_trim.specs.Runs.{among, AllKeepRules}
+use Rattle.c_trim.proofs.Lists.{map_left}
+use Rattle.c_trim.proofs.Programs as program
+
+-- ---- lists in which one element is another
+
+each_flat : {A B : Type 0} (f g : A → List B) → ((a : A) → f a ≡ g a) → (xs : List A) → flat_map f xs ≡ flat_map g xs
+each_flat f g same [] = refl
+each_flat f g same (x ∷ xs) = λ i. same x i ++ each_flat f g same xs i
+
+abbrev from : {A B : Type 0} → (ℕ → A → List B) → ℕ → List A → List B
+from g j xs = flat_map (λ e. g e.0 e.1) (zip (range_with_len j (length xs)) xs)
+
+module _ {A B : Type 0} (x y : A) (ys : List A) where
+  behind_same : (f g : ℕ → A → List B) → ((j : ℕ) (a : A) → f j a ≡ g j a) → (j : ℕ) (xs : List A) → from f j xs ≡ from g j xs
+  behind_same f g same j [] = refl
+  behind_same f g same j (a ∷ xs) = λ i. same j a i ++ behind_same f g same (j + 1) xs i
+
+  from_same : (f g : ℕ → A → List B) → ((j : ℕ) (a : A) → f j a ≡ g j a) → ((j : ℕ) → g j x ≡ g j y) → (j : ℕ) (xs : List A)
+      → from f j (xs ++ x ∷ ys) ≡ from g j (xs ++ y ∷ ys)
+  from_same f g same here j [] = λ i. (same j x ∙ here j) i ++ behind_same f g same (j + 1) ys i
+  from_same f g same here j (a ∷ xs) = λ i. same j a i ++ from_same f g same here (j + 1) xs i
+
+any_same : {A : Type 0} (x y : A) (ys : List A) (test : A → Bool) → test x ≡ test y → (n : ℕ) (xs : List A)
+    → list_any test (take n (xs ++ x ∷ ys)) ≡ list_any test (take n (xs ++ y ∷ ys))
+any_same x y ys test e zero xs = refl
+any_same x y ys test e (suc n) [] = ap (λ b. b || list_any test (take n ys)) e
+any_same x y ys test e (suc n) (a ∷ xs) = ap (λ b. test a || b) (any_same x y ys test e n xs)
+
+-- ---- the functions of external linkage that a unit declares
+
+abbrev external_of : tree.Item → Option tree.Func
+external_of item = elim item as (λ _. Option tree.Func) [
+  | tree.Array name count bytes ↦ None
+  | tree.Var ty name number ↦ None
+  | tree.Function f ↦ if f.is_static then None else Some f
+]
+
+not_external : (needed : Name → Bool) (item : tree.Item) → stays needed item ≡ false → external_of item ≡ None
+not_external needed (tree.Array name count bytes) e = cc
+not_external needed (tree.Var ty name number) e = cc
+not_external needed (tree.Function f) e = by f.is_static e
+  where
+    by : (b : Bool) → (not b || needed f.name) ≡ false → (if b then None else Some f) ≡ None
+    by true e = refl
+    by false e = cc
+
+same_externals : (needed : Name → Bool) (items : List tree.Item) → external_functions (kept needed items) ≡ external_functions items
+same_externals needed items = map_left external_of (stays needed) (not_external needed) items
+
+module _ (before after : List (List tree.Item)) (hosts : List Host) (unit : List tree.Item) (needed : Name → Bool)
+    (tells : TellsNeeded unit needed) (keeps : AllKeepRules (before ++ unit ∷ after)) where
+  abbrev p : Program
+  p = among before unit after hosts
+
+  abbrev q : Program
+  q = among before (kept needed unit) after hosts
+
+  abbrev stay : whole.Stays
+  stay = program.stay before after hosts unit needed tells keeps
+
+  abbrev used : whole.Stays
+  used = program.used before after hosts unit needed tells keeps
+
+  abbrev may : whole.MayTrim p used stay
+  may = program.may before after hosts unit needed tells keeps
+
+  abbrev ρ : Renaming
+  ρ = whole.trimming p used stay
+
+  trimmed_is : whole.trimmed p stay ≡ q
+  trimmed_is = program.trimmed_is before after hosts unit needed tells keeps
+
+  -- a definition for all units is found in both
+  test : (x : Name) → is_some (defined_for_all (kept needed unit) x) ≡ is_some (defined_for_all unit x)
+  test x =
+      ap (λ items. is_some (defined_for_all items x))
+      (sym (program.this_left before after hosts unit needed tells keeps (length before) refl))
+      ∙ test_same p used stay may x (length before) unit (program.at_place before after hosts unit needed tells keeps before after)
+
+  abbrev found_type : Program → Name → Option tree.FuncType
+  found_type r x = if_found (external_func r x) (func_type r)
+
+  same_type : (x : Name) → found_type q x ≡ found_type p x
+  same_type x = ap (λ r. found_type r x) (sym trimmed_is)
+      ∙ ap (λ o. if_found o (func_type (whole.trimmed p stay)))
+      (external_same ρ p (whole.trimmed p stay) (names_kept p used stay) (made p used stay may) (externals p used stay may) x)
+      ∙ type_found ρ p (whole.trimmed p stay) (program.renames before after hosts unit needed tells keeps).meanings (external_func p x)
+      (external_kept ρ p (whole.trimmed p stay) (names_kept p used stay) (made p used stay may) (externals p used stay may) x)
+
+  same_twice : (u : ℕ) (f : tree.Func) → twice q u f ≡ twice p u f
+  same_twice u f = ap (λ b. if is_some f.body && (is_some (host_symbol p f.name) || b) then Twice u f.name ∷ [] else [])
+      (any_same (kept needed unit) unit after (λ items. is_some (defined_for_all items f.name)) (test f.name) u before)
+
+  same_unresolved : (u : ℕ) (f : tree.Func) → unresolved q u f ≡ unresolved p u f
+  same_unresolved u f = ap (λ o. elim o as (λ _. List LinkRefusal) [
+    | None ↦ NotDefined u f.name ∷ []
+    | Some ty ↦ if same_func_type ty (func_type_of f) then [] else TypeDiffers u f.name ∷ []
+  ]) (same_type f.name)
+
+  pub same_link : link_refusal q ≡ link_refusal p
+  same_link = λ i. slice_get (twices i ++ others i) 0
+    where
+      twices : from (λ u items. flat_map (twice q u) (external_functions items)) 0 q.units
+          ≡ from (λ u items. flat_map (twice p u) (external_functions items)) 0 p.units
+      twices = from_same (kept needed unit) unit after (λ u items. flat_map (twice q u) (external_functions items))
+          (λ u items. flat_map (twice p u) (external_functions items))
+          (λ u items. each_flat (twice q u) (twice p u) (same_twice u) (external_functions items))
+          (λ u. ap (flat_map (twice p u)) (same_externals needed unit)) 0 before
+
+      others : from (λ u items. flat_map (unresolved q u) (external_functions items)) 0 q.units
+          ≡ from (λ u items. flat_map (unresolved p u) (external_functions items)) 0 p.units
+      others = from_same (kept needed unit) unit after (λ u items. flat_map (unresolved q u) (external_functions items))
+          (λ u items. flat_map (unresolved p u) (external_functions items))
+          (λ u items. each_flat (unresolved q u) (unresolved p u) (same_unresolved u) (external_functions items))
+          (λ u. ap (flat_map (unresolved p u)) (same_externals needed unit)) 0 before
+
+  pub same_fits : (c : SymbolCall) → fits q c ≡ fits p c
+  same_fits c = ap (λ r. fits r c) (sym trimmed_is)
+      ∙ calls_fit ρ p (whole.trimmed p stay) (program.renames before after hosts unit needed tells keeps) c

@@ -1,0 +1,168 @@
+-- Lists of which some elements are left out, and what holds of each element.
+use Rattle.std.proofs.Common.{◌≡◌, ℕ, suc, ◌+◌, ◌&&◌, ◌||◌, Bool, true, false, not, if◌then◌else◌, List, [], ◌∷◌, ◌++◌, length, map, filter, filter_map, take, bytes_eq, slice_get, Option, Some, None, refl, sym, ap, ◌∙◌, arith}
+use Rattle.std.specs.List.{AllByRecursion, list_all, list_any}
+use Rattle.std.specs.List.{cons_option}
+use Rattle.std.specs.Option.{option_or}
+use Rattle.w2c_base.specs.Lookup.{named}
+
+pub and_both : (a b : Bool) → (a && b) ≡ true → (a ≡ true) × (b ≡ true)
+and_both true true e = (refl, refl)
+and_both true false e = cc
+and_both false b e = cc
+
+pub both_and : (a b : Bool) → a ≡ true → b ≡ true → (a && b) ≡ true
+both_and a b left right = λ i. left i && right i
+
+pub or_left : (a b : Bool) → a ≡ true → (a || b) ≡ true
+or_left a b e = ap (λ c. c || b) e
+
+pub or_right : (a b : Bool) → b ≡ true → (a || b) ≡ true
+or_right true b e = refl
+or_right false b e = e
+
+pub and_false : (a b : Bool) → b ≡ false → (a && b) ≡ false
+and_false true b e = e
+and_false false b e = refl
+
+pub by_test : {P : Type 0} (b : Bool) → (b ≡ true → P) → (b ≡ false → P) → P
+by_test true holds fails = holds refl
+by_test false holds fails = fails refl
+
+pub each : {A : Type 0} (P Q : A → Type 0) → ((a : A) → P a → Q a) → (xs : List A) → AllByRecursion P xs → AllByRecursion Q xs
+each P Q go [] all = tt
+each P Q go (x ∷ xs) all = (go x all.0, each P Q go xs all.1)
+
+pub both_append : {A : Type 0} (P : A → Type 0) (xs ys : List A) → AllByRecursion P (xs ++ ys) → AllByRecursion P xs × AllByRecursion P ys
+both_append P [] ys all = (tt, all)
+both_append P (x ∷ xs) ys all = let two = both_append P xs ys all.1 in ((all.0, two.0), two.1)
+
+pub all_where : {A : Type 0} (p q : A → Bool) → ((a : A) → p a ≡ true → q a ≡ true) → (xs : List A) → list_all p xs ≡ true
+    → list_all q xs ≡ true
+all_where p q go [] e = refl
+all_where p q go (x ∷ xs) e =
+    let two = and_both (p x) (list_all p xs) e in
+    both_and (q x) (list_all q xs) (go x two.0) (all_where p q go xs two.1)
+
+pub all_of_both : {A : Type 0} (p : A → Bool) (xs ys : List A) → list_all p (xs ++ ys) ≡ (list_all p xs && list_all p ys)
+all_of_both p [] ys = refl
+all_of_both {A} p (x ∷ xs) ys = by (p x) (all_of_both p xs ys)
+  where
+    by : (b : Bool) → list_all p (xs ++ ys) ≡ (list_all p xs && list_all p ys)
+        → (b && list_all p (xs ++ ys)) ≡ ((b && list_all p xs) && list_all p ys)
+    by true behind = behind
+    by false behind = refl
+
+pub all_left : {A : Type 0} (p keep : A → Bool) (xs : List A) → list_all p xs ≡ true → list_all p (filter keep xs) ≡ true
+all_left p keep [] e = refl
+all_left {A} p keep (x ∷ xs) e =
+    let two = and_both (p x) (list_all p xs) e in by (keep x) two.0 (all_left p keep xs two.1)
+  where
+    by : (b : Bool) → p x ≡ true → list_all p (filter keep xs) ≡ true → list_all p (if b then x ∷ filter keep xs else filter keep xs) ≡ true
+    by true here behind = both_and (p x) (list_all p (filter keep xs)) here behind
+    by false here behind = behind
+
+pub any_of_both : {A : Type 0} (p : A → Bool) (xs ys : List A) → list_any p (xs ++ ys) ≡ (list_any p xs || list_any p ys)
+any_of_both p [] ys = refl
+any_of_both {A} p (x ∷ xs) ys = by (p x) (any_of_both p xs ys)
+  where
+    by : (b : Bool) → list_any p (xs ++ ys) ≡ (list_any p xs || list_any p ys)
+        → (b || list_any p (xs ++ ys)) ≡ ((b || list_any p xs) || list_any p ys)
+    by true behind = refl
+    by false behind = behind
+
+-- what passes a test and stays is found still
+pub any_left : {A : Type 0} (p keep : A → Bool) → ((a : A) → p a ≡ true → keep a ≡ true) → (xs : List A) → list_any p xs ≡ true
+    → list_any p (filter keep xs) ≡ true
+any_left p keep stays [] e = cc
+any_left {A} p keep stays (x ∷ xs) e = by (p x) (keep x) refl (stays x) e (any_left p keep stays xs)
+  where
+    by : (b c : Bool) → p x ≡ b → (p x ≡ true → c ≡ true) → (b || list_any p xs) ≡ true
+        → (list_any p xs ≡ true → list_any p (filter keep xs) ≡ true)
+        → list_any p (if c then x ∷ filter keep xs else filter keep xs) ≡ true
+    by true true is must e behind = or_left (p x) (list_any p (filter keep xs)) is
+    by true false is must e behind = let no : false ≡ true = must is in cc
+    by false true is must e behind = or_right (p x) (list_any p (filter keep xs)) (behind e)
+    by false false is must e behind = behind e
+
+-- what is found in a part is found in the whole
+pub any_of_left : {A : Type 0} (p keep : A → Bool) (xs : List A) → list_any p xs ≡ false → list_any p (filter keep xs) ≡ false
+any_of_left p keep [] e = refl
+any_of_left {A} p keep (x ∷ xs) e = by (p x) (keep x) refl e (any_of_left p keep xs)
+  where
+    by : (b c : Bool) → p x ≡ b → (b || list_any p xs) ≡ false → (list_any p xs ≡ false → list_any p (filter keep xs) ≡ false)
+        → list_any p (if c then x ∷ filter keep xs else filter keep xs) ≡ false
+    by true c is e behind = cc
+    by false true is e behind = ap (λ b. b || list_any p (filter keep xs)) is ∙ behind e
+    by false false is e behind = behind e
+
+pub any_map : {A B : Type 0} (p : B → Bool) (f : A → B) (xs : List A) → list_any p (map f xs) ≡ list_any (λ a. p (f a)) xs
+any_map p f [] = refl
+any_map p f (x ∷ xs) = ap (λ b. p (f x) || b) (any_map p f xs)
+
+pub not_true : (b : Bool) → not b ≡ true → b ≡ false
+not_true true e = cc
+not_true false e = refl
+
+-- what gives nothing may be left out
+pub map_left : {A B : Type 0} (f : A → Option B) (keep : A → Bool) → ((a : A) → keep a ≡ false → f a ≡ None) → (xs : List A)
+    → filter_map f (filter keep xs) ≡ filter_map f xs
+map_left f keep quiet [] = refl
+map_left {A} {B} f keep quiet (x ∷ xs) = by (keep x) refl (map_left f keep quiet xs)
+  where
+    by : (b : Bool) → keep x ≡ b → filter_map f (filter keep xs) ≡ filter_map f xs
+        → filter_map f (if b then x ∷ filter keep xs else filter keep xs) ≡ filter_map f (x ∷ xs)
+    by true is behind = ap (cons_option (f x)) behind
+    by false is behind = behind ∙ sym (ap (λ o. cons_option o (filter_map f xs)) (quiet x is))
+
+-- each element passes what any element passes
+pub any_of_each : {A : Type 0} (xs : List A) → AllByRecursion (λ (a : A). (test : A → Bool) → test a ≡ true → list_any test xs ≡ true) xs
+any_of_each [] = tt
+any_of_each {A} (x ∷ xs) = (
+  λ test e. or_left (test x) (list_any test xs) e,
+  each (λ (a : A). (test : A → Bool) → test a ≡ true → list_any test xs ≡ true)
+      (λ (a : A). (test : A → Bool) → test a ≡ true → list_any test (x ∷ xs) ≡ true)
+      (λ a there test e. or_right (test x) (list_any test xs) (there test e)) xs (any_of_each xs),
+)
+
+pub take_front : {A : Type 0} (xs ys : List A) → take (length xs) (xs ++ ys) ≡ xs
+take_front [] ys = refl
+take_front (x ∷ xs) ys = ap (λ l. x ∷ l) (take_front xs ys)
+
+pub take_next : {A : Type 0} (xs : List A) (y : A) (ys : List A) → take (length xs + 1) (xs ++ y ∷ ys) ≡ xs ++ y ∷ []
+take_next [] y ys = refl
+take_next (x ∷ xs) y ys =
+    let e : suc (length xs) + 1 ≡ suc (length xs + 1) = omega arith in
+    ap (λ n. take n (x ∷ (xs ++ y ∷ ys))) e ∙ ap (λ l. x ∷ l) (take_next xs y ys)
+
+pub one_longer : {A : Type 0} (xs : List A) (x : A) → length (xs ++ x ∷ []) ≡ length xs + 1
+one_longer [] x = refl
+one_longer (y ∷ xs) x = let e : suc (length xs + 1) ≡ suc (length xs) + 1 = omega arith in ap suc (one_longer xs x) ∙ e
+
+-- ---- lists of nothing
+
+pub first_none : {A : Type 0} (xs : List A) → slice_get xs 0 ≡ None → xs ≡ []
+first_none [] e = refl
+first_none (x ∷ xs) e = cc
+
+pub append_none : {A : Type 0} (xs ys : List A) → xs ++ ys ≡ [] → (xs ≡ []) × (ys ≡ [])
+append_none [] ys e = (refl, e)
+append_none (x ∷ xs) ys e = cc
+
+pub map_none : {A B : Type 0} (f : A → B) (xs : List A) → map f xs ≡ [] → xs ≡ []
+map_none f [] e = refl
+map_none f (x ∷ xs) e = cc
+
+named-append : {A : Type 0} (name : List ℕ) (xs ys : List (List ℕ × A)) → named name (xs ++ ys) ≡ option_or (named name xs) (named name ys)
+named-append name [] ys = refl
+named-append {A} name (x ∷ xs) ys = go (bytes_eq x.0 name) (named-append name xs ys)
+  where
+    go : (b : Bool) → named name (xs ++ ys) ≡ option_or (named name xs) (named name ys)
+        → (if b then Some x.1 else named name (xs ++ ys)) ≡ option_or (if b then Some x.1 else named name xs) (named name ys)
+    go true behind = refl
+    go false behind = behind
+
+-- what stands beside a name, by the list in front
+pub named_in_front : {A : Type 0} (name : List ℕ) (xs ys behind : List (List ℕ × A)) → named name xs ≡ named name ys
+    → named name (xs ++ behind) ≡ named name (ys ++ behind)
+named_in_front name xs ys behind e = named-append name xs behind ∙ ap (λ o. option_or o (named name behind)) e
+    ∙ sym (named-append name ys behind)

@@ -1,0 +1,150 @@
+-- What is needed in a unit: what stays of the unit names that alone, and it is needed in what stays too.
+use Rattle.std.proofs.Common.{◌≡◌, ◌&&◌, ◌||◌, Bool, true, false, not, if◌then◌else◌, List, [], ◌∷◌, filter, bytes_eq, refl, sym, ap, ◌∙◌, subst}
+use Rattle.std.specs.List.{AllByRecursion, list_any}
+use Rattle.std.proofs.lemmas.Slice.Eq.{bytes_eq-Decides}
+use Rattle.c_tree.specs.Tree as tree
+use Rattle.c_tree.specs.Scope.{Name, name_of, is_among}
+use Rattle.c_tree.specs.FirstBroken.{KeepsRules}
+use Rattle.c_tree.specs.Spelled.{Formed, FitsItem, depth_limit}
+use Rattle.c_tree.specs.WellFormed.{IsWellFormed, NamedItem}
+use Rattle.c_tree.proofs.WellFormedUnits as whole
+use Rattle.c_trim.specs.Trim.{item_functions, is_external, names, leads, IsNeeded, stays, kept, TellsNeeded, IsTrimmed}
+use Rattle.c_trim.proofs.Lists.{and_both, both_and, or_right, each, any_left, any_of_each}
+use Rattle.c_trim.proofs.SameScope.{Each}
+use Rattle.c_trim.proofs.KeptRules.{IsClosed, kept_keeps_rules}
+
+itself : (x : Name) → bytes_eq x x ≡ true
+itself x = (bytes_eq-Decides x x).1 refl
+
+-- each name of a list is among them
+each_among : (xs : List Name) → AllByRecursion (λ (x : Name). is_among x xs ≡ true) xs
+each_among xs = each (λ (x : Name). (test : Name → Bool) → test x ≡ true → list_any test xs ≡ true)
+    (λ (x : Name). is_among x xs ≡ true) (λ x there. there (bytes_eq x) (itself x)) xs (any_of_each xs)
+
+module _ (unit : List tree.Item) (needed : Name → Bool) (tells : TellsNeeded unit needed) where
+  abbrev IsThere : tree.Item → Type 0
+  IsThere item = (test : tree.Item → Bool) → test item ≡ true → list_any test unit ≡ true
+
+  -- what an item names is needed, where it stays
+  named_needed : (item : tree.Item) → IsThere item → stays needed item ≡ true → (x : Name) → is_among x (item_functions item) ≡ true
+      → needed x ≡ true
+  named_needed (tree.Array name count bytes) there stay x among = cc
+  named_needed (tree.Var ty name number) there stay x among = cc
+  named_needed (tree.Function f) there stay x among = by f.is_static refl stay
+    where
+      by : (b : Bool) → f.is_static ≡ b → (not b || needed f.name) ≡ true → needed x ≡ true
+      by false is stay = (tells x).1 (record {
+        chain = [];
+        leads_there = there (λ item. is_external item && is_among x (item_functions item)) (both_and (not f.is_static) _ (ap not is) among);
+      })
+      by true is stay =
+          let need : IsNeeded unit f.name = (tells f.name).0 stay in
+          (tells x).1 (record {
+            chain = f.name ∷ need.chain;
+            leads_there = both_and (names unit f.name x) _
+                (there (λ item. bytes_eq (name_of item) f.name
+                && is_among x (item_functions item)) (both_and (bytes_eq f.name f.name) _ (itself f.name) among))
+                need.leads_there;
+          })
+
+  pub closed : IsClosed needed unit
+  closed = each IsThere (λ (item : tree.Item). stays needed item ≡ true → Each needed (item_functions item))
+      (λ item there stay. each (λ (x : Name). is_among x (item_functions item) ≡ true) (λ (x : Name). needed x ≡ true)
+      (named_needed item there stay) (item_functions item) (each_among (item_functions item))) unit (any_of_each unit)
+
+  -- ---- in what stays
+
+  external_stays : (x : Name) (item : tree.Item) → (is_external item && is_among x (item_functions item)) ≡ true → stays needed item ≡ true
+  external_stays x (tree.Array name count bytes) e = refl
+  external_stays x (tree.Var ty name number) e = refl
+  external_stays x (tree.Function f) e = ap (λ b. b || needed f.name) (and_both (not f.is_static) _ e).0
+
+  named_stays : (y x : Name) → needed y ≡ true → (item : tree.Item) → (bytes_eq (name_of item) y && is_among x (item_functions item)) ≡ true
+      → stays needed item ≡ true
+  named_stays y x is (tree.Array name count bytes) e = refl
+  named_stays y x is (tree.Var ty name number) e = refl
+  named_stays y x is (tree.Function f) e =
+      or_right (not f.is_static) (needed f.name) (ap needed ((bytes_eq-Decides f.name y).0 (and_both (bytes_eq f.name y) _ e).0) ∙ is)
+
+  leads_still : (chain : List Name) (x : Name) → leads unit chain x ≡ true → leads (kept needed unit) chain x ≡ true
+  leads_still [] x e = any_left _ (stays needed) (external_stays x) unit e
+  leads_still (y ∷ chain) x e =
+      let two = and_both (names unit y x) (leads unit chain y) e in
+      let need : needed y ≡ true = (tells y).1 (record { chain = chain; leads_there = two.1 }) in
+      both_and (names (kept needed unit) y x) (leads (kept needed unit) chain y)
+      (any_left _ (stays needed) (named_stays y x need) unit two.0) (leads_still chain y two.1)
+
+  needed_still : (x : Name) → IsNeeded unit x → IsNeeded (kept needed unit) x
+  needed_still x need = record { chain = need.chain; leads_there = leads_still need.chain x need.leads_there }
+
+-- what passes a test passes a weaker one
+filter_again : {A : Type 0} (p q : A → Bool) → ((a : A) → p a ≡ true → q a ≡ true) → (xs : List A) → filter q (filter p xs) ≡ filter p xs
+filter_again p q go [] = refl
+filter_again {A} p q go (x ∷ xs) = by (p x) refl (filter_again p q go xs)
+  where
+    by : (b : Bool) → p x ≡ b → filter q (filter p xs) ≡ filter p xs
+        → filter q (if b then x ∷ filter p xs else filter p xs) ≡ (if b then x ∷ filter p xs else filter p xs)
+    by true is behind = ap (λ b. if b then x ∷ filter q (filter p xs) else filter q (filter p xs)) (go x is) ∙ ap (λ l. x ∷ l) behind
+    by false is behind = behind
+
+-- what stays when it is trimmed again
+pub trimmed_again : (unit once twice : List tree.Item) → IsTrimmed unit once → IsTrimmed once twice → twice ≡ once
+trimmed_again unit once twice first second =
+    let again : kept second.needed (kept first.needed unit) ≡ kept first.needed unit =
+    filter_again (stays first.needed) (stays second.needed) more unit in
+    second.is ∙ ap (kept second.needed) first.is ∙ again ∙ sym first.is
+  where
+    need : (x : Name) → first.needed x ≡ true → second.needed x ≡ true
+    need x is = (second.tells x).1 (subst (λ (l : List tree.Item). IsNeeded l x) (sym first.is)
+        (needed_still unit first.needed first.tells x ((first.tells x).0 is)))
+
+    more : (item : tree.Item) → stays first.needed item ≡ true → stays second.needed item ≡ true
+    more (tree.Array name count bytes) e = refl
+    more (tree.Var ty name number) e = refl
+    more (tree.Function f) e = by f.is_static e
+      where
+        by : (b : Bool) → (not b || first.needed f.name) ≡ true → (not b || second.needed f.name) ≡ true
+        by false e = refl
+        by true e = need f.name e
+
+-- a unit is trimmed in one way
+pub one_trimmed : (unit one other : List tree.Item) → IsTrimmed unit one → IsTrimmed unit other → one ≡ other
+one_trimmed unit one other left right = left.is ∙ same unit ∙ sym right.is
+  where
+    same_test : (x : Name) → left.needed x ≡ right.needed x
+    same_test x = alike (left.needed x) (right.needed x)
+        (λ is. (right.tells x).1 ((left.tells x).0 is)) (λ is. (left.tells x).1 ((right.tells x).0 is))
+      where
+        alike : (b c : Bool) → (b ≡ true → c ≡ true) → (c ≡ true → b ≡ true) → b ≡ c
+        alike true c there back = sym (there refl)
+        alike false true there back = back refl
+        alike false false there back = refl
+
+    same_stays : (item : tree.Item) → stays left.needed item ≡ stays right.needed item
+    same_stays (tree.Array name count bytes) = refl
+    same_stays (tree.Var ty name number) = refl
+    same_stays (tree.Function f) = ap (λ b. not f.is_static || b) (same_test f.name)
+
+    same : (items : List tree.Item) → kept left.needed items ≡ kept right.needed items
+    same [] = refl
+    same (item ∷ items) = λ i. if same_stays item i then item ∷ same items i else same items i
+
+each_left : {A : Type 0} (P : A → Type 0) (keep : A → Bool) (xs : List A) → AllByRecursion P xs → AllByRecursion P (filter keep xs)
+each_left P keep [] all = tt
+each_left {A} P keep (x ∷ xs) all = by (keep x) (each_left P keep xs all.1)
+  where
+    by : (b : Bool) → AllByRecursion P (filter keep xs) → AllByRecursion P (if b then x ∷ filter keep xs else filter keep xs)
+    by true behind = (all.0, behind)
+    by false behind = behind
+
+pub trimmed_formed : (unit trimmed : List tree.Item) → IsTrimmed unit trimmed → Formed unit → Formed trimmed
+trimmed_formed unit trimmed is formed =
+    let well : IsWellFormed unit = whole.well_formed unit formed in
+    subst Formed (sym is.is) (whole.formed (kept is.needed unit) (record {
+      named = each_left NamedItem (stays is.needed) unit well.named;
+      fits = each_left (FitsItem depth_limit) (stays is.needed) unit well.fits;
+    }))
+
+pub trimmed_keeps : (unit trimmed : List tree.Item) → IsTrimmed unit trimmed → KeepsRules unit → KeepsRules trimmed
+trimmed_keeps unit trimmed is keeps =
+    subst KeepsRules (sym is.is) (kept_keeps_rules is.needed unit (closed unit is.needed is.tells) keeps)

@@ -1,0 +1,254 @@
+-- Rules of a statement in two scopes that differ in functions alone which the statement does not name.
+use Rattle.std.proofs.Common.{◌≡◌, ℕ, ◌+◌, ◌&&◌, ◌||◌, Bool, true, false, not, List, [], ◌∷◌, ◌++◌, flat_map, filter_map, is_some, Option, Some, None, refl, sym, ap, ◌∙◌}
+use Rattle.std.specs.Prelude.{codes, map}
+use Rattle.std.specs.List.{AllByRecursion, list_all}
+use Rattle.w2c_base.specs.Lookup.{if_found, named}
+use Rattle.c_tree.specs.declared.tree.CType.{CType}
+use Rattle.c_tree.specs.declared.tree.CType.TheVariants as type
+use Rattle.c_tree.specs.Tree as tree
+use Rattle.c_tree.specs.Runtime.{same_type, primitives}
+use Rattle.c_tree.specs.Scope as scope
+use Rattle.c_tree.specs.Scope.{Name, Scope, file_variables, variables, arrays, file_functions, functions, pointed_by, pointer_to, is_comparison, is_object_type, type_of, typing_of, is_among}
+use Rattle.c_tree.specs.Rules as rule
+use Rattle.c_tree.specs.Rules.{StmtPlace}
+use Rattle.c_trim.specs.Trim.{arg_functions, callee_functions, stmt_functions}
+use Rattle.c_trim.proofs.RulesHold.{Hold, StmtsHold, stmt_at}
+use Rattle.c_trim.proofs.Lists.{all_of_both, both_append, named_in_front}
+
+abbrev pub Each : (Name → Bool) → List Name → Type 0
+Each needed xs = AllByRecursion (λ (x : Name). needed x ≡ true) xs
+
+-- what is declared, but for functions of other names
+pub record AgreeOn (needed : Name → Bool) (old new : List tree.Item) : Type 0 where
+  pub variables : filter_map scope.variable_of new ≡ filter_map scope.variable_of old
+  pub arrays : filter_map scope.array_of new ≡ filter_map scope.array_of old
+  pub functions : (x : Name) → needed x ≡ true
+      → named x (filter_map scope.function_of new) ≡ named x (filter_map scope.function_of old)
+
+module _ (needed : Name → Bool) (old new : List tree.Item) (agree : AgreeOn needed old new) (func : tree.Func) (body : tree.Body) where
+  abbrev s : Scope
+  s = record { declared = old; func = func; body = body }
+
+  abbrev s' : Scope
+  s' = record { declared = new; func = func; body = body }
+
+  vars : variables s' ≡ variables s
+  vars = ap (λ vs. scope.param_variables func ++ (scope.local_variables body ++ (vs ++ (codes "w2c_depth", type.U32) ∷ []))) agree.variables
+
+  type_named : (x : Name) → named x (variables s') ≡ named x (variables s)
+  type_named x = ap (named x) vars
+
+  funcs : (x : Name) → needed x ≡ true → named x (functions s') ≡ named x (functions s)
+  funcs x is = named_in_front x (file_functions s') (file_functions s) primitives (agree.functions x is)
+
+  -- ---- types of expressions
+
+  same_typing : (e : tree.Expr) → typing_of s' e ≡ typing_of s e
+  same_typing (tree.Name x) = ap scope.name_typing (type_named x)
+  same_typing (tree.At x e) = ap (λ t. scope.typed_if (is_some (scope.number_type t)) scope.IsElement) (same_typing e)
+  same_typing (tree.Number number) = refl
+  same_typing (tree.To32 e) = ap (λ t. scope.typed_if (scope.may_be_narrowed t) (scope.HasType type.U32)) (same_typing e)
+  same_typing (tree.To64 e) = ap (λ t. scope.typed_if (is_some (scope.number_type t)) (scope.HasType type.U64)) (same_typing e)
+  same_typing (tree.Star x) = ap (λ o. scope.value_typing (if_found o pointed_by)) (type_named x)
+  same_typing (tree.Op op left right) = λ i. scope.op_typing op (scope.common_type (same_typing left i) (same_typing right i))
+
+  same_type_of : (e : tree.Expr) → type_of s' e ≡ type_of s e
+  same_type_of e = ap scope.value_type (same_typing e)
+
+  -- ---- rule 8: names are known
+
+  all_append : (uses others : List rule.Use) → list_all (rule.is_known s') uses ≡ list_all (rule.is_known s) uses
+      → list_all (rule.is_known s') others ≡ list_all (rule.is_known s) others
+      → list_all (rule.is_known s') (uses ++ others) ≡ list_all (rule.is_known s) (uses ++ others)
+  all_append uses others left right =
+      all_of_both (rule.is_known s') uses others ∙ (λ i. left i && right i) ∙ sym (all_of_both (rule.is_known s) uses others)
+
+  known_variable : (x : Name) → rule.is_known s' (rule.AsVariable x) ≡ rule.is_known s (rule.AsVariable x)
+  known_variable x = ap is_some (type_named x)
+
+  known_array : (x : Name) → rule.is_known s' (rule.AsArray x) ≡ rule.is_known s (rule.AsArray x)
+  known_array x = ap (is_among x) agree.arrays
+
+  known_function : (x : Name) → needed x ≡ true → rule.is_known s' (rule.AsFunction x) ≡ rule.is_known s (rule.AsFunction x)
+  known_function x is = ap is_some (funcs x is)
+
+  abbrev known : List rule.Use → Bool
+  known uses = list_all (rule.is_known s) uses
+
+  abbrev known' : List rule.Use → Bool
+  known' uses = list_all (rule.is_known s') uses
+
+  known_one : (one : rule.Use) (uses : List rule.Use) → rule.is_known s' one ≡ rule.is_known s one → known' uses ≡ known uses
+      → known' (one ∷ uses) ≡ known (one ∷ uses)
+  known_one one uses first rest = λ i. first i && rest i
+
+  known_expr : (e : tree.Expr) → known' (rule.expr_uses e) ≡ known (rule.expr_uses e)
+  known_expr (tree.Name x) = known_one (rule.AsVariable x) [] (known_variable x) refl
+  known_expr (tree.At x e) = known_one (rule.AsArray x) (rule.expr_uses e) (known_array x) (known_expr e)
+  known_expr (tree.Number number) = refl
+  known_expr (tree.To32 e) = known_expr e
+  known_expr (tree.To64 e) = known_expr e
+  known_expr (tree.Star x) = known_one (rule.AsVariable x) [] (known_variable x) refl
+  known_expr (tree.Op op left right) = all_append (rule.expr_uses left) (rule.expr_uses right) (known_expr left) (known_expr right)
+
+  known_arg : (a : tree.Arg) → Each needed (arg_functions a) → known' (rule.arg_uses a) ≡ known (rule.arg_uses a)
+  known_arg (tree.Value e) all = known_expr e
+  known_arg (tree.Address x) all = known_one (rule.AsVariable x) [] (known_variable x) refl
+  known_arg (tree.OfFunction x) all = known_one (rule.AsFunction x) [] (known_function x all.0) refl
+
+  known_args : (args : List tree.Arg) → Each needed (flat_map arg_functions args) → known' (flat_map rule.arg_uses args)
+      ≡ known (flat_map rule.arg_uses args)
+  known_args [] all = refl
+  known_args (a ∷ args) all =
+      let two = both_append (λ (x : Name). needed x ≡ true) (arg_functions a) (flat_map arg_functions args) all in
+      all_append (rule.arg_uses a) (flat_map rule.arg_uses args) (known_arg a two.0) (known_args args two.1)
+
+  known_callee : (f : tree.Callee) → Each needed (callee_functions f) → known' (rule.callee_uses f) ≡ known (rule.callee_uses f)
+  known_callee (tree.Called x) all = known_one (rule.AsFunction x) [] (known_function x all.0) refl
+  known_callee (tree.Through ty x) all = known_one (rule.AsVariable x) [] (known_variable x) refl
+
+  known_target : (o : Option Name) → known' (rule.target_uses o) ≡ known (rule.target_uses o)
+  known_target None = refl
+  known_target (Some x) = known_one (rule.AsVariable x) [] (known_variable x) refl
+
+  known_stmt : (stmt : tree.Stmt) → Each needed (stmt_functions stmt) → known' (rule.stmt_uses stmt) ≡ known (rule.stmt_uses stmt)
+  known_stmt (tree.Set x a) all = known_one (rule.AsVariable x) (rule.arg_uses a) (known_variable x) (known_arg a all)
+  known_stmt (tree.SetStar x e) all = known_one (rule.AsVariable x) (rule.expr_uses e) (known_variable x) (known_expr e)
+  known_stmt (tree.Call target f args) all =
+      let two = both_append (λ (x : Name). needed x ≡ true) (callee_functions f) (flat_map arg_functions args) all in
+      all_append (rule.target_uses target) (rule.callee_uses f ++ flat_map rule.arg_uses args) (known_target target)
+      (all_append (rule.callee_uses f) (flat_map rule.arg_uses args) (known_callee f two.0) (known_args args two.1))
+  known_stmt (tree.If op left right x) all = all_append (rule.expr_uses left) (rule.expr_uses right) (known_expr left) (known_expr right)
+  known_stmt (tree.Switch e cases x) all = known_expr e
+  known_stmt (tree.Return a) all = known_arg a all
+  known_stmt (tree.Label x) all = refl
+  known_stmt tree.Null all = refl
+  known_stmt (tree.Goto x) all = refl
+  known_stmt tree.ReturnNone all = refl
+
+  -- ---- rule 9: expressions have types
+
+  same_has_type : (e : tree.Expr) → rule.has_type s' e ≡ rule.has_type s e
+  same_has_type e = ap is_some (same_type_of e)
+
+  same_arg_type : (a : tree.Arg) → rule.arg_has_type s' a ≡ rule.arg_has_type s a
+  same_arg_type (tree.Value e) = same_has_type e
+  same_arg_type (tree.Address x) = refl
+  same_arg_type (tree.OfFunction x) = refl
+
+  same_arg_types : (args : List tree.Arg) → list_all (rule.arg_has_type s') args ≡ list_all (rule.arg_has_type s) args
+  same_arg_types [] = refl
+  same_arg_types (a ∷ args) = λ i. same_arg_type a i && same_arg_types args i
+
+  same_assigned : (x : Name) → rule.may_be_assigned s' x ≡ rule.may_be_assigned s x
+  same_assigned x = ap (λ o. rule.if_any o (λ t. not (is_object_type t))) (type_named x)
+
+  same_target : (o : Option Name) → rule.if_any o (rule.may_be_assigned s') ≡ rule.if_any o (rule.may_be_assigned s)
+  same_target None = refl
+  same_target (Some x) = same_assigned x
+
+  same_called : (f : tree.Callee) → rule.may_be_called s' f ≡ rule.may_be_called s f
+  same_called (tree.Called x) = refl
+  same_called (tree.Through ty x) = ap (λ o. rule.if_any o (λ u. same_type u type.FnPtr)) (type_named x)
+
+  same_points : (x : Name) → rule.points_to_number s' x ≡ rule.points_to_number s x
+  same_points x = ap (λ o. is_some (if_found o pointed_by)) (type_named x)
+
+  same_typed : (stmt : tree.Stmt) → rule.stmt_is_typed s' stmt ≡ rule.stmt_is_typed s stmt
+  same_typed (tree.Set x a) = λ i. same_assigned x i && same_arg_type a i
+  same_typed (tree.SetStar x e) = λ i. same_points x i && same_has_type e i
+  same_typed (tree.Call target f args) = λ i. (same_target target i && same_called f i) && same_arg_types args i
+  same_typed (tree.If op left right x) = ap (λ o. is_comparison op
+      && is_some o) (λ i. scope.common_type (same_typing left i) (same_typing right i))
+  same_typed (tree.Switch e cases x) = same_has_type e
+  same_typed (tree.Return a) = same_arg_type a
+  same_typed (tree.Label x) = refl
+  same_typed tree.Null = refl
+  same_typed (tree.Goto x) = refl
+  same_typed tree.ReturnNone = refl
+
+  -- ---- rule 10: assignments, calls and results
+
+  same_suit : (t : CType) (a : tree.Arg) → Each needed (arg_functions a) → rule.arg_suits s' t a ≡ rule.arg_suits s t a
+  same_suit t (tree.Value e) all = ap (λ o. rule.has_same_type o t) (same_type_of e)
+  same_suit t (tree.Address x) all =
+      ap (λ o. (elim o as (λ _. CType → Bool) [ None ↦ λ u. false | Some u ↦ λ v. same_type v u ]) t)
+      (ap (λ vs. if_found (named x vs) pointer_to) agree.variables)
+  same_suit t (tree.OfFunction x) all = ap (λ o. is_some o && same_type t type.FnPtr) (agree.functions x all.0)
+
+  same_suits : (types : List CType) (args : List tree.Arg) → Each needed (flat_map arg_functions args) → rule.args_suit s' types args
+      ≡ rule.args_suit s types args
+  same_suits [] [] all = refl
+  same_suits [] (a ∷ args) all = refl
+  same_suits (t ∷ types) [] all = refl
+  same_suits (t ∷ types) (a ∷ args) all =
+      let two = both_append (λ (x : Name). needed x ≡ true) (arg_functions a) (flat_map arg_functions args) all in
+      λ i. same_suit t a two.0 i && same_suits types args two.1 i
+
+  same_callee : (f : tree.Callee) → Each needed (callee_functions f) → rule.callee_type s' f ≡ rule.callee_type s f
+  same_callee (tree.Called x) all = funcs x all.0
+  same_callee (tree.Through ty x) all = refl
+
+  same_target_suits : (result : CType) (o : Option Name) → rule.target_suits s' result o ≡ rule.target_suits s result o
+  same_target_suits result None = refl
+  same_target_suits result (Some x) = ap (λ o. not (rule.is_void result) && rule.has_same_type o result) (type_named x)
+
+  same_call : (target : Option Name) (args : List tree.Arg) → Each needed (flat_map arg_functions args) → (o : Option tree.FuncType)
+      → rule.if_any o (rule.call_suits s' target args) ≡ rule.if_any o (rule.call_suits s target args)
+  same_call target args all None = refl
+  same_call target args all (Some ty) = λ i. same_suits (rule.proper_types ty.params) args all i && same_target_suits ty.result target i
+
+  same_set : (a : tree.Arg) → Each needed (arg_functions a) → (o : Option CType)
+      → rule.if_any o (λ t. rule.arg_suits s' t a) ≡ rule.if_any o (λ t. rule.arg_suits s t a)
+  same_set a all None = refl
+  same_set a all (Some t) = same_suit t a all
+
+  same_stmt_suits : (stmt : tree.Stmt) → Each needed (stmt_functions stmt) → rule.stmt_suits s' stmt ≡ rule.stmt_suits s stmt
+  same_stmt_suits (tree.Set x a) all = ap (λ o. rule.if_any o (λ t. rule.arg_suits s' t a)) (type_named x)
+      ∙ same_set a all (named x (variables s))
+  same_stmt_suits (tree.SetStar x e) all = λ i. rule.if_any (if_found (type_named x i) pointed_by) (rule.has_same_type (same_type_of e i))
+  same_stmt_suits (tree.Call target f args) all =
+      let two = both_append (λ (x : Name). needed x ≡ true) (callee_functions f) (flat_map arg_functions args) all in
+      ap (λ o. rule.if_any o (rule.call_suits s' target args)) (same_callee f two.0) ∙ same_call target args two.1 (rule.callee_type s f)
+  same_stmt_suits tree.ReturnNone all = refl
+  same_stmt_suits (tree.Return a) all = ap (λ b. not (rule.is_void func.result) && b) (same_suit func.result a all)
+  same_stmt_suits (tree.If op left right x) all = refl
+  same_stmt_suits (tree.Switch e cases x) all = refl
+  same_stmt_suits (tree.Label x) all = refl
+  same_stmt_suits tree.Null all = refl
+  same_stmt_suits (tree.Goto x) all = refl
+
+  -- ---- rule 11: cases of a switch
+
+  same_cases : (k : ℕ) (stmt : tree.Stmt) → rule.cases_are_distinct (stmt_at s' k stmt) ≡ rule.cases_are_distinct (stmt_at s k stmt)
+  same_cases k (tree.Switch e cases x) =
+      ap (λ o. rule.if_any o (rule.cases_suit cases) && rule.are_distinct_numbers (map rule.case_value cases)) (same_type_of e)
+  same_cases k (tree.Set x a) = refl
+  same_cases k (tree.SetStar x e) = refl
+  same_cases k (tree.Call target f args) = refl
+  same_cases k tree.ReturnNone = refl
+  same_cases k (tree.Return a) = refl
+  same_cases k (tree.If op left right x) = refl
+  same_cases k (tree.Label x) = refl
+  same_cases k tree.Null = refl
+  same_cases k (tree.Goto x) = refl
+
+  -- ---- all rules of statements
+
+  stmt_holds : (k : ℕ) (stmt : tree.Stmt) → Each needed (stmt_functions stmt) → Hold rule.stmt_rules (stmt_at s k stmt)
+      → Hold rule.stmt_rules (stmt_at s' k stmt)
+  stmt_holds k stmt all hold =
+      let cases : Hold ((11, rule.cases_are_distinct) ∷ (12, rule.last_ends_body) ∷ []) (stmt_at s' k stmt) =
+      (same_cases k stmt ∙ hold.1.1.1.1.1.1.0, hold.1.1.1.1.1.1.1) in
+      let types : Hold ((10, rule.types_agree) ∷ (11, rule.cases_are_distinct) ∷ (12, rule.last_ends_body) ∷ []) (stmt_at s' k stmt) =
+      ((λ i. not (known_stmt stmt all i) || same_stmt_suits stmt all i) ∙ hold.1.1.1.1.1.0, cases) in
+      let typed : rule.expressions_are_typed (stmt_at s' k stmt) ≡ true =
+      (λ i. not (known_stmt stmt all i) || same_typed stmt i) ∙ hold.1.1.1.1.0 in
+      (hold.0, (hold.1.0, (hold.1.1.0, (known_stmt stmt all ∙ hold.1.1.1.0, (typed, types)))))
+
+  pub stmts_hold : (k : ℕ) (stmts : List tree.Stmt) → Each needed (flat_map stmt_functions stmts) → StmtsHold s k stmts
+      → StmtsHold s' k stmts
+  stmts_hold k [] all hold = tt
+  stmts_hold k (stmt ∷ stmts) all hold =
+      let two = both_append (λ (x : Name). needed x ≡ true) (stmt_functions stmt) (flat_map stmt_functions stmts) all in
+      (stmt_holds k stmt two.0 hold.0, stmts_hold (k + 1) stmts two.1 hold.1)

@@ -1,0 +1,378 @@
+-- Reaching functions keeps what the marks say, and goes on for as long as there are items.
+use Rattle.std.proofs.Common.{◌≡◌, ◌⊎◌, inl, inr, ℕ, zero, suc, ◌+◌, ◌<◌, ◌≤◌, ◌==◌, ◌&&◌, ◌||◌, Bool, true, false, if◌then◌else◌, List, [], ◌∷◌, ◌++◌, length, take, bytes_eq, slice_get, Option, Some, None, refl, sym, ap, ◌∙◌, subst, arith, append_assoc, length-append, ◌-◌}
+use Rattle.std.specs.Prelude.{slice_set, slice_index_or}
+use Rattle.std.specs.List.{list_any}
+use Rattle.std.proofs.lemmas.List.{append-nil}
+use Rattle.std.proofs.lemmas.Bool.{eqb-true, eq-eqb}
+use Rattle.std.proofs.lemmas.Slice.Eq.{bytes_eq-Decides}
+use Rattle.w2c_base.specs.Lookup.{named}
+use Rattle.c_tree.specs.Tree as tree
+use Rattle.c_tree.specs.Rules.{defines, has_body}
+use Rattle.c_tree.specs.Scope.{Name, is_among, name_of}
+use Rattle.c_renaming.proofs.Trimmed.{Found, position_found}
+use Rattle.c_trim.specs.Trim.{IsNeeded, is_external, item_functions, names}
+use Rattle.c_trim.specs.Marks.{Reached, KnowsDefiners, definer, with_item, with_names, is_in, IsWanted, AreReached, BegunTo, FollowedTo, begins, functions_at, unreached}
+use Rattle.c_trim.proofs.Lists.{and_both, both_and, or_left, or_right, any_of_both}
+
+abbrev flag : List Bool → ℕ → Bool
+flag flags j = slice_index_or flags j false
+
+-- ---- one flag more
+
+set_long : (flags : List Bool) (j : ℕ) → length (slice_set flags j true) ≡ length flags
+set_long [] j = refl
+set_long (b ∷ flags) zero = refl
+set_long (b ∷ flags) (suc j) = ap suc (set_long flags j)
+
+set_grows : (flags : List Bool) (j m : ℕ) → flag flags m ≡ true → flag (slice_set flags j true) m ≡ true
+set_grows [] j m e = cc
+set_grows (b ∷ flags) zero zero e = refl
+set_grows (b ∷ flags) zero (suc m) e = e
+set_grows (b ∷ flags) (suc j) zero e = e
+set_grows (b ∷ flags) (suc j) (suc m) e = set_grows flags j m e
+
+set_here : (flags : List Bool) (j : ℕ) → j < length flags → flag (slice_set flags j true) j ≡ true
+set_here [] j less = absurd (omega arith)
+set_here (b ∷ flags) zero less = refl
+set_here (b ∷ flags) (suc j) less = set_here flags j (omega arith)
+
+set_only : (flags : List Bool) (j m : ℕ) → flag (slice_set flags j true) m ≡ true → (flag flags m ≡ true) ⊎ (j ≡ m)
+set_only [] j m e = cc
+set_only (b ∷ flags) zero zero e = inr refl
+set_only (b ∷ flags) zero (suc m) e = inl e
+set_only (b ∷ flags) (suc j) zero e = inl e
+set_only (b ∷ flags) (suc j) (suc m) e = by (set_only flags j m e)
+  where
+    by : (flag flags m ≡ true) ⊎ (j ≡ m) → (flag flags m ≡ true) ⊎ (suc j ≡ suc m)
+    by (inl is) = inl is
+    by (inr is) = inr (ap suc is)
+
+-- what is told false is there
+there_if_false : (flags : List Bool) (j : ℕ) → slice_index_or flags j true ≡ false → j < length flags
+there_if_false [] j e = cc
+there_if_false (b ∷ flags) zero e = omega arith
+there_if_false (b ∷ flags) (suc j) e = let less = there_if_false flags j e in omega arith
+
+true_both : (flags : List Bool) (j : ℕ) → j < length flags → slice_index_or flags j true ≡ true → flag flags j ≡ true
+true_both [] j less e = absurd (omega arith)
+true_both (b ∷ flags) zero less e = e
+true_both (b ∷ flags) (suc j) less e = true_both flags j (omega arith) e
+
+true_there : (flags : List Bool) (j : ℕ) → flag flags j ≡ true → j < length flags
+true_there [] j e = cc
+true_there (b ∷ flags) zero e = omega arith
+true_there (b ∷ flags) (suc j) e = let less = true_there flags j e in omega arith
+
+fewer : (flags : List Bool) (j : ℕ) → slice_index_or flags j true ≡ false → suc (unreached (slice_set flags j true)) ≡ unreached flags
+fewer [] j e = cc
+fewer (true ∷ flags) zero e = cc
+fewer (false ∷ flags) zero e = refl
+fewer (true ∷ flags) (suc j) e = fewer flags j e
+fewer (false ∷ flags) (suc j) e = ap suc (fewer flags j e)
+
+-- ---- numbers in a list
+
+in_front : (j : ℕ) (xs ys : List ℕ) → is_in j xs ≡ true → is_in j (xs ++ ys) ≡ true
+in_front j xs ys e = any_of_both (λ m. m == j) xs ys ∙ or_left (is_in j xs) (is_in j ys) e
+
+at_end : (j : ℕ) (xs : List ℕ) → is_in j (xs ++ j ∷ []) ≡ true
+at_end j xs = any_of_both (λ m. m == j) xs (j ∷ []) ∙ or_right (is_in j xs) (is_in j (j ∷ [])) (or_left (j == j) false (eq-eqb j j refl))
+
+in_either : (j m : ℕ) (xs : List ℕ) → is_in j (xs ++ m ∷ []) ≡ true → (is_in j xs ≡ true) ⊎ (m ≡ j)
+in_either j m xs e = by (is_in j xs) (m == j) refl (sym (any_of_both (λ n. n == j) xs (m ∷ [])) ∙ e)
+  where
+    by : (b c : Bool) → (m == j) ≡ c → (b || (c || false)) ≡ true → (b ≡ true) ⊎ (m ≡ j)
+    by true c is e = inl refl
+    by false true is e = inr (eqb-true m j is)
+    by false false is e = cc
+
+-- ---- marks that grow
+
+pub record Grows (r r' : Reached) : Type 0 where
+  pub long : length r'.0 ≡ length r.0
+  pub flags : (j : ℕ) → flag r.0 j ≡ true → flag r'.0 j ≡ true
+  pub more : List ℕ
+  pub order : r'.1 ≡ r.1 ++ more
+
+grows_item : (o : Option ℕ) (r : Reached) → Grows r (with_item o r)
+grows_item None r = record { long = refl; flags = λ j e. e; more = []; order = sym (append-nil r.1) }
+grows_item (Some j) r = by (slice_index_or r.0 j true)
+  where
+    by : (b : Bool) → Grows r (if b then r else (slice_set r.0 j true, r.1 ++ j ∷ []))
+    by true = record { long = refl; flags = λ m e. e; more = []; order = sym (append-nil r.1) }
+    by false = record { long = set_long r.0 j; flags = λ m e. set_grows r.0 j m e; more = j ∷ []; order = refl }
+
+grows_both : (r s t : Reached) → Grows r s → Grows s t → Grows r t
+grows_both r s t one two = record {
+  long = two.long ∙ one.long;
+  flags = λ j e. two.flags j (one.flags j e);
+  more = one.more ++ two.more;
+  order = two.order ∙ ap (λ l. l ++ two.more) one.order ∙ append_assoc r.1 one.more two.more;
+}
+
+pub grows : (table : List (Name × ℕ)) (names : List Name) (r : Reached) → Grows r (with_names table names r)
+grows table [] r = grows_item None r
+grows table (x ∷ names) r = grows_both r (with_item (named x table) r) (with_names table names (with_item (named x table) r))
+    (grows_item (named x table) r) (grows table names (with_item (named x table) r))
+
+-- ---- what the marks cost
+
+abbrev pub cost : Reached → ℕ
+cost r = unreached r.0 + length r.1
+
+one_more : (xs : List ℕ) (x : ℕ) → length (xs ++ x ∷ []) ≡ suc (length xs)
+one_more [] x = refl
+one_more (y ∷ xs) x = ap suc (one_more xs x)
+
+cost_item : (o : Option ℕ) (r : Reached) → cost (with_item o r) ≡ cost r
+cost_item None r = refl
+cost_item (Some j) r = by (slice_index_or r.0 j true) refl
+  where
+    by : (b : Bool) → slice_index_or r.0 j true ≡ b → cost (if b then r else (slice_set r.0 j true, r.1 ++ j ∷ [])) ≡ cost r
+    by true is = refl
+    by false is =
+        let less = fewer r.0 j is in
+        let more = one_more r.1 j in
+        let same : unreached (slice_set r.0 j true) + length (r.1 ++ j ∷ []) ≡ unreached r.0 + length r.1 = omega (arith, less, more) in
+        same
+
+pub cost_names : (table : List (Name × ℕ)) (names : List Name) (r : Reached) → cost (with_names table names r) ≡ cost r
+cost_names table [] r = refl
+cost_names table (x ∷ names) r = cost_names table names (with_item (named x table) r) ∙ cost_item (named x table) r
+
+-- ---- what was reached had a reason
+
+module _ (unit : List tree.Item) where
+  reached_item : (j : ℕ) (r : Reached) → AreReached unit r → ((item : tree.Item) → slice_get unit j ≡ Some item → IsWanted unit item)
+      → AreReached unit (with_item (Some j) r)
+  reached_item j r old want = by (slice_index_or r.0 j true) refl
+    where
+      new : Reached
+      new = (slice_set r.0 j true, r.1 ++ j ∷ [])
+
+      order : (m : ℕ) → (flag r.0 m ≡ true) ⊎ (j ≡ m) → is_in m (r.1 ++ j ∷ []) ≡ true
+      order m (inl is) = in_front m r.1 (j ∷ []) (old.ordered m is)
+      order m (inr is) = subst (λ n. is_in n (r.1 ++ j ∷ []) ≡ true) is (at_end j r.1)
+
+      flags : j < length r.0 → (m : ℕ) → (is_in m r.1 ≡ true) ⊎ (j ≡ m) → flag (slice_set r.0 j true) m ≡ true
+      flags less m (inl is) = set_grows r.0 j m (old.flagged m is)
+      flags less m (inr is) = subst (λ n. flag (slice_set r.0 j true) n ≡ true) is (set_here r.0 j less)
+
+      reason : (m : ℕ) (item : tree.Item) → (is_in m r.1 ≡ true) ⊎ (j ≡ m) → slice_get unit m ≡ Some item → IsWanted unit item
+      reason m item (inl is) there = old.wanted m item is there
+      reason m item (inr is) there = want item (subst (λ n. slice_get unit n ≡ Some item) (sym is) there)
+
+      by : (b : Bool) → slice_index_or r.0 j true ≡ b → AreReached unit (if b then r else (slice_set r.0 j true, r.1 ++ j ∷ []))
+      by true is = old
+      by false is = record {
+        long = set_long r.0 j ∙ old.long;
+        ordered = λ m e. order m (set_only r.0 j m e);
+        flagged = λ m e. flags (there_if_false r.0 j is) m (in_either m j r.1 e);
+        wanted = λ m item e. reason m item (in_either m j r.1 e);
+      }
+
+  item_flag : (m : ℕ) (r : Reached) → m < length r.0 → flag (with_item (Some m) r).0 m ≡ true
+  item_flag m r less = by (slice_index_or r.0 m true) refl
+    where
+      by : (b : Bool) → slice_index_or r.0 m true ≡ b → flag (if b then r else (slice_set r.0 m true, r.1 ++ m ∷ [])).0 m ≡ true
+      by true is = true_both r.0 m less is
+      by false is = set_here r.0 m less
+
+  -- the item that defines a function
+  pub record Defined (x : Name) (m : ℕ) : Type 0 where
+    pub item : tree.Item
+    pub there : slice_get unit m ≡ Some item
+    pub defines_it : defines x item ≡ true
+
+  pub defined_at : (x : Name) (m : ℕ) → definer unit x ≡ Some m → Defined x m
+  defined_at x m e =
+      let f : Found (defines x) 0 m unit = position_found (defines x) 0 m unit e in
+      let is : m ≡ 0 + f.at = f.is in
+      let same : f.at ≡ m = omega (arith, is) in
+      record { item = f.item; there = subst (λ k. slice_get unit k ≡ Some f.item) same f.there; defines_it = f.passes }
+
+  pub get_less : {A : Type 0} (xs : List A) (i : ℕ) (x : A) → slice_get xs i ≡ Some x → i < length xs
+  get_less [] i x e = cc
+  get_less (y ∷ xs) zero x e = omega arith
+  get_less (y ∷ xs) (suc i) x e = let less = get_less xs i x e in omega arith
+
+  module _ (table : List (Name × ℕ)) (knows : KnowsDefiners table unit) where
+    reached_names : (names : List Name) (r : Reached) → AreReached unit r → ((x : Name) → is_among x names ≡ true → IsNeeded unit x)
+        → AreReached unit (with_names table names r)
+    reached_names [] r old need = old
+    reached_names (x ∷ names) r old need =
+        reached_names names (with_item (named x table) r) (by (named x table) (sym (knows x)))
+        (λ y e. need y (or_right (bytes_eq y x) (is_among y names) e))
+      where
+        by : (o : Option ℕ) → definer unit x ≡ o → AreReached unit (with_item o r)
+        by None is = old
+        by (Some j) is =
+            let d = defined_at x j is in
+            let name : name_of d.item
+            ≡ x = (bytes_eq-Decides (name_of d.item) x).0 (and_both (bytes_eq (name_of d.item) x) (has_body d.item) d.defines_it).0 in
+            reached_item j r old (λ item there.
+            let same : d.item ≡ item = cc in
+            inr (subst (IsNeeded unit) (sym name ∙ ap name_of same)
+            (need x (or_left (bytes_eq x x) (is_among x names) ((bytes_eq-Decides x x).1 refl)))))
+
+    names_flagged : (names : List Name) (r : Reached) (x : Name) (m : ℕ) → is_among x names ≡ true → named x table ≡ Some m → m < length r.0
+        → flag (with_names table names r).0 m ≡ true
+    names_flagged [] r x m among is less = cc
+    names_flagged (y ∷ names) r x m among is less = by (bytes_eq x y) refl among (names_flagged names (with_item (named y table) r) x m)
+      where
+        by : (b : Bool) → bytes_eq x y ≡ b → (b || is_among x names) ≡ true
+            → (is_among x names ≡ true → named x table ≡ Some m → m < length (with_item (named y table) r).0
+            → flag (with_names table names (with_item (named y table) r)).0 m ≡ true)
+            → flag (with_names table names (with_item (named y table) r)).0 m ≡ true
+        by true same among behind =
+            let at : named y table ≡ Some m = ap (λ n. named n table) (sym ((bytes_eq-Decides x y).0 same)) ∙ is in
+            (grows table names (with_item (named y table) r)).flags m
+            (ap (λ o. flag (with_item o r).0 m) at ∙ item_flag m r less)
+        by false same among behind =
+            let long = (grows_item (named y table) r).long in
+            behind among is (subst (λ n. m < n) (sym long) less)
+
+    -- ---- an item is followed
+
+    any_at : (xs : List tree.Item) (i : ℕ) (item : tree.Item) (test : tree.Item → Bool) → slice_get xs i ≡ Some item → test item ≡ true
+        → list_any test xs ≡ true
+    any_at [] i item test there e = cc
+    any_at (x ∷ xs) zero item test there e = let same : x ≡ item = cc in or_left (test x) (list_any test xs) (ap test same ∙ e)
+    any_at (x ∷ xs) (suc i) item test there e = or_right (test x) (list_any test xs) (any_at xs i item test there e)
+
+    pub names_needed : (i : ℕ) (item : tree.Item) → slice_get unit i ≡ Some item → IsWanted unit item → (x : Name)
+        → is_among x (item_functions item) ≡ true → IsNeeded unit x
+    names_needed i item there (inl external) x among = record {
+      chain = [];
+      leads_there =
+          any_at unit i item (λ y. is_external y && is_among x (item_functions y)) there (both_and (is_external item) _ external among);
+    }
+    names_needed i item there (inr need) x among = record {
+      chain = name_of item ∷ need.chain;
+      leads_there = both_and (names unit (name_of item) x) _
+          (any_at unit i item (λ y. bytes_eq (name_of y) (name_of item) && is_among x (item_functions y)) there
+          (both_and (bytes_eq (name_of item) (name_of item)) _ ((bytes_eq-Decides (name_of item) (name_of item)).1 refl) among))
+          need.leads_there;
+    }
+
+    in_at : (xs : List ℕ) (k i : ℕ) → slice_get xs k ≡ Some i → is_in i xs ≡ true
+    in_at [] k i e = cc
+    in_at (x ∷ xs) zero i e = let same : x ≡ i = cc in or_left (x == i) (is_in i xs) (eq-eqb x i same)
+    in_at (x ∷ xs) (suc k) i e = or_right (x == i) (is_in i xs) (in_at xs k i e)
+
+    get_there : {A : Type 0} (xs : List A) (k : ℕ) → k < length xs → (i : A) × (slice_get xs k ≡ Some i)
+    get_there [] k less = absurd (omega arith)
+    get_there (x ∷ xs) zero less = (x, refl)
+    get_there (x ∷ xs) (suc k) less = get_there xs k (omega arith)
+
+    take_at_place : (xs more : List ℕ) (k i : ℕ) → slice_get xs k ≡ Some i → take (k + 1) (xs ++ more) ≡ take k xs ++ i ∷ []
+    take_at_place [] more k i e = cc
+    take_at_place (x ∷ xs) more zero i e = let same : x ≡ i = cc in ap (λ n. n ∷ []) same
+    take_at_place (x ∷ xs) more (suc k) i e =
+        let n : suc k + 1 ≡ suc (k + 1) = omega arith in
+        ap (λ m. take m (x ∷ (xs ++ more))) n ∙ ap (λ l. x ∷ l) (take_at_place xs more k i e)
+
+    pub follow : (k : ℕ) (r r' : Reached) → k < length r.1 → r' ≡ with_names table (functions_at unit (slice_get r.1 k)) r
+        → AreReached unit r → FollowedTo unit k r → AreReached unit r' × FollowedTo unit (k + 1) r'
+    follow k r r' less is old followed =
+        let at = get_there r.1 k less in
+        let i : ℕ = at.0 in
+        let inside : is_in i r.1 ≡ true = in_at r.1 k i at.1 in
+        let short : i < length unit = subst (λ n. i < n) old.long (true_there r.0 i (old.flagged i inside)) in
+        let found = get_there unit i short in
+        let item : tree.Item = found.0 in
+        let named_here : functions_at unit (slice_get r.1 k) ≡ item_functions item =
+        ap (functions_at unit) at.1
+        ∙ ap (λ (o : Option tree.Item). elim o as (λ _. List Name) [ None ↦ [] | Some y ↦ item_functions y ]) found.1 in
+        let new : r' ≡ with_names table (item_functions item) r = is ∙ ap (λ l. with_names table l r) named_here in
+        let g : Grows r r' = subst (Grows r) (sym new) (grows table (item_functions item) r) in (
+          subst (AreReached unit) (sym new) (reached_names (item_functions item) r old
+              (names_needed i item found.1 (old.wanted i item inside found.1))),
+          λ j other within there x among m defines_it. by i item at.1 found.1 new g j other there x among m defines_it
+              (in_either j i (take k r.1) (sym (ap (λ l. is_in j (take (k + 1) l)) g.order
+              ∙ ap (is_in j) (take_at_place r.1 g.more k i at.1)) ∙ within)),
+        )
+      where
+        by : (i : ℕ) (item : tree.Item) → slice_get r.1 k ≡ Some i → slice_get unit i ≡ Some item
+            → r' ≡ with_names table (item_functions item) r → Grows r r'
+            → (j : ℕ) (other : tree.Item) → slice_get unit j ≡ Some other → (x : Name) → is_among x (item_functions other) ≡ true
+            → (m : ℕ) → definer unit x ≡ Some m → (is_in j (take k r.1) ≡ true) ⊎ (i ≡ j) → flag r'.0 m ≡ true
+        by i item at found new g j other there x among m defines_it (inl before) =
+            g.flags m (followed j other before there x among m defines_it)
+        by i item at found new g j other there x among m defines_it (inr same) =
+            let other_is : item ≡ other =
+            same_item item other (sym found ∙ ap (slice_get unit) same ∙ there) in
+            let d = defined_at x m defines_it in
+            let short : m < length r.0 = subst (λ n. m < n) (sym old.long) (get_less unit m d.item d.there) in
+            ap (λ (s : Reached). flag s.0 m) new
+            ∙ names_flagged (item_functions item) r x m (ap (λ y. is_among x (item_functions y)) other_is ∙ among) (knows x
+            ∙ defines_it) short
+          where
+            same_item : (a b : tree.Item) → Some a ≡ Some b → a ≡ b
+            same_item a b e = cc
+
+-- ---- the begin
+
+pub begin_next : (unit : List tree.Item) (i : ℕ) (item : tree.Item) (r r' : Reached) → slice_get unit i ≡ Some item
+    → r' ≡ (if begins item then with_item (Some i) r else r) → AreReached unit r → BegunTo unit i r
+    → AreReached unit r' × BegunTo unit (i + 1) r'
+begin_next unit i item r r' there is old begun = by (begins item) refl is
+  where
+    before : (j : ℕ) → (s : Reached) → Grows r s → (other : tree.Item) → slice_get unit j ≡ Some other → begins other ≡ true → (j < i)
+        → flag s.0 j ≡ true
+    before j s g other at starts less = g.flags j (begun j other less at starts)
+
+    same_item : (a b : tree.Item) → Some a ≡ Some b → a ≡ b
+    same_item a b e = cc
+
+    either : (j : ℕ) → j < i + 1 → (j < i) ⊎ (j ≡ i)
+    either j less = grind arith
+
+    by : (b : Bool) → begins item ≡ b → r' ≡ (if b then with_item (Some i) r else r) → AreReached unit r' × BegunTo unit (i + 1) r'
+    by true starts new =
+        let want : (other : tree.Item) → slice_get unit i ≡ Some other → IsWanted unit other =
+        λ other at. inl (ap is_external (sym (same_item item other (sym there ∙ at)))
+        ∙ (and_both (is_external item) (has_body item) starts).0) in
+        let g : Grows r r' = subst (Grows r) (sym new) (grows_item (Some i) r) in
+        let less : i < length r.0 = subst (λ n. i < n) (sym old.long) (get_less unit unit i item there) in (
+          subst (AreReached unit) (sym new)
+              (reached_item unit i r old want),
+          λ j other short at begun_here. go g less j other at begun_here (either j short),
+        )
+      where
+        go : Grows r r' → i < length r.0 → (j : ℕ) (other : tree.Item) → slice_get unit j ≡ Some other → begins other ≡ true
+            → (j < i) ⊎ (j ≡ i) → flag r'.0 j ≡ true
+        go g less j other at begun_here (inl short) = before j r' g other at begun_here short
+        go g less j other at begun_here (inr same) =
+            ap (λ (s : Reached). flag s.0 j) new ∙ ap (λ n. flag (with_item (Some i) r).0 n) same ∙ item_flag unit i r less
+    by false starts new = (subst (AreReached unit) (sym new) old, λ j other short at begun_here. go j other at begun_here (either j short))
+      where
+        go : (j : ℕ) (other : tree.Item) → slice_get unit j ≡ Some other → begins other ≡ true → (j < i) ⊎ (j ≡ i) → flag r'.0 j ≡ true
+        go j other at begun_here (inl short) = before j r' (subst (Grows r) (sym new) (grows_item None r)) other at begun_here short
+        go j other at begun_here (inr same) =
+            let other_is : other ≡ item = same_item other item (sym at ∙ ap (slice_get unit) same ∙ there) in
+            absurd (never (sym starts ∙ ap begins (sym other_is) ∙ begun_here))
+          where
+            never : false ≡ true → ⊥
+            never e = cc
+
+-- ---- the loop over the order
+
+pub longer : (table : List (Name × ℕ)) (names : List Name) (r r' : Reached) → r' ≡ with_names table names r → length r.1 ≤ length r'.1
+longer table names r r' is =
+    let g = grows table names r in
+    let e : length r'.1 ≡ length r.1 + length g.more = ap (λ (s : Reached). length s.1) is ∙ ap length g.order ∙ length-append r.1 g.more in
+    omega arith
+
+pub smaller : (table : List (Name × ℕ)) (names : List Name) (r r' : Reached) (k : ℕ) → k < length r.1 → r' ≡ with_names table names r
+    → cost r' - (k + 1) < cost r - k
+smaller table names r r' k less is =
+    let same : unreached r'.0 + length r'.1 ≡ unreached r.0 + length r.1 = ap cost is ∙ cost_names table names r in
+    let e : unreached r'.0 + length r'.1 - (k + 1) < unreached r.0 + length r.1 - k = omega arith in
+    e
+
+pub still_begun : (unit : List tree.Item) (table : List (Name × ℕ)) (names : List Name) (n : ℕ) (r r' : Reached) → r'
+    ≡ with_names table names r
+    → BegunTo unit n r → BegunTo unit n r'
+still_begun unit table names n r r' is begun j item less there starts =
+    ap (λ (s : Reached). flag s.0 j) is ∙ (grows table names r).flags j (begun j item less there starts)

@@ -1,0 +1,10 @@
+use Rattle.std.proofs.Common.{map}
+use Rattle.c_tree.specs.View.{item_of}
+use Rattle.c_trim.specs.Marks.{AreReached, BegunTo, reached_by}
+use Rattle.c_trim.proofs.reach.begin.Given as goal
+
+abbrev pub invariant-loop-i : goal.invariant-loop-i
+invariant-loop-i l = record {
+  reached : AreReached (map item_of l.items) (reached_by l.marks);
+  begun : BegunTo (map item_of l.items) l.i (reached_by l.marks);
+}

@@ -1,0 +1,4 @@
+pub mod Trim
+pub mod Marks
+pub mod Runs
+pub mod Samples
