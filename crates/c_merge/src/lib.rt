@@ -1,0 +1,6 @@
+//! Linked units as one unit.
+#![tactic(auto)]
+
+mod laws;
+
+pub use laws::{linked_units_may_merge, merged_units_run_the_same};
