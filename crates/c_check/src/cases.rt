@@ -11,8 +11,8 @@ use crate::shapes::number_suits;
 use c_scope::Scope;
 use c_tree::{CType, Name, Num, Stmt};
 use c_types::{is_number_type, type_of};
-use indexmap::IndexSet;
 use std::alloc::Global;
+use std::collections::BTreeSet;
 use w2c_base::Memory;
 
 fn case_value(case: &(Num, Name)) -> u64
@@ -35,7 +35,7 @@ fn value_at(cases: &[(Num, Name)], i: usize) -> u64
 fn are_distinct_numbers(alloc: Global, cases: &[(Num, Name)]) -> Result<bool, Memory>
     ensures { IfOk result (λ b. b ≡ are_distinct_numbers (map case_value cases.now)) }
 {
-    let mut behind: IndexSet<u64> = IndexSet::new(alloc);
+    let mut behind: BTreeSet<u64> = BTreeSet::new(alloc);
     let mut i = cases.len();
     while i > 0 {
         i -= 1;

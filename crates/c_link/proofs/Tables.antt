@@ -11,7 +11,6 @@ use Rattle.c_tree.specs.Tree as tree
 use Rattle.c_tree.specs.Scope.{Name}
 use Rattle.c_meaning.proofs.Fronts.{zip_from}
 use Rattle.c_scope.proofs.Lookups.{named-append, or_assoc, or_none}
-use Rattle.c_scope.proofs.NameTables.{nothing_new}
 use Rattle.c_link.specs.declared.offers.Offer.{Offer}
 use Rattle.c_link.specs.declared.offers.Owner.{Owner}
 use Rattle.c_link.specs.Offers.{Offered, Holds, told, offered_by, offers, host_offers, unit_offers, item_offer}
@@ -32,11 +31,6 @@ pub told_more : (q name : Name) (offer : Offer) (before after : List (Name × Of
 told_more q name offer before after grown =
     ap told grown ∙ told-or (named q before) (if bytes_eq name q then Some offer else None)
     ∙ ap (option_or (told (named q before))) (told-if (bytes_eq name q) offer)
-
--- a name that is there already
-pub told_still : (q name : Name) (offer : Offer) (table : List (Name × Offer)) → is_some (named name table) ≡ true
-    → told (named q table) ≡ option_or (told (named q table)) (named q ((name, offered_by offer) ∷ []))
-told_still q name offer table there = told_more q name offer table table (nothing_new name q offer table there)
 
 -- ---- entries that are added
 
@@ -92,15 +86,6 @@ module _ (units : List (List tree.Item)) (symbols : List (Name × tree.FuncType)
       ∙ ap (λ es. host_offers symbols ++ es) (flat_map-append unit_offers (numbered front) ((i, unit) ∷ []) ∙ ap
       (λ es. flat_map unit_offers (numbered front) ++ es) (none_behind (unit_offers (i, unit))))
       ∙ sym (append_assoc (host_offers symbols) (flat_map unit_offers (numbered front)) (unit_offers (i, unit)))
-
--- what a reference shows
-pub copied_some : (o : Option (Bor Offer)) (found : Option Offer) → option_copied o ≡ found → true ≡ is_some o → is_some found ≡ true
-copied_some None found is e = cc
-copied_some (Some x) found is e = ap is_some (sym is)
-
-pub copied_none : (o : Option (Bor Offer)) (found : Option Offer) → option_copied o ≡ found → false ≡ is_some o → found ≡ None
-copied_none None found is e = sym is
-copied_none (Some x) found is e = cc
 
 pub adds_as : (before after : List (Name × Offer)) (entries others : List (Name × Offered)) → others ≡ entries
     → Adds before after entries → Adds before after others

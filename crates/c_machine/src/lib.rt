@@ -9,7 +9,7 @@ mod tables;
 mod tests;
 
 pub use evaluation::{Fault, constant, is_depth, low_half, widened};
-pub use names::NameTable;
+pub use names::Numbers;
 pub use operators::operate;
 pub use tables::{
     Function, FunctionTable, Tables, definition, function_numbers, label_for, number_all,

@@ -1,1 +1,9 @@
+pub mod NewFunctions
+pub mod NewItems
+pub mod NewNames
+pub mod NewScope
+pub mod NewStatements
+pub mod OneUnit
+pub mod Places
+pub mod Rules
 pub mod Units

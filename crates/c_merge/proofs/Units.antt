@@ -298,14 +298,14 @@ module _ (items : List tree.Item) (keeps : KeepsRules items) where
 
 -- ---- units that link
 
-abbrev external_of : tree.Item → Option tree.Func
+abbrev pub external_of : tree.Item → Option tree.Func
 external_of item = elim item [
   | tree.Array name count bytes ↦ None
   | tree.Var ty name number ↦ None
   | tree.Function f ↦ if f.is_static then None else Some f
 ]
 
-any_at : {A : Type 0} (test : A → Bool) (xs : List A) (i : ℕ) (x : A) → slice_get xs i ≡ Some x → test x ≡ true → list_any test xs ≡ true
+pub any_at : {A : Type 0} (test : A → Bool) (xs : List A) (i : ℕ) (x : A) → slice_get xs i ≡ Some x → test x ≡ true → list_any test xs ≡ true
 any_at test [] i x at is = absurd cc
 any_at test (y ∷ xs) zero x at is =
     let here : y ≡ x = cc in
@@ -316,13 +316,13 @@ any_at test (y ∷ xs) (suc i) x at is = by_test (test y)
     (λ fails. rw fails (any_at test xs i x at is))
 
 module _ (p : Program) (are : AreLinked p) where
-  abbrev all_twice : List LinkRefusal
+  abbrev pub all_twice : List LinkRefusal
   all_twice = flat_map (λ (u : ℕ × List tree.Item). flat_map (twice p u.0) (external_functions u.1)) (numbered p.units)
 
-  abbrev all_unresolved : List LinkRefusal
+  abbrev pub all_unresolved : List LinkRefusal
   all_unresolved = flat_map (λ (u : ℕ × List tree.Item). flat_map (unresolved p u.0) (external_functions u.1)) (numbered p.units)
 
-  none_refused : (all_twice ≡ []) × (all_unresolved ≡ [])
+  pub none_refused : (all_twice ≡ []) × (all_unresolved ≡ [])
   none_refused = append_none all_twice all_unresolved (none_first (all_twice ++ all_unresolved) are.linked)
 
   pub not_twice : (u : ℕ) (items : List tree.Item) (i : ℕ) (g : tree.Func) → slice_get p.units u ≡ Some items

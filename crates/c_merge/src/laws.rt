@@ -1,16 +1,22 @@
 // What holds of the one unit that linked units become.
 ghost use Rattle.std.specs.Prelude.{◌≡◌, ℕ, List};
 ghost use Rattle.w2c_base.specs.Run.{Reply};
+ghost use Rattle.c_tree.specs.FirstBroken.{KeepsRules};
 ghost use Rattle.c_meaning.specs.Linking.{Program, SymbolCall, fits};
 ghost use Rattle.c_meaning.specs.Run.{c_run};
 ghost use Rattle.c_renaming.specs.Merging.{MayMerge};
 ghost use Rattle.c_renaming.specs.NewNames.{is_outside, name_in};
 ghost use Rattle.c_renaming.specs.Same.{SameRun};
-ghost use Rattle.c_merge.specs.Merge.{AreLinked, as_one, may_name, merge_names};
+ghost use Rattle.c_merge.specs.Merge.{AreLinked, as_one, may_name, merge_names, merge_of};
 
 /// The law that units which link, and of which each keeps the rules, may become one.
 pub fn linked_units_may_merge()
     ensures { (p : Program) → AreLinked p → MayMerge p name_in is_outside (may_name p) }
+{}
+
+/// The law that the one unit keeps every rule that the linked units keep.
+pub fn merged_units_keep_the_rules()
+    ensures { (p : Program) → AreLinked p → KeepsRules (merge_of p) }
 {}
 
 /// The law that the one unit runs as the linked units do: with the same calls, which fit it alike, the

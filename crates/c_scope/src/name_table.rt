@@ -1,17 +1,18 @@
 // A table of names, each with what it stands for.
-ghost use Rattle.std.specs.Prelude.{◌≡◌, ℕ, if◌then◌else◌, List, [], bytes_eq, is_some, Some, None, OnOk};
+ghost use Rattle.std.specs.Prelude.{◌≡◌, ℕ, if◌then◌else◌, List, [], bytes_eq, is_some, Some, None, OnOk, option_copied};
 ghost use Rattle.std.specs.Option.{option_or};
 ghost use Rattle.w2c_base.specs.Lookup.{named};
 
-use indexmap::IndexMap;
 use std::alloc::Global;
+use std::collections::BTreeMap;
 use std::marker::Model;
 use w2c_base::Memory;
 
-/// Names, each with what it stands for first.
+/// Names, each with what it stands for first. The names are kept in order, so that no choice of names makes
+/// finding one slow.
 #[derive(Drop)]
 pub struct NameTable<T> {
-    entries: IndexMap<Vec<u8>, T>,
+    entries: BTreeMap<Vec<u8>, T>,
 }
 
 impl<T> Model for NameTable<T> {
@@ -22,28 +23,28 @@ impl<T> Model for NameTable<T> {
     ghost view = { λ table. map (λ e. (e.0.items, e.1)) table.entries.entries };
 }
 
-impl<T: Copy + Drop> NameTable<T> {
+impl<T: Drop> NameTable<T> {
     /// No names. It takes no memory.
     pub fn new(alloc: Global) -> Self
         ensures { result ≡ [] }
     {
         NameTable {
-            entries: IndexMap::new(alloc),
+            entries: BTreeMap::new(alloc),
         }
     }
 
     /// What a name stands for, None where it is not in the table.
-    pub fn find(&self, name: &[u8]) -> Option<T>
-        ensures { result ≡ named name.now self.now }
+    pub fn get(&self, name: &[u8]) -> Option<&T>
+        ensures { option_copied result ≡ named name.now self.now }
     {
-        self.entries.get(name).copied()
+        self.entries.get(name)
     }
 
     /// Whether a name is in the table.
     pub fn has(&self, name: &[u8]) -> bool
         ensures { result ≡ is_some (named name.now self.now) }
     {
-        self.find(name).is_some()
+        self.get(name).is_some()
     }
 
     /// Lets a name stand for something, unless it stands for something already.
@@ -55,5 +56,14 @@ impl<T: Copy + Drop> NameTable<T> {
         }
         self.entries.insert(Vec::from_slice(alloc, name)?, of)?;
         Ok(())
+    }
+}
+
+impl<T: Copy + Drop> NameTable<T> {
+    /// What a name stands for, copied, None where it is not in the table.
+    pub fn find(&self, name: &[u8]) -> Option<T>
+        ensures { result ≡ named name.now self.now }
+    {
+        self.get(name).copied()
     }
 }

@@ -17,24 +17,24 @@ use c_tree::{Body, CType, Func};
 /// Where a statement stands: the names of file scope up to its function, which is declared too, and
 /// the function with its parameters and local variables.
 #[derive(Clone, Copy)]
-pub struct Scope<'a> {
-    pub file: &'a FileScope<'a>,
-    own: &'a NameTable<CType>,
-    pub func: &'a Func,
-    pub body: &'a Body,
+pub struct Scope<'s, 'a> {
+    pub file: &'s FileScope<'a>,
+    own: &'s NameTable<CType>,
+    pub func: &'s Func,
+    pub body: &'s Body,
     ghost own_found: { Finds own.now (param_variables (func_of func.now) ++ local_variables (body_of body.now)) },
 }
 
-impl<'a> Scope<'a> {
+impl<'s, 'a> Scope<'s, 'a> {
     ghost use Rattle.c_scope.specs.FileItems.{declared};
     ghost use Rattle.c_scope.specs.ScopeOf.{scope_of};
 
     /// The scope of a function's statements.
     pub fn new(
-        file: &'a FileScope<'a>,
-        own: &'a NameTable<CType>,
-        func: &'a Func,
-        body: &'a Body,
+        file: &'s FileScope<'a>,
+        own: &'s NameTable<CType>,
+        func: &'s Func,
+        body: &'s Body,
     ) -> Self
         requires { Finds own.now (param_variables (func_of func.now) ++ local_variables (body_of body.now)) }
         ensures { scope_of result ≡ record { declared = declared file.now; func = func_of func.now; body = body_of body.now } }
@@ -79,7 +79,7 @@ impl<'a> Scope<'a> {
     }
 
     /// The type of a function: one of the unit, or one of the runtime.
-    pub fn function(&self, name: &[u8]) -> Option<Signature<'a>>
+    pub fn function(&self, name: &[u8]) -> Option<Signature<'s>>
         ensures { option_map signature_type result ≡ named name.now (functions (scope_of self.now)) }
     {
         match self.file.function(name) {

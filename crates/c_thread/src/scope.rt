@@ -3,7 +3,7 @@ ghost use Rattle.std.specs.Prelude.{◌≡◌, option_copied};
 ghost use Rattle.c_objects.specs.Stores.{var_at};
 ghost use Rattle.c_thread.specs.Sights.{bytes_in, func_at, func_in, held_in, object_in, symbol_in};
 
-use c_machine::{NameTable, is_depth};
+use c_machine::{Numbers, is_depth};
 use c_objects::{FuncId, Held, Object, ObjectId, Store};
 use c_tree::{Item, Unit};
 use std::rc::Rc;
@@ -12,7 +12,7 @@ use w2c_base::Value;
 /// The functions that units and hosts define for all units, by their symbols.
 #[derive(Drop)]
 pub struct Symbols {
-    pub numbers: NameTable,
+    pub numbers: Numbers,
     pub funcs: Vec<FuncId>,
 }
 
@@ -30,11 +30,11 @@ impl Symbols {
 #[derive(Drop)]
 pub struct ObjectTables {
     pub unit: usize,
-    pub vars: NameTable,
-    pub memories: NameTable,
-    pub tables: NameTable,
-    pub arrays: NameTable,
-    pub functions: NameTable,
+    pub vars: Numbers,
+    pub memories: Numbers,
+    pub tables: Numbers,
+    pub arrays: Numbers,
+    pub functions: Numbers,
     pub symbols: Rc<Symbols>,
 }
 
@@ -57,7 +57,7 @@ pub struct UnitScope<'a> {
     pub unit: usize,
     pub items: &'a Unit,
     pub objects: &'a ObjectTables,
-    pub locals: &'a NameTable,
+    pub locals: &'a Numbers,
     pub values: &'a [Held],
     pub store: &'a Store,
 }

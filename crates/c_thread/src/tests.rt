@@ -6,7 +6,7 @@ use crate::{
     FuncTypes, HostCall, LinkedFrame, LinkedStep, LinkedThread, LinkedUnit, ObjectTables, Symbols,
     TypeList,
 };
-use c_machine::{NameTable, Tables};
+use c_machine::{Numbers, Tables};
 use c_objects::{FuncId, Held, Store, UnitObjects};
 use c_tree::{
     Arg, Args, Body, CFuncType, CType, CTypes, Callee, Expr, Func, Item, Locals, Name, Num, Params,
@@ -97,8 +97,8 @@ fn second_items(alloc: Global) -> Result<Unit, Memory> {
     Ok(unit)
 }
 
-fn numbered(alloc: Global, text: &str, number: usize) -> Result<NameTable, Memory> {
-    let mut table = NameTable::new(alloc);
+fn numbered(alloc: Global, text: &str, number: usize) -> Result<Numbers, Memory> {
+    let mut table = Numbers::new(alloc);
     table.enter(alloc, Some(text.as_bytes()), number)?;
     Ok(table)
 }
@@ -119,10 +119,10 @@ fn object_tables(alloc: Global, unit: usize) -> Result<ObjectTables, Memory> {
     Ok(ObjectTables {
         unit,
         vars: numbered(alloc, "g", 0)?,
-        memories: NameTable::new(alloc),
-        tables: NameTable::new(alloc),
-        arrays: NameTable::new(alloc),
-        functions: NameTable::new(alloc),
+        memories: Numbers::new(alloc),
+        tables: Numbers::new(alloc),
+        arrays: Numbers::new(alloc),
+        functions: Numbers::new(alloc),
         symbols: symbols(alloc)?,
     })
 }

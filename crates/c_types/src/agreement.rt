@@ -91,7 +91,7 @@ fn result_of(signature: Signature) -> CType
     }
 }
 
-fn callee_type<'a>(s: &Scope<'a>, callee: &'a Callee) -> Option<Signature<'a>>
+fn callee_type<'s>(s: &Scope<'s, '_>, callee: &'s Callee) -> Option<Signature<'s>>
     ensures { option_map signature_type result ≡ callee_type (scope_of s.now) (callee_of callee.now) }
 {
     match callee {

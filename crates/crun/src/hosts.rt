@@ -12,7 +12,7 @@ ghost use Rattle.crun.specs.HostSymbols.{AreKnown, IsFirstTwice, IsTwiceAt, symb
 
 use c_hosts::{HostFunction, HostModule};
 use c_link::HostSymbol;
-use c_machine::NameTable;
+use c_machine::Numbers;
 use std::alloc::Global;
 use w2c_base::Memory;
 use w2c_mangle::{SymbolKind, export_symbol};
@@ -29,7 +29,7 @@ pub enum HostsRefusal {
 // Symbols that differ, and the table of them.
 #[derive(Drop)]
 pub struct SymbolList {
-    pub numbers: NameTable,
+    pub numbers: Numbers,
     pub symbols: Vec<HostSymbol>,
 }
 
@@ -45,7 +45,7 @@ pub fn host_symbols<H: HostModule>(
     ensures twice { (k : ℕ) → result ≡ Err (refusal.Twice k) → IsTwiceAt (hosts_of H.HostModule hosts.now) k }
 {
     let mut list = SymbolList {
-        numbers: NameTable::new(alloc),
+        numbers: Numbers::new(alloc),
         symbols: Vec::new(alloc),
     };
     for (k, host) in hosts.iter().enumerate() {

@@ -6,7 +6,7 @@ ghost use Rattle.c_machine.specs.Names.{entry_in, number_in, texts, Finds};
 ghost use Rattle.crun.specs.Names.{array_name as array_name_of, has_object as declares_object, names_in, object_name as object_name_of};
 
 use crate::objects::{first_value, is_of};
-use c_machine::{NameTable, number_all};
+use c_machine::{Numbers, number_all};
 use c_tree::{CType, Item};
 use std::alloc::Global;
 use w2c_base::Memory;
@@ -20,7 +20,7 @@ pub enum ObjectKind {
 }
 
 /// The objects of a kind, numbered in the order of their declarations.
-pub fn object_numbers(alloc: Global, kind: ObjectKind, items: &[Item]) -> Result<NameTable, Memory>
+pub fn object_numbers(alloc: Global, kind: ObjectKind, items: &[Item]) -> Result<Numbers, Memory>
     ensures { IfOk result (λ table. Finds table (λ q. number_in q (names_in kind (unit_of items.now)))) }
 {
     let names = object_names(alloc, kind, items)?;
@@ -75,10 +75,10 @@ fn item_name(item: &Item) -> &[u8]
 }
 
 /// The arrays, by the numbers of their items.
-pub fn array_numbers(alloc: Global, items: &[Item]) -> Result<NameTable, Memory>
+pub fn array_numbers(alloc: Global, items: &[Item]) -> Result<Numbers, Memory>
     ensures { IfOk result (λ table. Finds table (λ q. entry_in 0 q (map array_name_of (map item_of items.now)))) }
 {
-    let mut table = NameTable::new(alloc);
+    let mut table = Numbers::new(alloc);
     for (i, item) in items.iter().enumerate() {
         table.enter(alloc, array_name(item), i)?;
     }

@@ -8,7 +8,7 @@ ghost use Rattle.c_objects.specs.declared.held.FuncId.TheVariants as func;
 ghost use Rattle.crun.specs.Entries.{entries, entry_of, host_ids as host_ids_of, item_entry, symbol_of, unit_entries};
 
 use c_link::{HostSymbol, Linked, defined_function};
-use c_machine::{NameTable, number_all};
+use c_machine::{Numbers, number_all};
 use c_objects::FuncId;
 use c_thread::Symbols;
 use c_tree::Item;
@@ -120,7 +120,7 @@ fn put_ids(ids: &mut Vec<FuncId>, host: usize, count: usize) -> Result<(), Memor
 fn numbered(alloc: Global, seen: &[Seen<'_>]) -> Result<Symbols, Memory>
     ensures { IfOk result (λ s. (q : List ℕ) → symbol_in s q ≡ named q (map entry_of seen.now)) }
 {
-    let mut numbers = NameTable::new(alloc);
+    let mut numbers = Numbers::new(alloc);
     let mut funcs = Vec::new(alloc);
     for (i, one) in seen.iter().enumerate() {
         numbers.enter(alloc, Some(one.symbol), i)?;

@@ -1,5 +1,5 @@
-use Rattle.std.proofs.Common.{◌≡◌, ◌+◌, ◌-◌, ◌≤◌, ◌==◌, map, length, sym, ap, ◌∙◌, arith}
-use Rattle.std.specs.Prelude.{nat_eq}
+use Rattle.std.proofs.Common.{◌≡◌, ◌+◌, ◌-◌, ◌≤◌, ◌==◌, map, nat_cmp, length, sym, ap, ◌∙◌, arith}
+use Rattle.std.specs.BTreeMap.{is_at}
 use Rattle.std.specs.List.{list_any}
 use Rattle.std.proofs.lemmas.List.{drop_all, length-map}
 use Rattle.c_tree.specs.Rules.{are_distinct_numbers, case_value}
@@ -11,7 +11,7 @@ loop-i-init c =
     let numbers = map case_value c.args.cases.now in
     let k : length numbers ≡ length c.args.cases.now = simp length-map in
     let none = drop_all (length c.args.cases.now) numbers (omega arith) in
-    (omega arith, ap are_distinct_numbers none, λ m. ap (list_any (nat_eq m)) c.new-behind.ensures.empty ∙ sym (ap (list_any (λ k. k == m)) none))
+    (omega arith, ap are_distinct_numbers none, λ m. ap (list_any (is_at (nat_cmp m))) c.new-behind.ensures.empty ∙ sym (ap (list_any (λ k. k == m)) none))
 
 pub loop-i-preserved : goal.loop-i-preserved
 loop-i-preserved c =
@@ -20,13 +20,13 @@ loop-i-preserved c =
     let less : c.loop-i.i - 1 ≤ length c.args.cases.now = omega arith in
     let n = c.value_at-number.result in (
       less,
-      distinct_more numbers c.loop-i.i (c.loop-i.i - 1) n c.value_at-number.ensures next c.loop-i.behind.keys c.loop-i.invariant.2 c.if-contains.ensures c.loop-i.invariant.1,
+      distinct_more numbers c.loop-i.i (c.loop-i.i - 1) n c.value_at-number.ensures next c.loop-i.behind c.loop-i.invariant.2 c.if-contains.ensures c.loop-i.invariant.1,
       knows_before numbers c.loop-i.i
-          (c.loop-i.i - 1) n c.value_at-number.ensures next c.loop-i.behind.keys c.loop-i.invariant.2 c.insert.new.self.keys c.if-contains.ensures c.in_ok-insert.ensures.keys,
+          (c.loop-i.i - 1) n c.value_at-number.ensures next c.loop-i.behind c.loop-i.invariant.2 c.insert.new.self c.in_ok-insert.ensures.updates.0,
     )
 
 pub returns-then-contains : goal.returns-then-contains
 returns-then-contains c =
     let numbers = map case_value c.args.cases.now in
     let next : c.loop-i.i ≡ (c.loop-i.i - 1) + 1 = omega arith in
-    distinct_stops numbers c.loop-i.i (c.loop-i.i - 1) c.value_at-number.result c.value_at-number.ensures next c.loop-i.behind.keys c.loop-i.invariant.2 c.if-contains.ensures
+    distinct_stops numbers c.loop-i.i (c.loop-i.i - 1) c.value_at-number.result c.value_at-number.ensures next c.loop-i.behind c.loop-i.invariant.2 c.if-contains.ensures

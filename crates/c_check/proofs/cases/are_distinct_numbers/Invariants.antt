@@ -1,12 +1,12 @@
-use Rattle.std.proofs.Common.{◌≡◌, ◌≤◌, ◌==◌, ℕ, true, length, drop, map}
-use Rattle.std.specs.Prelude.{nat_eq}
+use Rattle.std.proofs.Common.{◌≡◌, ◌≤◌, ◌==◌, ℕ, true, nat_cmp, length, drop, map}
+use Rattle.std.specs.BTreeSet.{contains}
 use Rattle.std.specs.List.{list_any}
 use Rattle.c_tree.specs.Rules.{are_distinct_numbers, case_value}
 use Rattle.c_check.proofs.cases.are_distinct_numbers.Given as goal
 
 abbrev pub invariant-loop-i : goal.invariant-loop-i
 invariant-loop-i l = (l.i ≤ length l.cases) × (are_distinct_numbers (drop l.i (map case_value l.cases)) ≡ true)
-    × ((m : ℕ) → list_any (nat_eq m) l.behind.keys ≡ list_any (λ k. k == m) (drop l.i (map case_value l.cases)))
+    × ((m : ℕ) → contains nat_cmp l.behind m ≡ list_any (λ k. k == m) (drop l.i (map case_value l.cases)))
 
 abbrev pub decreases-loop-i : goal.decreases-loop-i
 decreases-loop-i l = l.i
