@@ -1,3 +1,4 @@
+pub mod Formed
 pub mod NewFunctions
 pub mod NewItems
 pub mod NewNames

@@ -1,7 +1,9 @@
 // What holds of the one unit that linked units become.
-ghost use Rattle.std.specs.Prelude.{◌≡◌, ℕ, List};
+ghost use Rattle.std.specs.Prelude.{◌≡◌, ℕ, List, Some, slice_get};
 ghost use Rattle.w2c_base.specs.Run.{Reply};
+ghost use Rattle.c_tree.specs.Tree as tree;
 ghost use Rattle.c_tree.specs.FirstBroken.{KeepsRules};
+ghost use Rattle.c_tree.specs.Spelled.{Formed};
 ghost use Rattle.c_meaning.specs.Linking.{Program, SymbolCall, fits};
 ghost use Rattle.c_meaning.specs.Run.{c_run};
 ghost use Rattle.c_renaming.specs.Merging.{MayMerge};
@@ -17,6 +19,11 @@ pub fn linked_units_may_merge()
 /// The law that the one unit keeps every rule that the linked units keep.
 pub fn merged_units_keep_the_rules()
     ensures { (p : Program) → AreLinked p → KeepsRules (merge_of p) }
+{}
+
+/// The law that some text spells the one unit where some text spells each of the units.
+pub fn merged_units_are_spelled()
+    ensures { (p : Program) → ((u : ℕ) (items : List tree.Item) → slice_get p.units u ≡ Some items → Formed items) → Formed (merge_of p) }
 {}
 
 /// The law that the one unit runs as the linked units do: with the same calls, which fit it alike, the

@@ -3,4 +3,7 @@
 
 mod laws;
 
-pub use laws::{linked_units_may_merge, merged_units_keep_the_rules, merged_units_run_the_same};
+pub use laws::{
+    linked_units_may_merge, merged_units_are_spelled, merged_units_keep_the_rules,
+    merged_units_run_the_same,
+};
