@@ -1,4 +1,6 @@
+pub mod Decimal
 pub mod Formed
+pub mod Joined
 pub mod NewFunctions
 pub mod NewItems
 pub mod NewNames
