@@ -10,14 +10,22 @@ use c_tree::{Body, CType, Func, Item, Locals, Name, Num, Params, Unit};
 use std::alloc::Global;
 use w2c_base::Memory;
 
-fn new_param(alloc: Global, unit: usize, param: &(CType, Option<Name>)) -> Result<(CType, Option<Name>), Memory>
+fn new_param(
+    alloc: Global,
+    unit: usize,
+    param: &(CType, Option<Name>),
+) -> Result<(CType, Option<Name>), Memory>
     ensures { IfOk result (λ new. new ≡ renamed.param new_names unit param.now) }
 {
     let name = new_target(alloc, unit, &param.1)?;
     Ok((param.0, name))
 }
 
-fn new_params(alloc: Global, unit: usize, params: &[(CType, Option<Name>)]) -> Result<Params, Memory>
+fn new_params(
+    alloc: Global,
+    unit: usize,
+    params: &[(CType, Option<Name>)],
+) -> Result<Params, Memory>
     ensures { IfOk result (λ new. new ≡ map (renamed.param new_names unit) params.now) }
 {
     let mut made = Params::new(alloc);
@@ -27,7 +35,11 @@ fn new_params(alloc: Global, unit: usize, params: &[(CType, Option<Name>)]) -> R
     Ok(made)
 }
 
-fn new_local(alloc: Global, unit: usize, local: &(CType, Name, Num)) -> Result<(CType, Name, Num), Memory>
+fn new_local(
+    alloc: Global,
+    unit: usize,
+    local: &(CType, Name, Num),
+) -> Result<(CType, Name, Num), Memory>
     ensures { IfOk result (λ new. new ≡ renamed.local new_names unit local.now) }
 {
     let name = new_variable(alloc, unit, local.1.as_slice())?;
@@ -93,7 +105,12 @@ fn new_item(alloc: Global, unit: usize, item: &Item) -> Result<Item, Memory>
 }
 
 /// Puts the items of a unit at the end, with the names that they get there.
-pub(crate) fn put_items(alloc: Global, one: &mut Unit, unit: usize, items: &[Item]) -> Result<(), Memory>
+pub(crate) fn put_items(
+    alloc: Global,
+    one: &mut Unit,
+    unit: usize,
+    items: &[Item],
+) -> Result<(), Memory>
     ensures { OnOk result (unit_of one.new ≡ unit_of one.old ++ map (renamed.item new_names unit) (unit_of items.now)) }
 {
     for item in items {

@@ -66,12 +66,22 @@ fn new_callee(alloc: Global, unit: usize, callee: &Callee) -> Result<Callee, Mem
         Callee::Through(ty, name) => {
             let params = ty.params.copy(alloc)?;
             let name = new_variable(alloc, unit, name.as_slice())?;
-            Ok(Callee::Through(CFuncType { params, result: ty.result }, name))
+            Ok(Callee::Through(
+                CFuncType {
+                    params,
+                    result: ty.result,
+                },
+                name,
+            ))
         }
     }
 }
 
-pub(crate) fn new_target(alloc: Global, unit: usize, target: &Option<Name>) -> Result<Option<Name>, Memory>
+pub(crate) fn new_target(
+    alloc: Global,
+    unit: usize,
+    target: &Option<Name>,
+) -> Result<Option<Name>, Memory>
     ensures { IfOk result (λ new. new ≡ option_map (new_names.var unit) target.now) }
 {
     match target {

@@ -1,4 +1,3 @@
-use Rattle.std.proofs.Common.{[]}
 use Rattle.c_tree.specs.View.{item_of}
 use Rattle.c_renaming.specs.Renamed as renamed
 use Rattle.c_merge.specs.Merge.{new_names}
