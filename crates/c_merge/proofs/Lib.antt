@@ -1,0 +1,12 @@
+pub mod Decimal
+pub mod Formed
+pub mod Joined
+pub mod NewFunctions
+pub mod NewItems
+pub mod NewNames
+pub mod NewScope
+pub mod NewStatements
+pub mod OneUnit
+pub mod Places
+pub mod Rules
+pub mod Units

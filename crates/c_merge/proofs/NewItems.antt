@@ -1,0 +1,288 @@
+-- An item of the one unit keeps the rules that it kept in its own unit.
+use Rattle.std.proofs.Common.{◌≡◌, ◌≢◌, ℕ, zero, suc, ◌<◌, ◌&&◌, ◌||◌, not, Bool, true, false, if◌then◌else◌, List, [], ◌∷◌, ◌++◌, map, filter_map, take, bytes_eq, is_some, Option, Some, None, option_map, slice_get, refl, sym, ap, ◌∙◌, subst, arith}
+use Rattle.std.specs.List.{list_all, list_any}
+use Rattle.std.proofs.lemmas.List.{map-append}
+use Rattle.std.proofs.lemmas.Bool.{and_parts, false≢true, both_ways, not-true}
+use Rattle.std.proofs.lemmas.Slice.Eq.{bytes_eq-Decides}
+use Rattle.c_tree.specs.declared.tree.CType.{CType}
+use Rattle.c_tree.specs.declared.tree.CType.TheVariants as type
+use Rattle.c_tree.specs.Tree as tree
+use Rattle.c_tree.specs.Runtime.{same_type, same_types, same_func_type}
+use Rattle.c_tree.specs.Scope.{name_of, func_type_of, param_variables, local_variables}
+use Rattle.c_tree.specs.Rules.{has_body, are_alike, may_both_stand, is_own_name, is_symbol, file_name_is_free, body_variables, local_names}
+use Rattle.c_tree.specs.FirstBroken.{KeepsRules}
+use Rattle.c_meaning.specs.State.{Name}
+use Rattle.c_meaning.specs.Linking.{Program}
+use Rattle.c_sound.proofs.Choices.{by_test, by_option}
+use Rattle.c_sound.proofs.Defined.{passes_at}
+use Rattle.c_sound.proofs.Lists.{take_keeps}
+use Rattle.c_renaming.specs.Renaming.{Renaming}
+use Rattle.c_renaming.specs.Renamed as renamed
+use Rattle.c_renaming.specs.Kept.{Each}
+use Rattle.c_renaming.specs.NewNames.{is_outside, name_in}
+use Rattle.c_renaming.proofs.Bodies.{func_type_of-func}
+use Rattle.c_renaming.proofs.Merging.{merging_names}
+use Rattle.c_renaming.proofs.NewNames.{new_names}
+use Rattle.c_merge.specs.Merge.{AreLinked, may_name, merge_names}
+use Rattle.c_merge.proofs.NewNames.{new, new_var, outside_stays, own_new, own_var, SameNew, new_same, new_keeps, item_name, one_type}
+use Rattle.c_merge.proofs.NewStatements.{all_gives}
+use Rattle.c_merge.proofs.Places.{Before, from_map}
+use Rattle.c_merge.proofs.Units.{free, func_seen, defined_once}
+
+-- ---- lists and tests
+
+pub all_from : {A : Type 0} (test : A → Bool) (xs : List A) → ((j : ℕ) (x : A) → slice_get xs j ≡ Some x → test x ≡ true) → list_all test xs ≡ true
+all_from test [] holds = refl
+all_from test (x ∷ xs) holds = λ i. holds 0 x refl i && all_from test xs (λ j y at. holds (suc j) y at) i
+
+all_join : {A : Type 0} (test : A → Bool) (xs ys : List A) → list_all test xs ≡ true → list_all test ys ≡ true → list_all test (xs ++ ys) ≡ true
+all_join test [] ys first second = second
+all_join test (x ∷ xs) ys first second =
+    let both = and_parts (test x) (list_all test xs) first in
+    λ i. both.0 i && all_join test xs ys both.1 second i
+
+pub any_map : {A B : Type 0} (f : A → B) (test : B → Bool) (test' : A → Bool) → ((a : A) → test (f a) ≡ test' a) → (xs : List A) → list_any test (map f xs) ≡ list_any test' xs
+any_map f test test' same [] = refl
+any_map f test test' same (x ∷ xs) = λ i. same x i || any_map f test test' same xs i
+
+pub any_behind : {A : Type 0} (test : A → Bool) (xs ys : List A) → list_any test ys ≡ true → list_any test (xs ++ ys) ≡ true
+any_behind test [] ys is = is
+any_behind test (x ∷ xs) ys is = ap (λ b. test x || b) (any_behind test xs ys is) ∙ go (test x)
+  where
+    go : (b : Bool) → (b || true) ≡ true
+    go true = refl
+    go false = refl
+
+pub any_front : {A : Type 0} (test : A → Bool) (xs ys : List A) → list_any test xs ≡ true → list_any test (xs ++ ys) ≡ true
+any_front test [] ys is = absurd (false≢true is)
+any_front test (x ∷ xs) ys is = go (test x) is (any_front test xs ys)
+  where
+    go : (b : Bool) → (b || list_any test xs) ≡ true → (list_any test xs ≡ true → list_any test (xs ++ ys) ≡ true) → (b || list_any test (xs ++ ys)) ≡ true
+    go true is behind = refl
+    go false is behind = behind is
+
+each_at : {A : Type 0} (P : A → Type 0) (xs : List A) → Each P xs → (i : ℕ) (x : A) → slice_get xs i ≡ Some x → P x
+each_at P [] each i x at = absurd cc
+each_at P (y ∷ xs) each zero x at = let same : y ≡ x = cc in subst P same each.0
+each_at P (y ∷ xs) each (suc i) x at = each_at P xs each.1 i x at
+
+pub and_false : (b : Bool) → (b && false) ≡ false
+and_false true = refl
+and_false false = refl
+
+pub is_some_map : {A B : Type 0} (f : A → B) (o : Option A) → is_some (option_map f o) ≡ is_some o
+is_some_map f None = refl
+is_some_map f (Some a) = refl
+
+-- ---- types are equal to themselves
+
+type_equal : (t : CType) → same_type t t ≡ true
+type_equal type.U32 = refl
+type_equal type.U64 = refl
+type_equal type.PtrU32 = refl
+type_equal type.PtrU64 = refl
+type_equal type.PtrMem = refl
+type_equal type.PtrTab = refl
+type_equal type.FnPtr = refl
+type_equal type.Void = refl
+type_equal type.Mem = refl
+type_equal type.Tab = refl
+
+types_equal : (ts : List CType) → same_types ts ts ≡ true
+types_equal [] = refl
+types_equal (t ∷ ts) = λ i. type_equal t i && types_equal ts i
+
+func_types_equal : (f : tree.FuncType) → same_func_type f f ≡ true
+func_types_equal f = λ i. types_equal f.params i && type_equal f.result i
+
+module _ (p : Program) (are : AreLinked p) (u : ℕ) (items : List tree.Item) (at_u : slice_get p.units u ≡ Some items) where
+  abbrev ρ : Renaming
+  ρ = merge_names p
+
+  keeps : KeepsRules items
+  keeps = are.kept u items at_u
+
+  vars_keep : (m n : Name) → bytes_eq (new_var u m) (new_var u n) ≡ bytes_eq m n
+  vars_keep = (merging_names name_in new_names p is_outside (may_name p)).vars u
+
+  -- ---- rule 1
+
+  body_same : (item : tree.Item) → has_body (renamed.item ρ u item) ≡ has_body item
+  body_same (tree.Array n count bytes) = refl
+  body_same (tree.Var t n number) = refl
+  body_same (tree.Function f) = is_some_map (renamed.body ρ u) f.body
+
+  alike_same : (a c : tree.Item) → are_alike (renamed.item ρ u a) (renamed.item ρ u c) ≡ are_alike a c
+  alike_same (tree.Function f) (tree.Function g) = go f.is_static g.is_static
+    where
+      with_static : Bool → tree.Func → tree.Func
+      with_static b f = record { is_static = b; result = f.result; name = f.name; params = f.params; body = f.body }
+
+      go : (b c : Bool) → are_alike (tree.Function (with_static b (renamed.func ρ u f))) (tree.Function (with_static c (renamed.func ρ u g)))
+          ≡ are_alike (tree.Function (with_static b f)) (tree.Function (with_static c g))
+      go true c = λ i. c && same_func_type (func_type_of-func ρ u f i) (func_type_of-func ρ u g i)
+      go false c = λ i. not c && same_func_type (func_type_of-func ρ u f i) (func_type_of-func ρ u g i)
+  alike_same (tree.Function f) (tree.Array n count bytes) = refl
+  alike_same (tree.Function f) (tree.Var t n number) = refl
+  alike_same (tree.Array n count bytes) c = refl
+  alike_same (tree.Var t n number) c = refl
+
+  stand_same : (a c : tree.Item) → may_both_stand (renamed.item ρ u a) (renamed.item ρ u c) ≡ may_both_stand a c
+  stand_same a c = λ i. alike_same a c i && not (body_same a i && body_same c i)
+
+  -- functions of two units that are seen under one name
+  functions_stand : (w : ℕ) → w ≢ u → (others : List tree.Item) → slice_get p.units w ≡ Some others → (k j : ℕ) (g f : tree.Func)
+      → slice_get others k ≡ Some (tree.Function g) → slice_get items j ≡ Some (tree.Function f) → g.name ≡ f.name → is_outside f.name ≡ true
+      → may_both_stand (renamed.item ρ w (tree.Function g)) (renamed.item ρ u (tree.Function f)) ≡ true
+  functions_stand w differ others there k j g f at_k at_j same outside =
+      λ i. go g.is_static f.is_static shown_g shown_f i && not (one_body i)
+    where
+      outside_g : is_outside g.name ≡ true
+      outside_g = ap is_outside same ∙ outside
+
+      shown_g : g.is_static ≡ false
+      shown_g = not-true g.is_static (sym (func_seen others (are.kept w others there) k g at_k) ∙ outside_g)
+
+      shown_f : f.is_static ≡ false
+      shown_f = not-true f.is_static (sym (func_seen items keeps j f at_j) ∙ outside)
+
+      types : func_type_of (renamed.func ρ w g) ≡ func_type_of (renamed.func ρ u f)
+      types = func_type_of-func ρ w g ∙ one_type p are w u others items k j g f there at_u at_k at_j same outside_g ∙ sym (func_type_of-func ρ u f)
+
+      with_static : Bool → tree.Func → tree.Func
+      with_static b f = record { is_static = b; result = f.result; name = f.name; params = f.params; body = f.body }
+
+      go : (b c : Bool) → b ≡ false → c ≡ false → are_alike (tree.Function (with_static b (renamed.func ρ w g))) (tree.Function (with_static c (renamed.func ρ u f))) ≡ true
+      go false false e h = ap (λ ty. same_func_type ty (func_type_of (renamed.func ρ u f))) types ∙ func_types_equal (func_type_of (renamed.func ρ u f))
+      go true c e h = absurd (false≢true (sym e))
+      go false true e h = absurd (false≢true (sym h))
+
+      one_body : (is_some (option_map (renamed.body ρ w) g.body) && is_some (option_map (renamed.body ρ u) f.body)) ≡ false
+      one_body = (λ i. is_some_map (renamed.body ρ w) g.body i && is_some_map (renamed.body ρ u) f.body i) ∙ by_option g.body
+          (λ none. ap (λ o. is_some o && is_some f.body) none)
+          (λ b is. by_option f.body
+          (λ none. ap (λ o. is_some g.body && is_some o) none ∙ and_false (is_some g.body))
+          (λ c is'. absurd (defined_once p are u w f.name differ outside
+          (record { items = items; there = at_u; item = j; func = f; body = c; at = at_j; body_is = is'; name_is = refl })
+          (record { items = others; there = there; item = k; func = g; body = b; at = at_k; body_is = is; name_is = same }))))
+
+  -- an item of another unit
+  others_stand : (w : ℕ) → w ≢ u → (others : List tree.Item) → slice_get p.units w ≡ Some others → (k j : ℕ) (a x : tree.Item)
+      → slice_get others k ≡ Some a → slice_get items j ≡ Some x → name_of a ≡ name_of x → is_outside (name_of x) ≡ true
+      → may_both_stand (renamed.item ρ w a) (renamed.item ρ u x) ≡ true
+  others_stand w differ others there k j (tree.Function g) (tree.Function f) at_k at_j same outside = functions_stand w differ others there k j g f at_k at_j same outside
+  others_stand w differ others there k j (tree.Array n count bytes) x at_k at_j same outside =
+      absurd (both_ways (is_outside n) (ap not (free others (are.kept w others there) k (tree.Array n count bytes) at_k).0) (ap is_outside same ∙ outside))
+  others_stand w differ others there k j (tree.Var t n number) x at_k at_j same outside =
+      absurd (both_ways (is_outside n) (ap not (free others (are.kept w others there) k (tree.Var t n number) at_k).0) (ap is_outside same ∙ outside))
+  others_stand w differ others there k j (tree.Function g) (tree.Array n count bytes) at_k at_j same outside =
+      absurd (both_ways (is_outside n) (ap not (free items keeps j (tree.Array n count bytes) at_j).0) outside)
+  others_stand w differ others there k j (tree.Function g) (tree.Var t n number) at_k at_j same outside =
+      absurd (both_ways (is_outside n) (ap not (free items keeps j (tree.Var t n number) at_j).0) outside)
+
+  abbrev pub stands_by : tree.Item → tree.Item → Bool
+  stands_by x other = not (bytes_eq (name_of other) (name_of x)) || may_both_stand other x
+
+  less_differ : (w : ℕ) → w < u → w ≢ u
+  less_differ w less e = omega (arith, less, e)
+
+  pub declared_once : (others : List tree.Item) → Each (Before p u) others → (i : ℕ) (x : tree.Item) → slice_get items i ≡ Some x
+      → list_all (stands_by x) (take i items) ≡ true → list_all (stands_by (renamed.item ρ u x)) (others ++ map (renamed.item ρ u) (take i items)) ≡ true
+  declared_once others front i x at once = all_join (stands_by (renamed.item ρ u x)) others (map (renamed.item ρ u) (take i items))
+      (all_from (stands_by (renamed.item ρ u x)) others of_other)
+      (all_from (stands_by (renamed.item ρ u x)) (map (renamed.item ρ u) (take i items)) of_own)
+    where
+      x_name : name_of (renamed.item ρ u x) ≡ new u (name_of x)
+      x_name = item_name p u x (free items keeps i x at).0
+
+      by_name : (w : ℕ) (a : tree.Item) → name_of (renamed.item ρ w a) ≡ new w (name_of a) → w ≢ u
+          → ((name_of a ≡ name_of x) → is_outside (name_of x) ≡ true → may_both_stand (renamed.item ρ w a) (renamed.item ρ u x) ≡ true)
+          → stands_by (renamed.item ρ u x) (renamed.item ρ w a) ≡ true
+      by_name w a a_name differ stand = by_test (bytes_eq (name_of (renamed.item ρ w a)) (name_of (renamed.item ρ u x)))
+          (λ is.
+          let same : new w (name_of a) ≡ new u (name_of x) = sym a_name ∙ (bytes_eq-Decides (name_of (renamed.item ρ w a)) (name_of (renamed.item ρ u x))).0 is ∙ x_name in
+          let s : SameNew (name_of a) (name_of x) = new_same u w differ (name_of a) (name_of x) same in
+          ap (λ b. not b || may_both_stand (renamed.item ρ w a) (renamed.item ρ u x)) is ∙ stand s.same s.outside)
+          (λ is. ap (λ b. not b || may_both_stand (renamed.item ρ w a) (renamed.item ρ u x)) is)
+
+      of_other : (j : ℕ) (other : tree.Item) → slice_get others j ≡ Some other → stands_by (renamed.item ρ u x) other ≡ true
+      of_other j other at_j =
+          let b = each_at (Before p u) others front j other at_j in
+          let w = b.unit in
+          let from = b.from in
+          let differ : w ≢ u = less_differ w b.less in
+          let a_name = item_name p w from.item (free from.items (are.kept w from.items from.there) from.number from.item from.at).0 in
+          ap (stands_by (renamed.item ρ u x)) from.is
+          ∙ by_name w from.item a_name differ (λ same outside. others_stand w differ from.items from.there from.number i from.item x from.at at same outside)
+
+      of_own : (j : ℕ) (other : tree.Item) → slice_get (map (renamed.item ρ u) (take i items)) j ≡ Some other → stands_by (renamed.item ρ u x) other ≡ true
+      of_own j other at_j =
+          let from = from_map (renamed.item ρ u) (take i items) j other at_j in
+          let a = from.0 in
+          let a_name = item_name p u a (free items keeps j a (take_keeps i items j a from.1)).0 in
+          let names : bytes_eq (name_of (renamed.item ρ u a)) (name_of (renamed.item ρ u x)) ≡ bytes_eq (name_of a) (name_of x) =
+          (λ k. bytes_eq (a_name k) (x_name k)) ∙ new_keeps u (name_of a) (name_of x) in
+          ap (stands_by (renamed.item ρ u x)) from.2
+          ∙ (λ k. not (names k) || stand_same a x k)
+          ∙ passes_at (stands_by x) (take i items) once j a from.1
+
+  -- ---- rule 2
+
+  pub name_free : (item : tree.Item) → file_name_is_free item ≡ true → file_name_is_free (renamed.item ρ u item) ≡ true
+  name_free (tree.Array n count bytes) own = ap is_own_name (own_var u n own)
+  name_free (tree.Var t n number) own = ap is_own_name (own_var u n own)
+  name_free (tree.Function f) is = go f.is_static is
+    where
+      symbol_outside : is_symbol f.name ≡ true → is_outside f.name ≡ true
+      symbol_outside symbol = by_test (is_outside f.name) (λ out. out) (λ inn. absurd (clash (is_own f.name inn)))
+        where
+          is_own : (n : Name) → is_outside n ≡ false → is_own_name n ≡ true
+          is_own n inn = go (is_own_name n) inn
+            where
+              go : (b : Bool) → not b ≡ false → b ≡ true
+              go true e = refl
+              go false e = absurd (false≢true (sym e))
+
+          clash : is_own_name f.name ≡ true → ⊥
+          clash own = false≢true (sym (ap not symbol) ∙ (and_parts _ (not (is_symbol f.name)) own).1)
+
+      go : (b : Bool) → (if b then is_own_name f.name else is_symbol f.name) ≡ true → (if b then is_own_name (new u f.name) else is_symbol (new u f.name)) ≡ true
+      go true own = ap is_own_name (own_new u f.name own)
+      go false symbol = ap is_symbol (outside_stays u f.name (symbol_outside symbol)) ∙ symbol
+
+  params_names : (params : List tree.Param) → map (λ (v : Name × CType). v.0) (filter_map (λ (q : tree.Param). option_map (λ name. (name, q.0)) q.1) (map (renamed.param ρ u) params))
+      ≡ map (new_var u) (map (λ (v : Name × CType). v.0) (filter_map (λ (q : tree.Param). option_map (λ name. (name, q.0)) q.1) params))
+  params_names [] = refl
+  params_names ((t, None) ∷ params) = params_names params
+  params_names ((t, Some n) ∷ params) = ap (λ l. new_var u n ∷ l) (params_names params)
+
+  locals_names : (locals : List tree.Local) → map (λ (v : Name × CType). v.0) (map (λ (l : tree.Local). (l.1, l.0)) (map (renamed.local ρ u) locals))
+      ≡ map (new_var u) (map (λ (v : Name × CType). v.0) (map (λ (l : tree.Local). (l.1, l.0)) locals))
+  locals_names [] = refl
+  locals_names (l ∷ locals) = ap (λ rest. new_var u l.1 ∷ rest) (locals_names locals)
+
+  pub own_names : (item : tree.Item) → local_names (renamed.item ρ u item) ≡ map (new_var u) (local_names item)
+  own_names (tree.Array n count bytes) = refl
+  own_names (tree.Var t n number) = refl
+  own_names (tree.Function f) = go f.body
+    where
+      here : Option tree.Body → tree.Func
+      here o = record { is_static = f.is_static; result = f.result; name = f.name; params = f.params; body = o }
+
+      first_name : Name × CType → Name
+      first_name v = v.0
+
+      go : (o : Option tree.Body) → map (λ (v : Name × CType). v.0) (body_variables (renamed.func ρ u (here o))) ≡ map (new_var u) (map (λ (v : Name × CType). v.0) (body_variables (here o)))
+      go None =
+          map-append first_name (param_variables (renamed.func ρ u f)) []
+          ∙ ap (λ l. l ++ []) (params_names f.params)
+          ∙ sym (map-append (new_var u) (map first_name (param_variables f)) [])
+          ∙ ap (map (new_var u)) (sym (map-append first_name (param_variables f) []))
+      go (Some b) =
+          map-append first_name (param_variables (renamed.func ρ u f)) (local_variables (renamed.body ρ u b))
+          ∙ (λ i. params_names f.params i ++ locals_names b.locals i)
+          ∙ sym (map-append (new_var u) (map first_name (param_variables f)) (map first_name (local_variables b)))
+          ∙ ap (map (new_var u)) (sym (map-append first_name (param_variables f) (local_variables b)))
+
+  pub locals_free : (names : List Name) → list_all is_own_name names ≡ true → list_all is_own_name (map (new_var u) names) ≡ true
+  locals_free names is = all_gives (new_var u) is_own_name is_own_name (λ n own. ap is_own_name (own_var u n own)) names is

@@ -1,0 +1,86 @@
+-- The one unit that linked units become keeps the rules.
+use Rattle.std.proofs.Common.{◌≡◌, ℕ, ◌+◌, List, map, take, Some, None, option_map, slice_get, refl, sym, ap, ◌∙◌, subst}
+use Rattle.c_tree.specs.Tree as tree
+use Rattle.c_tree.specs.Rules.{item_rules, stmt_rules}
+use Rattle.c_tree.specs.FirstBroken.{KeepsRules}
+use Rattle.c_meaning.specs.Linking.{Program}
+use Rattle.c_sound.proofs.Choices.{by_option}
+use Rattle.c_renaming.specs.Renaming.{Renaming}
+use Rattle.c_renaming.specs.Renamed as renamed
+use Rattle.c_merge.specs.Merge.{AreLinked, merge_names, merge_of}
+use Rattle.c_merge.proofs.NewFunctions.{item_keeps}
+use Rattle.c_merge.proofs.NewStatements.{stmt_keeps}
+use Rattle.c_merge.proofs.Places.{Placed, from_map, placed_at, upto}
+use Rattle.c_merge.proofs.Rules.{Keeps, keeps_all, all_keep}
+
+module _ (p : Program) (are : AreLinked p) where
+  abbrev ρ : Renaming
+  ρ = merge_names p
+
+  abbrev one : List tree.Item
+  one = merge_of p
+
+  new_item : (k : ℕ) (y : tree.Item) → slice_get one k ≡ Some y → Keeps item_rules (record { unit = one; number = k; item = y })
+  new_item k y at =
+      let place : Placed p (take k one) y = placed_at p k y at in
+      let from = place.from in
+      let u = place.unit in
+      let old = (keeps_all from.items (are.kept u from.items from.there)).item from.number from.item from.at in
+      subst (λ (z : tree.Item). Keeps item_rules (record { unit = one; number = k; item = z })) (sym from.is)
+      (item_keeps p are u from.items from.there place.others place.before k from.number from.item from.at place.front_is old)
+
+  -- a body of the one unit is the renamed body of a unit
+  record IsBody (u : ℕ) (x : tree.Item) (g : tree.Func) (c : tree.Body) : Type 0 where
+    func : tree.Func
+    body : tree.Body
+    item_is : x ≡ tree.Function func
+    body_is : func.body ≡ Some body
+    func_new : g ≡ renamed.func ρ u func
+    body_new : c ≡ renamed.body ρ u body
+
+  same_func : (g h : tree.Func) → tree.Function g ≡ tree.Function h → g ≡ h
+  same_func g h e = cc
+
+  array_no_func : {g : tree.Func} {n bytes : List ℕ} {count : ℕ} → tree.Function g ≡ tree.Array n count bytes → ⊥
+  array_no_func e = cc
+
+  is_body : (u : ℕ) (x : tree.Item) (g : tree.Func) (c : tree.Body) → tree.Function g ≡ renamed.item ρ u x → g.body ≡ Some c → IsBody u x g c
+  is_body u (tree.Array n count bytes) g c is body = absurd cc
+  is_body u (tree.Var t n number) g c is body = absurd cc
+  is_body u (tree.Function f) g c is body =
+      let same : g ≡ renamed.func ρ u f = same_func g (renamed.func ρ u f) is in
+      let there : option_map (renamed.body ρ u) f.body ≡ Some c = sym (ap (λ (h : tree.Func). h.body) same) ∙ body in
+      by_option f.body
+      (λ none. absurd (no_some (sym (ap (option_map (renamed.body ρ u)) none) ∙ there)))
+      (λ b is'.
+      record { func = f; body = b; item_is = refl; body_is = is'; func_new = same; body_new = same_body b (sym (ap (option_map (renamed.body ρ u)) is') ∙ there) })
+    where
+      no_some : None ≡ Some c → ⊥
+      no_some e = cc
+
+      same_body : (b : tree.Body) → Some (renamed.body ρ u b) ≡ Some c → c ≡ renamed.body ρ u b
+      same_body b e = cc
+
+  new_stmt : (k : ℕ) (g : tree.Func) (c : tree.Body) → slice_get one k ≡ Some (tree.Function g) → g.body ≡ Some c
+      → (j : ℕ) (stmt : tree.Stmt) → slice_get c.stmts j ≡ Some stmt
+      → Keeps stmt_rules (record { scope = record { declared = take (k + 1) one; func = g; body = c }; number = j + 1; stmt = stmt })
+  new_stmt k g c at body j stmt here =
+      let place : Placed p (take k one) (tree.Function g) = placed_at p k (tree.Function g) at in
+      let from = place.from in
+      let u = place.unit in
+      let is = is_body u from.item g c from.is body in
+      let f = is.func in
+      let b = is.body in
+      let at_f : slice_get from.items from.number ≡ Some (tree.Function f) = from.at ∙ ap Some is.item_is in
+      let stmts : slice_get (map (renamed.stmt ρ u) b.stmts) j ≡ Some stmt = sym (ap (λ (d : tree.Body). slice_get d.stmts j) is.body_new) ∙ here in
+      let s = from_map (renamed.stmt ρ u) b.stmts j stmt stmts in
+      let old = (keeps_all from.items (are.kept u from.items from.there)).stmt from.number f b at_f is.body_is j s.0 s.1 in
+      let now = stmt_keeps p are u from.items from.there (from.number + 1) f b place.others place.before (j + 1) s.0 old in
+      subst (λ (z : tree.Stmt). Keeps stmt_rules (record { scope = record { declared = take (k + 1) one; func = g; body = c }; number = j + 1; stmt = z })) (sym s.2)
+      (subst (λ (d : tree.Body). Keeps stmt_rules (record { scope = record { declared = take (k + 1) one; func = g; body = d }; number = j + 1; stmt = renamed.stmt ρ u s.0 })) (sym is.body_new)
+      (subst (λ (h : tree.Func). Keeps stmt_rules (record { scope = record { declared = take (k + 1) one; func = h; body = renamed.body ρ u b }; number = j + 1; stmt = renamed.stmt ρ u s.0 })) (sym is.func_new)
+      (subst (λ (l : List tree.Item). Keeps stmt_rules (record { scope = record { declared = l; func = renamed.func ρ u f; body = renamed.body ρ u b }; number = j + 1; stmt = renamed.stmt ρ u s.0 }))
+      (sym (upto p k (tree.Function g) at place)) now)))
+
+  pub one_keeps : KeepsRules (merge_of p)
+  one_keeps = all_keep (merge_of p) (record { item = new_item; stmt = new_stmt })

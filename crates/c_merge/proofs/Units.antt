@@ -1,0 +1,460 @@
+-- Linked units that keep the rules may become one.
+use Rattle.std.proofs.Common.{◌≡◌, ◌≢◌, inl, inr, ℕ, zero, suc, ◌+◌, ◌<◌, ◌&&◌, not, Bool, true, false, if◌then◌else◌, List, [], ◌∷◌, ◌++◌, filter_map, flat_map, take, bytes_eq, is_some, Option, Some, None, slice_get, refl, sym, ap, ◌∙◌, subst}
+use Rattle.std.specs.Prelude.{◌||◌}
+use Rattle.std.specs.List.{list_all, list_any}
+use Rattle.std.proofs.lemmas.Bool.{and_parts, false≢true, or_cases, both_ways, not-true, cases_order}
+use Rattle.std.proofs.lemmas.Slice.Eq.{bytes_eq-Decides}
+use Rattle.w2c_base.specs.Lookup.{if_found, named, numbered}
+use Rattle.c_tree.specs.declared.tree.CType.{CType}
+use Rattle.c_tree.specs.Tree as tree
+use Rattle.c_tree.specs.FirstBroken.{KeepsRules}
+use Rattle.c_tree.specs.Runtime.{primitives}
+use Rattle.c_tree.specs.Scope.{Scope, variable_of, variables, file_variables, function_of, functions, func_type_of}
+use Rattle.c_tree.specs.Rules.{is_runtime_name, is_symbol, is_own_name, is_void, file_name_is_free, local_names, if_any, arg_suits, args_suit, arg_uses, callee_uses, target_uses, is_known, callee_type, stmt_suits, stmt_uses, proper_types, target_suits, call_suits}
+use Rattle.c_meaning.specs.State.{Name}
+use Rattle.c_meaning.specs.Linking.{Program, LinkRefusal, definitions, is_external, defined, defined_for_all, definition_at, external_functions, twice, unresolved, host_symbol, Twice}
+use Rattle.c_meaning.specs.Step.{depth_name}
+use Rattle.c_sound.proofs.Choices.{by_test, by_option}
+use Rattle.c_sound.proofs.Defined.{any_from, defined_names, is_listed, static_defined}
+use Rattle.c_sound.proofs.Kept.{item_kept, stmt_kept}
+use Rattle.c_sound.proofs.Lists.{append_none, cons_not_none, flat_none, none_first, numbered_at, first_there, kept_at, named_from, take_keeps, take_has}
+use Rattle.c_renaming.specs.Renaming.{Renaming}
+use Rattle.c_renaming.specs.Kept.{Each, KeptArg, KeptCallee, KeptStmt}
+use Rattle.c_renaming.specs.Parts.{KeptBody, KeptItem}
+use Rattle.c_renaming.specs.Merging.{IsDefinedOnce, KeepsSeen, MayUse, Own, Foreign, MayMerge}
+use Rattle.c_renaming.specs.NewNames.{is_outside, name_in}
+use Rattle.c_renaming.proofs.NewNames.{new_names, primitives_outside}
+use Rattle.c_merge.specs.Merge.{declares, may_be_named, may_name, merge_names, AreLinked}
+
+-- ---- lists
+
+pub each_from : {A : Type 0} (P : A → Type 0) (xs : List A) → ((i : ℕ) (x : A) → slice_get xs i ≡ Some x → P x) → Each P xs
+each_from P [] h = tt
+each_from P (x ∷ xs) h = (h 0 x refl, each_from P xs (λ i y at. h (suc i) y at))
+
+same_first : {A : Type 0} (a b : Name) (x y : A) → ◌≡◌ {A = Option (Name × A)} (Some (a, x)) (Some (b, y)) → a ≡ b
+same_first {A} a b x y e = ap first e
+  where
+    first : Option (Name × A) → Name
+    first None = a
+    first (Some z) = z.0
+
+-- each of two lists that are joined
+pub all_parts : {A : Type 0} (test : A → Bool) (xs ys : List A) → list_all test (xs ++ ys) ≡ true → (list_all test xs ≡ true) × (list_all test ys ≡ true)
+all_parts test [] ys e = (refl, e)
+all_parts test (x ∷ xs) ys e =
+    let both = and_parts (test x) (list_all test (xs ++ ys)) e in
+    let behind = all_parts test xs ys both.1 in
+    (rw (both.0, behind.0) refl, behind.1)
+
+-- ---- names of the runtime
+
+abbrev IsReserved : Name × tree.FuncType → Type 0
+IsReserved e = (is_outside e.0 ≡ true) × (is_symbol e.0 ≡ false)
+
+reserved_in : (entries : List (Name × tree.FuncType)) → Each IsReserved entries → (name : Name) → is_some (named name entries) ≡ true
+    → (is_outside name ≡ true) × (is_symbol name ≡ false)
+reserved_in [] each name is = absurd (false≢true is)
+reserved_in (e ∷ entries) each name is = by_test (bytes_eq e.0 name)
+    (λ same. subst (λ (n : Name). (is_outside n ≡ true) × (is_symbol n ≡ false)) ((bytes_eq-Decides e.0 name).0 same) each.0)
+    (λ differ. reserved_in entries each.1 name (rw differ at is))
+
+reserved : Each IsReserved primitives
+reserved = (
+  (refl, refl),
+  (
+    (refl, refl),
+    (
+      (refl, refl),
+      (
+        (refl, refl),
+        (
+          (refl, refl),
+          (
+            (refl, refl),
+            (
+              (refl, refl),
+              (
+                (refl, refl),
+                (
+                  (refl, refl),
+                  (
+                    (refl, refl),
+                    (
+                      (refl, refl),
+                      (
+                        (refl, refl),
+                        (
+                          (refl, refl),
+                          (
+                            (refl, refl),
+                            ((refl, refl), ((refl, refl), ((refl, refl), ((refl, refl), ((refl, refl), tt))))),
+                          ),
+                        ),
+                      ),
+                    ),
+                  ),
+                ),
+              ),
+            ),
+          ),
+        ),
+      ),
+    ),
+  ),
+)
+
+pub runtime_reserved : (name : Name) → is_some (named name primitives) ≡ true → (is_outside name ≡ true) × (is_symbol name ≡ false)
+runtime_reserved name is = reserved_in primitives reserved name is
+
+-- ---- names of file scope
+
+own_inside : (name : Name) → is_own_name name ≡ true → is_outside name ≡ false
+own_inside name own = ap not own
+
+symbol_outside : (name : Name) → is_symbol name ≡ true → is_outside name ≡ true
+symbol_outside name is = ap (λ b. not (not (is_runtime_name name) && not b)) is ∙ go (is_runtime_name name)
+  where
+    go : (b : Bool) → not (not b && false) ≡ true
+    go true = refl
+    go false = refl
+
+pub own_not_depth : (name : Name) → is_own_name name ≡ true → bytes_eq name depth_name ≡ false
+own_not_depth name own = by_test (bytes_eq name depth_name)
+    (λ same. absurd (false≢true (subst (λ (n : Name). is_own_name n ≡ true) ((bytes_eq-Decides name depth_name).0 same) own)))
+    (λ differ. differ)
+
+module _ (items : List tree.Item) (keeps : KeepsRules items) where
+  pub free : (k : ℕ) (item : tree.Item) → slice_get items k ≡ Some item
+      → (file_name_is_free item ≡ true) × (list_all is_own_name (local_names item) ≡ true)
+  free k item at = and_parts (file_name_is_free item) (list_all is_own_name (local_names item)) (item_kept items keeps k item at).free
+
+  -- a function's name is seen outside exactly where it is not static
+  pub func_seen : (k : ℕ) (f : tree.Func) → slice_get items k ≡ Some (tree.Function f) → is_outside f.name ≡ not f.is_static
+  func_seen k f at = go f.is_static (free k (tree.Function f) at).0
+    where
+      go : (b : Bool) → (if b then is_own_name f.name else is_symbol f.name) ≡ true → is_outside f.name ≡ not b
+      go true own = own_inside f.name own
+      go false symbol = symbol_outside f.name symbol
+
+  -- a function of the unit is none of the runtime
+  pub func_not_runtime : (k : ℕ) (f : tree.Func) → slice_get items k ≡ Some (tree.Function f) → named f.name primitives ≡ None
+  func_not_runtime k f at = by_option (named f.name primitives) (λ none. none) (λ ty there. absurd (clash ty there))
+    where
+      clash : (ty : tree.FuncType) → named f.name primitives ≡ Some ty → ⊥
+      clash ty there =
+          let kinds = runtime_reserved f.name (ap is_some there) in
+          go f.is_static kinds.0 kinds.1 (free k (tree.Function f) at).0
+        where
+          go : (b : Bool) → is_outside f.name ≡ true → is_symbol f.name ≡ false → (if b then is_own_name f.name else is_symbol f.name) ≡ true → ⊥
+          go true outside none own = both_ways (is_outside f.name) (own_inside f.name own) outside
+          go false outside none symbol = both_ways (is_symbol f.name) none symbol
+
+  pub variable_free : (k : ℕ) (item : tree.Item) (name : Name) (t : CType) → slice_get items k ≡ Some item → variable_of item ≡ Some (name, t)
+      → is_own_name name ≡ true
+  variable_free k (tree.Array n count bytes) name t at e = absurd cc
+  variable_free k (tree.Function f) name t at e = absurd cc
+  variable_free k (tree.Var ty n number) name t at e =
+      subst (λ (x : Name). is_own_name x ≡ true) (same_first n name ty t e) (free k (tree.Var ty n number) at).0
+
+  -- the name of a function that some place declares
+  pub func_declared : (n : ℕ) (name : Name) (ty : tree.FuncType) → named name (filter_map function_of (take n items)) ≡ Some ty
+      → (k : ℕ) × (f : tree.Func) × (slice_get items k ≡ Some (tree.Function f)) × (f.name ≡ name)
+  func_declared n name ty e =
+      let from = named_from function_of (take n items) name ty e in
+      go from.0 from.1 (take_keeps n items from.0 from.1 from.2) from.3
+    where
+      go : (k : ℕ) (item : tree.Item) → slice_get items k ≡ Some item → function_of item ≡ Some (name, ty)
+          → (k : ℕ) × (f : tree.Func) × (slice_get items k ≡ Some (tree.Function f)) × (f.name ≡ name)
+      go k (tree.Array x count bytes) at e = absurd cc
+      go k (tree.Var t x number) at e = absurd cc
+      go k (tree.Function f) at e = (k, f, at, same_first f.name name (func_type_of f) ty e)
+
+  declared_any : (name : Name) (xs : List tree.Item) (k : ℕ) (f : tree.Func) → slice_get xs k ≡ Some (tree.Function f) → f.name ≡ name
+      → list_any (declares name) xs ≡ true
+  declared_any name [] k f at same = absurd cc
+  declared_any name (x ∷ xs) zero f at same =
+      let here : x ≡ tree.Function f = cc in
+      let is : declares name x ≡ true = ap (declares name) here ∙ (bytes_eq-Decides f.name name).1 same in
+      rw is refl
+  declared_any name (x ∷ xs) (suc k) f at same = by_test (declares name x)
+      (λ is. rw is refl)
+      (λ is. rw is (declared_any name xs k f at same))
+
+  -- ---- text
+
+  module _ (p : Program) (u : ℕ) (at_u : slice_get p.units u ≡ Some items) where
+    abbrev ρ : Renaming
+    ρ = merge_names p
+
+    may_name_it : (name : Name) → may_be_named name (Some items) ≡ true → may_name p u name ≡ true
+    may_name_it name is = ap (may_be_named name) at_u ∙ is
+
+    known_named : (n : ℕ) (name : Name) → is_some (named name (filter_map function_of (take n items) ++ primitives)) ≡ true → may_name p u name ≡ true
+    known_named n name is = may_name_it name (by_option (named name (filter_map function_of (take n items)))
+        (λ none.
+        let runtime : is_some (named name primitives) ≡ true = ap is_some (sym (behind (filter_map function_of (take n items)) none)) ∙ is in
+        rw runtime refl)
+        (λ ty there.
+        let d = func_declared n name ty there in
+        let any = declared_any name items d.0 d.1 d.2 d.3 in
+        rw any (or_true (is_some (named name primitives)))))
+      where
+        behind : (xs : List (Name × tree.FuncType)) → named name xs ≡ None → named name (xs ++ primitives) ≡ named name primitives
+        behind [] none = refl
+        behind (x ∷ xs) none = by_test (bytes_eq x.0 name)
+            (λ is. absurd (let f = rw is at none in cc))
+            (λ is. rw is (behind xs (rw is at none)))
+
+        or_true : (b : Bool) → (b || true) ≡ true
+        or_true true = refl
+        or_true false = refl
+
+    module _ (k : ℕ) (f : tree.Func) (b : tree.Body) (at : slice_get items k ≡ Some (tree.Function f)) (is : f.body ≡ Some b) where
+      abbrev s : Scope
+      s = record { declared = take (k + 1) items; func = f; body = b }
+
+      arg_kept : (t : CType) (a : tree.Arg) → list_all (is_known s) (arg_uses a) ≡ true → arg_suits s t a ≡ true → KeptArg ρ u a
+      arg_kept t (tree.Value e) known suits = tt
+      arg_kept t (tree.Address n) known suits = by_option (named n (file_variables s))
+          (λ none. absurd (false≢true (rw none at suits)))
+          (λ ty there.
+          let from = named_from variable_of (take (k + 1) items) n ty there in
+          own_not_depth n (variable_free from.0 from.1 n ty (take_keeps (k + 1) items from.0 from.1 from.2) from.3))
+      arg_kept t (tree.OfFunction n) known suits = known_named (k + 1) n (and_parts (is_some (named n (functions s))) true known).0
+
+      args_kept : (types : List CType) (args : List tree.Arg) → list_all (is_known s) (flat_map arg_uses args) ≡ true → args_suit s types args ≡ true
+          → Each (KeptArg ρ u) args
+      args_kept [] [] known suits = tt
+      args_kept (t ∷ types) (a ∷ args) known suits =
+          let uses = all_parts (is_known s) (arg_uses a) (flat_map arg_uses args) known in
+          let both = and_parts (arg_suits s t a) (args_suit s types args) suits in
+          (arg_kept t a uses.0 both.0, args_kept types args uses.1 both.1)
+      args_kept [] (a ∷ args) known suits = absurd (false≢true suits)
+      args_kept (t ∷ types) [] known suits = tt
+
+      if_there : {A : Type 0} (o : Option A) (test : A → Bool) → is_some o ≡ true → if_any o test ≡ true → (a : A) × (o ≡ Some a) × (test a ≡ true)
+      if_there None test there is = absurd (false≢true there)
+      if_there (Some a) test there is = (a, refl, is)
+
+      callee_kept : (c : tree.Callee) → list_all (is_known s) (callee_uses c) ≡ true → KeptCallee ρ u c × (is_some (callee_type s c) ≡ true)
+      callee_kept (tree.Called n) known =
+          let there = (and_parts (is_some (named n (functions s))) true known).0 in
+          (known_named (k + 1) n there, there)
+      callee_kept (tree.Through t n) known = (tt, refl)
+
+      stmt_text : (stmt : tree.Stmt) → list_all (is_known s) (stmt_uses stmt) ≡ true → stmt_suits s stmt ≡ true → KeptStmt ρ u stmt
+      stmt_text (tree.Set n a) known suits =
+          let both = and_parts (is_some (named n (variables s))) (list_all (is_known s) (arg_uses a)) known in
+          let t = if_there (named n (variables s)) (λ t. arg_suits s t a) both.0 suits in
+          arg_kept t.0 a both.1 t.2
+      stmt_text (tree.Call target c args) known suits =
+          let behind = all_parts (is_known s) (target_uses target) (callee_uses c ++ flat_map arg_uses args) known in
+          let uses = all_parts (is_known s) (callee_uses c) (flat_map arg_uses args) behind.1 in
+          let callee = callee_kept c uses.0 in
+          let t = if_there (callee_type s c) (call_suits s target args) callee.1 suits in
+          let fits = and_parts (args_suit s (proper_types t.0.params) args) (target_suits s t.0.result target) t.2 in
+          (callee.0, args_kept (proper_types t.0.params) args uses.1 fits.0)
+      stmt_text (tree.Return a) known suits =
+          arg_kept f.result a known (and_parts (not (is_void f.result)) (arg_suits s f.result a) suits).1
+      stmt_text _ known suits = tt
+
+      body_text : Each (KeptStmt ρ u) b.stmts
+      body_text = each_from (KeptStmt ρ u) b.stmts (λ j stmt here.
+          let h = stmt_kept items keeps k f b at is j stmt here in
+          stmt_text stmt h.known (sym (ap (λ c. not c || stmt_suits s stmt) h.known) ∙ h.suits))
+
+    item_text : (k : ℕ) (item : tree.Item) → slice_get items k ≡ Some item → KeptItem ρ u (λ x. true) item
+    item_text k (tree.Array n count bytes) at = own_not_depth n (free k (tree.Array n count bytes) at).0
+    item_text k (tree.Var ty n number) at = own_not_depth n (free k (tree.Var ty n number) at).0
+    item_text k (tree.Function f) at = go f.body refl
+      where
+        go : (o : Option tree.Body) → f.body ≡ o → KeptBody ρ u (λ x. true) true o
+        go None is = tt
+        go (Some b) is = body_text k f b at is
+
+    pub unit_text : Each (KeptItem ρ u (λ x. true)) items
+    unit_text = each_from (KeptItem ρ u (λ x. true)) items item_text
+
+  item_seen : (k : ℕ) (item : tree.Item) → slice_get items k ≡ Some item → KeepsSeen is_outside item
+  item_seen k (tree.Array n count bytes) at = tt
+  item_seen k (tree.Var ty n number) at = tt
+  item_seen k (tree.Function f) at = λ there. func_seen k f at
+
+  pub unit_seen : Each (KeepsSeen is_outside) items
+  unit_seen = each_from (KeepsSeen is_outside) items item_seen
+
+  -- ---- what the unit defines
+
+  -- a function that is seen outside is defined for all
+  pub external_there : (k : ℕ) (f : tree.Func) (b : tree.Body) → slice_get items k ≡ Some (tree.Function f) → f.body ≡ Some b → is_outside f.name ≡ true
+      → is_some (defined_for_all items f.name) ≡ true
+  external_there k f b at is outside =
+      let listed = is_listed items k f b at is in
+      let shown : f.is_static ≡ false = not-true f.is_static (sym (func_seen k f at) ∙ outside) in
+      let passes : (not f.is_static && bytes_eq f.name f.name) ≡ true = rw (shown, (bytes_eq-Decides f.name f.name).1 refl) refl in
+      let found = first_there (λ d. is_external d && bytes_eq d.func.name f.name) (definitions items) listed.0 (record { item = k; func = f; body = b }) listed.1 passes in
+      ap is_some found.1
+
+-- ---- units that link
+
+abbrev pub external_of : tree.Item → Option tree.Func
+external_of item = elim item [
+  | tree.Array name count bytes ↦ None
+  | tree.Var ty name number ↦ None
+  | tree.Function f ↦ if f.is_static then None else Some f
+]
+
+pub any_at : {A : Type 0} (test : A → Bool) (xs : List A) (i : ℕ) (x : A) → slice_get xs i ≡ Some x → test x ≡ true → list_any test xs ≡ true
+any_at test [] i x at is = absurd cc
+any_at test (y ∷ xs) zero x at is =
+    let here : y ≡ x = cc in
+    let passes : test y ≡ true = ap test here ∙ is in
+    rw passes refl
+any_at test (y ∷ xs) (suc i) x at is = by_test (test y)
+    (λ passes. rw passes refl)
+    (λ fails. rw fails (any_at test xs i x at is))
+
+module _ (p : Program) (are : AreLinked p) where
+  abbrev pub all_twice : List LinkRefusal
+  all_twice = flat_map (λ (u : ℕ × List tree.Item). flat_map (twice p u.0) (external_functions u.1)) (numbered p.units)
+
+  abbrev pub all_unresolved : List LinkRefusal
+  all_unresolved = flat_map (λ (u : ℕ × List tree.Item). flat_map (unresolved p u.0) (external_functions u.1)) (numbered p.units)
+
+  pub none_refused : (all_twice ≡ []) × (all_unresolved ≡ [])
+  none_refused = append_none all_twice all_unresolved (none_first (all_twice ++ all_unresolved) are.linked)
+
+  pub not_twice : (u : ℕ) (items : List tree.Item) (i : ℕ) (g : tree.Func) → slice_get p.units u ≡ Some items
+      → slice_get items i ≡ Some (tree.Function g) → g.is_static ≡ false → twice p u g ≡ []
+  not_twice u items i g at_u at_i shown =
+      let of_unit : flat_map (twice p u) (external_functions items) ≡ [] =
+      flat_none (λ (u : ℕ × List tree.Item). flat_map (twice p u.0) (external_functions u.1)) (numbered p.units) none_refused.0 u (u, items)
+      (numbered_at p.units u items at_u) in
+      let listed = kept_at external_of items i (tree.Function g) g at_i (ap (λ (b : Bool). if b then None else Some g) shown) in
+      flat_none (twice p u) (external_functions items) of_unit listed.0 g listed.1
+
+  -- a function that is seen outside, which a unit defines
+  pub record Defines (u : ℕ) (x : Name) : Type 0 where
+    pub items : List tree.Item
+    pub there : slice_get p.units u ≡ Some items
+    pub item : ℕ
+    pub func : tree.Func
+    pub body : tree.Body
+    pub at : slice_get items item ≡ Some (tree.Function func)
+    pub body_is : func.body ≡ Some body
+    pub name_is : func.name ≡ x
+
+  defines_at : (u : ℕ) (x : Name) → is_some (definition_at p u x) ≡ true → Defines u x
+  defines_at u x is = by_option (slice_get p.units u)
+      (λ none. absurd (false≢true (sym (ap (λ o. is_some (if_found o (λ items. defined items x))) none) ∙ is)))
+      (λ items there.
+      let found : is_some (defined items x) ≡ true = sym (ap (λ o. is_some (if_found o (λ items. defined items x))) there) ∙ is in
+      by_option (defined items x)
+      (λ none. absurd (false≢true (rw none at found)))
+      (λ d e.
+      let names = defined_names items x d e in
+      record {
+        items = items;
+        there = there;
+        item = d.item;
+        func = d.func;
+        body = d.body;
+        at = names.is.at;
+        body_is = names.is.body;
+        name_is = names.name_is;
+      }))
+
+  not_two : (u v : ℕ) (x : Name) → u < v → is_outside x ≡ true → Defines u x → Defines v x → ⊥
+  not_two u v x less outside a b =
+      let keeps_b : KeepsRules b.items = are.kept v b.items b.there in
+      let seen_b : is_outside b.func.name ≡ not b.func.is_static = func_seen b.items keeps_b b.item b.func b.at in
+      let shown : b.func.is_static ≡ false = not-true b.func.is_static (sym seen_b ∙ ap is_outside b.name_is ∙ outside) in
+      let there : is_some (defined_for_all a.items a.func.name) ≡ true =
+      external_there a.items (are.kept u a.items a.there) a.item a.func a.body a.at a.body_is (ap is_outside a.name_is ∙ outside) in
+      let there' : is_some (defined_for_all a.items b.func.name) ≡ true = subst (λ (n : Name). is_some (defined_for_all a.items n) ≡ true) (a.name_is ∙ sym b.name_is) there in
+      let any : list_any (λ items. is_some (defined_for_all items b.func.name)) (take v p.units) ≡ true =
+      any_at (λ items. is_some (defined_for_all items b.func.name)) (take v p.units) u a.items (take_has v p.units u a.items less a.there) there' in
+      let none : twice p v b.func ≡ [] = not_twice v b.items b.item b.func b.there b.at shown in
+      cons_not_none (Twice v b.func.name) [] (sym (refused (is_some b.func.body) (is_some (host_symbol p b.func.name)) _ (ap is_some b.body_is) any) ∙ none)
+    where
+      refused : (h c d : Bool) → h ≡ true → d ≡ true → (if h && (c || d) then Twice v b.func.name ∷ [] else []) ≡ Twice v b.func.name ∷ []
+      refused true true d e f = refl
+      refused true false true e f = refl
+      refused true false false e f = absurd (false≢true f)
+      refused false c d e f = absurd (false≢true e)
+
+  -- a function that is seen outside is defined by one unit at most
+  pub defined_once : (u v : ℕ) (x : Name) → v ≢ u → is_outside x ≡ true → Defines u x → Defines v x → ⊥
+  defined_once u v x differ outside a b = elim (cases_order u v) [
+    | inl equal ↦ differ (sym equal)
+    | inr (inl less) ↦ not_two u v x less outside a b
+    | inr (inr more) ↦ not_two v u x more outside b a
+  ]
+
+  item_once : (u v : ℕ) → v ≢ u → (items : List tree.Item) → slice_get p.units v ≡ Some items → (k : ℕ) (item : tree.Item) → slice_get items k ≡ Some item
+      → IsDefinedOnce (merge_names p) is_outside u item
+  item_once u v differ items there k (tree.Array n count bytes) at = tt
+  item_once u v differ items there k (tree.Var ty n number) at = tt
+  item_once u v differ items there k (tree.Function f) at = λ x defines body outside. by_test (bytes_eq f.name x)
+      (λ same. absurd (clash x ((bytes_eq-Decides f.name x).0 same) defines body outside))
+      (λ other. other)
+    where
+      clash : (x : Name) → f.name ≡ x → is_some (definition_at p u x) ≡ true → is_some f.body ≡ true → is_outside f.name ≡ true → ⊥
+      clash x same defines body outside = by_option f.body
+          (λ none. false≢true (rw none at body))
+          (λ b is. defined_once u v x differ (sym (ap is_outside same) ∙ outside) (defines_at u x defines)
+          (record { items = items; there = there; item = k; func = f; body = b; at = at; body_is = is; name_is = same }))
+
+  -- ---- names in text
+
+  abbrev Declared : List tree.Item → Name → Type 0
+  Declared items name = (k : ℕ) × (f : tree.Func) × (slice_get items k ≡ Some (tree.Function f)) × (f.name ≡ name)
+
+  declared_from : (name : Name) (items : List tree.Item) → list_any (declares name) items ≡ true → Declared items name
+  declared_from name items e = let from = any_from (declares name) items e in go from.0 from.1 from.2 from.3
+    where
+      go : (k : ℕ) (item : tree.Item) → slice_get items k ≡ Some item → declares name item ≡ true → Declared items name
+      go k (tree.Array n count bytes) at is = absurd (false≢true is)
+      go k (tree.Var ty n number) at is = absurd (false≢true is)
+      go k (tree.Function f) at is = (k, f, at, (bytes_eq-Decides f.name name).0 is)
+
+  used : (u : ℕ) (x : Name) → may_name p u x ≡ true → MayUse p is_outside u x
+  used u x is = by_option (slice_get p.units u)
+      (λ none. absurd (false≢true (rw none at is)))
+      (λ items there.
+      let named_so : may_be_named x (Some items) ≡ true = sym (ap (may_be_named x) there) ∙ is in
+      elim (or_cases (is_some (named x primitives)) (list_any (declares x) items) named_so) [
+        | inl runtime ↦ by_option (definition_at p u x)
+            (λ none. Foreign (ap is_some there) none (runtime_reserved x runtime).0)
+            (λ d e. Own (ap is_some e))
+        | inr declared ↦
+            let d = declared_from x items declared in
+            of_func items there d.0 d.1 d.2 d.3
+      ])
+    where
+      of_func : (items : List tree.Item) → slice_get p.units u ≡ Some items → (k : ℕ) (f : tree.Func) → slice_get items k ≡ Some (tree.Function f) → f.name ≡ x
+          → MayUse p is_outside u x
+      of_func items there k f at same =
+          let keeps : KeepsRules items = are.kept u items there in
+          by_test f.is_static
+          (λ static.
+          let d = static_defined items keeps k f at static in
+          let here : definition_at p u x ≡ Some d.0 = ap (λ o. if_found o (λ items. defined items x)) there ∙ subst (λ (n : Name). defined items n ≡ Some d.0) same d.1 in
+          Own (ap is_some here))
+          (λ shown.
+          let outside : is_outside x ≡ true = sym (ap is_outside same) ∙ func_seen items keeps k f at ∙ ap not shown in
+          by_option (definition_at p u x)
+          (λ none. Foreign (ap is_some there) none outside)
+          (λ d e. Own (ap is_some e)))
+
+  pub units_may_merge : MayMerge p name_in is_outside (may_name p)
+  units_may_merge = record {
+    tells = new_names;
+    not_seen = λ u x. refl;
+    primitives = primitives_outside;
+    seen = λ u items there. unit_seen items (are.kept u items there);
+    used = used;
+    text = λ u items there. unit_text items (are.kept u items there) p u there;
+    once = λ u v differ items there. each_from (IsDefinedOnce (merge_names p) is_outside u) items (item_once u v differ items there);
+  }

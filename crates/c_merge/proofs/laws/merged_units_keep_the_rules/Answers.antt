@@ -1,0 +1,5 @@
+use Rattle.c_merge.proofs.OneUnit.{one_keeps}
+use Rattle.c_merge.proofs.laws.merged_units_keep_the_rules.Goals as goal
+
+pub returns : goal.returns
+returns c = one_keeps
