@@ -1,9 +1,8 @@
 -- Words say one thing at most.
-use Rattle.std.proofs.Common.{◌≡◌, ◌<◌, ◌^◌, ℕ, List, [], ◌∷◌, ◌++◌, codes, map, Option, Some, None, inl, inr, refl, sym, ap, ◌∙◌, arith}
+use Rattle.std.proofs.Common.{◌≡◌, ℕ, List, [], ◌∷◌, ◌++◌, codes, map, Option, Some, None, inl, inr, refl, sym, ap, ◌∙◌, arith}
 use Rattle.std.specs.Fmt.{decimal}
 use Rattle.std.specs.List.{AllByRecursion}
 use Rattle.std.proofs.lemmas.Fmt.{decimal_injective}
-use Rattle.w2c_base.specs.declared.signature.FuncType.{FuncType}
 use Rattle.w2c_base.specs.declared.value.ValType.{ValType}
 use Rattle.w2c_base.specs.declared.value.ValType.TheVariants as type
 use Rattle.w2c_base.specs.declared.value.Value.{Value}
@@ -21,8 +20,7 @@ use Rattle.journal_lines.specs.declared.line.HostLine.{HostLine}
 use Rattle.journal_lines.specs.declared.line.JournalLine.{JournalLine}
 use Rattle.journal_lines.specs.declared.line.JournalLine.TheVariants as line
 use Rattle.journal_lines.specs.Lines.{result_text, type_text, IsGiven, IsLine, IsProper}
-use Rattle.journal_lines.specs.Words.{equals, line_words, SayLine}
-use Rattle.journal_lines.proofs.Cutting.{cut}
+use Rattle.journal_lines.specs.Words.{equals, line_words}
 use Rattle.journal_lines.proofs.Equals.{equals_same}
 use Rattle.journal_lines.proofs.Texts.{said_by_words}
 

@@ -5,7 +5,7 @@ use Rattle.std.proofs.lemmas.List.Splits.{join_with_byte-slice_split}
 use Rattle.std.specs.List.{join_with_byte, AllByRecursion}
 use Rattle.journal_lines.specs.declared.line.JournalLine.{JournalLine}
 use Rattle.journal_lines.specs.declared.line.JournalLine.TheVariants as line
-use Rattle.journal_lines.specs.Lines.{line_text, IsLine, IsProper}
+use Rattle.journal_lines.specs.Lines.{IsLine}
 use Rattle.journal_lines.specs.Words.{line_words, SayLine}
 use Rattle.journal_lines.proofs.Cutting.{cut, cut-join, AllLack}
 use Rattle.journal_lines.proofs.Joins.{joined, words_are_high}

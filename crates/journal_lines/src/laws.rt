@@ -8,7 +8,6 @@ ghost use Rattle.journal_lines.specs.declared.line.JournalLine.TheVariants as li
 ghost use Rattle.journal_lines.specs.Lines.{line_text, IsLine};
 
 /// The law that a line says one thing at most.
-#[tactic(auto, using(crate::proofs::Single::one_line))]
 pub fn one_line()
     ensures { (text : List ℕ) (l m : AnyLine) → IsLine text l → IsLine text m → l ≡ m }
 {}

@@ -1,4 +1,4 @@
-use Rattle.std.proofs.Common.{◌≡◌, sym, Ok, lit<, arith, ◌∙◌}
+use Rattle.std.proofs.Common.{sym, ◌∙◌}
 use Rattle.std.proofs.lemmas.Fmt.{parse-decimal}
 use Rattle.journal_lines.proofs.number.text_value.Goals as goal
 

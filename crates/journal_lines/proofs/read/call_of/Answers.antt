@@ -1,4 +1,4 @@
-use Rattle.std.proofs.Common.{◌≡◌, ◌∙◌, sym, map}
+use Rattle.std.proofs.Common.{◌∙◌, sym, map}
 use Rattle.crun_lines.specs.HostLines.{reply_text}
 use Rattle.crun_lines.specs.Views.{reply_of, texts}
 use Rattle.crun_lines.specs.Words.{number_text}

@@ -1,4 +1,4 @@
-use Rattle.std.proofs.Common.{◌≡◌, ◌∙◌, sym, map}
+use Rattle.std.proofs.Common.{◌∙◌, sym, map}
 use Rattle.crun_lines.specs.Views.{texts}
 use Rattle.journal_lines.specs.Lines.{result_text, type_text}
 use Rattle.journal_lines.proofs.Equals.{equals_same}
