@@ -19,3 +19,4 @@ pub use laws::{
 pub use names::{Numbered, names_in_order};
 pub use objects::{Function, element_line, length_line, pages_line, variable_line};
 pub use rows::{row_count, row_line};
+pub use words::put_name;

@@ -49,8 +49,8 @@ fn put_typed_number(line: &mut Bytes, value: Value) -> Result<(), Memory>
     }
 }
 
-/// Puts the name of a host or of its function, escaped.
-pub(crate) fn put_name(alloc: Global, line: &mut Bytes, name: &[u8]) -> Result<(), Memory>
+/// Puts the name of a host or of its function at the end of a line, escaped: `Z` for a name without letters.
+pub fn put_name(alloc: Global, line: &mut Bytes, name: &[u8]) -> Result<(), Memory>
     ensures { OnOk result (line.new ≡ line.old ++ name_text name.now) }
 {
     let text = escape(alloc, name)?;
@@ -61,4 +61,21 @@ fn or_z(text: &[u8]) -> &[u8]
     ensures { result.now ≡ or_z text.now }
 {
     if text.is_empty() { b"Z" } else { text }
+}
+
+#[cfg(test)]
+mod tests {
+    use crate::put_name;
+    use std::test::Fail;
+    use w2c_base::Bytes;
+
+    #[test]
+    fn names_are_escaped(rt: HostRuntime) -> Result<(), Fail> {
+        let alloc = rt.alloc();
+        let mut line = Bytes::new(alloc);
+        put_name(alloc, &mut line, b"a b")?;
+        put_name(alloc, &mut line, b"")?;
+        assert_eq!(rt; line.as_slice(), b"aZ20bZ".as_slice());
+        Ok(())
+    }
 }

@@ -1,0 +1,13 @@
+mod Arguments
+mod Chains
+mod Known
+mod Lasts
+mod Lines
+mod Numbers
+mod Replays
+mod Same
+mod Sampled
+mod Spelled
+mod Steps
+mod Symbols
+mod Verdicts

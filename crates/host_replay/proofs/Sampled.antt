@@ -1,0 +1,79 @@
+-- The sample can be written; a module behind its calls is refused.
+use Rattle.std.proofs.Common.{◌≡◌, ◌+◌, ◌<◌, ℕ, zero, suc, length, get_or, List, [], ◌∷◌, ◌++◌, codes, Option, Some, None, refl, sym, ap, ◌∙◌, subst, lit<, arith}
+use Rattle.std.specs.List.{AllByRecursion}
+use Rattle.std.proofs.lemmas.List.Elements.{All-from_recursion}
+use Rattle.journal_lines.specs.declared.line.JournalLine.{JournalLine}
+use Rattle.journal_lines.specs.declared.line.JournalLine.TheVariants as line
+use Rattle.journal_lines.specs.Lines.{IsBytes}
+use Rattle.host_replay.specs.Reading.{lines_of, Adds, AddsModule, IsRefusedAt, Says}
+use Rattle.host_replay.specs.Samples.{env, ticks}
+use Rattle.host_replay.specs.Texts.{text_of, Recorded}
+use Rattle.host_replay.specs.Writable.{AreDistinct, IsWritable}
+use Rattle.host_replay.proofs.Spelled.{spelled}
+use Rattle.host_replay.proofs.Verdicts.{one_said}
+
+-- a letter of a symbol
+abbrev letter : ℕ → Option (List ℕ) → ℕ
+letter k None = 0
+letter k (Some symbol) = get_or symbol k 0
+
+distinct : AreDistinct (env ∷ [])
+distinct zero zero zero zero s a b = (refl, refl)
+distinct zero (suc zero) zero (suc zero) s a b = (refl, refl)
+distinct zero (suc (suc zero)) zero (suc (suc zero)) s a b = (refl, refl)
+distinct zero zero zero (suc zero) s a b = (let e : 51 ≡ 54 = ap (letter 18) (a ∙ sym b) in absurd (grind (arith, e)))
+distinct zero zero zero (suc (suc zero)) s a b = (let e : 112 ≡ 116 = ap (letter 13) (a ∙ sym b) in absurd (grind (arith, e)))
+distinct zero (suc zero) zero zero s a b = (let e : 54 ≡ 51 = ap (letter 18) (a ∙ sym b) in absurd (grind (arith, e)))
+distinct zero (suc zero) zero (suc (suc zero)) s a b = (let e : 112 ≡ 116 = ap (letter 13) (a ∙ sym b) in absurd (grind (arith, e)))
+distinct zero (suc (suc zero)) zero zero s a b = (let e : 116 ≡ 112 = ap (letter 13) (a ∙ sym b) in absurd (grind (arith, e)))
+distinct zero (suc (suc zero)) zero (suc zero) s a b = (let e : 116 ≡ 112 = ap (letter 13) (a ∙ sym b) in absurd (grind (arith, e)))
+distinct zero (suc (suc (suc f))) k g s a b = absurd cc
+distinct (suc h) f k g s a b = absurd cc
+distinct zero zero zero (suc (suc (suc g))) s a b = absurd cc
+distinct zero (suc zero) zero (suc (suc (suc g))) s a b = absurd cc
+distinct zero (suc (suc zero)) zero (suc (suc (suc g))) s a b = absurd cc
+distinct zero zero (suc k) g s a b = absurd cc
+distinct zero (suc zero) (suc k) g s a b = absurd cc
+distinct zero (suc (suc zero)) (suc k) g s a b = absurd cc
+
+bytes : (name : List ℕ) → AllByRecursion (λ b. b < 256) name → IsBytes name
+bytes name each = All-from_recursion (λ b. b < 256) name each
+
+pub writable : IsWritable ticks
+writable = record {
+  names = (
+    (
+      bytes (codes "env") (lit< tt, (lit< tt, (lit< tt, tt))),
+      (
+        bytes (codes "put_i32") (lit< tt, (lit< tt, (lit< tt, (lit< tt, (lit< tt, (lit< tt, (lit< tt, tt))))))),
+        (
+          bytes (codes "put_i64") (lit< tt, (lit< tt, (lit< tt, (lit< tt, (lit< tt, (lit< tt, (lit< tt, tt))))))),
+          (bytes (codes "tick") (lit< tt, (lit< tt, (lit< tt, (lit< tt, tt)))), tt),
+        ),
+      ),
+    ),
+    tt,
+  );
+  distinct = distinct;
+  fitting = refl;
+  numbers = (tt, (tt, tt));
+}
+
+no_module : (l : JournalLine) (after : Recorded) → Says (codes "module env\n") l → Adds ticks l after → ⊥
+no_module l after says adds =
+    let same : l ≡ line.Module (codes "env") = one_said (codes "module env\n") l (line.Module (codes "env")) says (writable.names.0.0, refl) in
+    let added : AddsModule ticks (codes "env") after = subst (λ (l : JournalLine). Adds ticks l after) same adds in
+    (let none = added.no_entries in cc)
+
+pub behind : lines_of (text_of ticks ++ codes "module env\n") ≡ lines_of (text_of ticks) ++ codes "module env\n" ∷ [] → length (lines_of (text_of ticks)) ≡ 6
+    → IsRefusedAt (text_of ticks ++ codes "module env\n") 7
+behind lines count = record {
+  front = lines_of (text_of ticks);
+  text_line = codes "module env\n";
+  rest = [];
+  lines_are = lines;
+  number_is = sym (ap (λ n. n + 1) count);
+  known = ticks;
+  read = spelled ticks writable;
+  refused = no_module;
+}

@@ -1,0 +1,163 @@
+-- The text of a journal that can be written is that journal.
+use Rattle.std.proofs.Common.{◌≡◌, ◌==◌, ◌<◌, ◌^◌, ◌&&◌, ℕ, zero, suc, Bool, true, false, length, List, [], ◌∷◌, ◌++◌, codes, map, flat_map, slice_get, lit<, Option, Some, None, refl, sym, ap, ◌∙◌, subst, append_assoc, arith}
+use Rattle.std.specs.List.{join_with_byte, list_all, AllByRecursion}
+use Rattle.std.proofs.lemmas.Bool.{ltb-true}
+use Rattle.std.proofs.lemmas.Grind.{flat_map-append}
+use Rattle.std.proofs.lemmas.List.Elements.{All-from_recursion}
+use Rattle.std.proofs.lemmas.List.Splits.{length-slice_split}
+use Rattle.w2c_base.specs.declared.value.ValType.{ValType}
+use Rattle.w2c_base.specs.declared.value.Value.{Value}
+use Rattle.w2c_base.specs.Run.{Host, HostFunction}
+use Rattle.w2c_base.specs.Values.{bits, equal_type, is_number, number_of, type_of, IsNumber}
+use Rattle.crun_lines.specs.Words.{name_text}
+use Rattle.crun_lines.specs.HostLines.{function_name, host_name, replied_line}
+use Rattle.journal_lines.specs.declared.line.JournalLine.{JournalLine}
+use Rattle.journal_lines.specs.declared.line.JournalLine.TheVariants as line
+use Rattle.journal_lines.specs.Lines.{line_text, module_line, IsBytes, IsGiven, IsProper}
+use Rattle.journal_lines.specs.Words.{function_words, host_words, line_words}
+use Rattle.journal_lines.proofs.Cutting.{cut, cut-first, lacks, lacks-append, AllLack}
+use Rattle.journal_lines.proofs.Joins.{joined, words_are_high}
+use Rattle.journal_lines.proofs.Texts.{all_lack}
+use Rattle.c_hosts.specs.declared.host.HostReply.{HostReply}
+use Rattle.c_hosts.specs.declared.host.HostReply.TheVariants as reply
+use Rattle.c_hosts.specs.declared.journal.Asked.{Asked}
+use Rattle.host_replay.specs.Fitting.{fits, fits_function, function_at, is_reply}
+use Rattle.host_replay.specs.Reading.{empty, ended, lines_of, IsJournal, Read}
+use Rattle.host_replay.specs.Texts.{entry_text, function_texts, module_text, text_of, Recorded}
+use Rattle.host_replay.specs.Writable.{HasName, HasNames, HasNumbers, IsWritable}
+use Rattle.host_replay.proofs.Chains.{entry_said, function_said, journal_chain, module_said, reply_said, said, same_reply, Chain}
+
+-- ---- lines of texts
+
+lacks_join : (x : List ℕ) (xs : List (List ℕ)) → AllLack 10 (x ∷ xs) → lacks 10 (join_with_byte 32 (x ∷ xs)) ≡ true
+lacks_join x [] h = h.0
+lacks_join x (y ∷ xs) h = lacks-append 10 x (32 ∷ join_with_byte 32 (y ∷ xs)) h.0 (lacks_join y xs h.1)
+
+abbrev body : JournalLine → List ℕ
+body l = join_with_byte 32 (line_words l)
+
+lacks_words : (l : JournalLine) → AllLack 10 (line_words l) → lacks 10 (body l) ≡ true
+lacks_words (line.Module name) h = lacks_join (codes "module") (name_text name ∷ []) h
+lacks_words (line.Function f) h = lacks_join (codes "function") (function_words f) h
+lacks_words (line.Host call) h = lacks_join (codes "host") (host_words call) h
+
+lacks_body : (l : JournalLine) → IsProper l → lacks 10 (body l) ≡ true
+lacks_body l is = lacks_words l (all_lack 10 (line_words l) (lit< tt) (words_are_high l is))
+
+ended_first : (part : List ℕ) (parts : List (List ℕ)) → 0 < length parts → ended (part ∷ parts) ≡ (part ++ codes "\n") ∷ ended parts
+ended_first part [] some = absurd (omega (arith, some))
+ended_first part (next ∷ parts) some = refl
+
+lines_of_texts : (ls : List JournalLine) → AllByRecursion IsProper ls → lines_of (flat_map line_text ls) ≡ map line_text ls
+lines_of_texts [] are = refl
+lines_of_texts (l ∷ ls) are =
+    let behind : List ℕ = flat_map line_text ls in
+    let parts : cut 10 (line_text l ++ behind) ≡ body l ∷ cut 10 behind =
+    ap (λ (t : List ℕ). cut 10 (t ++ behind)) (joined l) ∙ ap (cut 10) (append_assoc (body l) (codes "\n") behind)
+    ∙ cut-first 10 (body l) behind (lacks_body l are.0) in
+    ap ended parts
+    ∙ ended_first (body l) (cut 10 behind) (omega (arith, length-slice_split (λ b. b == 10) behind))
+    ∙ (λ i. sym (joined l) i ∷ lines_of_texts ls are.1 i)
+
+-- ---- the text of a journal
+
+functions_text : (functions : List HostFunction) → flat_map line_text (map function_said functions) ≡ function_texts functions
+functions_text [] = refl
+functions_text (f ∷ functions) = ap (λ (t : List ℕ). line_text (function_said f) ++ t) (functions_text functions)
+
+modules_text : (hosts : List Host) → flat_map line_text (flat_map module_said hosts) ≡ flat_map module_text hosts
+modules_text [] = refl
+modules_text (m ∷ hosts) =
+    flat_map-append line_text (module_said m) (flat_map module_said hosts)
+    ∙ (λ i. (module_line m.name ++ functions_text m.functions i) ++ modules_text hosts i)
+
+entries_text : (hosts : List Host) (entries : List Asked) → flat_map line_text (map (entry_said hosts) entries) ≡ flat_map (entry_text hosts) entries
+entries_text hosts [] = refl
+entries_text hosts (a ∷ entries) = λ i.
+    replied_line (host_name hosts a.host) (function_name hosts a.host a.function) a.args (same_reply a.reply i) ++ entries_text hosts entries i
+
+said_text : (j : Recorded) → flat_map line_text (said j) ≡ text_of j
+said_text j =
+    flat_map-append line_text (flat_map module_said j.hosts) (map (entry_said j.hosts) j.entries)
+    ∙ (λ i. modules_text j.hosts i ++ entries_text j.hosts j.entries i)
+
+-- ---- its lines can stand in journals
+
+all_join : {A : Type 0} (P : A → Type 0) (xs ys : List A) → AllByRecursion P xs → AllByRecursion P ys → AllByRecursion P (xs ++ ys)
+all_join P [] ys x y = y
+all_join P (a ∷ xs) ys x y = (x.0, all_join P xs ys x.1 y)
+
+functions_proper : (functions : List HostFunction) → AllByRecursion HasName functions → AllByRecursion IsProper (map function_said functions)
+functions_proper [] h = tt
+functions_proper (f ∷ functions) h = (h.0, functions_proper functions h.1)
+
+modules_proper : (hosts : List Host) → AllByRecursion HasNames hosts → AllByRecursion IsProper (flat_map module_said hosts)
+modules_proper [] h = tt
+modules_proper (m ∷ hosts) h =
+    all_join IsProper (module_said m) (flat_map module_said hosts) (h.0.0, functions_proper m.functions h.0.1) (modules_proper hosts h.1)
+
+no_bytes : IsBytes []
+no_bytes = All-from_recursion (λ b. b < 256) [] tt
+
+host_bytes : (hosts : List Host) (h : ℕ) → AllByRecursion HasNames hosts → IsBytes (host_name hosts h)
+host_bytes [] h are = no_bytes
+host_bytes (m ∷ hosts) zero are = are.0.0
+host_bytes (m ∷ hosts) (suc h) are = host_bytes hosts h are.1
+
+module_bytes : (functions : List HostFunction) (f : ℕ) → AllByRecursion HasName functions
+    → IsBytes (elim (slice_get functions f) [ None ↦ [] | Some function ↦ function.name ])
+module_bytes [] f are = no_bytes
+module_bytes (x ∷ functions) zero are = are.0
+module_bytes (x ∷ functions) (suc f) are = module_bytes functions f are.1
+
+function_bytes : (hosts : List Host) (h f : ℕ) → AllByRecursion HasNames hosts → IsBytes (function_name hosts h f)
+function_bytes [] h f are = no_bytes
+function_bytes (m ∷ hosts) zero f are = module_bytes m.functions f are.0.1
+function_bytes (m ∷ hosts) (suc h) f are = function_bytes hosts h f are.1
+
+both : (a b : Bool) → (a && b) ≡ true → (a ≡ true) × (b ≡ true)
+both true true e = (refl, refl)
+both true false e = absurd cc
+both false b e = absurd cc
+
+number : (v : Value) → is_number v ≡ true → IsNumber v
+number v e = ltb-true (number_of v) (2 ^ bits (type_of v)) e
+
+given : (t : Option ValType) (r : HostReply) → is_reply t r ≡ true → IsGiven (reply_said r)
+given t reply.Trap e = tt
+given t (reply.Value None) e = tt
+given None (reply.Value (Some v)) e = absurd cc
+given (Some t) (reply.Value (Some v)) e = number v (both (equal_type t (type_of v)) (is_number v) e).1
+
+given_by : (o : Option HostFunction) (a : Asked) → fits_function o a ≡ true → IsGiven (reply_said a.reply)
+given_by None a e = absurd cc
+given_by (Some f) a e = given f.ty.result a.reply (both _ (is_reply f.ty.result a.reply) e).1
+
+entries_proper : (hosts : List Host) (entries : List Asked) → AllByRecursion HasNames hosts → list_all (fits hosts) entries ≡ true
+    → AllByRecursion HasNumbers entries → AllByRecursion IsProper (map (entry_said hosts) entries)
+entries_proper hosts [] names fit numbers = tt
+entries_proper hosts (a ∷ entries) names fit numbers =
+    let parts = both (fits hosts a) (list_all (fits hosts) entries) fit in (
+      (host_bytes hosts a.host names, function_bytes hosts a.host a.function names, numbers.0, given_by (function_at hosts a.host a.function) a parts.0),
+      entries_proper hosts entries names parts.1 numbers.1,
+    )
+
+said_proper : (j : Recorded) → IsWritable j → AllByRecursion IsProper (said j)
+said_proper j is =
+    all_join IsProper (flat_map module_said j.hosts) (map (entry_said j.hosts) j.entries) (modules_proper j.hosts is.names)
+    (entries_proper j.hosts j.entries is.names is.fitting is.numbers)
+
+-- ---- it is read back
+
+chain_read : (before after : Recorded) (ls : List JournalLine) → Chain before ls after → AllByRecursion IsProper ls → Read before (map line_text ls) after
+chain_read before after [] chain are = chain
+chain_read before after (l ∷ ls) chain are = (l, chain.0, (are.0, refl), chain.1, chain_read chain.0 after ls chain.2 are.1)
+
+pub spelled : (j : Recorded) → IsWritable j → IsJournal (text_of j) j
+spelled j is =
+    subst (λ (lines : List (List ℕ)). Read empty lines j)
+    (sym (ap lines_of (sym (said_text j)) ∙ lines_of_texts (said j) (said_proper j is)))
+    (chain_read empty j (said j) (journal_chain j is.distinct is.fitting) (said_proper j is))
+
+pub read_back : (j : Recorded) (text : List ℕ) → text ≡ text_of j → IsWritable j → IsJournal text j
+read_back j text is writable = subst (λ (t : List ℕ). IsJournal t j) (sym is) (spelled j writable)

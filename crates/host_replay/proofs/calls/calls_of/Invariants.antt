@@ -1,0 +1,6 @@
+use Rattle.std.proofs.Common.{◌≡◌, take}
+use Rattle.host_replay.specs.Replaying.{calls_of}
+use Rattle.host_replay.proofs.calls.calls_of.Given as goal
+
+abbrev pub invariant-loop-entry : goal.invariant-loop-entry
+invariant-loop-entry l = l.calls.items ≡ calls_of l.k (take l.entry-index l.entries)

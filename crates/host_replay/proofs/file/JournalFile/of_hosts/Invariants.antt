@@ -1,0 +1,8 @@
+use Rattle.std.proofs.Common.{◌≡◌, take}
+use Rattle.c_hosts.specs.Asking.{hosts_of}
+use Rattle.host_replay.specs.Modules.{modules_of}
+use Rattle.host_replay.proofs.file.JournalFile.of_hosts.Given as goal
+
+-- so many hosts
+abbrev pub invariant-loop-host : goal.invariant-loop-host
+invariant-loop-host g l = modules_of l.modules.items ≡ hosts_of g.H.HostModule (take l.host-index l.hosts)

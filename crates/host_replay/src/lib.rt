@@ -1,0 +1,24 @@
+//! Journals of hosts as files: what hosts offer and what they were asked and replied is written as a text, the text is
+//! read back, and hosts reply again what it says.
+#![tactic(auto)]
+
+mod calls;
+mod cases;
+mod entry;
+mod file;
+mod fitting;
+mod laws;
+mod module;
+mod place;
+mod read;
+mod reading;
+mod replay;
+#[cfg(test)]
+mod tests;
+mod values;
+
+pub use cases::{reading_cases, replay_cases, text_cases};
+pub use file::JournalFile;
+pub use laws::{one_verdict, texts_are_read_back};
+pub use read::{JournalFault, read_journal};
+pub use replay::ReplayHost;
