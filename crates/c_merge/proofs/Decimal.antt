@@ -10,7 +10,8 @@ decimal_is zero small = decimal_digit 0 (omega arith)
 decimal_is (suc n) small = decimal-digits_of (suc n) (omega arith) small
 
 -- a name that is put together piece by piece
-pub spelled : (u : ℕ) (name start a text b d e : Name) → u < 2 ^ 64 → start ≡ [] → text ≡ decimal u → a ≡ start ++ 117 ∷ [] → b ≡ a ++ text → d ≡ b ++ 95 ∷ [] → e ≡ d ++ name
+pub spelled : (u : ℕ) (name start a text b d e : Name) → u < 2 ^ 64 → start ≡ [] → text ≡ decimal u → a ≡ start ++ 117 ∷ []
+    → b ≡ a ++ text → d ≡ b ++ 95 ∷ [] → e ≡ d ++ name
     → e ≡ name_in u name
 spelled u name start a text b d e small none digits first second third fourth =
     fourth

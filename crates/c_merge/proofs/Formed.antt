@@ -26,7 +26,8 @@ use Rattle.c_merge.proofs.Places.{placed_at}
 
 -- ---- lists
 
-all_map : {A B : Type 0} (P : A → Type 0) (Q : B → Type 0) (f : A → B) → ((a : A) → P a → Q (f a)) → (xs : List A) → AllByRecursion P xs → AllByRecursion Q (map f xs)
+all_map : {A B : Type 0} (P : A → Type 0) (Q : B → Type 0) (f : A → B) → ((a : A) → P a → Q (f a)) → (xs : List A)
+    → AllByRecursion P xs → AllByRecursion Q (map f xs)
 all_map P Q f give [] all = tt
 all_map P Q f give (x ∷ xs) all = (give x all.0, all_map P Q f give xs all.1)
 
@@ -77,7 +78,8 @@ is_apart (b ∷ bs) = not (b == 117) || not (list_any (λ c. c == 95) bs)
 words_apart : list_all is_apart (map fixed_text key_words ++ other_words) ≡ true
 words_apart = refl
 
-none_equal : (w : List ℕ) → is_apart w ≡ false → (words : List (List ℕ)) → list_all is_apart words ≡ true → list_any (bytes_eq w) words ≡ false
+none_equal : (w : List ℕ) → is_apart w ≡ false → (words : List (List ℕ)) → list_all is_apart words ≡ true
+    → list_any (bytes_eq w) words ≡ false
 none_equal w near [] all = refl
 none_equal w near (v ∷ words) all =
     let both = and_parts (is_apart v) (list_all is_apart words) all in
@@ -95,7 +97,8 @@ underscore (d ∷ ds) x = ap (λ b. (d == 95) || b) (underscore ds x) ∙ go (d 
 
 pub new_named : (u : ℕ) (x : Name) → IsName x → IsName (name_in u x)
 new_named u x is =
-    let rest : list_all is_word_byte (decimal_text u ++ 95 ∷ x) ≡ true = words_join (decimal_text u) (95 ∷ x) (text_words u) (name_words x is) in
+    let rest : list_all is_word_byte (decimal_text u ++ 95 ∷ x)
+    ≡ true = words_join (decimal_text u) (95 ∷ x) (text_words u) (name_words x is) in
     let near : is_apart (name_in u x) ≡ false = ap not (underscore (decimal_text u) x) in
     λ i. rest i && not (none_equal (name_in u x) near (map fixed_text key_words ++ other_words) words_apart i)
 
@@ -146,7 +149,8 @@ module _ (p : Program) (u : ℕ) where
   stmt_named tree.Null is = tt
   stmt_named (tree.Set n a) is = (var_named u n is.0, arg_named a is.1)
   stmt_named (tree.SetStar n e) is = (var_named u n is.0, expr_named e is.1)
-  stmt_named (tree.Call n f args) is = (maybe_named u n is.0, callee_named f is.1, all_map NamedArg NamedArg (renamed.arg ρ u) arg_named args is.2)
+  stmt_named (tree.Call n f args) is =
+      (maybe_named u n is.0, callee_named f is.1, all_map NamedArg NamedArg (renamed.arg ρ u) arg_named args is.2)
   stmt_named (tree.Goto n) is = new_named u n is
   stmt_named (tree.If o a b n) is = (expr_named a is.0, expr_named b is.1, new_named u n is.2)
   stmt_named (tree.Switch e cases n) is = (
@@ -169,7 +173,8 @@ module _ (p : Program) (u : ℕ) where
   item_named (tree.Var t n v) is = var_named u n is
   item_named (tree.Function f) is = (
     func_named u f.name is.0,
-    all_map (λ (q : tree.Param). IsNamedIfAny q.1) (λ (q : tree.Param). IsNamedIfAny q.1) (renamed.param ρ u) (λ q. maybe_named u q.1) f.params is.1,
+    all_map (λ (q : tree.Param). IsNamedIfAny q.1) (λ (q : tree.Param). IsNamedIfAny q.1) (renamed.param ρ u)
+        (λ q. maybe_named u q.1) f.params is.1,
     body_named f.body is.2,
   )
 
@@ -198,7 +203,8 @@ module _ (p : Program) (u : ℕ) where
   stmt_fits d (tree.Set n a) is = arg_fits d a is
   stmt_fits d (tree.SetStar n e) is = expr_fits d e is
   stmt_fits d (tree.Call None f args) is = (callee_fits f is.0, all_map (FitsArg d) (FitsArg d) (renamed.arg ρ u) (arg_fits d) args is.1)
-  stmt_fits d (tree.Call (Some n) f args) is = (callee_fits f is.0, all_map (FitsArg (d - 1)) (FitsArg (d - 1)) (renamed.arg ρ u) (arg_fits (d - 1)) args is.1)
+  stmt_fits d (tree.Call (Some n) f args) is =
+      (callee_fits f is.0, all_map (FitsArg (d - 1)) (FitsArg (d - 1)) (renamed.arg ρ u) (arg_fits (d - 1)) args is.1)
   stmt_fits d (tree.If o a b n) is = (expr_fits d a is.0, expr_fits d b is.1)
   stmt_fits d (tree.Switch e cases n) is = (
     expr_fits d e is.0,
@@ -233,11 +239,16 @@ one_formed p each = formed (merge_of p) (record {
     named k y at =
         let from = (placed_at p k y at).from in
         let u = (placed_at p k y at).unit in
-        subst NamedItem (sym from.is) (item_named p u from.item (all_at NamedItem from.items (well_formed from.items (each u from.items from.there)).named from.number from.item from.at))
+        subst NamedItem (sym from.is)
+        (item_named p u from.item
+        (all_at NamedItem from.items (well_formed from.items (each u from.items from.there)).named from.number from.item
+        from.at))
 
     fits : (k : ℕ) (y : tree.Item) → slice_get (merge_of p) k ≡ Some y → FitsItem depth_limit y
     fits k y at =
         let from = (placed_at p k y at).from in
         let u = (placed_at p k y at).unit in
         subst (FitsItem depth_limit) (sym from.is)
-        (item_fits p u depth_limit from.item (all_at (FitsItem depth_limit) from.items (well_formed from.items (each u from.items from.there)).fits from.number from.item from.at))
+        (item_fits p u depth_limit from.item
+        (all_at (FitsItem depth_limit) from.items (well_formed from.items (each u from.items from.there)).fits from.number
+        from.item from.at))

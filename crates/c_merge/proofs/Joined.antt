@@ -50,7 +50,8 @@ take_more (y ∷ xs) zero x less at = ap (λ z. z ∷ []) (sym at)
 take_more (y ∷ xs) (suc i) x less at = ap (λ l. y ∷ l) (take_more xs i x (omega (arith, less)) at)
 
 -- one more, behind what was there at the start
-pub pushed : {X A B V : Type 0} (view : V → B) (seen : X → A) (f : A → B) (xs : List X) (i : ℕ) (x : X) (v : V) (before after : List V) (start : List B)
+pub pushed : {X A B V : Type 0} (view : V → B) (seen : X → A) (f : A → B) (xs : List X) (i : ℕ) (x : X) (v : V)
+    (before after : List V) (start : List B)
     → i < length xs → x ≡ get_or xs i x → after ≡ before ++ v ∷ [] → view v ≡ f (seen x)
     → map view before ≡ start ++ map f (map seen (take i xs)) → map view after ≡ start ++ map f (map seen (take (i + 1) xs))
 pushed view seen f xs i x v before after start less at grown is so_far =
@@ -63,5 +64,6 @@ pushed view seen f xs i x v before after start less at grown is so_far =
     ∙ ap (λ l. start ++ map f (map seen l)) (sym (take_more xs i x less at))
     ∙ ap (λ n. start ++ map f (map seen (take n xs))) one
 
-pub seen_at : {A X : Type 0} (view : X → A) (xs : List X) (i : ℕ) (x : X) → slice_get xs i ≡ Some x → slice_get (map view xs) i ≡ Some (view x)
+pub seen_at : {A X : Type 0} (view : X → A) (xs : List X) (i : ℕ) (x : X) → slice_get xs i ≡ Some x
+    → slice_get (map view xs) i ≡ Some (view x)
 seen_at view xs i x at = slice_get-map view xs i ∙ ap (option_map view) at

@@ -39,7 +39,8 @@ module _ (p : Program) (are : AreLinked p) (u : ℕ) (items : List tree.Item) (a
 
   -- ---- rules 3, 4 and 12
 
-  params_proper : (params : List tree.Param) → proper_params (map (renamed.param ρ u) params) ≡ map (renamed.param ρ u) (proper_params params)
+  params_proper : (params : List tree.Param)
+      → proper_params (map (renamed.param ρ u) params) ≡ map (renamed.param ρ u) (proper_params params)
   params_proper [] = refl
   params_proper ((type.Void, None) ∷ []) = refl
   params_proper ((type.Void, Some n) ∷ []) = refl
@@ -64,7 +65,8 @@ module _ (p : Program) (are : AreLinked p) (u : ℕ) (items : List tree.Item) (a
   params_proper ((type.PtrTab, n) ∷ r ∷ params) = refl
   params_proper ((type.FnPtr, n) ∷ r ∷ params) = refl
 
-  values_same : (locals : List tree.Local) → list_all (λ (v : Name × CType). is_value_type v.1) (map (λ (l : tree.Local). (l.1, l.0)) (map (renamed.local ρ u) locals))
+  values_same : (locals : List tree.Local)
+      → list_all (λ (v : Name × CType). is_value_type v.1) (map (λ (l : tree.Local). (l.1, l.0)) (map (renamed.local ρ u) locals))
       ≡ list_all (λ (v : Name × CType). is_value_type v.1) (map (λ (l : tree.Local). (l.1, l.0)) locals)
   values_same [] = refl
   values_same (l ∷ locals) = ap (λ b. is_value_type l.0 && b) (values_same locals)
@@ -74,31 +76,37 @@ module _ (p : Program) (are : AreLinked p) (u : ℕ) (items : List tree.Item) (a
   locals_same (Some b) = values_same b.locals
 
   types_same : (unit unit' : List tree.Item) (k i : ℕ) (item : tree.Item)
-      → types_are_proper (record { unit = unit'; number = k; item = renamed.item ρ u item }) ≡ types_are_proper (record { unit = unit; number = i; item = item })
+      → types_are_proper (record { unit = unit'; number = k; item = renamed.item ρ u item })
+      ≡ types_are_proper (record { unit = unit; number = i; item = item })
   types_same unit unit' k i (tree.Array n count bytes) = refl
   types_same unit unit' k i (tree.Var t n number) = refl
   types_same unit unit' k i (tree.Function f) = λ j.
       (is_result_type f.result && (ap (list_all (λ (q : tree.Param). is_value_type q.0)) (params_proper f.params)
-      ∙ all_map (renamed.param ρ u) (λ (q : tree.Param). is_value_type q.0) (λ (q : tree.Param). is_value_type q.0) (λ q. refl) (proper_params f.params)) j)
+      ∙ all_map (renamed.param ρ u) (λ (q : tree.Param). is_value_type q.0) (λ (q : tree.Param). is_value_type q.0) (λ q. refl)
+      (proper_params f.params)) j)
       && locals_same f.body j
 
   suits_same : (o : Option tree.Body) → locals_suit (option_map (renamed.body ρ u) o) ≡ locals_suit o
   suits_same None = refl
-  suits_same (Some b) = all_map (renamed.local ρ u) (λ (l : tree.Local). number_suits l.0 l.2) (λ (l : tree.Local). number_suits l.0 l.2) (λ l. refl) b.locals
+  suits_same (Some b) = all_map (renamed.local ρ u) (λ (l : tree.Local). number_suits l.0 l.2)
+      (λ (l : tree.Local). number_suits l.0 l.2) (λ l. refl) b.locals
 
   first_same : (unit unit' : List tree.Item) (k i : ℕ) (item : tree.Item)
-      → first_values_suit (record { unit = unit'; number = k; item = renamed.item ρ u item }) ≡ first_values_suit (record { unit = unit; number = i; item = item })
+      → first_values_suit (record { unit = unit'; number = k; item = renamed.item ρ u item })
+      ≡ first_values_suit (record { unit = unit; number = i; item = item })
   first_same unit unit' k i (tree.Array n count bytes) = refl
   first_same unit unit' k i (tree.Var t n number) = refl
   first_same unit unit' k i (tree.Function f) = suits_same f.body
 
   filled_same : (unit unit' : List tree.Item) (k i : ℕ) (item : tree.Item)
-      → body_is_not_empty (record { unit = unit'; number = k; item = renamed.item ρ u item }) ≡ body_is_not_empty (record { unit = unit; number = i; item = item })
+      → body_is_not_empty (record { unit = unit'; number = k; item = renamed.item ρ u item })
+      ≡ body_is_not_empty (record { unit = unit; number = i; item = item })
   filled_same unit unit' k i (tree.Array n count bytes) = refl
   filled_same unit unit' k i (tree.Var t n number) = refl
   filled_same unit unit' k i (tree.Function f) = go f.body
     where
-      go : (o : Option tree.Body) → if_any (option_map (renamed.body ρ u) o) (λ b. nat_le 1 (length b.stmts)) ≡ if_any o (λ b. nat_le 1 (length b.stmts))
+      go : (o : Option tree.Body)
+          → if_any (option_map (renamed.body ρ u) o) (λ b. nat_le 1 (length b.stmts)) ≡ if_any o (λ b. nat_le 1 (length b.stmts))
       go None = refl
       go (Some b) = ap (nat_le 1) (length-map b.stmts (renamed.stmt ρ u))
 
@@ -111,31 +119,37 @@ module _ (p : Program) (are : AreLinked p) (u : ℕ) (items : List tree.Item) (a
 
   defined_there : (n : Name) → list_any (defines n) items ≡ true → list_any (defines (new u n)) (merge_of p) ≡ true
   defined_there n is =
-      let here : list_any (defines (new u n)) (map (renamed.item ρ u) items) ≡ true = any_map (renamed.item ρ u) (defines (new u n)) (defines n) (defines_same n) items ∙ is in
+      let here : list_any (defines (new u n)) (map (renamed.item ρ u) items)
+      ≡ true = any_map (renamed.item ρ u) (defines (new u n)) (defines n) (defines_same n) items ∙ is in
       let zero_u : 0 + u ≡ u = omega arith in
       ap (list_any (defines (new u n))) (split ρ 0 u p.units items at_u
       ∙ ap (λ k. joined ρ 0 (take u p.units) ++ (map (renamed.item ρ k) items ++ joined ρ (0 + u + 1) (drop (suc u) p.units))) zero_u)
-      ∙ any_behind (defines (new u n)) (joined ρ 0 (take u p.units)) (map (renamed.item ρ u) items ++ joined ρ (0 + u + 1) (drop (suc u) p.units))
+      ∙ any_behind (defines (new u n)) (joined ρ 0 (take u p.units))
+      (map (renamed.item ρ u) items ++ joined ρ (0 + u + 1) (drop (suc u) p.units))
       (any_front (defines (new u n)) (map (renamed.item ρ u) items) (joined ρ (0 + u + 1) (drop (suc u) p.units)) here)
 
   static_defined : (k i : ℕ) (item : tree.Item) → is_defined_if_static (record { unit = items; number = i; item = item }) ≡ true
       → is_defined_if_static (record { unit = merge_of p; number = k; item = renamed.item ρ u item }) ≡ true
   static_defined k i (tree.Array n count bytes) is = refl
   static_defined k i (tree.Var t n number) is = refl
-  static_defined k i (tree.Function f) is = or_gives (not f.is_static) (list_any (defines f.name) items) (list_any (defines (new u f.name)) (merge_of p)) is (defined_there f.name)
+  static_defined k i (tree.Function f) is = or_gives (not f.is_static) (list_any (defines f.name) items)
+      (list_any (defines (new u f.name)) (merge_of p)) is (defined_there f.name)
 
   -- ---- rule 6
 
   named_same : (f : tree.Func) → params_are_named (renamed.func ρ u f) ≡ params_are_named f
-  named_same f = λ i. not (is_some_map (renamed.body ρ u) f.body i) || (ap (list_all (λ (q : tree.Param). is_some q.1)) (params_proper f.params)
-      ∙ all_map (renamed.param ρ u) (λ (q : tree.Param). is_some q.1) (λ (q : tree.Param). is_some q.1) (λ q. is_some_map (new_var u) q.1) (proper_params f.params)) i
+  named_same f = λ i. not (is_some_map (renamed.body ρ u) f.body i)
+      || (ap (list_all (λ (q : tree.Param). is_some q.1)) (params_proper f.params)
+      ∙ all_map (renamed.param ρ u) (λ (q : tree.Param). is_some q.1) (λ (q : tree.Param). is_some q.1)
+      (λ q. is_some_map (new_var u) q.1) (proper_params f.params)) i
 
   distinct_same : (names : List Name) → are_distinct (map (new_var u) names) ≡ are_distinct names
   distinct_same [] = refl
   distinct_same (n ∷ names) = λ i. not (among_map (new_var u) vars_keep n names i) && distinct_same names i
 
   -- a name of file scope of the one unit that is a new name of this unit was one of its own
-  among_own : (n : Name) → is_own_name n ≡ true → is_among (new_var u n) (map name_of (merge_of p)) ≡ true → is_among n (map name_of items) ≡ true
+  among_own : (n : Name) → is_own_name n ≡ true → is_among (new_var u n) (map name_of (merge_of p)) ≡ true
+      → is_among n (map name_of items) ≡ true
   among_own n own is =
       let found = any_from (bytes_eq (new_var u n)) (map name_of (merge_of p)) is in
       let item = from_map name_of (merge_of p) found.0 found.1 found.2 in
@@ -148,7 +162,8 @@ module _ (p : Program) (are : AreLinked p) (u : ℕ) (items : List tree.Item) (a
       sym named_so ∙ sym item.2 ∙ sym ((bytes_eq-Decides (new_var u n) found.1).0 found.3) ∙ own_var u n own ∙ sym (own_new u n own) in
       by_unit w from.items from.there from.number from.item from.at same
     where
-      here : (others : List tree.Item) → slice_get p.units u ≡ Some others → (k : ℕ) (a : tree.Item) → slice_get others k ≡ Some a → new u (name_of a) ≡ new u n
+      here : (others : List tree.Item) → slice_get p.units u ≡ Some others → (k : ℕ) (a : tree.Item)
+          → slice_get others k ≡ Some a → new u (name_of a) ≡ new u n
           → is_among n (map name_of items) ≡ true
       here others there k a at same =
           let one : others ≡ items = same_list (sym there ∙ at_u) in
@@ -170,27 +185,32 @@ module _ (p : Program) (are : AreLinked p) (u : ℕ) (items : List tree.Item) (a
           let s : SameNew (name_of a) n = new_same u w differ (name_of a) n same in
           both_ways (is_outside n) (ap not own) s.outside
 
-      by_unit : (w : ℕ) (others : List tree.Item) → slice_get p.units w ≡ Some others → (k : ℕ) (a : tree.Item) → slice_get others k ≡ Some a → new w (name_of a) ≡ new u n
+      by_unit : (w : ℕ) (others : List tree.Item) → slice_get p.units w ≡ Some others → (k : ℕ) (a : tree.Item)
+          → slice_get others k ≡ Some a → new w (name_of a) ≡ new u n
           → is_among n (map name_of items) ≡ true
       by_unit w others there k a at same = elim (cases_order w u) [
-        | inl equal ↦ here others (subst (λ v. slice_get p.units v ≡ Some others) equal there) k a at (subst (λ v. new v (name_of a) ≡ new u n) equal same)
+        | inl equal ↦ here others (subst (λ v. slice_get p.units v ≡ Some others) equal there) k a at
+            (subst (λ v. new v (name_of a) ≡ new u n) equal same)
         | inr (inl less) ↦ absurd (elsewhere w (λ e. omega (arith, less, e)) a same)
         | inr (inr more) ↦ absurd (elsewhere w (λ e. omega (arith, more, e)) a same)
       ]
 
-  hidden_none : (names : List Name) → list_all is_own_name names ≡ true → hides_none items names ≡ true → hides_none (merge_of p) (map (new_var u) names) ≡ true
+  hidden_none : (names : List Name) → list_all is_own_name names ≡ true → hides_none items names ≡ true
+      → hides_none (merge_of p) (map (new_var u) names) ≡ true
   hidden_none [] own none = refl
   hidden_none (n ∷ names) own none =
       let owns = and_parts (is_own_name n) (list_all is_own_name names) own in
       let nones = and_parts (not (is_among n (map name_of items))) (hides_none items names) none in
       λ i. not_among n owns.0 nones.0 i && hidden_none names owns.1 nones.1 i
     where
-      not_among : (n : Name) → is_own_name n ≡ true → not (is_among n (map name_of items)) ≡ true → not (is_among (new_var u n) (map name_of (merge_of p))) ≡ true
+      not_among : (n : Name) → is_own_name n ≡ true → not (is_among n (map name_of items)) ≡ true
+          → not (is_among (new_var u n) (map name_of (merge_of p))) ≡ true
       not_among n own none = by_test (is_among (new_var u n) (map name_of (merge_of p)))
           (λ is. absurd (false≢true (sym (ap not (among_own n own is)) ∙ none)))
           (λ is. ap not is)
 
-  names_distinct : (k i : ℕ) (item : tree.Item) → list_all is_own_name (local_names item) ≡ true → own_names_are_distinct (record { unit = items; number = i; item = item }) ≡ true
+  names_distinct : (k i : ℕ) (item : tree.Item) → list_all is_own_name (local_names item) ≡ true
+      → own_names_are_distinct (record { unit = items; number = i; item = item }) ≡ true
       → own_names_are_distinct (record { unit = merge_of p; number = k; item = renamed.item ρ u item }) ≡ true
   names_distinct k i (tree.Array n count bytes) own is = refl
   names_distinct k i (tree.Var t n number) own is = refl
@@ -200,7 +220,8 @@ module _ (p : Program) (are : AreLinked p) (u : ℕ) (items : List tree.Item) (a
       let both = and_parts (are_distinct names) (hides_none items names) parts.1 in
       let new_ones = own_names p are u items at_u (tree.Function f) in
       λ j. (named_same f ∙ parts.0) j
-      && ((ap are_distinct new_ones ∙ distinct_same names ∙ both.0) j && (ap (hides_none (merge_of p)) new_ones ∙ hidden_none names own both.1) j)
+      && ((ap are_distinct new_ones ∙ distinct_same names ∙ both.0) j
+      && (ap (hides_none (merge_of p)) new_ones ∙ hidden_none names own both.1) j)
 
   -- ---- all of them
 
@@ -210,7 +231,8 @@ module _ (p : Program) (are : AreLinked p) (u : ℕ) (items : List tree.Item) (a
       → Keeps item_rules (record { unit = merge_of p; number = k; item = renamed.item ρ u x })
   item_keeps others front k i x at front_is h =
       let frees = and_parts (file_name_is_free x) (list_all is_own_name (local_names x)) h.1.0 in
-      let once = ap (list_all (stands_by p are u items at_u (renamed.item ρ u x))) front_is ∙ declared_once p are u items at_u others front i x at h.0 in
+      let once = ap (list_all (stands_by p are u items at_u (renamed.item ρ u x))) front_is
+      ∙ declared_once p are u items at_u others front i x at h.0 in
       let names = ap (list_all is_own_name) (own_names p are u items at_u x) ∙ locals_free p are u items at_u (local_names x) frees.1 in
       let free' : (file_name_is_free (renamed.item ρ u x) && list_all is_own_name (local_names (renamed.item ρ u x))) ≡ true =
       λ j. name_free p are u items at_u x frees.0 j && names j in

@@ -31,17 +31,20 @@ use Rattle.c_merge.proofs.Units.{free, func_seen, defined_once}
 
 -- ---- lists and tests
 
-pub all_from : {A : Type 0} (test : A → Bool) (xs : List A) → ((j : ℕ) (x : A) → slice_get xs j ≡ Some x → test x ≡ true) → list_all test xs ≡ true
+pub all_from : {A : Type 0} (test : A → Bool) (xs : List A) → ((j : ℕ) (x : A) → slice_get xs j ≡ Some x → test x ≡ true)
+    → list_all test xs ≡ true
 all_from test [] holds = refl
 all_from test (x ∷ xs) holds = λ i. holds 0 x refl i && all_from test xs (λ j y at. holds (suc j) y at) i
 
-all_join : {A : Type 0} (test : A → Bool) (xs ys : List A) → list_all test xs ≡ true → list_all test ys ≡ true → list_all test (xs ++ ys) ≡ true
+all_join : {A : Type 0} (test : A → Bool) (xs ys : List A) → list_all test xs ≡ true → list_all test ys ≡ true
+    → list_all test (xs ++ ys) ≡ true
 all_join test [] ys first second = second
 all_join test (x ∷ xs) ys first second =
     let both = and_parts (test x) (list_all test xs) first in
     λ i. both.0 i && all_join test xs ys both.1 second i
 
-pub any_map : {A B : Type 0} (f : A → B) (test : B → Bool) (test' : A → Bool) → ((a : A) → test (f a) ≡ test' a) → (xs : List A) → list_any test (map f xs) ≡ list_any test' xs
+pub any_map : {A B : Type 0} (f : A → B) (test : B → Bool) (test' : A → Bool) → ((a : A) → test (f a) ≡ test' a) → (xs : List A)
+    → list_any test (map f xs) ≡ list_any test' xs
 any_map f test test' same [] = refl
 any_map f test test' same (x ∷ xs) = λ i. same x i || any_map f test test' same xs i
 
@@ -57,7 +60,8 @@ pub any_front : {A : Type 0} (test : A → Bool) (xs ys : List A) → list_any t
 any_front test [] ys is = absurd (false≢true is)
 any_front test (x ∷ xs) ys is = go (test x) is (any_front test xs ys)
   where
-    go : (b : Bool) → (b || list_any test xs) ≡ true → (list_any test xs ≡ true → list_any test (xs ++ ys) ≡ true) → (b || list_any test (xs ++ ys)) ≡ true
+    go : (b : Bool) → (b || list_any test xs) ≡ true → (list_any test xs ≡ true → list_any test (xs ++ ys) ≡ true)
+        → (b || list_any test (xs ++ ys)) ≡ true
     go true is behind = refl
     go false is behind = behind is
 
@@ -118,7 +122,8 @@ module _ (p : Program) (are : AreLinked p) (u : ℕ) (items : List tree.Item) (a
       with_static : Bool → tree.Func → tree.Func
       with_static b f = record { is_static = b; result = f.result; name = f.name; params = f.params; body = f.body }
 
-      go : (b c : Bool) → are_alike (tree.Function (with_static b (renamed.func ρ u f))) (tree.Function (with_static c (renamed.func ρ u g)))
+      go : (b c : Bool) → are_alike (tree.Function (with_static b (renamed.func ρ u f)))
+          (tree.Function (with_static c (renamed.func ρ u g)))
           ≡ are_alike (tree.Function (with_static b f)) (tree.Function (with_static c g))
       go true c = λ i. c && same_func_type (func_type_of-func ρ u f i) (func_type_of-func ρ u g i)
       go false c = λ i. not c && same_func_type (func_type_of-func ρ u f i) (func_type_of-func ρ u g i)
@@ -132,7 +137,8 @@ module _ (p : Program) (are : AreLinked p) (u : ℕ) (items : List tree.Item) (a
 
   -- functions of two units that are seen under one name
   functions_stand : (w : ℕ) → w ≢ u → (others : List tree.Item) → slice_get p.units w ≡ Some others → (k j : ℕ) (g f : tree.Func)
-      → slice_get others k ≡ Some (tree.Function g) → slice_get items j ≡ Some (tree.Function f) → g.name ≡ f.name → is_outside f.name ≡ true
+      → slice_get others k ≡ Some (tree.Function g) → slice_get items j ≡ Some (tree.Function f) → g.name ≡ f.name
+      → is_outside f.name ≡ true
       → may_both_stand (renamed.item ρ w (tree.Function g)) (renamed.item ρ u (tree.Function f)) ≡ true
   functions_stand w differ others there k j g f at_k at_j same outside =
       λ i. go g.is_static f.is_static shown_g shown_f i && not (one_body i)
@@ -147,13 +153,17 @@ module _ (p : Program) (are : AreLinked p) (u : ℕ) (items : List tree.Item) (a
       shown_f = not-true f.is_static (sym (func_seen items keeps j f at_j) ∙ outside)
 
       types : func_type_of (renamed.func ρ w g) ≡ func_type_of (renamed.func ρ u f)
-      types = func_type_of-func ρ w g ∙ one_type p are w u others items k j g f there at_u at_k at_j same outside_g ∙ sym (func_type_of-func ρ u f)
+      types = func_type_of-func ρ w g ∙ one_type p are w u others items k j g f there at_u at_k at_j same outside_g
+          ∙ sym (func_type_of-func ρ u f)
 
       with_static : Bool → tree.Func → tree.Func
       with_static b f = record { is_static = b; result = f.result; name = f.name; params = f.params; body = f.body }
 
-      go : (b c : Bool) → b ≡ false → c ≡ false → are_alike (tree.Function (with_static b (renamed.func ρ w g))) (tree.Function (with_static c (renamed.func ρ u f))) ≡ true
-      go false false e h = ap (λ ty. same_func_type ty (func_type_of (renamed.func ρ u f))) types ∙ func_types_equal (func_type_of (renamed.func ρ u f))
+      go : (b c : Bool) → b ≡ false → c ≡ false
+          → are_alike (tree.Function (with_static b (renamed.func ρ w g))) (tree.Function (with_static c (renamed.func ρ u f)))
+          ≡ true
+      go false false e h = ap (λ ty. same_func_type ty (func_type_of (renamed.func ρ u f))) types
+          ∙ func_types_equal (func_type_of (renamed.func ρ u f))
       go true c e h = absurd (false≢true (sym e))
       go false true e h = absurd (false≢true (sym h))
 
@@ -170,11 +180,14 @@ module _ (p : Program) (are : AreLinked p) (u : ℕ) (items : List tree.Item) (a
   others_stand : (w : ℕ) → w ≢ u → (others : List tree.Item) → slice_get p.units w ≡ Some others → (k j : ℕ) (a x : tree.Item)
       → slice_get others k ≡ Some a → slice_get items j ≡ Some x → name_of a ≡ name_of x → is_outside (name_of x) ≡ true
       → may_both_stand (renamed.item ρ w a) (renamed.item ρ u x) ≡ true
-  others_stand w differ others there k j (tree.Function g) (tree.Function f) at_k at_j same outside = functions_stand w differ others there k j g f at_k at_j same outside
+  others_stand w differ others there k j (tree.Function g) (tree.Function f) at_k at_j same outside = functions_stand w differ
+      others there k j g f at_k at_j same outside
   others_stand w differ others there k j (tree.Array n count bytes) x at_k at_j same outside =
-      absurd (both_ways (is_outside n) (ap not (free others (are.kept w others there) k (tree.Array n count bytes) at_k).0) (ap is_outside same ∙ outside))
+      absurd (both_ways (is_outside n) (ap not (free others (are.kept w others there) k (tree.Array n count bytes) at_k).0)
+      (ap is_outside same ∙ outside))
   others_stand w differ others there k j (tree.Var t n number) x at_k at_j same outside =
-      absurd (both_ways (is_outside n) (ap not (free others (are.kept w others there) k (tree.Var t n number) at_k).0) (ap is_outside same ∙ outside))
+      absurd (both_ways (is_outside n) (ap not (free others (are.kept w others there) k (tree.Var t n number) at_k).0)
+      (ap is_outside same ∙ outside))
   others_stand w differ others there k j (tree.Function g) (tree.Array n count bytes) at_k at_j same outside =
       absurd (both_ways (is_outside n) (ap not (free items keeps j (tree.Array n count bytes) at_j).0) outside)
   others_stand w differ others there k j (tree.Function g) (tree.Var t n number) at_k at_j same outside =
@@ -187,7 +200,8 @@ module _ (p : Program) (are : AreLinked p) (u : ℕ) (items : List tree.Item) (a
   less_differ w less e = omega (arith, less, e)
 
   pub declared_once : (others : List tree.Item) → Each (Before p u) others → (i : ℕ) (x : tree.Item) → slice_get items i ≡ Some x
-      → list_all (stands_by x) (take i items) ≡ true → list_all (stands_by (renamed.item ρ u x)) (others ++ map (renamed.item ρ u) (take i items)) ≡ true
+      → list_all (stands_by x) (take i items) ≡ true
+      → list_all (stands_by (renamed.item ρ u x)) (others ++ map (renamed.item ρ u) (take i items)) ≡ true
   declared_once others front i x at once = all_join (stands_by (renamed.item ρ u x)) others (map (renamed.item ρ u) (take i items))
       (all_from (stands_by (renamed.item ρ u x)) others of_other)
       (all_from (stands_by (renamed.item ρ u x)) (map (renamed.item ρ u) (take i items)) of_own)
@@ -200,7 +214,8 @@ module _ (p : Program) (are : AreLinked p) (u : ℕ) (items : List tree.Item) (a
           → stands_by (renamed.item ρ u x) (renamed.item ρ w a) ≡ true
       by_name w a a_name differ stand = by_test (bytes_eq (name_of (renamed.item ρ w a)) (name_of (renamed.item ρ u x)))
           (λ is.
-          let same : new w (name_of a) ≡ new u (name_of x) = sym a_name ∙ (bytes_eq-Decides (name_of (renamed.item ρ w a)) (name_of (renamed.item ρ u x))).0 is ∙ x_name in
+          let same : new w (name_of a) ≡ new u (name_of x) = sym a_name
+          ∙ (bytes_eq-Decides (name_of (renamed.item ρ w a)) (name_of (renamed.item ρ u x))).0 is ∙ x_name in
           let s : SameNew (name_of a) (name_of x) = new_same u w differ (name_of a) (name_of x) same in
           ap (λ b. not b || may_both_stand (renamed.item ρ w a) (renamed.item ρ u x)) is ∙ stand s.same s.outside)
           (λ is. ap (λ b. not b || may_both_stand (renamed.item ρ w a) (renamed.item ρ u x)) is)
@@ -213,9 +228,11 @@ module _ (p : Program) (are : AreLinked p) (u : ℕ) (items : List tree.Item) (a
           let differ : w ≢ u = less_differ w b.less in
           let a_name = item_name p w from.item (free from.items (are.kept w from.items from.there) from.number from.item from.at).0 in
           ap (stands_by (renamed.item ρ u x)) from.is
-          ∙ by_name w from.item a_name differ (λ same outside. others_stand w differ from.items from.there from.number i from.item x from.at at same outside)
+          ∙ by_name w from.item a_name differ
+          (λ same outside. others_stand w differ from.items from.there from.number i from.item x from.at at same outside)
 
-      of_own : (j : ℕ) (other : tree.Item) → slice_get (map (renamed.item ρ u) (take i items)) j ≡ Some other → stands_by (renamed.item ρ u x) other ≡ true
+      of_own : (j : ℕ) (other : tree.Item) → slice_get (map (renamed.item ρ u) (take i items)) j ≡ Some other
+          → stands_by (renamed.item ρ u x) other ≡ true
       of_own j other at_j =
           let from = from_map (renamed.item ρ u) (take i items) j other at_j in
           let a = from.0 in
@@ -246,17 +263,21 @@ module _ (p : Program) (are : AreLinked p) (u : ℕ) (items : List tree.Item) (a
           clash : is_own_name f.name ≡ true → ⊥
           clash own = false≢true (sym (ap not symbol) ∙ (and_parts _ (not (is_symbol f.name)) own).1)
 
-      go : (b : Bool) → (if b then is_own_name f.name else is_symbol f.name) ≡ true → (if b then is_own_name (new u f.name) else is_symbol (new u f.name)) ≡ true
+      go : (b : Bool) → (if b then is_own_name f.name else is_symbol f.name) ≡ true
+          → (if b then is_own_name (new u f.name) else is_symbol (new u f.name)) ≡ true
       go true own = ap is_own_name (own_new u f.name own)
       go false symbol = ap is_symbol (outside_stays u f.name (symbol_outside symbol)) ∙ symbol
 
-  params_names : (params : List tree.Param) → map (λ (v : Name × CType). v.0) (filter_map (λ (q : tree.Param). option_map (λ name. (name, q.0)) q.1) (map (renamed.param ρ u) params))
+  params_names : (params : List tree.Param)
+      → map (λ (v : Name × CType). v.0)
+      (filter_map (λ (q : tree.Param). option_map (λ name. (name, q.0)) q.1) (map (renamed.param ρ u) params))
       ≡ map (new_var u) (map (λ (v : Name × CType). v.0) (filter_map (λ (q : tree.Param). option_map (λ name. (name, q.0)) q.1) params))
   params_names [] = refl
   params_names ((t, None) ∷ params) = params_names params
   params_names ((t, Some n) ∷ params) = ap (λ l. new_var u n ∷ l) (params_names params)
 
-  locals_names : (locals : List tree.Local) → map (λ (v : Name × CType). v.0) (map (λ (l : tree.Local). (l.1, l.0)) (map (renamed.local ρ u) locals))
+  locals_names : (locals : List tree.Local)
+      → map (λ (v : Name × CType). v.0) (map (λ (l : tree.Local). (l.1, l.0)) (map (renamed.local ρ u) locals))
       ≡ map (new_var u) (map (λ (v : Name × CType). v.0) (map (λ (l : tree.Local). (l.1, l.0)) locals))
   locals_names [] = refl
   locals_names (l ∷ locals) = ap (λ rest. new_var u l.1 ∷ rest) (locals_names locals)
@@ -272,7 +293,9 @@ module _ (p : Program) (are : AreLinked p) (u : ℕ) (items : List tree.Item) (a
       first_name : Name × CType → Name
       first_name v = v.0
 
-      go : (o : Option tree.Body) → map (λ (v : Name × CType). v.0) (body_variables (renamed.func ρ u (here o))) ≡ map (new_var u) (map (λ (v : Name × CType). v.0) (body_variables (here o)))
+      go : (o : Option tree.Body)
+          → map (λ (v : Name × CType). v.0) (body_variables (renamed.func ρ u (here o)))
+          ≡ map (new_var u) (map (λ (v : Name × CType). v.0) (body_variables (here o)))
       go None =
           map-append first_name (param_variables (renamed.func ρ u f)) []
           ∙ ap (λ l. l ++ []) (params_names f.params)

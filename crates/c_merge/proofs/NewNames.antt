@@ -50,7 +50,8 @@ in_other_unit u w differ m n = bytes_differ (name_in w m) (name_in u n) (λ e. d
 -- an own name of another unit is no variable's name in this one
 pub var_apart : (u w : ℕ) → w ≢ u → (m n : Name) → is_own_name m ≡ true → bytes_eq (new_var w m) (new_var u n) ≡ false
 var_apart u w differ m n own = ap (λ x. bytes_eq x (new_var u n)) (own_var w m own) ∙ by_test (bytes_eq n depth_name)
-    (λ is. ap (λ b. bytes_eq (name_in w m) (if b then n else name_in u n)) is ∙ ap (bytes_eq (name_in w m)) ((bytes_eq-Decides n depth_name).0 is) ∙ new_names.not_depth w m)
+    (λ is. ap (λ b. bytes_eq (name_in w m) (if b then n else name_in u n)) is
+    ∙ ap (bytes_eq (name_in w m)) ((bytes_eq-Decides n depth_name).0 is) ∙ new_names.not_depth w m)
     (λ is. ap (λ b. bytes_eq (name_in w m) (if b then n else name_in u n)) is ∙ in_other_unit u w differ m n)
 
 -- names of two units that are equal are outside, and were equal
@@ -62,22 +63,26 @@ pub new_same : (u w : ℕ) → w ≢ u → (m n : Name) → new w m ≡ new u n 
 new_same u w differ m n e = by_test (is_outside m)
     (λ out. by_test (is_outside n)
     (λ out'. record { same = sym (outside_stays w m out) ∙ e ∙ outside_stays u n out'; outside = out' })
-    (λ inn'. absurd (both_ways (is_outside (name_in u n)) refl (ap is_outside (sym (inside_new u n inn') ∙ sym e ∙ outside_stays w m out) ∙ out))))
+    (λ inn'. absurd (both_ways (is_outside (name_in u n)) refl
+    (ap is_outside (sym (inside_new u n inn') ∙ sym e ∙ outside_stays w m out) ∙ out))))
     (λ inn. by_test (is_outside n)
-    (λ out'. absurd (both_ways (is_outside (name_in w m)) refl (ap is_outside (sym (inside_new w m inn) ∙ e ∙ outside_stays u n out') ∙ out')))
+    (λ out'. absurd (both_ways (is_outside (name_in w m)) refl
+    (ap is_outside (sym (inside_new w m inn) ∙ e ∙ outside_stays u n out') ∙ out')))
     (λ inn'. absurd (differ (new_names.same_unit w u m n (sym (inside_new w m inn) ∙ e ∙ inside_new u n inn')))))
 
 -- in one unit names that differ stay so
 pub new_keeps : (u : ℕ) (m n : Name) → bytes_eq (new u m) (new u n) ≡ bytes_eq m n
 new_keeps u m n = by_test (bytes_eq m n)
-    (λ is. let same : m ≡ n = (bytes_eq-Decides m n).0 is in subst (λ (x : Name). bytes_eq (new u m) (new u x) ≡ bytes_eq m n) same (bytes_equal (new u m) ∙ sym is))
+    (λ is. let same : m ≡ n = (bytes_eq-Decides m n).0 is in subst (λ (x : Name). bytes_eq (new u m) (new u x) ≡ bytes_eq m n)
+    same (bytes_equal (new u m) ∙ sym is))
     (λ is. bytes_differ (new u m) (new u n) (differ (λ equal. both_ways (bytes_eq m n) is equal)) ∙ sym is)
   where
     apart : (m ≡ n → ⊥) → new u m ≡ new u n → ⊥
     apart other e = by_test (is_outside m)
         (λ out. by_test (is_outside n)
         (λ out'. other (sym (outside_stays u m out) ∙ e ∙ outside_stays u n out'))
-        (λ inn'. both_ways (is_outside (name_in u n)) refl (ap is_outside (sym (inside_new u n inn') ∙ sym e ∙ outside_stays u m out) ∙ out)))
+        (λ inn'. both_ways (is_outside (name_in u n)) refl
+        (ap is_outside (sym (inside_new u n inn') ∙ sym e ∙ outside_stays u m out) ∙ out)))
         (λ inn. by_test (is_outside n)
         (λ out'. both_ways (is_outside (name_in u m)) refl (ap is_outside (sym (inside_new u m inn) ∙ e ∙ outside_stays u n out') ∙ out'))
         (λ inn'. other (new_names.same_name u u m n (sym (inside_new u m inn) ∙ e ∙ inside_new u n inn'))))
@@ -95,12 +100,14 @@ module _ (p : Program) where
   item_name u (tree.Var t n number) own = own_var u n own ∙ sym (own_new u n own)
   item_name u (tree.Function f) own = refl
 
-  pub variable_item : (u : ℕ) (item : tree.Item) → variable_of (renamed.item ρ u item) ≡ option_map (λ e. (new_var u e.0, e.1)) (variable_of item)
+  pub variable_item : (u : ℕ) (item : tree.Item)
+      → variable_of (renamed.item ρ u item) ≡ option_map (λ e. (new_var u e.0, e.1)) (variable_of item)
   variable_item u (tree.Array n count bytes) = refl
   variable_item u (tree.Var t n number) = refl
   variable_item u (tree.Function f) = refl
 
-  pub function_item : (u : ℕ) (item : tree.Item) → function_of (renamed.item ρ u item) ≡ option_map (λ e. (new u e.0, e.1)) (function_of item)
+  pub function_item : (u : ℕ) (item : tree.Item)
+      → function_of (renamed.item ρ u item) ≡ option_map (λ e. (new u e.0, e.1)) (function_of item)
   function_item u (tree.Array n count bytes) = refl
   function_item u (tree.Var t n number) = refl
   function_item u (tree.Function f) = ap (λ t. Some (new u f.name, t)) (func_type_of-func ρ u f)
@@ -123,18 +130,22 @@ module _ (p : Program) (are : AreLinked p) where
       ]
 
   pub linked_type : (u : ℕ) (items : List tree.Item) (i : ℕ) (g : tree.Func) → slice_get p.units u ≡ Some items
-      → slice_get items i ≡ Some (tree.Function g) → is_outside g.name ≡ true → if_found (external_func p g.name) (func_type p) ≡ Some (func_type_of g)
+      → slice_get items i ≡ Some (tree.Function g) → is_outside g.name ≡ true
+      → if_found (external_func p g.name) (func_type p) ≡ Some (func_type_of g)
   linked_type u items i g at_u at_i outside =
       let shown : g.is_static ≡ false = not-true g.is_static (sym (func_seen items (are.kept u items at_u) i g at_i) ∙ outside) in
       let of_unit : flat_map (unresolved p u) (external_functions items) ≡ [] =
-      flat_none (λ (u : ℕ × List tree.Item). flat_map (unresolved p u.0) (external_functions u.1)) (numbered p.units) (none_refused p are).1 u (u, items)
+      flat_none (λ (u : ℕ × List tree.Item). flat_map (unresolved p u.0) (external_functions u.1)) (numbered p.units)
+      (none_refused p are).1 u (u, items)
       (numbered_at p.units u items at_u) in
       let listed = kept_at external_of items i (tree.Function g) g at_i (ap (λ (b : Bool). if b then None else Some g) shown) in
       type_found u g (flat_none (unresolved p u) (external_functions items) of_unit listed.0 g listed.1)
 
   -- functions of two units that are seen under one name
-  pub one_type : (u w : ℕ) (items others : List tree.Item) (i j : ℕ) (f g : tree.Func) → slice_get p.units u ≡ Some items → slice_get p.units w ≡ Some others
-      → slice_get items i ≡ Some (tree.Function f) → slice_get others j ≡ Some (tree.Function g) → f.name ≡ g.name → is_outside f.name ≡ true
+  pub one_type : (u w : ℕ) (items others : List tree.Item) (i j : ℕ) (f g : tree.Func) → slice_get p.units u ≡ Some items
+      → slice_get p.units w ≡ Some others
+      → slice_get items i ≡ Some (tree.Function f) → slice_get others j ≡ Some (tree.Function g) → f.name ≡ g.name
+      → is_outside f.name ≡ true
       → func_type_of f ≡ func_type_of g
   one_type u w items others i j f g at_u at_w at_i at_j same outside =
       let first = linked_type u items i f at_u at_i outside in

@@ -41,9 +41,11 @@ named_new : {A : Type 0} (f : Name → Name) → ((m n : Name) → bytes_eq (f m
     → named (f n) (entries f xs) ≡ named n xs
 named_new f keeps n [] = refl
 named_new f keeps n (e ∷ xs) =
-    ap (λ b. if b then Some e.1 else named (f n) (entries f xs)) (keeps e.0 n) ∙ ap (λ o. if bytes_eq e.0 n then Some e.1 else o) (named_new f keeps n xs)
+    ap (λ b. if b then Some e.1 else named (f n) (entries f xs)) (keeps e.0 n)
+    ∙ ap (λ o. if bytes_eq e.0 n then Some e.1 else o) (named_new f keeps n xs)
 
-filter_new : {A : Type 0} (g : tree.Item → Option A) (h : tree.Item → tree.Item) (f : A → A) → ((x : tree.Item) → g (h x) ≡ option_map f (g x)) → (xs : List tree.Item)
+filter_new : {A : Type 0} (g : tree.Item → Option A) (h : tree.Item → tree.Item) (f : A → A)
+    → ((x : tree.Item) → g (h x) ≡ option_map f (g x)) → (xs : List tree.Item)
     → filter_map g (map h xs) ≡ map f (filter_map g xs)
 filter_new g h f same [] = refl
 filter_new {A} g h f same (x ∷ xs) = (λ i. cons_option (same x i) (filter_new g h f same xs i)) ∙ go (g x)
@@ -52,7 +54,8 @@ filter_new {A} g h f same (x ∷ xs) = (λ i. cons_option (same x i) (filter_new
     go None = refl
     go (Some a) = refl
 
-among_new : (f : Name → Name) → ((m n : Name) → bytes_eq (f m) (f n) ≡ bytes_eq m n) → (n : Name) (xs : List Name) → is_among (f n) (map f xs) ≡ is_among n xs
+among_new : (f : Name → Name) → ((m n : Name) → bytes_eq (f m) (f n) ≡ bytes_eq m n) → (n : Name) (xs : List Name)
+    → is_among (f n) (map f xs) ≡ is_among n xs
 among_new f keeps n [] = refl
 among_new f keeps n (x ∷ xs) = λ i. keeps n x i || among_new f keeps n xs i
 
@@ -71,17 +74,21 @@ module _ (p : Program) (are : AreLinked p) (u : ℕ) (items : List tree.Item) (a
   abbrev Front : List tree.Item → Type 0
   Front others = Each (Before p u) others
 
-  variable_other : (n : Name) (other : tree.Item) → Before p u other → (e : Name × CType) → variable_of other ≡ Some e → bytes_eq e.0 (new_var u n) ≡ false
+  variable_other : (n : Name) (other : tree.Item) → Before p u other → (e : Name × CType) → variable_of other ≡ Some e
+      → bytes_eq e.0 (new_var u n) ≡ false
   variable_other n other b e is =
       let w = b.unit in
       let from = b.from in
-      let shown : option_map (λ e. (new_var w e.0, e.1)) (variable_of from.item) ≡ Some e = sym (ap variable_of from.is ∙ variable_item p w from.item) ∙ is in
+      let shown : option_map (λ e. (new_var w e.0, e.1)) (variable_of from.item)
+      ≡ Some e = sym (ap variable_of from.is ∙ variable_item p w from.item) ∙ is in
       by_option (variable_of from.item)
       (λ none. absurd (no_some (sym (ap (option_map (λ e. (new_var w e.0, e.1))) none) ∙ shown)))
       (λ d there.
-      let same : (new_var w d.0, d.1) ≡ e = same_Some (new_var w d.0, d.1) e (sym (ap (option_map (λ e. (new_var w e.0, e.1))) there) ∙ shown) in
+      let same : (new_var w d.0, d.1)
+      ≡ e = same_Some (new_var w d.0, d.1) e (sym (ap (option_map (λ e. (new_var w e.0, e.1))) there) ∙ shown) in
       subst (λ (z : Name × CType). bytes_eq z.0 (new_var u n) ≡ false) same
-      (var_apart u w (less_differ w b.less) d.0 n (variable_free from.items (are.kept w from.items from.there) from.number from.item d.0 d.1 from.at there)))
+      (var_apart u w (less_differ w b.less) d.0 n
+      (variable_free from.items (are.kept w from.items from.there) from.number from.item d.0 d.1 from.at there)))
 
   variables_other : (n : Name) (others : List tree.Item) → Front others → named (new_var u n) (filter_map variable_of others) ≡ None
   variables_other n [] front = refl
@@ -95,7 +102,8 @@ module _ (p : Program) (are : AreLinked p) (u : ℕ) (items : List tree.Item) (a
   array_other : (n : Name) (other : tree.Item) → Before p u other → (m : Name) → array_of other ≡ Some m → bytes_eq (new_var u n) m ≡ false
   array_other n other b m is = go b.from.item b.from.at (sym (ap array_of b.from.is) ∙ is)
     where
-      go : (item : tree.Item) → slice_get b.from.items b.from.number ≡ Some item → array_of (renamed.item ρ b.unit item) ≡ Some m → bytes_eq (new_var u n) m ≡ false
+      go : (item : tree.Item) → slice_get b.from.items b.from.number ≡ Some item
+          → array_of (renamed.item ρ b.unit item) ≡ Some m → bytes_eq (new_var u n) m ≡ false
       go (tree.Array x count bytes) at is =
           let own = (free b.from.items (are.kept b.unit b.from.items b.from.there) b.from.number (tree.Array x count bytes) at).0 in
           let same : new_var b.unit x ≡ m = same_Some (new_var b.unit x) m is in
@@ -132,7 +140,8 @@ module _ (p : Program) (are : AreLinked p) (u : ℕ) (items : List tree.Item) (a
   each_at P (y ∷ xs) each zero x at = let same : y ≡ x = cc in subst P same each.0
   each_at P (y ∷ xs) each (suc i) x at = each_at P xs each.1 i x at
 
-  function_other : (n : Name) (t : tree.FuncType) (others : List tree.Item) → Front others → named (new u n) (filter_map function_of others) ≡ Some t → Other n t
+  function_other : (n : Name) (t : tree.FuncType) (others : List tree.Item) → Front others
+      → named (new u n) (filter_map function_of others) ≡ Some t → Other n t
   function_other n t others front is =
       let found = named_from function_of others (new u n) t is in
       of_item (each_at (Before p u) others front found.0 found.1 found.2) found.3
@@ -145,7 +154,8 @@ module _ (p : Program) (are : AreLinked p) (u : ℕ) (items : List tree.Item) (a
           go (tree.Array x count bytes) at is = absurd (no_some is)
           go (tree.Var ty x number) at is = absurd (no_some is)
           go (tree.Function f) at is =
-              let same : (new b.unit f.name, func_type_of f) ≡ (new u n, t) = same_Some (new b.unit f.name, func_type_of f) (new u n, t) is in
+              let same : (new b.unit f.name, func_type_of f)
+              ≡ (new u n, t) = same_Some (new b.unit f.name, func_type_of f) (new u n, t) is in
               let name = new_same u b.unit (less_differ b.unit b.less) f.name n (ap (λ (z : Name × tree.FuncType). z.0) same) in
               record {
                 unit = b.unit;
@@ -168,13 +178,16 @@ module _ (p : Program) (are : AreLinked p) (u : ℕ) (items : List tree.Item) (a
     abbrev pub now : Scope
     now = record { declared = others ++ map (renamed.item ρ u) (take n0 items); func = renamed.func ρ u f; body = renamed.body ρ u b }
 
-    params_new : (params : List tree.Param) → filter_map (λ (q : tree.Param). option_map (λ name. (name, q.0)) q.1) (map (renamed.param ρ u) params)
+    params_new : (params : List tree.Param)
+        → filter_map (λ (q : tree.Param). option_map (λ name. (name, q.0)) q.1) (map (renamed.param ρ u) params)
         ≡ entries (new_var u) (filter_map (λ (q : tree.Param). option_map (λ name. (name, q.0)) q.1) params)
     params_new [] = refl
     params_new ((t, None) ∷ params) = params_new params
     params_new ((t, Some n) ∷ params) = ap (λ l. (new_var u n, t) ∷ l) (params_new params)
 
-    locals_new : (locals : List tree.Local) → map (λ (l : tree.Local). (l.1, l.0)) (map (renamed.local ρ u) locals) ≡ entries (new_var u) (map (λ (l : tree.Local). (l.1, l.0)) locals)
+    locals_new : (locals : List tree.Local)
+        → map (λ (l : tree.Local). (l.1, l.0)) (map (renamed.local ρ u) locals)
+        ≡ entries (new_var u) (map (λ (l : tree.Local). (l.1, l.0)) locals)
     locals_new [] = refl
     locals_new (l ∷ locals) = ap (λ rest. (new_var u l.1, l.0) ∷ rest) (locals_new locals)
 
@@ -182,19 +195,23 @@ module _ (p : Program) (are : AreLinked p) (u : ℕ) (items : List tree.Item) (a
     file_variables_same n =
         ap (named (new_var u n)) (filter_map-append variable_of others (map (renamed.item ρ u) (take n0 items)))
         ∙ named-append (new_var u n) (filter_map variable_of others) (filter_map variable_of (map (renamed.item ρ u) (take n0 items)))
-        ∙ ap (λ o. option_or o (named (new_var u n) (filter_map variable_of (map (renamed.item ρ u) (take n0 items))))) (variables_other n others front)
-        ∙ ap (named (new_var u n)) (filter_new variable_of (renamed.item ρ u) (λ e. (new_var u e.0, e.1)) (variable_item p u) (take n0 items))
+        ∙ ap (λ o. option_or o (named (new_var u n) (filter_map variable_of (map (renamed.item ρ u) (take n0 items)))))
+        (variables_other n others front)
+        ∙ ap (named (new_var u n))
+        (filter_new variable_of (renamed.item ρ u) (λ e. (new_var u e.0, e.1)) (variable_item p u) (take n0 items))
         ∙ named_new (new_var u) vars_keep n (filter_map variable_of (take n0 items))
 
     runtime_same : (n : Name) → named (new_var u n) ((depth_name, type.U32) ∷ []) ≡ named n ((depth_name, type.U32) ∷ [])
     runtime_same n = ap (λ b. if b then Some type.U32 else None) (depth_same n)
       where
         depth_same : (n : Name) → bytes_eq depth_name (new_var u n) ≡ bytes_eq depth_name n
-        depth_same n = subst (λ (d : Name). bytes_eq d (new_var u n) ≡ bytes_eq depth_name n) ((merging_names name_in new_names p is_outside (may_name p)).depth u) (vars_keep depth_name n)
+        depth_same n = subst (λ (d : Name). bytes_eq d (new_var u n) ≡ bytes_eq depth_name n)
+            ((merging_names name_in new_names p is_outside (may_name p)).depth u) (vars_keep depth_name n)
 
     pub variables_same : (n : Name) → named (new_var u n) (variables now) ≡ named n (variables old)
     variables_same n =
-        named-append (new_var u n) (param_variables now.func) (local_variables now.body ++ (file_variables now ++ (depth_name, type.U32) ∷ []))
+        named-append (new_var u n) (param_variables now.func)
+        (local_variables now.body ++ (file_variables now ++ (depth_name, type.U32) ∷ []))
         ∙ (λ i. option_or (of_params i) (of_rest i))
         ∙ sym (named-append n (param_variables f) (local_variables b ++ (file_variables old ++ (depth_name, type.U32) ∷ [])))
       where
@@ -204,12 +221,14 @@ module _ (p : Program) (are : AreLinked p) (u : ℕ) (items : List tree.Item) (a
         of_locals : named (new_var u n) (local_variables now.body) ≡ named n (local_variables b)
         of_locals = ap (named (new_var u n)) (locals_new b.locals) ∙ named_new (new_var u) vars_keep n (local_variables b)
 
-        of_file : named (new_var u n) (file_variables now ++ (depth_name, type.U32) ∷ []) ≡ named n (file_variables old ++ (depth_name, type.U32) ∷ [])
+        of_file : named (new_var u n) (file_variables now ++ (depth_name, type.U32) ∷ [])
+            ≡ named n (file_variables old ++ (depth_name, type.U32) ∷ [])
         of_file = named-append (new_var u n) (file_variables now) ((depth_name, type.U32) ∷ [])
             ∙ (λ i. option_or (file_variables_same n i) (runtime_same n i))
             ∙ sym (named-append n (file_variables old) ((depth_name, type.U32) ∷ []))
 
-        of_rest : named (new_var u n) (local_variables now.body ++ (file_variables now ++ (depth_name, type.U32) ∷ [])) ≡ named n (local_variables b ++ (file_variables old ++ (depth_name, type.U32) ∷ []))
+        of_rest : named (new_var u n) (local_variables now.body ++ (file_variables now ++ (depth_name, type.U32) ∷ []))
+            ≡ named n (local_variables b ++ (file_variables old ++ (depth_name, type.U32) ∷ []))
         of_rest = named-append (new_var u n) (local_variables now.body) (file_variables now ++ (depth_name, type.U32) ∷ [])
             ∙ (λ i. option_or (of_locals i) (of_file i))
             ∙ sym (named-append n (local_variables b) (file_variables old ++ (depth_name, type.U32) ∷ []))
@@ -243,27 +262,33 @@ module _ (p : Program) (are : AreLinked p) (u : ℕ) (items : List tree.Item) (a
         (λ inn. none_inside (new u n) (ap is_outside (inside_new u n inn)) ∙ sym (none_inside n inn))
       where
         none_inside : (n : Name) → is_outside n ≡ false → named n primitives ≡ None
-        none_inside n inn = by_option (named n primitives) (λ none. none) (λ t there. absurd (both_ways (is_outside n) inn (runtime_reserved n (ap is_some there)).0))
+        none_inside n inn = by_option (named n primitives) (λ none. none)
+            (λ t there. absurd (both_ways (is_outside n) inn (runtime_reserved n (ap is_some there)).0))
 
-    own_functions : (n : Name) → named (new u n) (filter_map function_of (map (renamed.item ρ u) (take n0 items))) ≡ named n (file_functions old)
+    own_functions : (n : Name)
+        → named (new u n) (filter_map function_of (map (renamed.item ρ u) (take n0 items))) ≡ named n (file_functions old)
     own_functions n =
         ap (named (new u n)) (filter_new function_of (renamed.item ρ u) (λ e. (new u e.0, e.1)) (function_item p u) (take n0 items))
         ∙ named_new (new u) (new_keeps u) n (filter_map function_of (take n0 items))
 
-    file_functions_now : (n : Name) → named (new u n) (file_functions now) ≡ option_or (named (new u n) (filter_map function_of others)) (named n (file_functions old))
+    file_functions_now : (n : Name)
+        → named (new u n) (file_functions now)
+        ≡ option_or (named (new u n) (filter_map function_of others)) (named n (file_functions old))
     file_functions_now n =
         ap (named (new u n)) (filter_map-append function_of others (map (renamed.item ρ u) (take n0 items)))
         ∙ named-append (new u n) (filter_map function_of others) (filter_map function_of (map (renamed.item ρ u) (take n0 items)))
         ∙ ap (option_or (named (new u n) (filter_map function_of others))) (own_functions n)
 
-    pub file_functions_there : (n : Name) → is_some (named n (file_functions old)) ≡ true → is_some (named (new u n) (file_functions now)) ≡ true
+    pub file_functions_there : (n : Name) → is_some (named n (file_functions old)) ≡ true
+        → is_some (named (new u n) (file_functions now)) ≡ true
     file_functions_there n is = ap is_some (file_functions_now n) ∙ go (named (new u n) (filter_map function_of others))
       where
         go : (o : Option tree.FuncType) → is_some (option_or o (named n (file_functions old))) ≡ true
         go None = is
         go (Some t) = refl
 
-    functions_now : (n : Name) → named (new u n) (functions now) ≡ option_or (named (new u n) (filter_map function_of others)) (named n (functions old))
+    functions_now : (n : Name)
+        → named (new u n) (functions now) ≡ option_or (named (new u n) (filter_map function_of others)) (named n (functions old))
     functions_now n =
         named-append (new u n) (file_functions now) primitives
         ∙ (λ i. option_or (file_functions_now n i) (runtime_functions n i))
@@ -277,33 +302,40 @@ module _ (p : Program) (are : AreLinked p) (u : ℕ) (items : List tree.Item) (a
     -- a function that another unit declares too has the type that it has here
     other_type : (n : Name) (t t' : tree.FuncType) → Other n t' → named n (functions old) ≡ Some t → t' ≡ t
     other_type n t t' o is = by_option (named n (file_functions old))
-        (λ none. absurd (clash (sym (named-append n (file_functions old) primitives ∙ ap (λ a. option_or a (named n primitives)) none) ∙ is)))
+        (λ none. absurd (clash (sym
+        (named-append n (file_functions old) primitives ∙ ap (λ a. option_or a (named n primitives)) none) ∙ is)))
         (λ t2 there.
-        let here : t2 ≡ t = same_Some t2 t (sym (ap (λ a. option_or a (named n primitives)) there) ∙ sym (named-append n (file_functions old) primitives) ∙ is) in
+        let here : t2 ≡ t = same_Some t2 t
+        (sym (ap (λ a. option_or a (named n primitives)) there) ∙ sym (named-append n (file_functions old) primitives) ∙ is) in
         let from = named_from function_of (take n0 items) n t2 there in
         sym o.type_is ∙ of_item from.0 from.1 (take_keeps n0 items from.0 from.1 from.2) from.3 ∙ here)
       where
         clash : named n primitives ≡ Some t → ⊥
         clash there =
-            let none : named n primitives ≡ None = subst (λ (x : Name). named x primitives ≡ None) o.name_is (func_not_runtime o.others (are.kept o.unit o.others o.there) o.number o.func o.at) in
+            let none : named n primitives
+            ≡ None = subst (λ (x : Name). named x primitives ≡ None) o.name_is
+            (func_not_runtime o.others (are.kept o.unit o.others o.there) o.number o.func o.at) in
             both_options (sym none ∙ there)
           where
             both_options : None ≡ Some t → ⊥
             both_options e = cc
 
-        of_item : {t2 : tree.FuncType} (k : ℕ) (item : tree.Item) → slice_get items k ≡ Some item → function_of item ≡ Some (n, t2) → func_type_of o.func ≡ t2
+        of_item : {t2 : tree.FuncType} (k : ℕ) (item : tree.Item) → slice_get items k ≡ Some item
+            → function_of item ≡ Some (n, t2) → func_type_of o.func ≡ t2
         of_item k (tree.Array x count bytes) at e = absurd (no_some e)
         of_item k (tree.Var ty x number) at e = absurd (no_some e)
         of_item {t2} k (tree.Function g) at e =
             let same : (g.name, func_type_of g) ≡ (n, t2) = same_Some (g.name, func_type_of g) (n, t2) e in
             let name : g.name ≡ n = ap (λ (z : Name × tree.FuncType). z.0) same in
-            one_type p are o.unit u o.others items o.number k o.func g o.there at_u o.at at (o.name_is ∙ sym name) (ap is_outside o.name_is ∙ o.outside)
+            one_type p are o.unit u o.others items o.number k o.func g o.there at_u o.at at (o.name_is ∙ sym name)
+            (ap is_outside o.name_is ∙ o.outside)
             ∙ ap (λ (z : Name × tree.FuncType). z.1) same
 
     pub function_same : (n : Name) (t : tree.FuncType) → named n (functions old) ≡ Some t → named (new u n) (functions now) ≡ Some t
     function_same n t is = functions_now n ∙ by_option (named (new u n) (filter_map function_of others))
         (λ none. ap (λ a. option_or a (named n (functions old))) none ∙ is)
-        (λ t' there. ap (λ a. option_or a (named n (functions old))) there ∙ ap Some (other_type n t t' (function_other n t' others front there) is))
+        (λ t' there. ap (λ a. option_or a (named n (functions old))) there
+        ∙ ap Some (other_type n t t' (function_other n t' others front there) is))
 
     -- ---- types of expressions
 

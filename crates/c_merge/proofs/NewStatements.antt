@@ -29,22 +29,26 @@ use Rattle.c_merge.proofs.Units.{all_parts}
 
 -- ---- lists
 
-pub all_map : {A B : Type 0} (f : A → B) (test : B → Bool) (test' : A → Bool) → ((a : A) → test (f a) ≡ test' a) → (xs : List A) → list_all test (map f xs) ≡ list_all test' xs
+pub all_map : {A B : Type 0} (f : A → B) (test : B → Bool) (test' : A → Bool) → ((a : A) → test (f a) ≡ test' a) → (xs : List A)
+    → list_all test (map f xs) ≡ list_all test' xs
 all_map f test test' same [] = refl
 all_map f test test' same (x ∷ xs) = λ i. same x i && all_map f test test' same xs i
 
-pub all_gives : {A B : Type 0} (f : A → B) (test : B → Bool) (test' : A → Bool) → ((a : A) → test' a ≡ true → test (f a) ≡ true) → (xs : List A) → list_all test' xs ≡ true
+pub all_gives : {A B : Type 0} (f : A → B) (test : B → Bool) (test' : A → Bool) → ((a : A) → test' a ≡ true → test (f a) ≡ true)
+    → (xs : List A) → list_all test' xs ≡ true
     → list_all test (map f xs) ≡ true
 all_gives f test test' gives [] all = refl
 all_gives f test test' gives (x ∷ xs) all =
     let both = and_parts (test' x) (list_all test' xs) all in
     (λ i. gives x both.0 i && all_gives f test test' gives xs both.1 i)
 
-if_any_map : {A B : Type 0} (f : A → B) (test : B → Bool) (test' : A → Bool) → ((a : A) → test (f a) ≡ test' a) → (o : Option A) → if_any (option_map f o) test ≡ if_any o test'
+if_any_map : {A B : Type 0} (f : A → B) (test : B → Bool) (test' : A → Bool) → ((a : A) → test (f a) ≡ test' a) → (o : Option A)
+    → if_any (option_map f o) test ≡ if_any o test'
 if_any_map f test test' same None = refl
 if_any_map f test test' same (Some a) = same a
 
-pub among_map : (f : Name → Name) → ((m n : Name) → bytes_eq (f m) (f n) ≡ bytes_eq m n) → (n : Name) (xs : List Name) → is_among (f n) (map f xs) ≡ is_among n xs
+pub among_map : (f : Name → Name) → ((m n : Name) → bytes_eq (f m) (f n) ≡ bytes_eq m n) → (n : Name) (xs : List Name)
+    → is_among (f n) (map f xs) ≡ is_among n xs
 among_map f keeps n [] = refl
 among_map f keeps n (x ∷ xs) = λ i. keeps n x i || among_map f keeps n xs i
 
@@ -85,7 +89,8 @@ module _ (p : Program) (are : AreLinked p) (u : ℕ) (items : List tree.Item) (a
   label_free number _ = refl
 
   written_same : (number : ℕ) (stmt : tree.Stmt)
-      → written_type_is_proper (record { scope = s'; number = number; stmt = renamed.stmt ρ u stmt }) ≡ written_type_is_proper (record { scope = s; number = number; stmt = stmt })
+      → written_type_is_proper (record { scope = s'; number = number; stmt = renamed.stmt ρ u stmt })
+      ≡ written_type_is_proper (record { scope = s; number = number; stmt = stmt })
   written_same number (tree.Call target (tree.Called n) args) = refl
   written_same number (tree.Call target (tree.Through t n) args) = refl
   written_same number _ = refl
@@ -122,7 +127,8 @@ module _ (p : Program) (are : AreLinked p) (u : ℕ) (items : List tree.Item) (a
   labels_new (tree.Label n ∷ stmts) = ap (λ l. name_in u n ∷ l) (labels_new stmts)
   labels_new (_ ∷ stmts) = labels_new stmts
 
-  cases_new : (cases : List tree.Case) → map (λ (c : tree.Case). c.1) (map (renamed.case ρ u) cases) ≡ map (name_in u) (map (λ (c : tree.Case). c.1) cases)
+  cases_new : (cases : List tree.Case)
+      → map (λ (c : tree.Case). c.1) (map (renamed.case ρ u) cases) ≡ map (name_in u) (map (λ (c : tree.Case). c.1) cases)
   cases_new [] = refl
   cases_new (c ∷ cases) = ap (λ l. name_in u c.1 ∷ l) (cases_new cases)
 
@@ -134,16 +140,19 @@ module _ (p : Program) (are : AreLinked p) (u : ℕ) (items : List tree.Item) (a
   named_new _ = refl
 
   labels_same : (number : ℕ) (stmt : tree.Stmt)
-      → labels_are_there (record { scope = s'; number = number; stmt = renamed.stmt ρ u stmt }) ≡ labels_are_there (record { scope = s; number = number; stmt = stmt })
+      → labels_are_there (record { scope = s'; number = number; stmt = renamed.stmt ρ u stmt })
+      ≡ labels_are_there (record { scope = s; number = number; stmt = stmt })
   labels_same number stmt = λ i. own i && there i
     where
       earlier : labels_of (take (number - 1) (map (renamed.stmt ρ u) b.stmts)) ≡ map (name_in u) (labels_of (take (number - 1) b.stmts))
       earlier = ap labels_of (take_map (renamed.stmt ρ u) (number - 1) b.stmts) ∙ labels_new (take (number - 1) b.stmts)
 
-      own : if_any (label_of (renamed.stmt ρ u stmt)) (λ name. not (is_among name (labels_of (take (number - 1) (map (renamed.stmt ρ u) b.stmts)))))
+      own : if_any (label_of (renamed.stmt ρ u stmt))
+          (λ name. not (is_among name (labels_of (take (number - 1) (map (renamed.stmt ρ u) b.stmts)))))
           ≡ if_any (label_of stmt) (λ name. not (is_among name (labels_of (take (number - 1) b.stmts))))
       own = (λ i. if_any (label_new stmt i) (λ name. not (is_among name (earlier i))))
-          ∙ if_any_map (name_in u) (λ name. not (is_among name (map (name_in u) (labels_of (take (number - 1) b.stmts))))) (λ name. not (is_among name (labels_of (take (number - 1) b.stmts))))
+          ∙ if_any_map (name_in u) (λ name. not (is_among name (map (name_in u) (labels_of (take (number - 1) b.stmts)))))
+          (λ name. not (is_among name (labels_of (take (number - 1) b.stmts))))
           (λ n. ap not (among_map (name_in u) labels_keep n (labels_of (take (number - 1) b.stmts)))) (label_of stmt)
 
       there : list_all (λ name. is_among name (labels_of (map (renamed.stmt ρ u) b.stmts))) (labels_named (renamed.stmt ρ u stmt))
@@ -204,8 +213,10 @@ module _ (p : Program) (are : AreLinked p) (u : ℕ) (items : List tree.Item) (a
       (λ none. absurd (false≢true (sym (ap is_some none) ∙ is)))
       (λ t there. ap is_some (function_same p are u items at_u n0 f b others front n t there))
 
-  names_known : (stmt : tree.Stmt) → list_all (is_known s) (stmt_uses stmt) ≡ true → list_all (is_known s') (stmt_uses (renamed.stmt ρ u stmt)) ≡ true
-  names_known stmt is = ap (list_all (is_known s')) (stmt_new_uses stmt) ∙ all_gives new_use (is_known s') (is_known s) known_new (stmt_uses stmt) is
+  names_known : (stmt : tree.Stmt) → list_all (is_known s) (stmt_uses stmt) ≡ true
+      → list_all (is_known s') (stmt_uses (renamed.stmt ρ u stmt)) ≡ true
+  names_known stmt is = ap (list_all (is_known s')) (stmt_new_uses stmt)
+      ∙ all_gives new_use (is_known s') (is_known s) known_new (stmt_uses stmt) is
 
   -- ---- rule 9
 
@@ -244,7 +255,8 @@ module _ (p : Program) (are : AreLinked p) (u : ℕ) (items : List tree.Item) (a
       let both = and_parts (is_some (named n (file_functions s))) (same_type t type.FnPtr) is in
       λ i. file_functions_there p are u items at_u n0 f b others front n both.0 i && both.1 i
 
-  args_fit : (types : List CType) (args : List tree.Arg) → args_suit s types args ≡ true → args_suit s' types (map (renamed.arg ρ u) args) ≡ true
+  args_fit : (types : List CType) (args : List tree.Arg) → args_suit s types args ≡ true
+      → args_suit s' types (map (renamed.arg ρ u) args) ≡ true
   args_fit [] [] is = refl
   args_fit (t ∷ types) (a ∷ args) is =
       let both = and_parts (arg_suits s t a) (args_suit s types args) is in
@@ -252,7 +264,8 @@ module _ (p : Program) (are : AreLinked p) (u : ℕ) (items : List tree.Item) (a
   args_fit [] (a ∷ args) is = is
   args_fit (t ∷ types) [] is = is
 
-  target_same : (result : CType) (target : Option Name) → target_suits s' result (option_map (new_var u) target) ≡ target_suits s result target
+  target_same : (result : CType) (target : Option Name)
+      → target_suits s' result (option_map (new_var u) target) ≡ target_suits s result target
   target_same result None = refl
   target_same result (Some n) = ap (λ o. not (is_void result) && has_same_type o result) (vars_same n)
 
@@ -262,16 +275,19 @@ module _ (p : Program) (are : AreLinked p) (u : ℕ) (items : List tree.Item) (a
       let both = and_parts (args_suit s (proper_types t.params) args) (target_suits s t.result target) is in
       λ i. args_fit (proper_types t.params) args both.0 i && (target_same t.result target ∙ both.1) i
 
-  callee_fits : (target : Option Name) (c : tree.Callee) (args : List tree.Arg) → list_all (is_known s) (callee_uses c) ≡ true → if_any (callee_type s c) (call_suits s target args) ≡ true
+  callee_fits : (target : Option Name) (c : tree.Callee) (args : List tree.Arg) → list_all (is_known s) (callee_uses c) ≡ true
+      → if_any (callee_type s c) (call_suits s target args) ≡ true
       → if_any (callee_type s' (renamed.callee ρ u c)) (call_suits s' (option_map (new_var u) target) (map (renamed.arg ρ u) args)) ≡ true
   callee_fits target (tree.Called n) args known is = by_option (named n (functions s))
       (λ none. absurd (false≢true (sym (ap is_some none) ∙ (and_parts (is_some (named n (functions s))) true known).0)))
       (λ t there.
-      ap (λ o. if_any o (call_suits s' (option_map (new_var u) target) (map (renamed.arg ρ u) args))) (function_same p are u items at_u n0 f b others front n t there)
+      ap (λ o. if_any o (call_suits s' (option_map (new_var u) target) (map (renamed.arg ρ u) args)))
+      (function_same p are u items at_u n0 f b others front n t there)
       ∙ call_fits target args t (sym (ap (λ o. if_any o (call_suits s target args)) there) ∙ is))
   callee_fits target (tree.Through t n) args known is = call_fits target args t is
 
-  suits : (stmt : tree.Stmt) → list_all (is_known s) (stmt_uses stmt) ≡ true → stmt_suits s stmt ≡ true → stmt_suits s' (renamed.stmt ρ u stmt) ≡ true
+  suits : (stmt : tree.Stmt) → list_all (is_known s) (stmt_uses stmt) ≡ true → stmt_suits s stmt ≡ true
+      → stmt_suits s' (renamed.stmt ρ u stmt) ≡ true
   suits (tree.Set n a) known is =
       ap (λ o. if_any o (λ t. arg_suits s' t (renamed.arg ρ u a))) (vars_same n) ∙ go (named n (variables s)) is
     where
@@ -299,12 +315,15 @@ module _ (p : Program) (are : AreLinked p) (u : ℕ) (items : List tree.Item) (a
   values_same (c ∷ cases) = ap (λ l. case_value c ∷ l) (values_same cases)
 
   cases_fit : (cases : List tree.Case) (t : CType) → cases_suit (map (renamed.case ρ u) cases) t ≡ cases_suit cases t
-  cases_fit cases t = ap (λ b. is_number_type t && b) (all_map (renamed.case ρ u) (λ (c : tree.Case). number_suits t c.0) (λ (c : tree.Case). number_suits t c.0) (λ c. refl) cases)
+  cases_fit cases t = ap (λ b. is_number_type t && b)
+      (all_map (renamed.case ρ u) (λ (c : tree.Case). number_suits t c.0) (λ (c : tree.Case). number_suits t c.0) (λ c. refl) cases)
 
   cases_same : (number : ℕ) (stmt : tree.Stmt)
-      → cases_are_distinct (record { scope = s'; number = number; stmt = renamed.stmt ρ u stmt }) ≡ cases_are_distinct (record { scope = s; number = number; stmt = stmt })
+      → cases_are_distinct (record { scope = s'; number = number; stmt = renamed.stmt ρ u stmt })
+      ≡ cases_are_distinct (record { scope = s; number = number; stmt = stmt })
   cases_same number (tree.Switch e cases n) =
-      λ i. (ap (λ o. if_any o (cases_suit (map (renamed.case ρ u) cases))) (type_same e) ∙ go (type_of s e)) i && are_distinct_numbers (values_same cases i)
+      λ i. (ap (λ o. if_any o (cases_suit (map (renamed.case ρ u) cases))) (type_same e) ∙ go (type_of s e)) i
+      && are_distinct_numbers (values_same cases i)
     where
       go : (o : Option CType) → if_any o (cases_suit (map (renamed.case ρ u) cases)) ≡ if_any o (cases_suit cases)
       go None = refl
@@ -323,5 +342,11 @@ module _ (p : Program) (are : AreLinked p) (u : ℕ) (items : List tree.Item) (a
       let typed' = ap (λ b. not b || stmt_is_typed s' (renamed.stmt ρ u stmt)) known' ∙ typed_same stmt ∙ typed in
       let fits' = ap (λ b. not b || stmt_suits s' (renamed.stmt ρ u stmt)) known' ∙ suits stmt known fits in
       let cases' = cases_same number stmt ∙ h.1.1.1.1.1.1.0 in
-      let last' = last_ends number stmt h.1.1.1.1.1.1.1.0 in
-      (label_free number stmt, (written_same number stmt ∙ h.1.0, (labels_same number stmt ∙ h.1.1.0, (known', (typed', (fits', (cases', (last', tt))))))))
+      let last' = last_ends number stmt h.1.1.1.1.1.1.1.0 in (
+        label_free number stmt,
+        (
+          written_same number stmt
+              ∙ h.1.0,
+          (labels_same number stmt ∙ h.1.1.0, (known', (typed', (fits', (cases', (last', tt)))))),
+        ),
+      )

@@ -44,7 +44,8 @@ module _ (p : Program) (are : AreLinked p) where
   array_no_func : {g : tree.Func} {n bytes : List ℕ} {count : ℕ} → tree.Function g ≡ tree.Array n count bytes → ⊥
   array_no_func e = cc
 
-  is_body : (u : ℕ) (x : tree.Item) (g : tree.Func) (c : tree.Body) → tree.Function g ≡ renamed.item ρ u x → g.body ≡ Some c → IsBody u x g c
+  is_body : (u : ℕ) (x : tree.Item) (g : tree.Func) (c : tree.Body) → tree.Function g ≡ renamed.item ρ u x → g.body ≡ Some c
+      → IsBody u x g c
   is_body u (tree.Array n count bytes) g c is body = absurd cc
   is_body u (tree.Var t n number) g c is body = absurd cc
   is_body u (tree.Function f) g c is body =
@@ -53,7 +54,15 @@ module _ (p : Program) (are : AreLinked p) where
       by_option f.body
       (λ none. absurd (no_some (sym (ap (option_map (renamed.body ρ u)) none) ∙ there)))
       (λ b is'.
-      record { func = f; body = b; item_is = refl; body_is = is'; func_new = same; body_new = same_body b (sym (ap (option_map (renamed.body ρ u)) is') ∙ there) })
+      record {
+        func = f;
+        body = b;
+        item_is = refl;
+        body_is = is';
+        func_new = same;
+        body_new = same_body b
+            (sym (ap (option_map (renamed.body ρ u)) is') ∙ there);
+      })
     where
       no_some : None ≡ Some c → ⊥
       no_some e = cc
@@ -72,14 +81,34 @@ module _ (p : Program) (are : AreLinked p) where
       let f = is.func in
       let b = is.body in
       let at_f : slice_get from.items from.number ≡ Some (tree.Function f) = from.at ∙ ap Some is.item_is in
-      let stmts : slice_get (map (renamed.stmt ρ u) b.stmts) j ≡ Some stmt = sym (ap (λ (d : tree.Body). slice_get d.stmts j) is.body_new) ∙ here in
+      let stmts : slice_get (map (renamed.stmt ρ u) b.stmts) j
+      ≡ Some stmt = sym (ap (λ (d : tree.Body). slice_get d.stmts j) is.body_new) ∙ here in
       let s = from_map (renamed.stmt ρ u) b.stmts j stmt stmts in
       let old = (keeps_all from.items (are.kept u from.items from.there)).stmt from.number f b at_f is.body_is j s.0 s.1 in
       let now = stmt_keeps p are u from.items from.there (from.number + 1) f b place.others place.before (j + 1) s.0 old in
-      subst (λ (z : tree.Stmt). Keeps stmt_rules (record { scope = record { declared = take (k + 1) one; func = g; body = c }; number = j + 1; stmt = z })) (sym s.2)
-      (subst (λ (d : tree.Body). Keeps stmt_rules (record { scope = record { declared = take (k + 1) one; func = g; body = d }; number = j + 1; stmt = renamed.stmt ρ u s.0 })) (sym is.body_new)
-      (subst (λ (h : tree.Func). Keeps stmt_rules (record { scope = record { declared = take (k + 1) one; func = h; body = renamed.body ρ u b }; number = j + 1; stmt = renamed.stmt ρ u s.0 })) (sym is.func_new)
-      (subst (λ (l : List tree.Item). Keeps stmt_rules (record { scope = record { declared = l; func = renamed.func ρ u f; body = renamed.body ρ u b }; number = j + 1; stmt = renamed.stmt ρ u s.0 }))
+      subst (λ (z : tree.Stmt). Keeps stmt_rules
+      (record { scope = record { declared = take (k + 1) one; func = g; body = c }; number = j + 1; stmt = z })) (sym s.2)
+      (subst (λ (d : tree.Body). Keeps stmt_rules
+      (record {
+        scope = record { declared = take (k + 1) one; func = g; body = d };
+        number = j
+            + 1;
+        stmt = renamed.stmt ρ u s.0;
+      })) (sym is.body_new)
+      (subst (λ (h : tree.Func). Keeps stmt_rules
+      (record {
+        scope = record { declared = take (k + 1) one; func = h; body = renamed.body ρ u b };
+        number = j
+            + 1;
+        stmt = renamed.stmt ρ u s.0;
+      })) (sym is.func_new)
+      (subst (λ (l : List tree.Item). Keeps stmt_rules
+      (record {
+        scope = record { declared = l; func = renamed.func ρ u f; body = renamed.body ρ u b };
+        number = j
+            + 1;
+        stmt = renamed.stmt ρ u s.0;
+      }))
       (sym (upto p k (tree.Function g) at place)) now)))
 
   pub one_keeps : KeepsRules (merge_of p)

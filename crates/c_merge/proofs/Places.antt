@@ -26,7 +26,8 @@ take_next [] k x at = absurd cc
 take_next (y ∷ xs) zero x at = let same : y ≡ x = cc in ap (λ z. z ∷ []) same
 take_next (y ∷ xs) (suc k) x at = ap (λ l. y ∷ l) (take_next xs k x at)
 
-pub from_map : {A B : Type 0} (f : A → B) (xs : List A) (k : ℕ) (y : B) → slice_get (map f xs) k ≡ Some y → (x : A) × (slice_get xs k ≡ Some x) × (y ≡ f x)
+pub from_map : {A B : Type 0} (f : A → B) (xs : List A) (k : ℕ) (y : B) → slice_get (map f xs) k ≡ Some y
+    → (x : A) × (slice_get xs k ≡ Some x) × (y ≡ f x)
 from_map f [] k y at = absurd cc
 from_map f (x ∷ xs) zero y at = let same : f x ≡ y = cc in (x, refl, sym same)
 from_map f (x ∷ xs) (suc k) y at = from_map f xs k y at
@@ -78,7 +79,12 @@ module _ (p : Program) where
   before_own : (v : ℕ) (items : List tree.Item) → slice_get p.units v ≡ Some items → Each (Before (v + 1)) (map (renamed.item ρ v) items)
   before_own v items there = each_from (Before (v + 1)) (map (renamed.item ρ v) items) (λ i other at.
       let from = from_map (renamed.item ρ v) items i other at in
-      record { unit = v; less = omega arith; from = record { items = items; there = there; number = i; item = from.0; at = from.1; is = from.2 } })
+      record {
+        unit = v;
+        less = omega arith;
+        from = record
+            { items = items; there = there; number = i; item = from.0; at = from.1; is = from.2 };
+      })
 
   find : (v : ℕ) (units : List (List tree.Item)) (done : List tree.Item)
       → ((j : ℕ) (items : List tree.Item) → slice_get units j ≡ Some items → slice_get p.units (v + j) ≡ Some items)
@@ -88,14 +94,16 @@ module _ (p : Program) where
   find v (items ∷ units) done there before k y at =
       go (in_append (map (renamed.item ρ v) items) (joined ρ (v + 1) units) k y at)
       (find (v + 1) units (done ++ map (renamed.item ρ v) items)
-      (λ j items at. let e : v + suc j ≡ v + 1 + j = omega arith in subst (λ n. slice_get p.units n ≡ Some items) e (there (suc j) items at))
+      (λ j items at. let e : v + suc j
+      ≡ v + 1 + j = omega arith in subst (λ n. slice_get p.units n ≡ Some items) e (there (suc j) items at))
       (each-append (Before (v + 1)) done (map (renamed.item ρ v) items) (each_by (before_more v) done before) (before_own v items own)))
     where
       own : slice_get p.units v ≡ Some items
       own = let e : v + 0 ≡ v = omega arith in subst (λ n. slice_get p.units n ≡ Some items) e (there 0 items refl)
 
       go : InAppend (map (renamed.item ρ v) items) (joined ρ (v + 1) units) k y
-          → ((k : ℕ) (y : tree.Item) → slice_get (joined ρ (v + 1) units) k ≡ Some y → Placed ((done ++ map (renamed.item ρ v) items) ++ take k (joined ρ (v + 1) units)) y)
+          → ((k : ℕ) (y : tree.Item) → slice_get (joined ρ (v + 1) units) k ≡ Some y
+          → Placed ((done ++ map (renamed.item ρ v) items) ++ take k (joined ρ (v + 1) units)) y)
           → Placed (done ++ take k (map (renamed.item ρ v) items ++ joined ρ (v + 1) units)) y
       go (InFirst here front) behind =
           let from = from_map (renamed.item ρ v) items k y here in
@@ -107,10 +115,12 @@ module _ (p : Program) where
             front_is = ap (λ l. done ++ l) (front ∙ take_map (renamed.item ρ v) k items);
           }
       go (InSecond j here front) behind =
-          subst (λ l. Placed l y) (append_assoc done (map (renamed.item ρ v) items) (take j (joined ρ (v + 1) units)) ∙ ap (λ l. done ++ l) (sym front)) (behind j y here)
+          subst (λ l. Placed l y) (append_assoc done (map (renamed.item ρ v) items) (take j (joined ρ (v + 1) units))
+          ∙ ap (λ l. done ++ l) (sym front)) (behind j y here)
 
   pub placed_at : (k : ℕ) (y : tree.Item) → slice_get (merge_of p) k ≡ Some y → Placed (take k (merge_of p)) y
-  placed_at k y at = find 0 p.units [] (λ j items there. let e : j ≡ 0 + j = omega arith in subst (λ n. slice_get p.units n ≡ Some items) e there) tt k y at
+  placed_at k y at = find 0 p.units []
+      (λ j items there. let e : j ≡ 0 + j = omega arith in subst (λ n. slice_get p.units n ≡ Some items) e there) tt k y at
 
   -- the items up to it
   pub upto : (k : ℕ) (y : tree.Item) → slice_get (merge_of p) k ≡ Some y → (place : Placed (take k (merge_of p)) y)
@@ -121,11 +131,14 @@ module _ (p : Program) where
       ap (λ n. take n (merge_of p)) one
       ∙ take_next (merge_of p) k y at
       ∙ (λ i. place.front_is i ++ place.from.is i ∷ [])
-      ∙ append_assoc place.others (map (renamed.item ρ place.unit) (take place.from.number place.from.items)) (renamed.item ρ place.unit place.from.item ∷ [])
+      ∙ append_assoc place.others (map (renamed.item ρ place.unit) (take place.from.number place.from.items))
+      (renamed.item ρ place.unit place.from.item ∷ [])
       ∙ ap (λ l. place.others ++ l) (joins (take place.from.number place.from.items) place.from.item)
-      ∙ ap (λ l. place.others ++ map (renamed.item ρ place.unit) l) (sym (take_next place.from.items place.from.number place.from.item place.from.at))
+      ∙ ap (λ l. place.others ++ map (renamed.item ρ place.unit) l)
+      (sym (take_next place.from.items place.from.number place.from.item place.from.at))
       ∙ ap (λ n. place.others ++ map (renamed.item ρ place.unit) (take n place.from.items)) (sym next)
     where
-      joins : (xs : List tree.Item) (x : tree.Item) → map (renamed.item ρ place.unit) xs ++ renamed.item ρ place.unit x ∷ [] ≡ map (renamed.item ρ place.unit) (xs ++ x ∷ [])
+      joins : (xs : List tree.Item) (x : tree.Item)
+          → map (renamed.item ρ place.unit) xs ++ renamed.item ρ place.unit x ∷ [] ≡ map (renamed.item ρ place.unit) (xs ++ x ∷ [])
       joins [] x = refl
       joins (y ∷ xs) x = ap (λ l. renamed.item ρ place.unit y ∷ l) (joins xs x)

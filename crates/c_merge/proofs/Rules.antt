@@ -45,7 +45,8 @@ keeps_none (rule ∷ rules) p keeps = ap (numbers rule rules p) keeps.0 ∙ keep
 
 module _ (items : List tree.Item) where
   abbrev own : ℕ → tree.Item → List BrokenAt
-  own k item = map (λ rule. record { item = k; statement = 0; rule = rule }) (broken_of item_rules (record { unit = items; number = k; item = item }))
+  own k item = map (λ rule. record { item = k; statement = 0; rule = rule })
+      (broken_of item_rules (record { unit = items; number = k; item = item }))
 
   abbrev in_stmts : ℕ → tree.Func → Option tree.Body → List BrokenAt
   in_stmts k f o = elim o [
@@ -58,17 +59,23 @@ module _ (items : List tree.Item) where
     where
       none : (k : ℕ) (item : tree.Item) → slice_get items k ≡ Some item → (own k item ≡ []) × (broken_in_body items k item ≡ [])
       none k item at = append_none (own k item) (broken_in_body items k item)
-          (flat_none (broken_in_item items) (numbered items) (none_first (broken_rules items) keeps) k (k, item) (numbered_at items k item at))
+          (flat_none (broken_in_item items) (numbered items) (none_first (broken_rules items) keeps) k (k, item)
+          (numbered_at items k item at))
 
-      item_keeps : (k : ℕ) (item : tree.Item) → slice_get items k ≡ Some item → Keeps item_rules (record { unit = items; number = k; item = item })
-      item_keeps k item at = none_keeps item_rules (record { unit = items; number = k; item = item }) (map_none (λ rule. record { item = k; statement = 0; rule = rule }) (broken_of item_rules (record { unit = items; number = k; item = item })) (none k item at).0)
+      item_keeps : (k : ℕ) (item : tree.Item) → slice_get items k ≡ Some item
+          → Keeps item_rules (record { unit = items; number = k; item = item })
+      item_keeps k item at = none_keeps item_rules (record { unit = items; number = k; item = item })
+          (map_none (λ rule. record { item = k; statement = 0; rule = rule })
+          (broken_of item_rules (record { unit = items; number = k; item = item })) (none k item at).0)
 
       stmt_keeps : (k : ℕ) (f : tree.Func) (b : tree.Body) → slice_get items k ≡ Some (tree.Function f) → f.body ≡ Some b
           → (j : ℕ) (stmt : tree.Stmt) → slice_get b.stmts j ≡ Some stmt
           → Keeps stmt_rules (record { scope = scope_at items k f b; number = j + 1; stmt = stmt })
       stmt_keeps k f b at is j stmt here =
           let body : in_stmts k f (Some b) ≡ [] = sym (ap (in_stmts k f) is) ∙ (none k (tree.Function f) at).1 in
-          none_keeps stmt_rules (record { scope = scope_at items k f b; number = j + 1; stmt = stmt }) (map_none (λ rule. record { item = k; statement = j + 1; rule = rule }) (broken_of stmt_rules (record { scope = scope_at items k f b; number = j + 1; stmt = stmt }))
+          none_keeps stmt_rules (record { scope = scope_at items k f b; number = j + 1; stmt = stmt })
+          (map_none (λ rule. record { item = k; statement = j + 1; rule = rule })
+          (broken_of stmt_rules (record { scope = scope_at items k f b; number = j + 1; stmt = stmt }))
           (flat_none (broken_in_stmt (scope_at items k f b) k) (numbered b.stmts) body j (j, stmt) (numbered_at b.stmts j stmt here)))
 
 -- ---- from the places to the unit
@@ -81,14 +88,18 @@ pub all_keep : (items : List tree.Item) → KeepsAll items → KeepsRules items
 all_keep items all = ap (λ l. slice_get l 0) (flat_empty (broken_in_item items) (numbered items) each)
   where
     nothing_own : (k : ℕ) (item : tree.Item) → slice_get items k ≡ Some item → own items k item ≡ []
-    nothing_own k item at = ap (map (λ rule. record { item = k; statement = 0; rule = rule })) (keeps_none item_rules (record { unit = items; number = k; item = item }) (all.item k item at))
+    nothing_own k item at = ap (map (λ rule. record { item = k; statement = 0; rule = rule }))
+        (keeps_none item_rules (record { unit = items; number = k; item = item }) (all.item k item at))
 
-    of_stmt : (k : ℕ) (f : tree.Func) (b : tree.Body) → slice_get items k ≡ Some (tree.Function f) → f.body ≡ Some b → (j : ℕ) (entry : ℕ × tree.Stmt)
+    of_stmt : (k : ℕ) (f : tree.Func) (b : tree.Body) → slice_get items k ≡ Some (tree.Function f) → f.body ≡ Some b
+        → (j : ℕ) (entry : ℕ × tree.Stmt)
         → slice_get (numbered b.stmts) j ≡ Some entry → broken_in_stmt (scope_at items k f b) k entry ≡ []
     of_stmt k f b at is j entry here =
         let from = at_numbered b.stmts j entry here in
         ap (broken_in_stmt (scope_at items k f b) k) from.2
-        ∙ ap (map (λ rule. record { item = k; statement = j + 1; rule = rule })) (keeps_none stmt_rules (record { scope = scope_at items k f b; number = j + 1; stmt = from.0 }) (all.stmt k f b at is j from.0 from.1))
+        ∙ ap (map (λ rule. record { item = k; statement = j + 1; rule = rule }))
+        (keeps_none stmt_rules (record { scope = scope_at items k f b; number = j + 1; stmt = from.0 })
+        (all.stmt k f b at is j from.0 from.1))
 
     in_body : (k : ℕ) (item : tree.Item) → slice_get items k ≡ Some item → broken_in_body items k item ≡ []
     in_body k (tree.Array n count bytes) at = refl

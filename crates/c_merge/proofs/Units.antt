@@ -40,7 +40,8 @@ same_first {A} a b x y e = ap first e
     first (Some z) = z.0
 
 -- each of two lists that are joined
-pub all_parts : {A : Type 0} (test : A → Bool) (xs ys : List A) → list_all test (xs ++ ys) ≡ true → (list_all test xs ≡ true) × (list_all test ys ≡ true)
+pub all_parts : {A : Type 0} (test : A → Bool) (xs ys : List A) → list_all test (xs ++ ys) ≡ true
+    → (list_all test xs ≡ true) × (list_all test ys ≡ true)
 all_parts test [] ys e = (refl, e)
 all_parts test (x ∷ xs) ys e =
     let both = and_parts (test x) (list_all test (xs ++ ys)) e in
@@ -146,11 +147,13 @@ module _ (items : List tree.Item) (keeps : KeepsRules items) where
           let kinds = runtime_reserved f.name (ap is_some there) in
           go f.is_static kinds.0 kinds.1 (free k (tree.Function f) at).0
         where
-          go : (b : Bool) → is_outside f.name ≡ true → is_symbol f.name ≡ false → (if b then is_own_name f.name else is_symbol f.name) ≡ true → ⊥
+          go : (b : Bool) → is_outside f.name ≡ true → is_symbol f.name ≡ false
+              → (if b then is_own_name f.name else is_symbol f.name) ≡ true → ⊥
           go true outside none own = both_ways (is_outside f.name) (own_inside f.name own) outside
           go false outside none symbol = both_ways (is_symbol f.name) none symbol
 
-  pub variable_free : (k : ℕ) (item : tree.Item) (name : Name) (t : CType) → slice_get items k ≡ Some item → variable_of item ≡ Some (name, t)
+  pub variable_free : (k : ℕ) (item : tree.Item) (name : Name) (t : CType) → slice_get items k ≡ Some item
+      → variable_of item ≡ Some (name, t)
       → is_own_name name ≡ true
   variable_free k (tree.Array n count bytes) name t at e = absurd cc
   variable_free k (tree.Function f) name t at e = absurd cc
@@ -190,10 +193,12 @@ module _ (items : List tree.Item) (keeps : KeepsRules items) where
     may_name_it : (name : Name) → may_be_named name (Some items) ≡ true → may_name p u name ≡ true
     may_name_it name is = ap (may_be_named name) at_u ∙ is
 
-    known_named : (n : ℕ) (name : Name) → is_some (named name (filter_map function_of (take n items) ++ primitives)) ≡ true → may_name p u name ≡ true
+    known_named : (n : ℕ) (name : Name) → is_some (named name (filter_map function_of (take n items) ++ primitives)) ≡ true
+        → may_name p u name ≡ true
     known_named n name is = may_name_it name (by_option (named name (filter_map function_of (take n items)))
         (λ none.
-        let runtime : is_some (named name primitives) ≡ true = ap is_some (sym (behind (filter_map function_of (take n items)) none)) ∙ is in
+        let runtime : is_some (named name primitives)
+        ≡ true = ap is_some (sym (behind (filter_map function_of (take n items)) none)) ∙ is in
         rw runtime refl)
         (λ ty there.
         let d = func_declared n name ty there in
@@ -223,7 +228,8 @@ module _ (items : List tree.Item) (keeps : KeepsRules items) where
           own_not_depth n (variable_free from.0 from.1 n ty (take_keeps (k + 1) items from.0 from.1 from.2) from.3))
       arg_kept t (tree.OfFunction n) known suits = known_named (k + 1) n (and_parts (is_some (named n (functions s))) true known).0
 
-      args_kept : (types : List CType) (args : List tree.Arg) → list_all (is_known s) (flat_map arg_uses args) ≡ true → args_suit s types args ≡ true
+      args_kept : (types : List CType) (args : List tree.Arg) → list_all (is_known s) (flat_map arg_uses args) ≡ true
+          → args_suit s types args ≡ true
           → Each (KeptArg ρ u) args
       args_kept [] [] known suits = tt
       args_kept (t ∷ types) (a ∷ args) known suits =
@@ -233,7 +239,8 @@ module _ (items : List tree.Item) (keeps : KeepsRules items) where
       args_kept [] (a ∷ args) known suits = absurd (false≢true suits)
       args_kept (t ∷ types) [] known suits = tt
 
-      if_there : {A : Type 0} (o : Option A) (test : A → Bool) → is_some o ≡ true → if_any o test ≡ true → (a : A) × (o ≡ Some a) × (test a ≡ true)
+      if_there : {A : Type 0} (o : Option A) (test : A → Bool) → is_some o ≡ true → if_any o test ≡ true
+          → (a : A) × (o ≡ Some a) × (test a ≡ true)
       if_there None test there is = absurd (false≢true there)
       if_there (Some a) test there is = (a, refl, is)
 
@@ -287,13 +294,15 @@ module _ (items : List tree.Item) (keeps : KeepsRules items) where
   -- ---- what the unit defines
 
   -- a function that is seen outside is defined for all
-  pub external_there : (k : ℕ) (f : tree.Func) (b : tree.Body) → slice_get items k ≡ Some (tree.Function f) → f.body ≡ Some b → is_outside f.name ≡ true
+  pub external_there : (k : ℕ) (f : tree.Func) (b : tree.Body) → slice_get items k ≡ Some (tree.Function f) → f.body ≡ Some b
+      → is_outside f.name ≡ true
       → is_some (defined_for_all items f.name) ≡ true
   external_there k f b at is outside =
       let listed = is_listed items k f b at is in
       let shown : f.is_static ≡ false = not-true f.is_static (sym (func_seen k f at) ∙ outside) in
       let passes : (not f.is_static && bytes_eq f.name f.name) ≡ true = rw (shown, (bytes_eq-Decides f.name f.name).1 refl) refl in
-      let found = first_there (λ d. is_external d && bytes_eq d.func.name f.name) (definitions items) listed.0 (record { item = k; func = f; body = b }) listed.1 passes in
+      let found = first_there (λ d. is_external d && bytes_eq d.func.name f.name) (definitions items) listed.0
+      (record { item = k; func = f; body = b }) listed.1 passes in
       ap is_some found.1
 
 -- ---- units that link
@@ -305,7 +314,8 @@ external_of item = elim item [
   | tree.Function f ↦ if f.is_static then None else Some f
 ]
 
-pub any_at : {A : Type 0} (test : A → Bool) (xs : List A) (i : ℕ) (x : A) → slice_get xs i ≡ Some x → test x ≡ true → list_any test xs ≡ true
+pub any_at : {A : Type 0} (test : A → Bool) (xs : List A) (i : ℕ) (x : A) → slice_get xs i ≡ Some x → test x ≡ true
+    → list_any test xs ≡ true
 any_at test [] i x at is = absurd cc
 any_at test (y ∷ xs) zero x at is =
     let here : y ≡ x = cc in
@@ -372,11 +382,14 @@ module _ (p : Program) (are : AreLinked p) where
       let shown : b.func.is_static ≡ false = not-true b.func.is_static (sym seen_b ∙ ap is_outside b.name_is ∙ outside) in
       let there : is_some (defined_for_all a.items a.func.name) ≡ true =
       external_there a.items (are.kept u a.items a.there) a.item a.func a.body a.at a.body_is (ap is_outside a.name_is ∙ outside) in
-      let there' : is_some (defined_for_all a.items b.func.name) ≡ true = subst (λ (n : Name). is_some (defined_for_all a.items n) ≡ true) (a.name_is ∙ sym b.name_is) there in
+      let there' : is_some (defined_for_all a.items b.func.name)
+      ≡ true = subst (λ (n : Name). is_some (defined_for_all a.items n) ≡ true) (a.name_is ∙ sym b.name_is) there in
       let any : list_any (λ items. is_some (defined_for_all items b.func.name)) (take v p.units) ≡ true =
-      any_at (λ items. is_some (defined_for_all items b.func.name)) (take v p.units) u a.items (take_has v p.units u a.items less a.there) there' in
+      any_at (λ items. is_some (defined_for_all items b.func.name)) (take v p.units) u a.items
+      (take_has v p.units u a.items less a.there) there' in
       let none : twice p v b.func ≡ [] = not_twice v b.items b.item b.func b.there b.at shown in
-      cons_not_none (Twice v b.func.name) [] (sym (refused (is_some b.func.body) (is_some (host_symbol p b.func.name)) _ (ap is_some b.body_is) any) ∙ none)
+      cons_not_none (Twice v b.func.name) []
+      (sym (refused (is_some b.func.body) (is_some (host_symbol p b.func.name)) _ (ap is_some b.body_is) any) ∙ none)
     where
       refused : (h c d : Bool) → h ≡ true → d ≡ true → (if h && (c || d) then Twice v b.func.name ∷ [] else []) ≡ Twice v b.func.name ∷ []
       refused true true d e f = refl
@@ -392,7 +405,8 @@ module _ (p : Program) (are : AreLinked p) where
     | inr (inr more) ↦ not_two v u x more outside b a
   ]
 
-  item_once : (u v : ℕ) → v ≢ u → (items : List tree.Item) → slice_get p.units v ≡ Some items → (k : ℕ) (item : tree.Item) → slice_get items k ≡ Some item
+  item_once : (u v : ℕ) → v ≢ u → (items : List tree.Item) → slice_get p.units v ≡ Some items → (k : ℕ) (item : tree.Item)
+      → slice_get items k ≡ Some item
       → IsDefinedOnce (merge_names p) is_outside u item
   item_once u v differ items there k (tree.Array n count bytes) at = tt
   item_once u v differ items there k (tree.Var ty n number) at = tt
@@ -433,14 +447,16 @@ module _ (p : Program) (are : AreLinked p) where
             of_func items there d.0 d.1 d.2 d.3
       ])
     where
-      of_func : (items : List tree.Item) → slice_get p.units u ≡ Some items → (k : ℕ) (f : tree.Func) → slice_get items k ≡ Some (tree.Function f) → f.name ≡ x
+      of_func : (items : List tree.Item) → slice_get p.units u ≡ Some items → (k : ℕ) (f : tree.Func)
+          → slice_get items k ≡ Some (tree.Function f) → f.name ≡ x
           → MayUse p is_outside u x
       of_func items there k f at same =
           let keeps : KeepsRules items = are.kept u items there in
           by_test f.is_static
           (λ static.
           let d = static_defined items keeps k f at static in
-          let here : definition_at p u x ≡ Some d.0 = ap (λ o. if_found o (λ items. defined items x)) there ∙ subst (λ (n : Name). defined items n ≡ Some d.0) same d.1 in
+          let here : definition_at p u x ≡ Some d.0 = ap (λ o. if_found o (λ items. defined items x)) there
+          ∙ subst (λ (n : Name). defined items n ≡ Some d.0) same d.1 in
           Own (ap is_some here))
           (λ shown.
           let outside : is_outside x ≡ true = sym (ap is_outside same) ∙ func_seen items keeps k f at ∙ ap not shown in

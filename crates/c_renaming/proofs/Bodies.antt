@@ -18,7 +18,8 @@ use Rattle.c_renaming.specs.Renamed as renamed
 use Rattle.c_renaming.specs.Kept.{Each, Holds, KeptStmt, KeptValue, KeptVars}
 use Rattle.c_renaming.specs.Renames.{KeepsNames}
 
-pub place-running : (ρ : Renaming) (r : Running) (rest : List tree.Stmt) → place_of (renamed.running ρ r) (map (renamed.stmt ρ r.unit) rest) ≡ place ρ (place_of r rest)
+pub place-running : (ρ : Renaming) (r : Running) (rest : List tree.Stmt)
+    → place_of (renamed.running ρ r) (map (renamed.stmt ρ r.unit) rest) ≡ place ρ (place_of r rest)
 place-running ρ r rest = λ i. record {
   unit = ρ.unit r.unit;
   item = ρ.item r.unit r.item;
@@ -56,7 +57,8 @@ of_type-value ρ ty (FuncPointer to) = of_functions ty
     of_functions type.Mem = refl
     of_functions type.Tab = refl
 
-are_of_types-values : (ρ : Renaming) (types : List CType) (args : List CValue) → are_of_types types (map (renamed.value ρ) args) ≡ are_of_types types args
+are_of_types-values : (ρ : Renaming) (types : List CType) (args : List CValue)
+    → are_of_types types (map (renamed.value ρ) args) ≡ are_of_types types args
 are_of_types-values ρ [] [] = refl
 are_of_types-values ρ [] (v ∷ args) = refl
 are_of_types-values ρ (ty ∷ types) [] = refl
@@ -65,33 +67,41 @@ are_of_types-values ρ (ty ∷ types) (v ∷ args) = λ i. of_type-value ρ ty v
 -- ---- labels
 
 module _ (ρ : Renaming) (names : KeepsNames ρ) (u : ℕ) where
-  pub after_label-stmts : (name : Name) (stmts : List tree.Stmt) → after_label (ρ.label u name) (map (renamed.stmt ρ u) stmts) ≡ option_map (map (renamed.stmt ρ u)) (after_label name stmts)
+  pub after_label-stmts : (name : Name) (stmts : List tree.Stmt)
+      → after_label (ρ.label u name) (map (renamed.stmt ρ u) stmts) ≡ option_map (map (renamed.stmt ρ u)) (after_label name stmts)
   after_label-stmts name [] = refl
   after_label-stmts name (tree.Label x ∷ stmts) =
-      ap (λ b. if b then Some (map (renamed.stmt ρ u) stmts) else after_label (ρ.label u name) (map (renamed.stmt ρ u) stmts)) (names.labels u x name)
+      ap (λ b. if b then Some (map (renamed.stmt ρ u) stmts) else after_label (ρ.label u name) (map (renamed.stmt ρ u) stmts))
+      (names.labels u x name)
       ∙ go (bytes_eq x name) (after_label-stmts name stmts)
     where
-      go : (b : Bool) → after_label (ρ.label u name) (map (renamed.stmt ρ u) stmts) ≡ option_map (map (renamed.stmt ρ u)) (after_label name stmts)
-          → (if b then Some (map (renamed.stmt ρ u) stmts) else after_label (ρ.label u name) (map (renamed.stmt ρ u) stmts)) ≡ option_map (map (renamed.stmt ρ u)) (if b then Some stmts else after_label name stmts)
+      go : (b : Bool) → after_label (ρ.label u name) (map (renamed.stmt ρ u) stmts)
+          ≡ option_map (map (renamed.stmt ρ u)) (after_label name stmts)
+          → (if b then Some (map (renamed.stmt ρ u) stmts) else after_label (ρ.label u name) (map (renamed.stmt ρ u) stmts))
+          ≡ option_map (map (renamed.stmt ρ u)) (if b then Some stmts else after_label name stmts)
       go true behind = refl
       go false behind = behind
   after_label-stmts name (_ ∷ stmts) = after_label-stmts name stmts
 
-  pub after_label-kept : (name : Name) (stmts : List tree.Stmt) → Each (KeptStmt ρ u) stmts → Holds (Each (KeptStmt ρ u)) (after_label name stmts)
+  pub after_label-kept : (name : Name) (stmts : List tree.Stmt) → Each (KeptStmt ρ u) stmts
+      → Holds (Each (KeptStmt ρ u)) (after_label name stmts)
   after_label-kept name [] kept = tt
   after_label-kept name (tree.Label x ∷ stmts) kept = go (bytes_eq x name) (after_label-kept name stmts kept.1)
     where
-      go : (b : Bool) → Holds (Each (KeptStmt ρ u)) (after_label name stmts) → Holds (Each (KeptStmt ρ u)) (if b then Some stmts else after_label name stmts)
+      go : (b : Bool) → Holds (Each (KeptStmt ρ u)) (after_label name stmts)
+          → Holds (Each (KeptStmt ρ u)) (if b then Some stmts else after_label name stmts)
       go true behind = kept.1
       go false behind = behind
   after_label-kept name (_ ∷ stmts) kept = after_label-kept name stmts kept.1
 
-  pub label_of-cases : (v : Value) (cases : List tree.Case) (default : Name) → label_of v (map (renamed.case ρ u) cases) (ρ.label u default) ≡ ρ.label u (label_of v cases default)
+  pub label_of-cases : (v : Value) (cases : List tree.Case) (default : Name)
+      → label_of v (map (renamed.case ρ u) cases) (ρ.label u default) ≡ ρ.label u (label_of v cases default)
   label_of-cases v [] default = refl
   label_of-cases v (c ∷ cases) default = go (equal_number v c.0) (label_of-cases v cases default)
     where
       go : (b : Bool) → label_of v (map (renamed.case ρ u) cases) (ρ.label u default) ≡ ρ.label u (label_of v cases default)
-          → (if b then ρ.label u c.1 else label_of v (map (renamed.case ρ u) cases) (ρ.label u default)) ≡ ρ.label u (if b then c.1 else label_of v cases default)
+          → (if b then ρ.label u c.1 else label_of v (map (renamed.case ρ u) cases) (ρ.label u default))
+          ≡ ρ.label u (if b then c.1 else label_of v cases default)
       go true behind = refl
       go false behind = behind
 
@@ -108,13 +118,17 @@ module _ (ρ : Renaming) (u : ℕ) where
   param_types-params ((ty, None) ∷ params) = param_types-params params
   param_types-params ((ty, Some name) ∷ params) = ap (λ l. ty ∷ l) (param_types-params params)
 
-  one_more : (e : Name × CValue) (o : Option Vars) → option_map (λ l. renamed.entry ρ u e ∷ l) (option_map (renamed.vars ρ u) o) ≡ option_map (renamed.vars ρ u) (option_map (λ l. e ∷ l) o)
+  one_more : (e : Name × CValue) (o : Option Vars)
+      → option_map (λ l. renamed.entry ρ u e ∷ l) (option_map (renamed.vars ρ u) o)
+      ≡ option_map (renamed.vars ρ u) (option_map (λ l. e ∷ l) o)
   one_more e None = refl
   one_more e (Some l) = refl
 
-  bind-names : (names : List Name) (args : List CValue) → bind (map (ρ.var u) names) (map (renamed.value ρ) args) ≡ option_map (renamed.vars ρ u) (bind names args)
+  bind-names : (names : List Name) (args : List CValue)
+      → bind (map (ρ.var u) names) (map (renamed.value ρ) args) ≡ option_map (renamed.vars ρ u) (bind names args)
   bind-names [] [] = refl
-  bind-names (name ∷ names) (v ∷ args) = ap (option_map (λ l. renamed.entry ρ u (name, v) ∷ l)) (bind-names names args) ∙ one_more (name, v) (bind names args)
+  bind-names (name ∷ names) (v ∷ args) = ap (option_map (λ l. renamed.entry ρ u (name, v) ∷ l)) (bind-names names args)
+      ∙ one_more (name, v) (bind names args)
   bind-names [] (v ∷ args) = refl
   bind-names (name ∷ names) [] = refl
 
@@ -156,12 +170,14 @@ module _ (ρ : Renaming) (u : ℕ) where
   initial_plain ty (N64 n) = tt
 
   with_first : (x : Name) (o : Option CValue) (rest : Option Vars) → Holds IsPlain o
-      → if_found o (λ v. option_map (λ l. (ρ.var u x, v) ∷ l) (option_map (renamed.vars ρ u) rest)) ≡ option_map (renamed.vars ρ u) (if_found o (λ v. option_map (λ l. (x, v) ∷ l) rest))
+      → if_found o (λ v. option_map (λ l. (ρ.var u x, v) ∷ l) (option_map (renamed.vars ρ u) rest))
+      ≡ option_map (renamed.vars ρ u) (if_found o (λ v. option_map (λ l. (x, v) ∷ l) rest))
   with_first x None rest plain = refl
   with_first x (Some v) None plain = refl
   with_first x (Some v) (Some l) plain = ap (λ v. Some ((ρ.var u x, v) ∷ renamed.vars ρ u l)) (sym plain.0)
 
-  locals_of-locals : (locals : List tree.Local) → locals_of (map (renamed.local ρ u) locals) ≡ option_map (renamed.vars ρ u) (locals_of locals)
+  locals_of-locals : (locals : List tree.Local)
+      → locals_of (map (renamed.local ρ u) locals) ≡ option_map (renamed.vars ρ u) (locals_of locals)
   locals_of-locals [] = refl
   locals_of-locals (l ∷ locals) =
       ap (λ rest. if_found (initial_of l.0 l.2) (λ v. option_map (λ vars. (ρ.var u l.1, v) ∷ vars) rest)) (locals_of-locals locals)
@@ -171,7 +187,8 @@ module _ (ρ : Renaming) (u : ℕ) where
   locals_of-kept [] = tt
   locals_of-kept (l ∷ locals) = go (initial_of l.0 l.2) (locals_of locals) (initial_plain l.0 l.2) (locals_of-kept locals)
     where
-      go : (o : Option CValue) (rest : Option Vars) → Holds IsPlain o → Holds (KeptVars ρ) rest → Holds (KeptVars ρ) (if_found o (λ v. option_map (λ vars. (l.1, v) ∷ vars) rest))
+      go : (o : Option CValue) (rest : Option Vars) → Holds IsPlain o → Holds (KeptVars ρ) rest
+          → Holds (KeptVars ρ) (if_found o (λ v. option_map (λ vars. (l.1, v) ∷ vars) rest))
       go None rest plain behind = tt
       go (Some v) None plain behind = tt
       go (Some v) (Some vars) plain behind = (plain.1, behind)
@@ -181,24 +198,35 @@ module _ (ρ : Renaming) (u : ℕ) where
   append-kept (x ∷ xs) ys first second = (first.0, append-kept xs ys first.1 second)
 
   bound_vars : (d : Definition) (args : List CValue)
-      → if_found (bind (param_names (map (renamed.param ρ u) d.func.params)) (map (renamed.value ρ) args)) (λ params. option_map (λ locals. params ++ locals) (locals_of (map (renamed.local ρ u) d.body.locals)))
-      ≡ option_map (renamed.vars ρ u) (if_found (bind (param_names d.func.params) args) (λ params. option_map (λ locals. params ++ locals) (locals_of d.body.locals)))
+      → if_found (bind (param_names (map (renamed.param ρ u) d.func.params)) (map (renamed.value ρ) args))
+      (λ params. option_map (λ locals. params ++ locals) (locals_of (map (renamed.local ρ u) d.body.locals)))
+      ≡ option_map (renamed.vars ρ u)
+      (if_found (bind (param_names d.func.params) args)
+      (λ params. option_map (λ locals. params ++ locals) (locals_of d.body.locals)))
   bound_vars d args =
-      ap (λ ns. if_found (bind ns (map (renamed.value ρ) args)) (λ params. option_map (λ locals. params ++ locals) (locals_of (map (renamed.local ρ u) d.body.locals)))) (param_names-params d.func.params)
-      ∙ ap (λ o. if_found o (λ params. option_map (λ locals. params ++ locals) (locals_of (map (renamed.local ρ u) d.body.locals)))) (bind-names (param_names d.func.params) args)
-      ∙ ap (λ o. if_found (option_map (renamed.vars ρ u) (bind (param_names d.func.params) args)) (λ params. option_map (λ locals. params ++ locals) o)) (locals_of-locals d.body.locals)
+      ap (λ ns. if_found (bind ns (map (renamed.value ρ) args))
+      (λ params. option_map (λ locals. params ++ locals) (locals_of (map (renamed.local ρ u) d.body.locals))))
+      (param_names-params d.func.params)
+      ∙ ap (λ o. if_found o (λ params. option_map (λ locals. params ++ locals)
+      (locals_of (map (renamed.local ρ u) d.body.locals)))) (bind-names (param_names d.func.params) args)
+      ∙ ap (λ o. if_found (option_map (renamed.vars ρ u) (bind (param_names d.func.params) args))
+      (λ params. option_map (λ locals. params ++ locals) o)) (locals_of-locals d.body.locals)
       ∙ go (bind (param_names d.func.params) args) (locals_of d.body.locals)
     where
-      go : (o rest : Option Vars) → if_found (option_map (renamed.vars ρ u) o) (λ params. option_map (λ locals. params ++ locals) (option_map (renamed.vars ρ u) rest))
+      go : (o rest : Option Vars)
+          → if_found (option_map (renamed.vars ρ u) o)
+          (λ params. option_map (λ locals. params ++ locals) (option_map (renamed.vars ρ u) rest))
           ≡ option_map (renamed.vars ρ u) (if_found o (λ params. option_map (λ locals. params ++ locals) rest))
       go None rest = refl
       go (Some params) None = refl
       go (Some params) (Some locals) = ap Some (sym (map-append (renamed.entry ρ u) params locals))
 
-  pub first_vars-definition : (d : Definition) (args : List CValue) → first_vars (renamed.definition ρ u d) (map (renamed.value ρ) args) ≡ option_map (renamed.vars ρ u) (first_vars d args)
+  pub first_vars-definition : (d : Definition) (args : List CValue)
+      → first_vars (renamed.definition ρ u d) (map (renamed.value ρ) args) ≡ option_map (renamed.vars ρ u) (first_vars d args)
   first_vars-definition d args =
       ap (λ b. if b then bound' else None)
-      (ap (λ types. are_of_types types (map (renamed.value ρ) args)) (param_types-params d.func.params) ∙ are_of_types-values ρ (param_types d.func.params) args)
+      (ap (λ types. are_of_types types (map (renamed.value ρ) args)) (param_types-params d.func.params)
+      ∙ are_of_types-values ρ (param_types d.func.params) args)
       ∙ by_types (are_of_types (param_types d.func.params) args)
     where
       bound : Option Vars
@@ -213,7 +241,9 @@ module _ (ρ : Renaming) (u : ℕ) where
       by_types false = refl
 
   pub first_vars-kept : (d : Definition) (args : List CValue) → Each (KeptValue ρ) args → Holds (KeptVars ρ) (first_vars d args)
-  first_vars-kept d args kept = by_types (are_of_types (param_types d.func.params) args) (go (bind (param_names d.func.params) args) (locals_of d.body.locals) (bind-kept (param_names d.func.params) args kept) (locals_of-kept d.body.locals))
+  first_vars-kept d args kept = by_types (are_of_types (param_types d.func.params) args)
+      (go (bind (param_names d.func.params) args) (locals_of d.body.locals) (bind-kept (param_names d.func.params) args kept)
+      (locals_of-kept d.body.locals))
     where
       bound : Option Vars
       bound = if_found (bind (param_names d.func.params) args) (λ params. option_map (λ locals. params ++ locals) (locals_of d.body.locals))
@@ -222,14 +252,16 @@ module _ (ρ : Renaming) (u : ℕ) where
       by_types true holds = holds
       by_types false holds = tt
 
-      go : (o rest : Option Vars) → Holds (KeptVars ρ) o → Holds (KeptVars ρ) rest → Holds (KeptVars ρ) (if_found o (λ params. option_map (λ locals. params ++ locals) rest))
+      go : (o rest : Option Vars) → Holds (KeptVars ρ) o → Holds (KeptVars ρ) rest
+          → Holds (KeptVars ρ) (if_found o (λ params. option_map (λ locals. params ++ locals) rest))
       go None rest first second = tt
       go (Some params) None first second = tt
       go (Some params) (Some locals) first second = append-kept params locals first second
 
   -- ---- types
 
-  types-params : (params : List tree.Param) → map (λ (p : tree.Param). p.0) (map (renamed.param ρ u) params) ≡ map (λ (p : tree.Param). p.0) params
+  types-params : (params : List tree.Param)
+      → map (λ (p : tree.Param). p.0) (map (renamed.param ρ u) params) ≡ map (λ (p : tree.Param). p.0) params
   types-params [] = refl
   types-params (p ∷ params) = ap (λ l. p.0 ∷ l) (types-params params)
 

@@ -18,8 +18,10 @@ use Rattle.c_renaming.specs.Parts.{item_stays, part, Numbered, IsApart, Placed}
 abbrev pub definitions_from : ℕ → List tree.Item → List Definition
 definitions_from k items = filter_map definition_of (zip (range_with_len k (length items)) items)
 
-pub definitions-append : (k : ℕ) (xs ys : List tree.Item) → definitions_from k (xs ++ ys) ≡ definitions_from k xs ++ definitions_from (k + length xs) ys
-definitions-append k xs ys = ap (filter_map definition_of) (zip_from k xs ys) ∙ filter_map-append definition_of (zip (range_with_len k (length xs)) xs) (zip (range_with_len (k + length xs) (length ys)) ys)
+pub definitions-append : (k : ℕ) (xs ys : List tree.Item)
+    → definitions_from k (xs ++ ys) ≡ definitions_from k xs ++ definitions_from (k + length xs) ys
+definitions-append k xs ys = ap (filter_map definition_of) (zip_from k xs ys)
+    ∙ filter_map-append definition_of (zip (range_with_len k (length xs)) xs) (zip (range_with_len (k + length xs) (length ys)) ys)
 
 abbrev first : {A : Type 0} → List A → Option A
 first items = slice_get items 0
@@ -44,11 +46,13 @@ or_none (Some a) = refl
 
 module _ (ρ : Renaming) (u : ℕ) (stays : Name → Bool) where
   pub definitions_part : (k at : ℕ) (items : List tree.Item) → Numbered ρ u stays k at items
-      → definitions_from at (part ρ u stays items) ≡ map (renamed.definition ρ u) (filter (λ d. stays d.func.name) (definitions_from k items))
+      → definitions_from at (part ρ u stays items)
+      ≡ map (renamed.definition ρ u) (filter (λ d. stays d.func.name) (definitions_from k items))
   definitions_part k at [] numbers = refl
   definitions_part k at (tree.Array name count bytes ∷ items) numbers = definitions_part (k + 1) (at + 1) items numbers.1
   definitions_part k at (tree.Var ty name number ∷ items) numbers = definitions_part (k + 1) (at + 1) items numbers.1
-  definitions_part k at (tree.Function f ∷ items) numbers = go (stays f.name) refl f.body (definitions_part (k + 1) (at + 1) items) (definitions_part (k + 1) at items) numbers.0 numbers.1
+  definitions_part k at (tree.Function f ∷ items) numbers = go (stays f.name) refl f.body
+      (definitions_part (k + 1) (at + 1) items) (definitions_part (k + 1) at items) numbers.0 numbers.1
     where
       behind : List Definition
       behind = filter (λ d. stays d.func.name) (definitions_from (k + 1) items)
@@ -57,22 +61,28 @@ module _ (ρ : Renaming) (u : ℕ) (stays : Name → Bool) where
       here b = record { is_static = f.is_static; result = f.result; name = f.name; params = f.params; body = b }
 
       go : (b : Bool) → stays f.name ≡ b → (body : Option tree.Body)
-          → (Numbered ρ u stays (k + 1) (at + 1) items → definitions_from (at + 1) (part ρ u stays items) ≡ map (renamed.definition ρ u) behind)
+          → (Numbered ρ u stays (k + 1) (at + 1) items
+          → definitions_from (at + 1) (part ρ u stays items) ≡ map (renamed.definition ρ u) behind)
           → (Numbered ρ u stays (k + 1) at items → definitions_from at (part ρ u stays items) ≡ map (renamed.definition ρ u) behind)
           → (b ≡ true → ρ.item u k ≡ at) → Numbered ρ u stays (k + 1) (if b then at + 1 else at) items
-          → definitions_from at (map (renamed.item ρ u) (if b then tree.Function (here body) ∷ filter (item_stays stays) items else filter (item_stays stays) items))
+          → definitions_from at (map (renamed.item ρ u)
+          (if b then tree.Function (here body) ∷ filter (item_stays stays) items else filter (item_stays stays) items))
           ≡ map (renamed.definition ρ u) (filter (λ d. stays d.func.name) (definitions_from k (tree.Function (here body) ∷ items)))
       go true is None kept dropped number rest = kept rest
       go true is (Some body) kept dropped number rest =
-          (λ i. record { item = sym (number refl) i; func = renamed.func ρ u (here (Some body)); body = renamed.body ρ u body } ∷ kept rest i)
-          ∙ ap (λ b. map (renamed.definition ρ u) (if b then record { item = k; func = here (Some body); body = body } ∷ behind else behind)) (sym is)
+          (λ i. record { item = sym (number refl) i; func = renamed.func ρ u (here (Some body)); body = renamed.body ρ u body }
+          ∷ kept rest i)
+          ∙ ap (λ b. map (renamed.definition ρ u)
+          (if b then record { item = k; func = here (Some body); body = body } ∷ behind else behind)) (sym is)
       go false is None kept dropped number rest = dropped rest
       go false is (Some body) kept dropped number rest =
           dropped rest
-          ∙ ap (λ b. map (renamed.definition ρ u) (if b then record { item = k; func = here (Some body); body = body } ∷ behind else behind)) (sym is)
+          ∙ ap (λ b. map (renamed.definition ρ u)
+          (if b then record { item = k; func = here (Some body); body = body } ∷ behind else behind)) (sym is)
 
   -- tests that tell the same find the same
-  pub filter_part : (t t' : Definition → Bool) (ds : List Definition) → ((d : Definition) → t' (renamed.definition ρ u d) ≡ t d) → ((d : Definition) → t d ≡ true → stays d.func.name ≡ true)
+  pub filter_part : (t t' : Definition → Bool) (ds : List Definition) → ((d : Definition) → t' (renamed.definition ρ u d) ≡ t d)
+      → ((d : Definition) → t d ≡ true → stays d.func.name ≡ true)
       → filter t' (map (renamed.definition ρ u) (filter (λ d. stays d.func.name) ds)) ≡ map (renamed.definition ρ u) (filter t ds)
   filter_part t t' [] tells stay = refl
   filter_part t t' (d ∷ ds) tells stay = go (stays d.func.name) (t d) refl refl (filter_part t t' ds tells stay)
@@ -80,13 +90,17 @@ module _ (ρ : Renaming) (u : ℕ) (stays : Name → Bool) where
       rest : List Definition
       rest = filter (λ d. stays d.func.name) ds
 
-      go : (b c : Bool) → stays d.func.name ≡ b → t d ≡ c → filter t' (map (renamed.definition ρ u) rest) ≡ map (renamed.definition ρ u) (filter t ds)
-          → filter t' (map (renamed.definition ρ u) (if b then d ∷ rest else rest)) ≡ map (renamed.definition ρ u) (if c then d ∷ filter t ds else filter t ds)
+      go : (b c : Bool) → stays d.func.name ≡ b → t d ≡ c
+          → filter t' (map (renamed.definition ρ u) rest) ≡ map (renamed.definition ρ u) (filter t ds)
+          → filter t' (map (renamed.definition ρ u) (if b then d ∷ rest else rest))
+          ≡ map (renamed.definition ρ u) (if c then d ∷ filter t ds else filter t ds)
       go true true kept is behind =
-          ap (λ c. if c then renamed.definition ρ u d ∷ filter t' (map (renamed.definition ρ u) rest) else filter t' (map (renamed.definition ρ u) rest)) (tells d ∙ is)
+          ap (λ c. if c then renamed.definition ρ u d
+          ∷ filter t' (map (renamed.definition ρ u) rest) else filter t' (map (renamed.definition ρ u) rest)) (tells d ∙ is)
           ∙ ap (λ l. renamed.definition ρ u d ∷ l) behind
       go true false kept is behind =
-          ap (λ c. if c then renamed.definition ρ u d ∷ filter t' (map (renamed.definition ρ u) rest) else filter t' (map (renamed.definition ρ u) rest)) (tells d ∙ is)
+          ap (λ c. if c then renamed.definition ρ u d
+          ∷ filter t' (map (renamed.definition ρ u) rest) else filter t' (map (renamed.definition ρ u) rest)) (tells d ∙ is)
           ∙ behind
       go false true kept is behind = let must : stays d.func.name ≡ true = stay d is in cc
       go false false kept is behind = behind
@@ -102,7 +116,8 @@ and_false : (b : Bool) → (b && false) ≡ false
 and_false true = refl
 and_false false = refl
 
-pub none_apart : (ρ : Renaming) (u : ℕ) (t : Definition → Bool) (x : Name) → ρ.defines u x ≡ true → (k : ℕ) (ys : List tree.Item) → Each (IsApart ρ u) ys
+pub none_apart : (ρ : Renaming) (u : ℕ) (t : Definition → Bool) (x : Name) → ρ.defines u x ≡ true
+    → (k : ℕ) (ys : List tree.Item) → Each (IsApart ρ u) ys
     → filter (passes t (ρ.func u x)) (definitions_from k ys) ≡ []
 none_apart ρ u t x is k [] apart = refl
 none_apart ρ u t x is k (tree.Array name count bytes ∷ ys) apart = none_apart ρ u t x is (k + 1) ys apart.1
@@ -126,17 +141,27 @@ none_apart ρ u t x is k (tree.Function f ∷ ys) apart = go f.body (none_apart 
 
 -- ---- what a name of the unit stands for among the second's definitions
 
-pub passing_placed : (ρ : Renaming) (u : ℕ) (items new : List tree.Item) → Placed ρ u items new → ((x y : Name) → bytes_eq (ρ.func u x) (ρ.func u y) ≡ bytes_eq x y)
+pub passing_placed : (ρ : Renaming) (u : ℕ) (items new : List tree.Item) → Placed ρ u items new
+    → ((x y : Name) → bytes_eq (ρ.func u x) (ρ.func u y) ≡ bytes_eq x y)
     → (t : Definition → Bool) → ((d : Definition) → t (renamed.definition ρ u d) ≡ t d)
     → (x : Name) → ρ.defines u x ≡ true
-    → first (filter (passes t (ρ.func u x)) (definitions_from 0 new)) ≡ option_map (renamed.definition ρ u) (first (filter (passes t x) (definitions_from 0 items)))
+    → first (filter (passes t (ρ.func u x)) (definitions_from 0 new))
+    ≡ option_map (renamed.definition ρ u) (first (filter (passes t x) (definitions_from 0 items)))
 passing_placed ρ u items new placed same t tells x is =
     ap (λ l. first (filter test (definitions_from 0 l))) placed.is
-    ∙ ap (λ l. first (filter test l)) (definitions-append 0 placed.front (middle ++ placed.back) ∙ ap (λ k. definitions_from 0 placed.front ++ definitions_from k (middle ++ placed.back)) from ∙ ap (λ l. definitions_from 0 placed.front ++ l) (definitions-append (length placed.front) middle placed.back))
-    ∙ ap first (filter-append test (definitions_from 0 placed.front) (definitions_from (length placed.front) middle ++ definitions_from (length placed.front + length middle) placed.back))
-    ∙ ap (λ l. first (l ++ filter test (definitions_from (length placed.front) middle ++ definitions_from (length placed.front + length middle) placed.back))) (none_apart ρ u t x is 0 placed.front placed.front_apart)
-    ∙ ap first (filter-append test (definitions_from (length placed.front) middle) (definitions_from (length placed.front + length middle) placed.back))
-    ∙ ap (λ l. first (filter test (definitions_from (length placed.front) middle) ++ l)) (none_apart ρ u t x is (length placed.front + length middle) placed.back placed.back_apart)
+    ∙ ap (λ l. first (filter test l))
+    (definitions-append 0 placed.front (middle ++ placed.back)
+    ∙ ap (λ k. definitions_from 0 placed.front ++ definitions_from k (middle ++ placed.back)) from
+    ∙ ap (λ l. definitions_from 0 placed.front ++ l) (definitions-append (length placed.front) middle placed.back))
+    ∙ ap first (filter-append test (definitions_from 0 placed.front)
+    (definitions_from (length placed.front) middle ++ definitions_from (length placed.front + length middle) placed.back))
+    ∙ ap (λ l. first (l ++ filter test
+    (definitions_from (length placed.front) middle ++ definitions_from (length placed.front + length middle) placed.back)))
+    (none_apart ρ u t x is 0 placed.front placed.front_apart)
+    ∙ ap first (filter-append test (definitions_from (length placed.front) middle)
+    (definitions_from (length placed.front + length middle) placed.back))
+    ∙ ap (λ l. first (filter test (definitions_from (length placed.front) middle) ++ l))
+    (none_apart ρ u t x is (length placed.front + length middle) placed.back placed.back_apart)
     ∙ first-append (filter test (definitions_from (length placed.front) middle)) []
     ∙ or_none (first (filter test (definitions_from (length placed.front) middle)))
     ∙ ap (λ l. first (filter test l)) (definitions_part ρ u placed.stays 0 (length placed.front) items placed.numbers)
@@ -157,15 +182,19 @@ passing_placed ρ u items new placed same t tells x is =
     second false c e = cc
 
     stay : (d : Definition) → passes t x d ≡ true → placed.stays d.func.name ≡ true
-    stay d e = subst (λ (n : Name). placed.stays n ≡ true) (sym ((bytes_eq-Decides d.func.name x).0 (second (t d) (bytes_eq d.func.name x) e))) (placed.defined_stay x is)
+    stay d e = subst (λ (n : Name). placed.stays n ≡ true)
+        (sym ((bytes_eq-Decides d.func.name x).0 (second (t d) (bytes_eq d.func.name x) e))) (placed.defined_stay x is)
 
 -- the definition of a name, and its definition for other units
-pub defined_placed : (ρ : Renaming) (u : ℕ) (items new : List tree.Item) → Placed ρ u items new → ((x y : Name) → bytes_eq (ρ.func u x) (ρ.func u y) ≡ bytes_eq x y) → (x : Name) → ρ.defines u x ≡ true
+pub defined_placed : (ρ : Renaming) (u : ℕ) (items new : List tree.Item) → Placed ρ u items new
+    → ((x y : Name) → bytes_eq (ρ.func u x) (ρ.func u y) ≡ bytes_eq x y) → (x : Name) → ρ.defines u x ≡ true
     → defined new (ρ.func u x) ≡ option_map (renamed.definition ρ u) (defined items x)
 defined_placed ρ u items new placed same x is = passing_placed ρ u items new placed same (λ d. true) (λ d. refl) x is
 
-pub typed_placed : (ρ : Renaming) (u : ℕ) (items new : List tree.Item) → Placed ρ u items new → ((x y : Name) → bytes_eq (ρ.func u x) (ρ.func u y) ≡ bytes_eq x y) → (x : Name) → ρ.defines u x ≡ true
+pub typed_placed : (ρ : Renaming) (u : ℕ) (items new : List tree.Item) → Placed ρ u items new
+    → ((x y : Name) → bytes_eq (ρ.func u x) (ρ.func u y) ≡ bytes_eq x y) → (x : Name) → ρ.defines u x ≡ true
     → typed new (ρ.func u x) ≡ option_map (renamed.definition ρ u) (typed items x)
 typed_placed ρ u items new placed same x is =
-    (λ i. option_or (passing_placed ρ u items new placed same is_external (λ d. refl) x is i) (defined_placed ρ u items new placed same x is i))
+    (λ i. option_or (passing_placed ρ u items new placed same is_external (λ d. refl) x is i)
+    (defined_placed ρ u items new placed same x is i))
     ∙ or_map (renamed.definition ρ u) (defined_for_all items x) (defined items x)

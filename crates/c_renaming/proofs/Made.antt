@@ -23,7 +23,8 @@ abbrev first : {A : Type 0} → List A → Option A
 first items = slice_get items 0
 
 -- the text of a definition that stays is kept
-definition_kept : (ρ : Renaming) (u : ℕ) (stays : Name → Bool) (x : Name) → stays x ≡ true → (k : ℕ) (items : List tree.Item) → Each (KeptItem ρ u stays) items
+definition_kept : (ρ : Renaming) (u : ℕ) (stays : Name → Bool) (x : Name) → stays x ≡ true → (k : ℕ) (items : List tree.Item)
+    → Each (KeptItem ρ u stays) items
     → Holds (KeptDefinition ρ u) (first (filter (λ d. bytes_eq d.func.name x) (definitions_from k items)))
 definition_kept ρ u stays x is k [] kept = tt
 definition_kept ρ u stays x is k (tree.Array name count bytes ∷ items) kept = definition_kept ρ u stays x is (k + 1) items kept.1
@@ -92,11 +93,13 @@ or_kept P (Some x) p a b = a
 abbrev own_or_external : Program → ℕ → Name → Option Definition → Option FuncAddress
 own_or_external p u x d = option_or (option_map (λ d. UnitFunc u x) d) (external_func p x)
 
-named_there : (p : Program) (u : ℕ) (x : Name) → is_some (slice_get p.units u) ≡ true → func_named p u x ≡ own_or_external p u x (definition_at p u x)
+named_there : (p : Program) (u : ℕ) (x : Name) → is_some (slice_get p.units u) ≡ true
+    → func_named p u x ≡ own_or_external p u x (definition_at p u x)
 named_there p u x there = go (slice_get p.units u) there
   where
     go : (o : Option (List tree.Item)) → is_some o ≡ true
-        → if_found o (λ items. option_or (option_map (λ d. UnitFunc u x) (defined items x)) (external_func p x)) ≡ own_or_external p u x (if_found o (λ items. defined items x))
+        → if_found o (λ items. option_or (option_map (λ d. UnitFunc u x) (defined items x)) (external_func p x))
+        ≡ own_or_external p u x (if_found o (λ items. defined items x))
     go None there = cc
     go (Some items) there = refl
 
@@ -116,10 +119,13 @@ is_some-map f None = refl
 is_some-map f (Some a) = refl
 
 module _ (ρ : Renaming) (p q : Program) (names : KeepsNames ρ) (made : IsMadeOf ρ p q) where
-  definitions_made : (u : ℕ) (x : Name) → ρ.defines u x ≡ true → definition_at q (ρ.unit u) (ρ.func u x) ≡ option_map (renamed.definition ρ u) (definition_at p u x)
+  definitions_made : (u : ℕ) (x : Name) → ρ.defines u x ≡ true
+      → definition_at q (ρ.unit u) (ρ.func u x) ≡ option_map (renamed.definition ρ u) (definition_at p u x)
   definitions_made u x is = go (slice_get p.units u) (slice_get q.units (ρ.unit u)) (made.units u)
     where
-      go : (o o' : Option (List tree.Item)) → PlacedAt ρ u o o' → if_found o' (λ items. defined items (ρ.func u x)) ≡ option_map (renamed.definition ρ u) (if_found o (λ items. defined items x))
+      go : (o o' : Option (List tree.Item)) → PlacedAt ρ u o o'
+          → if_found o' (λ items. defined items (ρ.func u x))
+          ≡ option_map (renamed.definition ρ u) (if_found o (λ items. defined items x))
       go None None placed = refl
       go None (Some new) placed = defined_placed ρ u [] new placed (made.functions u) x is
       go (Some items) None placed = absurd placed
@@ -140,7 +146,8 @@ module _ (ρ : Renaming) (p q : Program) (names : KeepsNames ρ) (made : IsMadeO
       go None None placed = refl
       go None (Some new) placed = ap (option_map type_of) (typed_placed ρ u [] new placed (made.functions u) x is)
       go (Some items) None placed = absurd placed
-      go (Some items) (Some new) placed = ap (option_map type_of) (typed_placed ρ u items new placed (made.functions u) x is) ∙ same_type (typed items x)
+      go (Some items) (Some new) placed = ap (option_map type_of) (typed_placed ρ u items new placed (made.functions u) x is)
+          ∙ same_type (typed items x)
 
   definitions_made_kept : (u : ℕ) (x : Name) → ρ.defines u x ≡ true → Holds (KeptDefinition ρ u) (definition_at p u x)
   definitions_made_kept u x is = go (slice_get p.units u) (slice_get q.units (ρ.unit u)) (made.units u)
@@ -154,7 +161,8 @@ module _ (ρ : Renaming) (p q : Program) (names : KeepsNames ρ) (made : IsMadeO
   arrays_made u x = go (slice_get p.units u) (slice_get q.units (ρ.unit u)) (made.units u)
     where
       go : (o o' : Option (List tree.Item)) → PlacedAt ρ u o o'
-          → if_found o' (λ items. first (filter_map (array_bytes (ρ.var u x)) items)) ≡ if_found o (λ items. first (filter_map (array_bytes x) items))
+          → if_found o' (λ items. first (filter_map (array_bytes (ρ.var u x)) items))
+          ≡ if_found o (λ items. first (filter_map (array_bytes x) items))
       go None None placed = refl
       go None (Some new) placed = arrays_placed ρ names u x [] new placed
       go (Some items) None placed = absurd placed
@@ -171,10 +179,13 @@ module _ (ρ : Renaming) (p q : Program) (names : KeepsNames ρ) (made : IsMadeO
       go (Some items) (Some new) placed there = refl
 
   module _ (ext : KeepsExternals ρ p q) where
-    host_same : (x : Name) → option_map (λ (s : HostSymbol). s.address) (host_symbol q x) ≡ option_map (address ρ) (option_map (λ (s : HostSymbol). s.address) (host_symbol p x))
-    host_same x = ap (λ (hosts : List Host). option_map (λ (s : HostSymbol). s.address) (first (filter (λ s. bytes_eq s.symbol x) (host_symbols hosts)))) ext.hosts ∙ go (host_symbol p x) (host_is ρ p x)
+    host_same : (x : Name) → option_map (λ (s : HostSymbol). s.address) (host_symbol q x)
+        ≡ option_map (address ρ) (option_map (λ (s : HostSymbol). s.address) (host_symbol p x))
+    host_same x = ap (λ (hosts : List Host). option_map (λ (s : HostSymbol). s.address)
+        (first (filter (λ s. bytes_eq s.symbol x) (host_symbols hosts)))) ext.hosts ∙ go (host_symbol p x) (host_is ρ p x)
       where
-        go : (o : Option HostSymbol) → Holds (IsHosts ρ) o → option_map (λ (s : HostSymbol). s.address) o ≡ option_map (address ρ) (option_map (λ (s : HostSymbol). s.address) o)
+        go : (o : Option HostSymbol) → Holds (IsHosts ρ) o
+            → option_map (λ (s : HostSymbol). s.address) o ≡ option_map (address ρ) (option_map (λ (s : HostSymbol). s.address) o)
         go None is = refl
         go (Some s) is = ap Some (sym is.0)
 
@@ -185,10 +196,12 @@ module _ (ρ : Renaming) (p q : Program) (names : KeepsNames ρ) (made : IsMadeO
         go None is = tt
         go (Some s) is = is.1
 
-    calls_made : (x : Name) → option_map (λ u. UnitFunc u x) (definer q x) ≡ option_map (address ρ) (option_map (λ u. UnitFunc u x) (definer p x))
+    calls_made : (x : Name) → option_map (λ u. UnitFunc u x) (definer q x)
+        ≡ option_map (address ρ) (option_map (λ u. UnitFunc u x) (definer p x))
     calls_made x = ap (option_map (λ u. UnitFunc u x)) (ext.definers x) ∙ go (definer p x) refl
       where
-        go : (o : Option ℕ) → definer p x ≡ o → option_map (λ u. UnitFunc u x) (option_map ρ.unit o) ≡ option_map (address ρ) (option_map (λ u. UnitFunc u x) o)
+        go : (o : Option ℕ) → definer p x ≡ o
+            → option_map (λ u. UnitFunc u x) (option_map ρ.unit o) ≡ option_map (address ρ) (option_map (λ u. UnitFunc u x) o)
         go None is = refl
         go (Some u) is = ap (λ n. Some (UnitFunc (ρ.unit u) n)) (sym (ext.names x u is))
 
@@ -205,17 +218,23 @@ module _ (ρ : Renaming) (p q : Program) (names : KeepsNames ρ) (made : IsMadeO
         ∙ or_map (address ρ) (option_map (λ u. UnitFunc u x) (definer p x)) (option_map (λ (s : HostSymbol). s.address) (host_symbol p x))
 
     pub external_kept : (x : Name) → Holds (KeptFunc ρ) (external_func p x)
-    external_kept x = or_kept (KeptFunc ρ) (option_map (λ u. UnitFunc u x) (definer p x)) (option_map (λ (s : HostSymbol). s.address) (host_symbol p x)) (calls_made_kept x) (host_kept x)
+    external_kept x = or_kept (KeptFunc ρ) (option_map (λ u. UnitFunc u x) (definer p x))
+        (option_map (λ (s : HostSymbol). s.address) (host_symbol p x)) (calls_made_kept x) (host_kept x)
 
     -- a name of a function that the unit does not define
-    elsewhere : (u : ℕ) (x : Name) (o : Option Definition) → (is_some o ≡ true → definer q x ≡ Some (ρ.unit u)) → own_or_external q (ρ.unit u) x o ≡ external_func q x
+    elsewhere : (u : ℕ) (x : Name) (o : Option Definition) → (is_some o ≡ true → definer q x ≡ Some (ρ.unit u))
+        → own_or_external q (ρ.unit u) x o ≡ external_func q x
     elsewhere u x None first_one = refl
-    elsewhere u x (Some d) first_one = sym (ap (λ o. option_or (option_map (λ u. UnitFunc u x) o) (option_map (λ (s : HostSymbol). s.address) (host_symbol q x))) (first_one refl))
+    elsewhere u x (Some d) first_one = sym
+        (ap (λ o. option_or (option_map (λ u. UnitFunc u x) o) (option_map (λ (s : HostSymbol). s.address) (host_symbol q x)))
+        (first_one refl))
 
-    functions_made : (u : ℕ) (x : Name) → StandsFor ρ p q u x → func_named q (ρ.unit u) (ρ.func u x) ≡ option_map (address ρ) (func_named p u x)
+    functions_made : (u : ℕ) (x : Name) → StandsFor ρ p q u x
+        → func_named q (ρ.unit u) (ρ.func u x) ≡ option_map (address ρ) (func_named p u x)
     functions_made u x (Here defines there) =
         let unit_is : is_some (slice_get p.units u) ≡ true = defined_there p u x there in
-        let there' : is_some (definition_at q (ρ.unit u) (ρ.func u x)) ≡ true = ap is_some (definitions_made u x defines) ∙ is_some-map (renamed.definition ρ u) (definition_at p u x) ∙ there in
+        let there' : is_some (definition_at q (ρ.unit u) (ρ.func u x)) ≡ true = ap is_some (definitions_made u x defines)
+        ∙ is_some-map (renamed.definition ρ u) (definition_at p u x) ∙ there in
         named_there q (ρ.unit u) (ρ.func u x) (unit_there u unit_is)
         ∙ some_own q (ρ.unit u) (ρ.func u x) (definition_at q (ρ.unit u) (ρ.func u x)) there'
         ∙ sym (ap (option_map (address ρ)) (named_there p u x unit_is ∙ some_own p u x (definition_at p u x) there))

@@ -27,7 +27,8 @@ first items = slice_get items 0
 -- ---- lists of definitions
 
 -- what is known of functions that have bodies is known of definitions
-definitions_each : (P : tree.Func → Type 0) (k : ℕ) (items : List tree.Item) → Each (WhereDefined P) items → Each (λ d. P d.func) (definitions_from k items)
+definitions_each : (P : tree.Func → Type 0) (k : ℕ) (items : List tree.Item) → Each (WhereDefined P) items
+    → Each (λ d. P d.func) (definitions_from k items)
 definitions_each P k [] each = tt
 definitions_each P k (tree.Array name count bytes ∷ items) each = definitions_each P (k + 1) items each.1
 definitions_each P k (tree.Var ty name number ∷ items) each = definitions_each P (k + 1) items each.1
@@ -47,7 +48,8 @@ first_passes : {A : Type 0} (t t' : A → Bool) (P : A → Type 0) → ((a : A) 
 first_passes t t' P passes [] each is = cc
 first_passes {A = A} t t' P passes (x ∷ xs) each is = go (t x) (t' x) refl refl (first_passes t t' P passes xs each.1) is
   where
-    go : (b c : Bool) → t x ≡ b → t' x ≡ c → (is_some (first (filter t xs)) ≡ true → is_some (first (filter t' xs)) ≡ true) → is_some (first (if b then x ∷ filter t xs else filter t xs)) ≡ true
+    go : (b c : Bool) → t x ≡ b → t' x ≡ c → (is_some (first (filter t xs)) ≡ true → is_some (first (filter t' xs)) ≡ true)
+        → is_some (first (if b then x ∷ filter t xs else filter t xs)) ≡ true
         → is_some (first (if c then x ∷ filter t' xs else filter t' xs)) ≡ true
     go b true e f behind is = refl
     go true false e f behind is = let yes : t' x ≡ true = passes x each.0 e in cc
@@ -59,7 +61,8 @@ one_passes : {A : Type 0} (t : A → Bool) (P : A → Type 0) (Q : Type 0) → (
 one_passes t P Q gives [] each is = cc
 one_passes t P Q gives (x ∷ xs) each is = go (t x) refl (one_passes t P Q gives xs each.1) is
   where
-    go : (b : Bool) → t x ≡ b → (is_some (first (filter t xs)) ≡ true → Q) → is_some (first (if b then x ∷ filter t xs else filter t xs)) ≡ true → Q
+    go : (b : Bool) → t x ≡ b → (is_some (first (filter t xs)) ≡ true → Q)
+        → is_some (first (if b then x ∷ filter t xs else filter t xs)) ≡ true → Q
     go true e behind is = gives x each.0 e
     go false e behind is = behind is
 
@@ -75,7 +78,8 @@ always : {A : Type 0} (xs : List A) → Each (λ (x : A). ⊤) xs
 always [] = tt
 always (x ∷ xs) = (tt, always xs)
 
-module _ (p : Program) (rename : ℕ → Name → Name) (is_seen : Name → Bool) (uses : ℕ → Name → Bool) (may : MayMerge p rename is_seen uses) where
+module _ (p : Program) (rename : ℕ → Name → Name) (is_seen : Name → Bool) (uses : ℕ → Name → Bool)
+    (may : MayMerge p rename is_seen uses) where
   abbrev ρ : Renaming
   ρ = merging p rename is_seen uses
 
@@ -99,7 +103,8 @@ module _ (p : Program) (rename : ℕ → Name → Name) (is_seen : Name → Bool
 
   -- ---- a function of external linkage in the unit that defines it
 
-  pub external_seen : (x : Name) (items : List tree.Item) → Each IsSeen (definitions_from 0 items) → is_some (defined_for_all items x) ≡ true → is_seen x ≡ true
+  pub external_seen : (x : Name) (items : List tree.Item) → Each IsSeen (definitions_from 0 items)
+      → is_some (defined_for_all items x) ≡ true → is_seen x ≡ true
   external_seen x items seen is = one_passes (is_this x) IsSeen (is_seen x ≡ true) gives (definitions_from 0 items) seen is
     where
       gives : (d : Definition) → IsSeen d → is_this x d ≡ true → is_seen x ≡ true
@@ -109,7 +114,9 @@ module _ (p : Program) (rename : ℕ → Name → Name) (is_seen : Name → Bool
 
   external_defined : (x : Name) (items : List tree.Item) → is_some (defined_for_all items x) ≡ true → is_some (defined items x) ≡ true
   external_defined x items is =
-      first_passes (is_this x) (λ d. bytes_eq d.func.name x) (λ d. ⊤) (λ d tt e. (both_true (is_external d) (bytes_eq d.func.name x) e).1) (definitions_from 0 items) (always (definitions_from 0 items)) is
+      first_passes (is_this x) (λ d. bytes_eq d.func.name x) (λ d. ⊤)
+      (λ d tt e. (both_true (is_external d) (bytes_eq d.func.name x) e).1) (definitions_from 0 items)
+      (always (definitions_from 0 items)) is
 
   -- the unit that defines a function of external linkage
   record Definer (x : Name) (u : ℕ) : Type 0 where
@@ -119,7 +126,8 @@ module _ (p : Program) (rename : ℕ → Name → Name) (is_seen : Name → Bool
 
   definer_is : (x : Name) (u : ℕ) → definer p x ≡ Some u → Definer x u
   definer_is x u e =
-      let f : Found (λ items. is_some (defined_for_all items x)) 0 u p.units = position_found (λ items. is_some (defined_for_all items x)) 0 u p.units e in
+      let f : Found (λ items. is_some (defined_for_all items x)) 0 u p.units = position_found
+      (λ items. is_some (defined_for_all items x)) 0 u p.units e in
       let is : u ≡ 0 + f.at = f.is in
       let same : f.at ≡ u = omega (arith, is) in
       record { items = f.item; there = subst (λ k. slice_get p.units k ≡ Some f.item) same f.there; is = f.passes }
@@ -153,11 +161,13 @@ module _ (p : Program) (rename : ℕ → Name → Name) (is_seen : Name → Bool
       not_true true e = cc
       not_true false e = refl
 
-      go : (b : Bool) → is_seen f.name ≡ b → is_seen (if b then f.name else rename u f.name) ≡ true → is_seen f.name ≡ not f.is_static → f.is_static ≡ false
+      go : (b : Bool) → is_seen f.name ≡ b → is_seen (if b then f.name else rename u f.name) ≡ true
+          → is_seen f.name ≡ not f.is_static → f.is_static ≡ false
       go true e is seen = not_true f.is_static (sym e ∙ seen)
       go false e is seen = absurd (clash (is_seen (rename u f.name)) is (may.not_seen u f.name))
 
-  items_external : (u : ℕ) (items : List tree.Item) → Each (KeepsSeen is_seen) items → Each (WhereDefined SeenIsExternal) (map (renamed.item ρ u) items)
+  items_external : (u : ℕ) (items : List tree.Item) → Each (KeepsSeen is_seen) items
+      → Each (WhereDefined SeenIsExternal) (map (renamed.item ρ u) items)
   items_external u [] seen = tt
   items_external u (i ∷ items) seen = (item_external u i seen.0, items_external u items seen.1)
 
@@ -166,7 +176,9 @@ module _ (p : Program) (rename : ℕ → Name → Name) (is_seen : Name → Bool
       (each_joined ρ (WhereDefined SeenIsExternal) 0 p.units (λ j items there. items_external (0 + j) items (may.seen j items there)))
 
   seen_definer : (x : Name) → is_seen x ≡ true → is_some (definition_at q 0 x) ≡ true → definer q x ≡ Some 0
-  seen_definer x seen is = ap (λ b. if b then Some 0 else None) (first_passes (λ d. bytes_eq d.func.name x) (is_this x) (λ d. SeenIsExternal d.func) passes (definitions_from 0 (joined ρ 0 p.units)) joined_external is)
+  seen_definer x seen is = ap (λ b. if b then Some 0 else None)
+      (first_passes (λ d. bytes_eq d.func.name x) (is_this x) (λ d. SeenIsExternal d.func) passes
+      (definitions_from 0 (joined ρ 0 p.units)) joined_external is)
     where
       passes : (d : Definition) → SeenIsExternal d.func → bytes_eq d.func.name x ≡ true → is_this x d ≡ true
       passes d external e =
@@ -192,7 +204,8 @@ module _ (p : Program) (rename : ℕ → Name → Name) (is_seen : Name → Bool
   abbrev functions_of : ℕ → List Definition → List FuncAddress
   functions_of u ds = map (λ d. UnitFunc u d.func.name) ds
 
-  found_among : (x : Name) (before ds : List Definition) (d : Definition) → d.func.name ≡ x → is_some (first (filter (λ d. bytes_eq d.func.name x) (before ++ d ∷ ds))) ≡ true
+  found_among : (x : Name) (before ds : List Definition) (d : Definition) → d.func.name ≡ x
+      → is_some (first (filter (λ d. bytes_eq d.func.name x) (before ++ d ∷ ds))) ≡ true
   found_among x [] ds d same =
       let e : bytes_eq d.func.name x ≡ true = (bytes_eq-Decides d.func.name x).1 same in
       ap (λ b. is_some (first (if b then d ∷ filter (λ d. bytes_eq d.func.name x) ds else filter (λ d. bytes_eq d.func.name x) ds))) e
@@ -205,10 +218,12 @@ module _ (p : Program) (rename : ℕ → Name → Name) (is_seen : Name → Bool
       go true behind = refl
       go false behind = behind
 
-  kept_from : (u : ℕ) (items : List tree.Item) → slice_get p.units u ≡ Some items → (before ds : List Definition) → definitions_from 0 items ≡ before ++ ds
+  kept_from : (u : ℕ) (items : List tree.Item) → slice_get p.units u ≡ Some items → (before ds : List Definition)
+      → definitions_from 0 items ≡ before ++ ds
       → Each (KeptFunc ρ) (functions_of u (filter is_init ds))
   kept_from u items there before [] is = tt
-  kept_from u items there before (d ∷ ds) is = go (is_init d) (kept_from u items there (before ++ d ∷ []) ds (is ∙ sym (append_assoc before (d ∷ []) ds)))
+  kept_from u items there before (d ∷ ds) is = go (is_init d)
+      (kept_from u items there (before ++ d ∷ []) ds (is ∙ sym (append_assoc before (d ∷ []) ds)))
     where
       defines : ρ.defines u d.func.name ≡ true
       defines =
@@ -216,18 +231,23 @@ module _ (p : Program) (rename : ℕ → Name → Name) (is_seen : Name → Bool
           ∙ ap (λ l. is_some (first (filter (λ e. bytes_eq e.func.name d.func.name) l))) is
           ∙ found_among d.func.name before ds d refl
 
-      go : (b : Bool) → Each (KeptFunc ρ) (functions_of u (filter is_init ds)) → Each (KeptFunc ρ) (functions_of u (if b then d ∷ filter is_init ds else filter is_init ds))
+      go : (b : Bool) → Each (KeptFunc ρ) (functions_of u (filter is_init ds))
+          → Each (KeptFunc ρ) (functions_of u (if b then d ∷ filter is_init ds else filter is_init ds))
       go true behind = (defines, behind)
       go false behind = behind
 
-  inits_kept : (k : ℕ) (units : List (List tree.Item)) → ((j : ℕ) (items : List tree.Item) → slice_get units j ≡ Some items → slice_get p.units (k + j) ≡ Some items)
-      → Each (KeptFunc ρ) (flat_map (λ e. functions_of e.0 (filter is_init (definitions_from 0 e.1))) (zip (range_with_len k (length units)) units))
+  inits_kept : (k : ℕ) (units : List (List tree.Item))
+      → ((j : ℕ) (items : List tree.Item) → slice_get units j ≡ Some items → slice_get p.units (k + j) ≡ Some items)
+      → Each (KeptFunc ρ) (flat_map (λ e. functions_of e.0 (filter is_init (definitions_from 0 e.1)))
+      (zip (range_with_len k (length units)) units))
   inits_kept k [] there = tt
   inits_kept k (items ∷ units) there =
       let e : k + 0 ≡ k = omega arith in
       each-append (KeptFunc ρ) (functions_of k (filter is_init (definitions_from 0 items))) _
       (kept_from k items (subst (λ n. slice_get p.units n ≡ Some items) e (there 0 items refl)) [] (definitions_from 0 items) refl)
-      (inits_kept (k + 1) units (λ j items at. let g : k + suc j ≡ k + 1 + j = omega arith in subst (λ n. slice_get p.units n ≡ Some items) g (there (suc j) items at)))
+      (inits_kept (k + 1) units
+      (λ j items at. let g : k + suc j
+      ≡ k + 1 + j = omega arith in subst (λ n. slice_get p.units n ≡ Some items) g (there (suc j) items at)))
 
   at_itself : (j : ℕ) (items : List tree.Item) → slice_get p.units j ≡ Some items → slice_get p.units (0 + j) ≡ Some items
   at_itself j items there = let e : j ≡ 0 + j = omega arith in subst (λ n. slice_get p.units n ≡ Some items) e there
@@ -244,7 +264,8 @@ module _ (p : Program) (rename : ℕ → Name → Name) (is_seen : Name → Bool
     inits_kept = inits_kept 0 p.units at_itself;
   }
 
-pub merged_renames : (p : Program) (rename : ℕ → Name → Name) (is_seen : Name → Bool) (uses : ℕ → Name → Bool) → MayMerge p rename is_seen uses
+pub merged_renames : (p : Program) (rename : ℕ → Name → Name) (is_seen : Name → Bool) (uses : ℕ → Name → Bool)
+    → MayMerge p rename is_seen uses
     → Renames (merging p rename is_seen uses) p (merged (merging p rename is_seen uses) p)
 merged_renames p rename is_seen uses may = made_renames (merging p rename is_seen uses) p (merged (merging p rename is_seen uses) p)
     (merging_names rename may.tells p is_seen uses) (merged_made p rename is_seen uses may) (merged_externals p rename is_seen uses may)

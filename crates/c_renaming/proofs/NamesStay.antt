@@ -27,21 +27,26 @@ use Rattle.c_renaming.proofs.Objects.{by_unit}
 abbrev names_in : Machine → List ObjectNames
 names_in m = map names_of m.units
 
-names-with_named : {X : Type 0} (x : Name) (v : X) (entries : List (Name × X)) → map (λ (e : Name × X). e.0) (with_named x v entries) ≡ map (λ (e : Name × X). e.0) entries
+names-with_named : {X : Type 0} (x : Name) (v : X) (entries : List (Name × X))
+    → map (λ (e : Name × X). e.0) (with_named x v entries) ≡ map (λ (e : Name × X). e.0) entries
 names-with_named x v [] = refl
 names-with_named x v (e ∷ entries) = go (bytes_eq e.0 x) (names-with_named x v entries)
   where
-    go : (b : Bool) → map (λ e. e.0) (with_named x v entries) ≡ map (λ e. e.0) entries → map (λ e. e.0) (if b then (e.0, v) ∷ entries else e ∷ with_named x v entries) ≡ e.0 ∷ map (λ e. e.0) entries
+    go : (b : Bool) → map (λ e. e.0) (with_named x v entries) ≡ map (λ e. e.0) entries
+        → map (λ e. e.0) (if b then (e.0, v) ∷ entries else e ∷ with_named x v entries) ≡ e.0 ∷ map (λ e. e.0) entries
     go true behind = refl
     go false behind = ap (λ l. e.0 ∷ l) behind
 
-map-same : (xs : List Objects) (u : ℕ) (old new : Objects) → slice_get xs u ≡ Some old → names_of new ≡ names_of old → map names_of (slice_set xs u new) ≡ map names_of xs
+map-same : (xs : List Objects) (u : ℕ) (old new : Objects) → slice_get xs u ≡ Some old → names_of new ≡ names_of old
+    → map names_of (slice_set xs u new) ≡ map names_of xs
 map-same [] u old new is same = refl
 map-same (x ∷ xs) zero old new is same = let e : x ≡ old = cc in ap (λ n. n ∷ map names_of xs) (same ∙ ap names_of (sym e))
 map-same (x ∷ xs) (suc u) old new is same = ap (λ l. names_of x ∷ l) (map-same xs u old new is same)
 
-objects_stay : (m : Machine) (u : ℕ) (change : Objects → Objects) → ((o : Objects) → names_of (change o) ≡ names_of o) → names_in (with_objects m u change) ≡ names_in m
-objects_stay m u change same = by_unit m u change (λ q. names_in q ≡ names_in m) (λ is. refl) (λ o is. map-same m.units u o (change o) is (same o))
+objects_stay : (m : Machine) (u : ℕ) (change : Objects → Objects) → ((o : Objects) → names_of (change o) ≡ names_of o)
+    → names_in (with_objects m u change) ≡ names_in m
+objects_stay m u change same = by_unit m u change (λ q. names_in q ≡ names_in m) (λ is. refl)
+    (λ o is. map-same m.units u o (change o) is (same o))
 
 module _ (p : Program) (n : List ObjectNames) where
   -- these are the names of the objects
@@ -49,13 +54,31 @@ module _ (p : Program) (n : List ObjectNames) where
   Has m = names_in m ≡ n
 
   has_var : (m : Machine) (a : ObjectAddress) (v : CValue) → Has m → Has (with_var m a v)
-  has_var m a v has = objects_stay m a.unit _ (λ o i. record { vars = names-with_named a.name v o.vars i; memories = map (λ e. e.0) o.memories; tables = map (λ e. e.0) o.tables }) ∙ has
+  has_var m a v has = objects_stay m a.unit _
+      (λ o i. record {
+        vars = names-with_named a.name v o.vars i;
+        memories = map (λ e. e.0) o.memories;
+        tables = map (λ e. e.0)
+            o.tables;
+      }) ∙ has
 
   has_memory : (m : Machine) (a : ObjectAddress) (new : Memory) → Has m → Has (with_memory m a new)
-  has_memory m a new has = objects_stay m a.unit _ (λ o i. record { vars = map (λ e. e.0) o.vars; memories = names-with_named a.name new o.memories i; tables = map (λ e. e.0) o.tables }) ∙ has
+  has_memory m a new has = objects_stay m a.unit _
+      (λ o i. record {
+        vars = map (λ e. e.0) o.vars;
+        memories = names-with_named a.name new o.memories i;
+        tables = map
+            (λ e. e.0) o.tables;
+      }) ∙ has
 
   has_table : (m : Machine) (a : ObjectAddress) (new : Table) → Has m → Has (with_table m a new)
-  has_table m a new has = objects_stay m a.unit _ (λ o i. record { vars = map (λ e. e.0) o.vars; memories = map (λ e. e.0) o.memories; tables = names-with_named a.name new o.tables i }) ∙ has
+  has_table m a new has = objects_stay m a.unit _
+      (λ o i. record {
+        vars = map (λ e. e.0) o.vars;
+        memories = map (λ e. e.0) o.memories;
+        tables = names-with_named a.name new
+            o.tables i;
+      }) ∙ has
 
   -- ---- primitives
 
@@ -70,7 +93,8 @@ module _ (p : Program) (n : List ObjectNames) where
     by_test true x y first second = first
     by_test false x y first second = second
 
-    on_memory : (v : CValue) (go : ObjectAddress → Memory → Effect) → ((a : ObjectAddress) (memory : Memory) → HasEffect (go a memory)) → HasEffect (prim.on_memory v m go)
+    on_memory : (v : CValue) (go : ObjectAddress → Memory → Effect)
+        → ((a : ObjectAddress) (memory : Memory) → HasEffect (go a memory)) → HasEffect (prim.on_memory v m go)
     on_memory (Number v) go does = tt
     on_memory (Pointer None) go does = tt
     on_memory (Pointer (Some a)) go does = at (memory_in m a)
@@ -80,7 +104,8 @@ module _ (p : Program) (n : List ObjectNames) where
         at (Some memory) = does a memory
     on_memory (FuncPointer to) go does = tt
 
-    on_table : (v : CValue) (go : ObjectAddress → Table → Effect) → ((a : ObjectAddress) (table : Table) → HasEffect (go a table)) → HasEffect (prim.on_table v m go)
+    on_table : (v : CValue) (go : ObjectAddress → Table → Effect)
+        → ((a : ObjectAddress) (table : Table) → HasEffect (go a table)) → HasEffect (prim.on_table v m go)
     on_table (Number v) go does = tt
     on_table (Pointer None) go does = tt
     on_table (Pointer (Some a)) go does = at (table_in m a)
@@ -102,7 +127,8 @@ module _ (p : Program) (n : List ObjectNames) where
     trap _ = tt
 
     mem_new : Does prim.mem_new
-    mem_new (pointer ∷ Number (I32 least) ∷ Number (I64 most) ∷ []) = on_memory pointer _ (λ a memory. by_test (memory.is_made || nat_lt 16384 least || nat_lt 4294967296 most) _ _ tt (has_memory m a _ has))
+    mem_new (pointer ∷ Number (I32 least) ∷ Number (I64 most) ∷ []) = on_memory pointer _
+        (λ a memory. by_test (memory.is_made || nat_lt 16384 least || nat_lt 4294967296 most) _ _ tt (has_memory m a _ has))
     mem_new _ = tt
 
     mem_len : Does prim.mem_len
@@ -114,20 +140,25 @@ module _ (p : Program) (n : List ObjectNames) where
     mem_max _ = tt
 
     mem_grow : Does prim.mem_grow
-    mem_grow (pointer ∷ Number (I32 more) ∷ []) = on_memory pointer _ (λ a memory. by_test (nat_le (length memory.bytes / 65536 + more) (min memory.max 16384)) _ _ (has_memory m a _ has) has)
+    mem_grow (pointer ∷ Number (I32 more) ∷ []) = on_memory pointer _
+        (λ a memory. by_test (nat_le (length memory.bytes / 65536 + more) (min memory.max 16384)) _ _ (has_memory m a _ has) has)
     mem_grow _ = tt
 
     get : (width : ℕ) (t : ValType) → Does (prim.get width t)
-    get width t (pointer ∷ Number (I64 place) ∷ []) = on_memory pointer _ (λ a memory. by_test (nat_le (place + width) (length memory.bytes)) _ _ has tt)
+    get width t (pointer ∷ Number (I64 place) ∷ []) = on_memory pointer _
+        (λ a memory. by_test (nat_le (place + width) (length memory.bytes)) _ _ has tt)
     get width t _ = tt
 
     put : (width : ℕ) (t : ValType) → Does (prim.put width t)
     put width t (pointer ∷ Number (I64 place) ∷ Number v ∷ []) =
-        by_test (equal_type t (type_of v)) _ _ (on_memory pointer _ (λ a memory. by_test (nat_le (place + width) (length memory.bytes)) _ _ (has_memory m a _ has) tt)) tt
+        by_test (equal_type t (type_of v)) _ _
+        (on_memory pointer _ (λ a memory. by_test (nat_le (place + width) (length memory.bytes)) _ _ (has_memory m a _ has)
+        tt)) tt
     put width t _ = tt
 
     tab_new : Does prim.tab_new
-    tab_new (pointer ∷ Number (I32 count) ∷ Number (I64 most) ∷ []) = on_table pointer _ (λ a table. by_test (table.is_made || nat_lt 1000000 count) _ _ tt (has_table m a _ has))
+    tab_new (pointer ∷ Number (I32 count) ∷ Number (I64 most) ∷ []) = on_table pointer _
+        (λ a table. by_test (table.is_made || nat_lt 1000000 count) _ _ tt (has_table m a _ has))
     tab_new _ = tt
 
     tab_len : Does prim.tab_len
@@ -161,22 +192,26 @@ module _ (p : Program) (n : List ObjectNames) where
         go (Some o) = has
     tab_fn _ = tt
 
-    set_element : (a : ObjectAddress) (table : Table) (place : ℕ) (f : FuncAddress) (signature : ℕ) → HasEffect (prim.set_element m a table place f signature)
+    set_element : (a : ObjectAddress) (table : Table) (place : ℕ) (f : FuncAddress) (signature : ℕ)
+        → HasEffect (prim.set_element m a table place f signature)
     set_element a table place f signature = go (slice_get table.elements place)
       where
         go : (o : Option (Option Element)) → HasEffect (elim o [
           | None ↦ IsUndefined 7
-          | Some old ↦ if signature == 0 then IsUndefined 8 else Gives (with_table m a (prim.with_element table place (record { func = f; signature = signature }))) None
+          | Some old ↦ if signature == 0 then IsUndefined 8 else Gives
+              (with_table m a (prim.with_element table place (record { func = f; signature = signature }))) None
         ])
         go None = tt
         go (Some old) = by_test (signature == 0) _ _ tt (has_table m a _ has)
 
     tab_set : Does prim.tab_set
     tab_set (pointer ∷ Number (I64 place) ∷ FuncPointer None ∷ Number (I64 signature) ∷ []) = on_table pointer _ (λ a table. tt)
-    tab_set (pointer ∷ Number (I64 place) ∷ FuncPointer (Some f) ∷ Number (I64 signature) ∷ []) = on_table pointer _ (λ a table. set_element a table place f signature)
+    tab_set (pointer ∷ Number (I64 place) ∷ FuncPointer (Some f) ∷ Number (I64 signature) ∷ []) = on_table pointer _
+        (λ a table. set_element a table place f signature)
     tab_set _ = tt
 
-    find_does : (entries : List (Name × (List CValue → Machine → Effect))) → Each (λ e. Does e.1) entries → (x : Name) → Holds Does (named x entries)
+    find_does : (entries : List (Name × (List CValue → Machine → Effect))) → Each (λ e. Does e.1) entries → (x : Name)
+        → Holds Does (named x entries)
     find_does [] each x = tt
     find_does (e ∷ entries) each x = go (bytes_eq e.0 x) (find_does entries each.1 x)
       where
@@ -233,7 +268,8 @@ module _ (p : Program) (n : List ObjectNames) where
   HasStep (Back m v) = Has m
   HasStep (Stops m why) = Has m
 
-  valued : {A : Type 0} (m : Machine) (at : Place) (v : Evaluated A) (go : A → Step) → Has m → ((a : A) → HasStep (go a)) → HasStep (with_value m at v go)
+  valued : {A : Type 0} (m : Machine) (at : Place) (v : Evaluated A) (go : A → Step) → Has m → ((a : A) → HasStep (go a))
+      → HasStep (with_value m at v go)
   valued m at (Is a) go has does = does a
   valued m at (Bad kind) go has does = has
   valued m at NoRule go has does = has
@@ -270,21 +306,25 @@ module _ (p : Program) (n : List ObjectNames) where
   returns : (m : Machine) (r : Running) (v : Option CValue) (below : List Frame) → Has m → HasStep (returned m r v below)
   returns m r v below has = if_step (is_returned r.result v) _ _ (gives m v below has) has
 
-  begins : (o : Option Definition) (u : ℕ) (m : Machine) (args : List CValue) (below : List Frame) → Has m → HasStep (begin o u m args below)
+  begins : (o : Option Definition) (u : ℕ) (m : Machine) (args : List CValue) (below : List Frame) → Has m
+      → HasStep (begin o u m args below)
   begins None u m args below has = has
   begins (Some d) u m args below has = go (first_vars d args)
     where
       go : (o : Option Vars) → HasStep (elim o [
         | None ↦ Stops m Stuck
-        | Some vars ↦ next m (record { unit = u; item = d.item; result = d.func.result; stmts = d.body.stmts; rest = d.body.stmts; vars = vars }) below
+        | Some vars ↦ next m (record
+            { unit = u; item = d.item; result = d.func.result; stmts = d.body.stmts; rest = d.body.stmts; vars = vars }) below
       ])
       go None = has
       go (Some vars) = has
 
-  replies_with : (ty : FuncType) (replies : List Reply) (before : List Event) (a : Ask) (m : Machine) (below : List Frame) → Has m → HasStep (replied ty replies before a m below)
+  replies_with : (ty : FuncType) (replies : List Reply) (before : List Event) (a : Ask) (m : Machine) (below : List Frame)
+      → Has m → HasStep (replied ty replies before a m below)
   replies_with ty [] before a m below has = has
   replies_with ty (HostTrapped ∷ replies) before a m below has = has
-  replies_with ty (Gave result ∷ replies) before a m below has = if_step (is_result ty.result result) _ _ (gives _ (option_map Number result) below has) has
+  replies_with ty (Gave result ∷ replies) before a m below has = if_step (is_result ty.result result) _ _
+      (gives _ (option_map Number result) below has) has
 
   asks_host : (h f : ℕ) (m : Machine) (args : List CValue) (below : List Frame) → Has m → HasStep (ask p h f m args below)
   asks_host h f m args below has = go (host_type p h f) (numbers args)
@@ -301,7 +341,8 @@ module _ (p : Program) (n : List ObjectNames) where
       ])
       go None values = has
       go (Some ty) None = has
-      go (Some ty) (Some values) = if_step (equal_types ty.params (types_of values)) _ _ (replies_with ty m.trail.replies m.trail.events _ m below has) has
+      go (Some ty) (Some values) = if_step (equal_types ty.params (types_of values)) _ _
+          (replies_with ty m.trail.replies m.trail.events _ m below has) has
 
   calls : (f : FuncAddress) (m : Machine) (args : List CValue) (below : List Frame) → Has m → HasStep (call p f m args below)
   calls (UnitFunc u x) m args below has = begins (definition_at p u x) u m args below has
@@ -313,7 +354,8 @@ module _ (p : Program) (n : List ObjectNames) where
   takes_effect (IsUndefined kind) at m below has does = has
   takes_effect NoEffect at m below has does = has
 
-  calls_named : (u : ℕ) (x : Name) (at : Place) (m : Machine) (args : List CValue) (below : List Frame) → Has m → HasStep (call_named p u x at m args below)
+  calls_named : (u : ℕ) (x : Name) (at : Place) (m : Machine) (args : List CValue) (below : List Frame) → Has m
+      → HasStep (call_named p u x at m args below)
   calls_named u x at m args below has = go (prim.primitive x) (func_named p u x) (primitives_do m has x)
     where
       go : (does : Option (List CValue → Machine → Effect)) (f : Option FuncAddress) → Holds (Does m has) does → HasStep (elim does [
@@ -324,7 +366,8 @@ module _ (p : Program) (n : List ObjectNames) where
       go None None holds = has
       go None (Some f) holds = calls f m args below has
 
-  calls_through : (o : Option CValue) (want : tree.FuncType) (at : Place) (m : Machine) (args : List CValue) (below : List Frame) → Has m → HasStep (call_through p o want at m args below)
+  calls_through : (o : Option CValue) (want : tree.FuncType) (at : Place) (m : Machine) (args : List CValue)
+      (below : List Frame) → Has m → HasStep (call_through p o want at m args below)
   calls_through None want at m args below has = has
   calls_through (Some (Number v)) want at m args below has = has
   calls_through (Some (Pointer to)) want at m args below has = has
@@ -338,7 +381,8 @@ module _ (p : Program) (n : List ObjectNames) where
       go None = has
       go (Some ty) = if_step (same_func_type ty want) _ _ (calls f m args below has) has
 
-  calls_callee : (f : tree.Callee) (at : Place) (m : Machine) (r : Running) (args : List CValue) (below : List Frame) → Has m → HasStep (call_callee p f at m r args below)
+  calls_callee : (f : tree.Callee) (at : Place) (m : Machine) (r : Running) (args : List CValue) (below : List Frame) → Has m
+      → HasStep (call_callee p f at m r args below)
   calls_callee (tree.Called x) at m r args below has = calls_named r.unit x at m args below has
   calls_callee (tree.Through want x) at m r args below has = calls_through (value_of m r x) want at m args below has
 
@@ -360,8 +404,10 @@ module _ (p : Program) (n : List ObjectNames) where
       puts m (var_in m a) (Number v) _ has (has_var m a (Number v) has)))
   acts m r (tree.Call target f args ∷ rest) below has = valued m _ (evaluate_args p m r args) _ has (λ vs. calls_callee f _ m r vs _ has)
   acts m r (tree.Goto x ∷ rest) below has = jumps m r x below has
-  acts m r (tree.If op left right x ∷ rest) below has = valued m _ (evaluate p m r (tree.Op op left right)) _ has (λ v. if_step (number_of v == 0) _ _ has (jumps m r x below has))
-  acts m r (tree.Switch e cases default ∷ rest) below has = valued m _ (evaluate p m r e) _ has (λ v. jumps m r (label_of v cases default) below has)
+  acts m r (tree.If op left right x ∷ rest) below has = valued m _ (evaluate p m r (tree.Op op left right)) _ has
+      (λ v. if_step (number_of v == 0) _ _ has (jumps m r x below has))
+  acts m r (tree.Switch e cases default ∷ rest) below has = valued m _ (evaluate p m r e) _ has
+      (λ v. jumps m r (label_of v cases default) below has)
   acts m r (tree.ReturnNone ∷ rest) below has = returns m r None below has
   acts m r (tree.Return a ∷ rest) below has = valued m _ (evaluate_arg p m r a) _ has (λ v. returns m r (Some v) below has)
 
@@ -400,16 +446,19 @@ module _ (p : Program) (n : List ObjectNames) where
   has_after : (k : ℕ) (x : Progress) → HasProgress x → HasProgress (after p k x)
   has_after zero x has = has
   has_after (suc k) (Over run) has = has
-  has_after (suc k) (Going pending s) has = has_after k (go_on p pending (c_step p s)) (has_on pending (c_step p s) (acts s.machine s.running s.running.rest s.below has))
+  has_after (suc k) (Going pending s) has = has_after k (go_on p pending (c_step p s))
+      (has_on pending (c_step p s) (acts s.machine s.running s.running.rest s.below has))
 
   has_run : (x : Progress) → HasProgress x → map names_of (run_of x).units ≡ n
   has_run (Going pending s) has = has
   has_run (Over run) has = has
 
-pub names_stay : (p : Program) (calls : List SymbolCall) (m : ℕ) (replies : List Reply) → map names_of (c_run p calls m replies).units ≡ declared_names p
+pub names_stay : (p : Program) (calls : List SymbolCall) (m : ℕ) (replies : List Reply)
+    → map names_of (c_run p calls m replies).units ≡ declared_names p
 names_stay p calls m replies =
     has_run p (declared_names p) (after p m (c_start p calls replies))
-    (has_after p (declared_names p) m (c_start p calls replies) (has_entry p (declared_names p) (fresh p replies) (Init 0) (entries_of p calls) (mapped p.units)))
+    (has_after p (declared_names p) m (c_start p calls replies)
+    (has_entry p (declared_names p) (fresh p replies) (Init 0) (entries_of p calls) (mapped p.units)))
   where
     mapped : (units : List (List tree.Item)) → map names_of (map objects_of units) ≡ map (λ items. names_of (objects_of items)) units
     mapped [] = refl

@@ -94,5 +94,17 @@ none_inside (e ∷ entries) each x inside = go (bytes_eq e.0 x) refl (none_insid
 pub primitives_outside : (x : Name) → is_outside x ≡ false → primitive x ≡ None
 primitives_outside = none_inside primitives (
   refl,
-  (refl, (refl, (refl, (refl, (refl, (refl, (refl, (refl, (refl, (refl, (refl, (refl, (refl, (refl, (refl, (refl, (refl, (refl, tt)))))))))))))))))),
+  (
+    refl,
+    (
+      refl,
+      (
+        refl,
+        (
+          refl,
+          (refl, (refl, (refl, (refl, (refl, (refl, (refl, (refl, (refl, (refl, (refl, (refl, (refl, (refl, tt)))))))))))))),
+        ),
+      ),
+    ),
+  ),
 )

@@ -44,7 +44,8 @@ numbers-kept ρ [] = tt
 numbers-kept ρ (v ∷ args) = (tt, numbers-kept ρ args)
 
 module _ (ρ : Renaming) (p q : Program) (names : KeepsNames ρ) (meanings : KeepsMeanings ρ p q) where
-  over_same : (pending : Pending) (m n : Machine) (o o' : Outcome) → SameMachine ρ m n → o' ≡ renamed.outcome ρ o → SameRun ρ (over pending m o) (over (pending' ρ pending) n o')
+  over_same : (pending : Pending) (m n : Machine) (o o' : Outcome) → SameMachine ρ m n → o' ≡ renamed.outcome ρ o
+      → SameRun ρ (over pending m o) (over (pending' ρ pending) n o')
   over_same pending m n o o' same is = record {
     phase = refl;
     events = λ i. (same.trail i).events;
@@ -52,10 +53,12 @@ module _ (ρ : Renaming) (p q : Program) (names : KeepsNames ρ) (meanings : Kee
     objects = record { vars = same.objects.vars; memories = same.objects.memories; tables = same.objects.tables };
   }
 
-  begun_same : (pending : Pending) (st st' : Step) → KeptEntries ρ pending.entries → SameStep ρ st st' → SameProgress ρ (begun pending st) (begun (pending' ρ pending) st')
+  begun_same : (pending : Pending) (st st' : Step) → KeptEntries ρ pending.entries → SameStep ρ st st'
+      → SameProgress ρ (begun pending st) (begun (pending' ρ pending) st')
   begun_same pending (Next s) (Next t) kept same = (refl, kept, same)
   begun_same pending (Back m v) (Back n w) kept same = over_same pending m n (Stopped Stuck) (Stopped Stuck) same.0 refl
-  begun_same pending (Stops m why) (Stops n other) kept same = over_same pending m n (Stopped why) (Stopped other) same.0 (ap Stopped same.1)
+  begun_same pending (Stops m why) (Stops n other) kept same = over_same pending m n (Stopped why) (Stopped other) same.0
+      (ap Stopped same.1)
   begun_same pending _ _ kept same = absurd same
 
   begin_entry_same : (m n : Machine) (last : Phase) (entries : List Entry) → SameMachine ρ m n → KeptEntries ρ entries
@@ -67,8 +70,16 @@ module _ (ρ : Renaming) (p q : Program) (names : KeepsNames ρ) (meanings : Kee
       pending = record { phase = e.phase; entries = entries }
 
       go : (f : Option FuncAddress) → Holds (KeptFunc ρ) f
-          → SameProgress ρ (elim f [ None ↦ Over (over pending m (Stopped Stuck)) | Some f ↦ begun pending (call p f m (map Number e.args) []) ])
-          (elim (option_map (address ρ) f) [ None ↦ Over (over (pending' ρ pending) n (Stopped Stuck)) | Some f ↦ begun (pending' ρ pending) (call q f n (map Number e.args) []) ])
+          → SameProgress ρ (elim f [
+            | None ↦ Over (over pending m (Stopped Stuck))
+            | Some f ↦ begun pending
+                (call p f m (map Number e.args) [])
+          ])
+          (elim (option_map (address ρ) f) [
+            | None ↦ Over (over (pending' ρ pending) n (Stopped Stuck))
+            | Some f ↦ begun (pending' ρ pending)
+                (call q f n (map Number e.args) [])
+          ])
       go None holds = over_same pending m n (Stopped Stuck) (Stopped Stuck) same refl
       go (Some f) holds = begun_same pending (call p f m (map Number e.args) []) (call q (address ρ f) n (map Number e.args) []) kept.1
           (subst (λ args. SameStep ρ (call p f m (map Number e.args) []) (call q (address ρ f) n args [])) (map-number ρ e.args)
@@ -76,23 +87,29 @@ module _ (ρ : Renaming) (p q : Program) (names : KeepsNames ρ) (meanings : Kee
 
   -- the end of a call is told
   told_same : (m n : Machine) → SameMachine ρ m n → (value : Option Value) → SameMachine ρ (told_end m value) (told_end n value)
-  told_same m n same value = subst (λ trail. SameMachine ρ (told_end m value) (with_trail n (call_ended trail value))) (sym same.trail) (same_trail ρ names m n same (call_ended m.trail value))
+  told_same m n same value = subst (λ trail. SameMachine ρ (told_end m value) (with_trail n (call_ended trail value)))
+      (sym same.trail) (same_trail ρ names m n same (call_ended m.trail value))
 
-  came_back_same : (pending : Pending) (m n : Machine) (phase : Phase) (v : Option CValue) → SameMachine ρ m n → KeptEntries ρ pending.entries
+  came_back_same : (pending : Pending) (m n : Machine) (phase : Phase) (v : Option CValue) → SameMachine ρ m n
+      → KeptEntries ρ pending.entries
       → SameProgress ρ (came_back p pending m phase v) (came_back q (pending' ρ pending) n phase (option_map (renamed.value ρ) v))
   came_back_same pending m n (Init k) None same kept = begin_entry_same m n (Init k) pending.entries same kept
-  came_back_same pending m n (Call k) None same kept = begin_entry_same (told_end m None) (told_end n None) (Call k) pending.entries (told_same m n same None) kept
-  came_back_same pending m n (Call k) (Some (Number v)) same kept = begin_entry_same (told_end m (Some v)) (told_end n (Some v)) (Call k) pending.entries (told_same m n same (Some v)) kept
+  came_back_same pending m n (Call k) None same kept = begin_entry_same (told_end m None) (told_end n None) (Call k)
+      pending.entries (told_same m n same None) kept
+  came_back_same pending m n (Call k) (Some (Number v)) same kept = begin_entry_same (told_end m (Some v)) (told_end n (Some v))
+      (Call k) pending.entries (told_same m n same (Some v)) kept
   came_back_same pending m n (Call k) (Some (Pointer to)) same kept = over_same pending m n (Stopped Stuck) (Stopped Stuck) same refl
   came_back_same pending m n (Call k) (Some (FuncPointer to)) same kept = over_same pending m n (Stopped Stuck) (Stopped Stuck) same refl
   came_back_same pending m n (Init k) (Some v) same kept = over_same pending m n (Stopped Stuck) (Stopped Stuck) same refl
 
-  go_on_same : (pending : Pending) (st st' : Step) → KeptEntries ρ pending.entries → SameStep ρ st st' → SameProgress ρ (go_on p pending st) (go_on q (pending' ρ pending) st')
+  go_on_same : (pending : Pending) (st st' : Step) → KeptEntries ρ pending.entries → SameStep ρ st st'
+      → SameProgress ρ (go_on p pending st) (go_on q (pending' ρ pending) st')
   go_on_same pending (Next s) (Next t) kept same = (refl, kept, same)
   go_on_same pending (Back m v) (Back n w) kept same =
       subst (λ w. SameProgress ρ (came_back p pending m pending.phase v) (came_back q (pending' ρ pending) n pending.phase w)) (sym same.1)
       (came_back_same pending m n pending.phase v same.0 kept)
-  go_on_same pending (Stops m why) (Stops n other) kept same = over_same pending m n (Stopped why) (Stopped other) same.0 (ap Stopped same.1)
+  go_on_same pending (Stops m why) (Stops n other) kept same = over_same pending m n (Stopped why) (Stopped other) same.0
+      (ap Stopped same.1)
   go_on_same pending _ _ kept same = absurd same
 
   pub after_same : (k : ℕ) (x y : Progress) → SameProgress ρ x y → SameProgress ρ (after p k x) (after q k y)
@@ -122,11 +139,13 @@ abbrev call_entry : Program → ℕ × SymbolCall → Entry
 call_entry p c = record { phase = Call c.0; func = called_func p c.1; args = c.1.args }
 
 init_entries : (ρ : Renaming) (k : ℕ) (fs : List FuncAddress)
-    → map init_entry (zip (range_with_len k (length (map (address ρ) fs))) (map (address ρ) fs)) ≡ map (entry ρ) (map init_entry (zip (range_with_len k (length fs)) fs))
+    → map init_entry (zip (range_with_len k (length (map (address ρ) fs))) (map (address ρ) fs))
+    ≡ map (entry ρ) (map init_entry (zip (range_with_len k (length fs)) fs))
 init_entries ρ k [] = refl
 init_entries ρ k (f ∷ fs) = ap (λ l. init_entry (k, address ρ f) ∷ l) (init_entries ρ (k + 1) fs)
 
-init_entries_kept : (ρ : Renaming) (k : ℕ) (fs : List FuncAddress) → Each (KeptFunc ρ) fs → KeptEntries ρ (map init_entry (zip (range_with_len k (length fs)) fs))
+init_entries_kept : (ρ : Renaming) (k : ℕ) (fs : List FuncAddress) → Each (KeptFunc ρ) fs
+    → KeptEntries ρ (map init_entry (zip (range_with_len k (length fs)) fs))
 init_entries_kept ρ k [] kept = tt
 init_entries_kept ρ k (f ∷ fs) kept = (kept.0, init_entries_kept ρ (k + 1) fs kept.1)
 
@@ -154,12 +173,16 @@ module _ (ρ : Renaming) (p q : Program) (begins : KeepsBegins ρ p q) where
   entries_kept calls = append_kept ρ (map init_entry (numbered (init_functions p))) (map (call_entry p) (numbered calls))
       (init_entries_kept ρ 0 (init_functions p) begins.inits_kept) (call_entries_kept (numbered calls))
 
-pub start_same : (ρ : Renaming) (p q : Program) → Renames ρ p q → (calls : List SymbolCall) (replies : List Reply) → SameProgress ρ (c_start p calls replies) (c_start q calls replies)
+pub start_same : (ρ : Renaming) (p q : Program) → Renames ρ p q → (calls : List SymbolCall) (replies : List Reply)
+    → SameProgress ρ (c_start p calls replies) (c_start q calls replies)
 start_same ρ p q is calls replies =
-    subst (λ es. SameProgress ρ (c_start p calls replies) (begin_entry q (fresh q replies) (Init 0) es)) (sym (entries_same ρ p q is.begins calls))
-    (begin_entry_same ρ p q is.names is.meanings (fresh p replies) (fresh q replies) (Init 0) (entries_of p calls) (is.begins.machines replies) (entries_kept ρ p q is.begins calls))
+    subst (λ es. SameProgress ρ (c_start p calls replies) (begin_entry q (fresh q replies) (Init 0) es))
+    (sym (entries_same ρ p q is.begins calls))
+    (begin_entry_same ρ p q is.names is.meanings (fresh p replies) (fresh q replies) (Init 0) (entries_of p calls)
+    (is.begins.machines replies) (entries_kept ρ p q is.begins calls))
 
-pub runs_same : (ρ : Renaming) (p q : Program) → Renames ρ p q → (calls : List SymbolCall) (m : ℕ) (replies : List Reply) → SameRun ρ (c_run p calls m replies) (c_run q calls m replies)
+pub runs_same : (ρ : Renaming) (p q : Program) → Renames ρ p q → (calls : List SymbolCall) (m : ℕ) (replies : List Reply)
+    → SameRun ρ (c_run p calls m replies) (c_run q calls m replies)
 runs_same ρ p q is calls m replies =
     run_of_same ρ p q is.names is.meanings (after p m (c_start p calls replies)) (after q m (c_start q calls replies))
     (after_same ρ p q is.names is.meanings m (c_start p calls replies) (c_start q calls replies) (start_same ρ p q is calls replies))

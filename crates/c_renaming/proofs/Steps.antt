@@ -48,14 +48,16 @@ numbers_kept ρ (Some v) = tt
 -- ---- what a statement is made of, on machines that are the same
 
 module _ (ρ : Renaming) (names : KeepsNames ρ) (m n : Machine) (same : SameMachine ρ m n) where
-  goes_on : (r : Running) (below : List Frame) → KeptRunning ρ r → KeptFrames ρ below → SameStep ρ (next m r below) (next n (renamed.running ρ r) (frames ρ below))
+  goes_on : (r : Running) (below : List Frame) → KeptRunning ρ r → KeptFrames ρ below
+      → SameStep ρ (next m r below) (next n (renamed.running ρ r) (frames ρ below))
   goes_on r below running rest = record { machine = same; running = refl; below = refl; running_kept = running; below_kept = rest }
 
   stuck : SameStep ρ (Stops m Stuck) (Stops n Stuck)
   stuck = (same, refl)
 
   valued : {A B : Type 0} (f : A → B) (at : Place) (v : Evaluated A) (go : A → Step) (go' : B → Step)
-      → ((a : A) → v ≡ Is a → SameStep ρ (go a) (go' (f a))) → SameStep ρ (with_value m at v go) (with_value n (place ρ at) (come_to f v) go')
+      → ((a : A) → v ≡ Is a → SameStep ρ (go a) (go' (f a)))
+      → SameStep ρ (with_value m at v go) (with_value n (place ρ at) (come_to f v) go')
   valued f at (Is a) go go' does = does a refl
   valued f at (Bad kind) go go' does = (same, refl)
   valued f at NoRule go go' does = stuck
@@ -71,21 +73,26 @@ module _ (ρ : Renaming) (names : KeepsNames ρ) (m n : Machine) (same : SameMac
   pub jump_same : (r : Running) (name : Name) (below : List Frame) → KeptRunning ρ r → KeptFrames ρ below
       → SameStep ρ (jump m r name below) (jump n (renamed.running ρ r) (ρ.label r.unit name) (frames ρ below))
   jump_same r name below running rest =
-      subst (λ o. SameStep ρ (jump m r name below) (elim o [ None ↦ Stops n Stuck | Some to ↦ next n (at_rest (renamed.running ρ r) to) (frames ρ below) ])) (sym (after_label-stmts ρ names r.unit name r.stmts))
+      subst (λ o. SameStep ρ (jump m r name below)
+      (elim o [ None ↦ Stops n Stuck | Some to ↦ next n (at_rest (renamed.running ρ r) to) (frames ρ below) ]))
+      (sym (after_label-stmts ρ names r.unit name r.stmts))
       (go (after_label name r.stmts) (after_label-kept ρ names r.unit name r.stmts running.stmts))
     where
       go : (o : Option (List tree.Stmt)) → Holds (Each (KeptStmt ρ r.unit)) o
           → SameStep ρ (elim o [ None ↦ Stops m Stuck | Some to ↦ next m (at_rest r to) below ])
-          (elim (option_map (map (renamed.stmt ρ r.unit)) o) [ None ↦ Stops n Stuck | Some to ↦ next n (at_rest (renamed.running ρ r) to) (frames ρ below) ])
+          (elim (option_map (map (renamed.stmt ρ r.unit)) o)
+          [ None ↦ Stops n Stuck | Some to ↦ next n (at_rest (renamed.running ρ r) to) (frames ρ below) ])
       go None kept = stuck
       go (Some to) kept = goes_on (at_rest r to) below (record { stmts = running.stmts; rest = kept; vars = running.vars }) rest
 
 -- ---- what changes the machine
 
-module _ (ρ : Renaming) (p q : Program) (names : KeepsNames ρ) (meanings : KeepsMeanings ρ p q) (m n : Machine) (same : SameMachine ρ m n) where
+module _ (ρ : Renaming) (p q : Program) (names : KeepsNames ρ) (meanings : KeepsMeanings ρ p q) (m n : Machine)
+    (same : SameMachine ρ m n) where
   assign_depth_same : (r : Running) (v : CValue) (below : List Frame) → KeptRunning ρ r → KeptFrames ρ below
       → SameStep ρ (assign_depth m r v below) (assign_depth n (renamed.running ρ r) (renamed.value ρ v) (frames ρ below))
-  assign_depth_same r (Number (I32 k)) below running rest = goes_on ρ names (with_depth m k) (with_depth n k) (same_depth ρ names m n same k) r below running rest
+  assign_depth_same r (Number (I32 k)) below running rest = goes_on ρ names (with_depth m k) (with_depth n k)
+      (same_depth ρ names m n same k) r below running rest
   assign_depth_same r (Number (I64 k)) below running rest = (same, refl)
   assign_depth_same r (Pointer to) below running rest = (same, refl)
   assign_depth_same r (FuncPointer to) below running rest = (same, refl)
@@ -95,7 +102,8 @@ module _ (ρ : Renaming) (p q : Program) (names : KeepsNames ρ) (meanings : Kee
       → SameStep ρ (put_in m o v x) (put_in n (option_map (renamed.value ρ) o) (renamed.value ρ v) y)
   put_in_same None v x y does = (same, refl)
   put_in_same (Some held) v x y does =
-      subst (λ b. SameStep ρ (if of_one_type held v then x else Stops m Stuck) (if b then y else Stops n Stuck)) (sym (one_type held v)) (by_test (of_one_type held v))
+      subst (λ b. SameStep ρ (if of_one_type held v then x else Stops m Stuck) (if b then y else Stops n Stuck))
+      (sym (one_type held v)) (by_test (of_one_type held v))
     where
       one_type : (held v : CValue) → of_one_type (renamed.value ρ held) (renamed.value ρ v) ≡ of_one_type held v
       one_type (Number v) (Number w) = refl
@@ -115,7 +123,9 @@ module _ (ρ : Renaming) (p q : Program) (names : KeepsNames ρ) (meanings : Kee
   pub assign_same : (r : Running) (x : Name) (v : CValue) (below : List Frame) → KeptRunning ρ r → KeptValue ρ v → KeptFrames ρ below
       → SameStep ρ (assign m r x v below) (assign n (renamed.running ρ r) (ρ.var r.unit x) (renamed.value ρ v) (frames ρ below))
   assign_same r x v below running kept rest =
-      subst (λ b. SameStep ρ (assign m r x v below) (if b then assign_depth n r' v' below' else local n r' x' v' below' (is_some (named x' r'.vars)))) (sym (is_depth ρ names r.unit x))
+      subst (λ b. SameStep ρ (assign m r x v below)
+      (if b then assign_depth n r' v' below' else local n r' x' v' below' (is_some (named x' r'.vars))))
+      (sym (is_depth ρ names r.unit x))
       (by_depth (bytes_eq x depth_name) refl)
     where
       r' : Running
@@ -134,25 +144,35 @@ module _ (ρ : Renaming) (p q : Program) (names : KeepsNames ρ) (meanings : Kee
       file m r x v below = put_in m (var_in m (in_unit r x)) v (next (with_var m (in_unit r x) v) r below)
 
       local : Machine → Running → Name → CValue → List Frame → Bool → Step
-      local m r x v below b = if b then put_in m (named x r.vars) v (next m (with_vars r (with_named x v r.vars)) below) else file m r x v below
+      local m r x v below b = if b then put_in m (named x r.vars) v (next m (with_vars r (with_named x v r.vars)) below) else
+          file m r x v below
 
       by_file : bytes_eq x depth_name ≡ false → SameStep ρ (file m r x v below) (file n r' x' v' below')
       by_file apart =
-          subst (λ o. SameStep ρ (file m r x v below) (put_in n o v' (next (with_var n (in_unit r' x') v') r' below'))) (sym (var_same ρ p q names meanings m n same r.unit x apart))
-          (put_in_same (var_in m (in_unit r x)) v (next (with_var m (in_unit r x) v) r below) (next (with_var n (in_unit r' x') v') r' below') (λ is.
-          subst (λ a. SameStep ρ (next (with_var m (in_unit r x) v) r below) (next (with_var n a v') r' below')) (names.object_names r.unit x apart)
-          (goes_on ρ names (with_var m (in_unit r x) v) (with_var n (ρ.object (in_unit r x)) v') (same_var ρ names m n same (in_unit r x) v is kept) r below running rest)))
+          subst (λ o. SameStep ρ (file m r x v below) (put_in n o v' (next (with_var n (in_unit r' x') v') r' below')))
+          (sym (var_same ρ p q names meanings m n same r.unit x apart))
+          (put_in_same (var_in m (in_unit r x)) v (next (with_var m (in_unit r x) v) r below)
+          (next (with_var n (in_unit r' x') v') r' below') (λ is.
+          subst (λ a. SameStep ρ (next (with_var m (in_unit r x) v) r below) (next (with_var n a v') r' below'))
+          (names.object_names r.unit x apart)
+          (goes_on ρ names (with_var m (in_unit r x) v) (with_var n (ρ.object (in_unit r x)) v')
+          (same_var ρ names m n same (in_unit r x) v is kept) r below running rest)))
 
       by_local : (b : Bool) → bytes_eq x depth_name ≡ false → SameStep ρ (local m r x v below b) (local n r' x' v' below' b)
       by_local true apart =
-          subst (λ o. SameStep ρ (local m r x v below true) (put_in n o v' (next n (with_vars r' (with_named x' v' r'.vars)) below'))) (sym (named-vars ρ names r.unit x r.vars))
-          (put_in_same (named x r.vars) v (next m (with_vars r (with_named x v r.vars)) below) (next n (with_vars r' (with_named x' v' r'.vars)) below') (λ is.
-          subst (λ vars. SameStep ρ (next m (with_vars r (with_named x v r.vars)) below) (next n (with_vars r' vars) below')) (sym (with_named-vars ρ names r.unit x v r.vars))
-          (goes_on ρ names m n same (with_vars r (with_named x v r.vars)) below (record { stmts = running.stmts; rest = running.rest; vars = with_named-kept ρ x v r.vars running.vars kept }) rest)))
+          subst (λ o. SameStep ρ (local m r x v below true)
+          (put_in n o v' (next n (with_vars r' (with_named x' v' r'.vars)) below'))) (sym (named-vars ρ names r.unit x r.vars))
+          (put_in_same (named x r.vars) v (next m (with_vars r (with_named x v r.vars)) below)
+          (next n (with_vars r' (with_named x' v' r'.vars)) below') (λ is.
+          subst (λ vars. SameStep ρ (next m (with_vars r (with_named x v r.vars)) below) (next n (with_vars r' vars) below'))
+          (sym (with_named-vars ρ names r.unit x v r.vars))
+          (goes_on ρ names m n same (with_vars r (with_named x v r.vars)) below
+          (record { stmts = running.stmts; rest = running.rest; vars = with_named-kept ρ x v r.vars running.vars kept }) rest)))
       by_local false apart = by_file apart
 
       by_depth : (b : Bool) → bytes_eq x depth_name ≡ b
-          → SameStep ρ (if b then assign_depth m r v below else local m r x v below (is_some (named x r.vars))) (if b then assign_depth n r' v' below' else local n r' x' v' below' (is_some (named x' r'.vars)))
+          → SameStep ρ (if b then assign_depth m r v below else local m r x v below (is_some (named x r.vars)))
+          (if b then assign_depth n r' v' below' else local n r' x' v' below' (is_some (named x' r'.vars)))
       by_depth true is = assign_depth_same r v below running rest
       by_depth false is =
           subst (λ b. SameStep ρ (local m r x v below (is_some (named x r.vars))) (local n r' x' v' below' b))
@@ -165,7 +185,9 @@ module _ (ρ : Renaming) (p q : Program) (names : KeepsNames ρ) (meanings : Kee
   give_same v (f ∷ below) kept rest = go f.target v kept
     where
       go : (target : Option Name) (v : Option CValue) → Holds (KeptValue ρ) v
-          → SameStep ρ (give m v (record { target = target; running = f.running } ∷ below)) (give n (option_map (renamed.value ρ) v) (renamed.frame ρ (record { target = target; running = f.running }) ∷ frames ρ below))
+          → SameStep ρ (give m v (record { target = target; running = f.running } ∷ below))
+          (give n (option_map (renamed.value ρ) v)
+          (renamed.frame ρ (record { target = target; running = f.running }) ∷ frames ρ below))
       go None v kept = goes_on ρ names m n same f.running below rest.0 rest.1
       go (Some x) None kept = (same, refl)
       go (Some x) (Some v) kept = assign_same f.running x v below rest.0 kept rest.1
@@ -174,18 +196,23 @@ module _ (ρ : Renaming) (p q : Program) (names : KeepsNames ρ) (meanings : Kee
   pub returned_same : (r : Running) (v : Option CValue) (below : List Frame) → Holds (KeptValue ρ) v → KeptFrames ρ below
       → SameStep ρ (returned m r v below) (returned n (renamed.running ρ r) (option_map (renamed.value ρ) v) (frames ρ below))
   returned_same r v below kept rest =
-      subst (λ b. SameStep ρ (returned m r v below) (if b then give n (option_map (renamed.value ρ) v) (frames ρ below) else Stops n Stuck)) (sym (one_type v)) (by_test (is_returned r.result v))
+      subst (λ b. SameStep ρ (returned m r v below)
+      (if b then give n (option_map (renamed.value ρ) v) (frames ρ below) else Stops n Stuck)) (sym (one_type v))
+      (by_test (is_returned r.result v))
     where
       one_type : (v : Option CValue) → is_returned r.result (option_map (renamed.value ρ) v) ≡ is_returned r.result v
       one_type None = refl
       one_type (Some v) = of_type-value ρ r.result v
 
-      by_test : (b : Bool) → SameStep ρ (if b then give m v below else Stops m Stuck) (if b then give n (option_map (renamed.value ρ) v) (frames ρ below) else Stops n Stuck)
+      by_test : (b : Bool) → SameStep ρ (if b then give m v below else Stops m Stuck)
+          (if b then give n (option_map (renamed.value ρ) v) (frames ρ below) else Stops n Stuck)
       by_test true = give_same v below kept rest
       by_test false = (same, refl)
 
-  begin_same : (o : Option Definition) (u : ℕ) (args : List CValue) (below : List Frame) → Holds (KeptDefinition ρ u) o → Each (KeptValue ρ) args → KeptFrames ρ below
-      → SameStep ρ (begin o u m args below) (begin (option_map (renamed.definition ρ u) o) (ρ.unit u) n (map (renamed.value ρ) args) (frames ρ below))
+  begin_same : (o : Option Definition) (u : ℕ) (args : List CValue) (below : List Frame) → Holds (KeptDefinition ρ u) o
+      → Each (KeptValue ρ) args → KeptFrames ρ below
+      → SameStep ρ (begin o u m args below)
+      (begin (option_map (renamed.definition ρ u) o) (ρ.unit u) n (map (renamed.value ρ) args) (frames ρ below))
   begin_same None u args below defined kept rest = (same, refl)
   begin_same (Some d) u args below defined kept rest =
       subst (λ o. SameStep ρ (begin (Some d) u m args below) (there o)) (sym (first_vars-definition ρ u d args))
@@ -194,26 +221,38 @@ module _ (ρ : Renaming) (p q : Program) (names : KeepsNames ρ) (meanings : Kee
       here : Option Vars → Step
       here o = elim o [
         | None ↦ Stops m Stuck
-        | Some vars ↦ next m (record { unit = u; item = d.item; result = d.func.result; stmts = d.body.stmts; rest = d.body.stmts; vars = vars }) below
+        | Some vars ↦ next m (record
+            { unit = u; item = d.item; result = d.func.result; stmts = d.body.stmts; rest = d.body.stmts; vars = vars }) below
       ]
 
       there : Option Vars → Step
       there o = elim o [
         | None ↦ Stops n Stuck
-        | Some vars ↦ next n (record { unit = ρ.unit u; item = ρ.item u d.item; result = d.func.result; stmts = map (renamed.stmt ρ u) d.body.stmts; rest = map (renamed.stmt ρ u) d.body.stmts; vars = vars }) (frames ρ below)
+        | Some vars ↦ next n (record {
+          unit = ρ.unit u;
+          item = ρ.item u d.item;
+          result = d.func.result;
+          stmts = map (renamed.stmt ρ u) d.body.stmts;
+          rest = map (renamed.stmt ρ u) d.body.stmts;
+          vars = vars;
+        }) (frames ρ below)
       ]
 
       go : (o : Option Vars) → Holds (KeptVars ρ) o → SameStep ρ (here o) (there (option_map (renamed.vars ρ u) o))
       go None holds = (same, refl)
-      go (Some vars) holds = goes_on ρ names m n same (record { unit = u; item = d.item; result = d.func.result; stmts = d.body.stmts; rest = d.body.stmts; vars = vars }) below (record { stmts = defined; rest = defined; vars = holds }) rest
+      go (Some vars) holds = goes_on ρ names m n same
+          (record { unit = u; item = d.item; result = d.func.result; stmts = d.body.stmts; rest = d.body.stmts; vars = vars })
+          below (record { stmts = defined; rest = defined; vars = holds }) rest
 
 -- ---- calls
 
-module _ (ρ : Renaming) (p q : Program) (names : KeepsNames ρ) (meanings : KeepsMeanings ρ p q) (m n : Machine) (same : SameMachine ρ m n) where
+module _ (ρ : Renaming) (p q : Program) (names : KeepsNames ρ) (meanings : KeepsMeanings ρ p q) (m n : Machine)
+    (same : SameMachine ρ m n) where
   replied_same : (ty : FuncType) (replies : List Reply) (before : List Event) (a : Ask) (below : List Frame) → KeptFrames ρ below
       → SameStep ρ (replied ty replies before a m below) (replied ty replies before a n (frames ρ below))
   replied_same ty [] before a below rest = (same_trail ρ names m n same (asked before a None []), refl)
-  replied_same ty (HostTrapped ∷ replies) before a below rest = (same_trail ρ names m n same (asked before a (Some HostTrapped) replies), refl)
+  replied_same ty (HostTrapped ∷ replies) before a below rest =
+      (same_trail ρ names m n same (asked before a (Some HostTrapped) replies), refl)
   replied_same ty (Gave result ∷ replies) before a below rest = go (is_result ty.result result)
     where
       gave : Machine → Machine
@@ -222,21 +261,29 @@ module _ (ρ : Renaming) (p q : Program) (names : KeepsNames ρ) (meanings : Kee
       none : Machine → Machine
       none m = with_trail m (asked before a None replies)
 
-      go : (b : Bool) → SameStep ρ (if b then give (gave m) (option_map Number result) below else Stops (none m) Asks) (if b then give (gave n) (option_map Number result) (frames ρ below) else Stops (none n) Asks)
-      go true = subst (λ v. SameStep ρ (give (gave m) (option_map Number result) below) (give (gave n) v (frames ρ below))) (sym (same_number_option ρ result))
-          (give_same ρ p q names meanings (gave m) (gave n) (same_trail ρ names m n same (asked before a (Some (Gave result)) replies)) (option_map Number result) below (numbers_kept ρ result) rest)
+      go : (b : Bool) → SameStep ρ (if b then give (gave m) (option_map Number result) below else Stops (none m) Asks)
+          (if b then give (gave n) (option_map Number result) (frames ρ below) else Stops (none n) Asks)
+      go true = subst (λ v. SameStep ρ (give (gave m) (option_map Number result) below) (give (gave n) v (frames ρ below)))
+          (sym (same_number_option ρ result))
+          (give_same ρ p q names meanings (gave m) (gave n)
+          (same_trail ρ names m n same (asked before a (Some (Gave result)) replies)) (option_map Number result) below
+          (numbers_kept ρ result) rest)
       go false = (same_trail ρ names m n same (asked before a None replies), refl)
 
   ask_same : (h f : ℕ) (args : List CValue) (below : List Frame) → KeptFrames ρ below
       → SameStep ρ (ask p h f m args below) (ask q h f n (map (renamed.value ρ) args) (frames ρ below))
   ask_same h f args below rest =
-      subst (λ ty. SameStep ρ (ask p h f m args below) (told n (frames ρ below) n.trail ty (numbers (map (renamed.value ρ) args)))) (sym types)
-      (subst (λ vs. SameStep ρ (ask p h f m args below) (told n (frames ρ below) n.trail (host_type p h f) vs)) (sym (numbers-values ρ args))
-      (subst (λ (trail : Trail). SameStep ρ (ask p h f m args below) (told n (frames ρ below) trail (host_type p h f) (numbers args))) (sym same.trail)
+      subst (λ ty. SameStep ρ (ask p h f m args below)
+      (told n (frames ρ below) n.trail ty (numbers (map (renamed.value ρ) args)))) (sym types)
+      (subst (λ vs. SameStep ρ (ask p h f m args below) (told n (frames ρ below) n.trail (host_type p h f) vs))
+      (sym (numbers-values ρ args))
+      (subst (λ (trail : Trail). SameStep ρ (ask p h f m args below)
+      (told n (frames ρ below) trail (host_type p h f) (numbers args))) (sym same.trail)
       (go (host_type p h f) (numbers args))))
     where
       types : host_type q h f ≡ host_type p h f
-      types = ap (λ (hosts : List Host). if_found (slice_get hosts h) (λ host. option_map (λ function. function.ty) (slice_get host.functions f))) meanings.hosts
+      types = ap (λ (hosts : List Host). if_found (slice_get hosts h)
+          (λ host. option_map (λ function. function.ty) (slice_get host.functions f))) meanings.hosts
 
       told : Machine → List Frame → Trail → Option FuncType → Option (List Value) → Step
       told m below trail ty values = elim ty [
@@ -250,7 +297,8 @@ module _ (ρ : Renaming) (p q : Program) (names : KeepsNames ρ) (meanings : Kee
         ]
       ]
 
-      go : (ty : Option FuncType) (values : Option (List Value)) → SameStep ρ (told m below m.trail ty values) (told n (frames ρ below) m.trail ty values)
+      go : (ty : Option FuncType) (values : Option (List Value))
+          → SameStep ρ (told m below m.trail ty values) (told n (frames ρ below) m.trail ty values)
       go None values = (same, refl)
       go (Some ty) None = (same, refl)
       go (Some ty) (Some values) = by_test (equal_types ty.params (types_of values))
@@ -258,14 +306,16 @@ module _ (ρ : Renaming) (p q : Program) (names : KeepsNames ρ) (meanings : Kee
           a : Ask
           a = record { host = h; function = f; args = values }
 
-          by_test : (b : Bool) → SameStep ρ (if b then replied ty m.trail.replies m.trail.events a m below else Stops m Stuck) (if b then replied ty m.trail.replies m.trail.events a n (frames ρ below) else Stops n Stuck)
+          by_test : (b : Bool) → SameStep ρ (if b then replied ty m.trail.replies m.trail.events a m below else Stops m Stuck)
+              (if b then replied ty m.trail.replies m.trail.events a n (frames ρ below) else Stops n Stuck)
           by_test true = replied_same ty m.trail.replies m.trail.events a below rest
           by_test false = (same, refl)
 
   pub call_same : (f : FuncAddress) (args : List CValue) (below : List Frame) → KeptFunc ρ f → Each (KeptValue ρ) args → KeptFrames ρ below
       → SameStep ρ (call p f m args below) (call q (address ρ f) n (map (renamed.value ρ) args) (frames ρ below))
   call_same (UnitFunc u name) args below is kept rest =
-      subst (λ o. SameStep ρ (begin (definition_at p u name) u m args below) (begin o (ρ.unit u) n (map (renamed.value ρ) args) (frames ρ below))) (sym (meanings.definitions u name is))
+      subst (λ o. SameStep ρ (begin (definition_at p u name) u m args below)
+      (begin o (ρ.unit u) n (map (renamed.value ρ) args) (frames ρ below))) (sym (meanings.definitions u name is))
       (begin_same ρ p q names meanings m n same (definition_at p u name) u args below (meanings.definitions_kept u name is) kept rest)
   call_same (HostFunc h f) args below is kept rest = ask_same h f args below rest
 
@@ -279,10 +329,13 @@ module _ (ρ : Renaming) (p q : Program) (names : KeepsNames ρ) (meanings : Kee
   take_effect_same NoEffect NoEffect at below does rest = (same, refl)
   take_effect_same _ _ at below does rest = absurd does
 
-  call_named_same : (u : ℕ) (name : Name) (at : Place) (args : List CValue) (below : List Frame) → ρ.uses u name ≡ true → Each (KeptValue ρ) args → KeptFrames ρ below
-      → SameStep ρ (call_named p u name at m args below) (call_named q (ρ.unit u) (ρ.func u name) (place ρ at) n (map (renamed.value ρ) args) (frames ρ below))
+  call_named_same : (u : ℕ) (name : Name) (at : Place) (args : List CValue) (below : List Frame) → ρ.uses u name ≡ true
+      → Each (KeptValue ρ) args → KeptFrames ρ below
+      → SameStep ρ (call_named p u name at m args below)
+      (call_named q (ρ.unit u) (ρ.func u name) (place ρ at) n (map (renamed.value ρ) args) (frames ρ below))
   call_named_same u name at args below is kept rest =
-      subst (λ o. SameStep ρ (call_named p u name at m args below) (there o (func_named q (ρ.unit u) (ρ.func u name)))) (sym (meanings.primitives u name is))
+      subst (λ o. SameStep ρ (call_named p u name at m args below) (there o (func_named q (ρ.unit u) (ρ.func u name))))
+      (sym (meanings.primitives u name is))
       (subst (λ o. SameStep ρ (call_named p u name at m args below) (there (primitive name) o)) (sym (meanings.functions u name is))
       (go (primitive name) (func_named p u name) (primitives_simulate ρ names m n same name) (meanings.functions_kept u name is)))
     where
@@ -298,24 +351,30 @@ module _ (ρ : Renaming) (p q : Program) (names : KeepsNames ρ) (meanings : Kee
         | None ↦ elim f [ None ↦ Stops n Stuck | Some f ↦ call q f n (map (renamed.value ρ) args) (frames ρ below) ]
       ]
 
-      go : (does : Option (List CValue → Machine → Effect)) (f : Option FuncAddress) → Holds (Simulates ρ names m n same) does → Holds (KeptFunc ρ) f → SameStep ρ (here does f) (there does (option_map (address ρ) f))
-      go (Some does) f simulates holds = take_effect_same (does args m) (does (map (renamed.value ρ) args) n) at below (simulates args kept) rest
+      go : (does : Option (List CValue → Machine → Effect)) (f : Option FuncAddress) → Holds (Simulates ρ names m n same) does
+          → Holds (KeptFunc ρ) f → SameStep ρ (here does f) (there does (option_map (address ρ) f))
+      go (Some does) f simulates holds = take_effect_same (does args m) (does (map (renamed.value ρ) args) n) at below
+          (simulates args kept) rest
       go None None simulates holds = (same, refl)
       go None (Some f) simulates holds = call_same f args below holds kept rest
 
-  call_through_same : (o : Option CValue) (want : tree.FuncType) (at : Place) (args : List CValue) (below : List Frame) → Holds (KeptValue ρ) o → Each (KeptValue ρ) args → KeptFrames ρ below
-      → SameStep ρ (call_through p o want at m args below) (call_through q (option_map (renamed.value ρ) o) want (place ρ at) n (map (renamed.value ρ) args) (frames ρ below))
+  call_through_same : (o : Option CValue) (want : tree.FuncType) (at : Place) (args : List CValue) (below : List Frame)
+      → Holds (KeptValue ρ) o → Each (KeptValue ρ) args → KeptFrames ρ below
+      → SameStep ρ (call_through p o want at m args below)
+      (call_through q (option_map (renamed.value ρ) o) want (place ρ at) n (map (renamed.value ρ) args) (frames ρ below))
   call_through_same None want at args below is kept rest = (same, refl)
   call_through_same (Some (Number v)) want at args below is kept rest = (same, refl)
   call_through_same (Some (Pointer to)) want at args below is kept rest = (same, refl)
   call_through_same (Some (FuncPointer None)) want at args below is kept rest = (same, refl)
   call_through_same (Some (FuncPointer (Some f))) want at args below is kept rest =
-      subst (λ ty. SameStep ρ (call_through p (Some (FuncPointer (Some f))) want at m args below) (there ty)) (sym (func_type_same ρ p q meanings f is)) (go (func_type p f))
+      subst (λ ty. SameStep ρ (call_through p (Some (FuncPointer (Some f))) want at m args below) (there ty))
+      (sym (func_type_same ρ p q meanings f is)) (go (func_type p f))
     where
       there : Option tree.FuncType → Step
       there ty = elim ty [
         | None ↦ Stops n Stuck
-        | Some ty ↦ if same_func_type ty want then call q (address ρ f) n (map (renamed.value ρ) args) (frames ρ below) else Stops n (Undefined 5 (place ρ at))
+        | Some ty ↦ if same_func_type ty want then call q (address ρ f) n (map (renamed.value ρ) args) (frames ρ below) else
+            Stops n (Undefined 5 (place ρ at))
       ]
 
       here : Option tree.FuncType → Step
@@ -328,15 +387,21 @@ module _ (ρ : Renaming) (p q : Program) (names : KeepsNames ρ) (meanings : Kee
       go None = (same, refl)
       go (Some ty) = by_test (same_func_type ty want)
         where
-          by_test : (b : Bool) → SameStep ρ (if b then call p f m args below else Stops m (Undefined 5 at)) (if b then call q (address ρ f) n (map (renamed.value ρ) args) (frames ρ below) else Stops n (Undefined 5 (place ρ at)))
+          by_test : (b : Bool) → SameStep ρ (if b then call p f m args below else Stops m (Undefined 5 at))
+              (if b then call q (address ρ f) n (map (renamed.value ρ) args) (frames ρ below) else Stops n
+              (Undefined 5 (place ρ at)))
           by_test true = call_same f args below is kept rest
           by_test false = (same, refl)
 
-  call_callee_same : (f : tree.Callee) (at : Place) (r : Running) (args : List CValue) (below : List Frame) → KeptCallee ρ r.unit f → KeptRunning ρ r → Each (KeptValue ρ) args → KeptFrames ρ below
-      → SameStep ρ (call_callee p f at m r args below) (call_callee q (renamed.callee ρ r.unit f) (place ρ at) n (renamed.running ρ r) (map (renamed.value ρ) args) (frames ρ below))
+  call_callee_same : (f : tree.Callee) (at : Place) (r : Running) (args : List CValue) (below : List Frame)
+      → KeptCallee ρ r.unit f → KeptRunning ρ r → Each (KeptValue ρ) args → KeptFrames ρ below
+      → SameStep ρ (call_callee p f at m r args below)
+      (call_callee q (renamed.callee ρ r.unit f) (place ρ at) n (renamed.running ρ r) (map (renamed.value ρ) args) (frames ρ below))
   call_callee_same (tree.Called name) at r args below is running kept rest = call_named_same r.unit name at args below is kept rest
   call_callee_same (tree.Through want x) at r args below is running kept rest =
-      subst (λ o. SameStep ρ (call_through p (value_of m r x) want at m args below) (call_through q o want (place ρ at) n (map (renamed.value ρ) args) (frames ρ below))) (sym (value_same ρ p q names meanings m n same r x))
+      subst (λ o. SameStep ρ (call_through p (value_of m r x) want at m args below)
+      (call_through q o want (place ρ at) n (map (renamed.value ρ) args) (frames ρ below)))
+      (sym (value_same ρ p q names meanings m n same r x))
       (call_through_same (value_of m r x) want at args below (value_kept ρ p q names meanings m n same r running x) kept rest)
 
   -- ---- statements
@@ -344,58 +409,88 @@ module _ (ρ : Renaming) (p q : Program) (names : KeepsNames ρ) (meanings : Kee
   given : (r : Running) (a : tree.Arg) → KeptRunning ρ r → KeptArg ρ r.unit a → (v : CValue) → evaluate_arg p m r a ≡ Is v → KeptValue ρ v
   given r a running kept v is = subst (GivesKept ρ p q names meanings m n same) is (arg_kept ρ p q names meanings m n same r running a kept)
 
-  given_all : (r : Running) (args : List tree.Arg) → KeptRunning ρ r → Each (KeptArg ρ r.unit) args → (vs : List CValue) → evaluate_args p m r args ≡ Is vs → Each (KeptValue ρ) vs
-  given_all r args running kept vs is = subst (GiveKept ρ p q names meanings m n same) is (args_kept ρ p q names meanings m n same r running args kept)
+  given_all : (r : Running) (args : List tree.Arg) → KeptRunning ρ r → Each (KeptArg ρ r.unit) args → (vs : List CValue)
+      → evaluate_args p m r args ≡ Is vs → Each (KeptValue ρ) vs
+  given_all r args running kept vs is = subst (GiveKept ρ p q names meanings m n same) is
+      (args_kept ρ p q names meanings m n same r running args kept)
 
   -- what a name points to
-  pointed_same : (r : Running) (x : Name) → then_evaluate (found (value_of n (renamed.running ρ r) (ρ.var r.unit x))) as_object ≡ come_to ρ.object (then_evaluate (found (value_of m r x)) as_object)
+  pointed_same : (r : Running) (x : Name)
+      → then_evaluate (found (value_of n (renamed.running ρ r) (ρ.var r.unit x))) as_object
+      ≡ come_to ρ.object (then_evaluate (found (value_of m r x)) as_object)
   pointed_same r x = ap (λ o. then_evaluate (found o) as_object) (value_same ρ p q names meanings m n same r x) ∙ go (value_of m r x)
     where
-      go : (o : Option CValue) → then_evaluate (found (option_map (renamed.value ρ) o)) as_object ≡ come_to ρ.object (then_evaluate (found o) as_object)
+      go : (o : Option CValue) → then_evaluate (found (option_map (renamed.value ρ) o)) as_object
+          ≡ come_to ρ.object (then_evaluate (found o) as_object)
       go None = refl
       go (Some v) = as_object-value ρ v
 
   at_rest_kept : (r : Running) (rest : List tree.Stmt) → KeptRunning ρ r → Each (KeptStmt ρ r.unit) rest → KeptRunning ρ (at_rest r rest)
   at_rest_kept r rest running kept = record { stmts = running.stmts; rest = kept; vars = running.vars }
 
-  pub act_same : (r : Running) (rest : List tree.Stmt) (below : List Frame) → KeptRunning ρ r → Each (KeptStmt ρ r.unit) rest → KeptFrames ρ below
+  pub act_same : (r : Running) (rest : List tree.Stmt) (below : List Frame) → KeptRunning ρ r → Each (KeptStmt ρ r.unit) rest
+      → KeptFrames ρ below
       → SameStep ρ (act p m r rest below) (act q n (renamed.running ρ r) (map (renamed.stmt ρ r.unit) rest) (frames ρ below))
   act_same r [] below running kept frames_kept = (same, refl)
   act_same r (tree.Label name ∷ rest) below running kept frames_kept = act_same r rest below running kept.1 frames_kept
-  act_same r (tree.Null ∷ rest) below running kept frames_kept = goes_on ρ names m n same (at_rest r rest) below (at_rest_kept r rest running kept.1) frames_kept
+  act_same r (tree.Null ∷ rest) below running kept frames_kept = goes_on ρ names m n same (at_rest r rest) below
+      (at_rest_kept r rest running kept.1) frames_kept
   act_same r (tree.Set x a ∷ rest) below running kept frames_kept =
-      with_value_same ρ names m n same (renamed.value ρ) _ _ _ _ _ _ (place-running ρ r rest) (arg_same ρ p q names meanings m n same r a kept.0)
-      (λ v is. assign_same ρ p q names meanings m n same (at_rest r rest) x v below (at_rest_kept r rest running kept.1) (given r a running kept.0 v is) frames_kept)
+      with_value_same ρ names m n same (renamed.value ρ) _ _ _ _ _ _ (place-running ρ r rest)
+      (arg_same ρ p q names meanings m n same r a kept.0)
+      (λ v is. assign_same ρ p q names meanings m n same (at_rest r rest) x v below (at_rest_kept r rest running kept.1)
+      (given r a running kept.0 v is) frames_kept)
   act_same r (tree.SetStar x e ∷ rest) below running kept frames_kept =
-      with_value_same ρ names m n same (λ v. v) _ _ _ _ _ _ (place-running ρ r rest) (evaluate_same ρ p q names meanings m n same r e ∙ come_to_itself (evaluate p m r e)) (λ v is.
+      with_value_same ρ names m n same (λ v. v) _ _ _ _ _ _ (place-running ρ r rest)
+      (evaluate_same ρ p q names meanings m n same r e ∙ come_to_itself (evaluate p m r e)) (λ v is.
       with_value_same ρ names m n same ρ.object _ _ _ _ _ _ (place-running ρ r rest) (pointed_same r x) (λ a there.
-      subst (λ o. SameStep ρ (put_in m (var_in m a) (Number v) (next (with_var m a (Number v)) (at_rest r rest) below)) (put_in n o (Number v) (next (with_var n (ρ.object a) (Number v)) (at_rest (renamed.running ρ r) (map (renamed.stmt ρ r.unit) rest)) (frames ρ below)))) (sym (same.objects.vars a))
+      subst (λ o. SameStep ρ (put_in m (var_in m a) (Number v) (next (with_var m a (Number v)) (at_rest r rest) below))
+      (put_in n o (Number v) (next (with_var n (ρ.object a) (Number v))
+      (at_rest (renamed.running ρ r) (map (renamed.stmt ρ r.unit) rest)) (frames ρ below)))) (sym (same.objects.vars a))
       (put_in_same ρ p q names meanings m n same (var_in m a) (Number v) _ _ (λ there.
-      goes_on ρ names (with_var m a (Number v)) (with_var n (ρ.object a) (Number v)) (same_var ρ names m n same a (Number v) there tt) (at_rest r rest) below (at_rest_kept r rest running kept.1) frames_kept))))
+      goes_on ρ names (with_var m a (Number v)) (with_var n (ρ.object a) (Number v))
+      (same_var ρ names m n same a (Number v) there tt) (at_rest r rest) below (at_rest_kept r rest running kept.1)
+      frames_kept))))
   act_same r (tree.Call target f args ∷ rest) below running kept frames_kept =
-      with_value_same ρ names m n same (map (renamed.value ρ)) _ _ _ _ _ _ (place-running ρ r rest) (args_same ρ p q names meanings m n same r args kept.0.1) (λ vs is.
-      subst (λ at. SameStep ρ (call_callee p f (place_of r rest) m r vs (record { target = target; running = at_rest r rest } ∷ below)) (call_callee q (renamed.callee ρ r.unit f) at n (renamed.running ρ r) (map (renamed.value ρ) vs) (frames ρ (record { target = target; running = at_rest r rest } ∷ below))))
+      with_value_same ρ names m n same (map (renamed.value ρ)) _ _ _ _ _ _ (place-running ρ r rest)
+      (args_same ρ p q names meanings m n same r args kept.0.1) (λ vs is.
+      subst (λ at. SameStep ρ (call_callee p f (place_of r rest) m r vs
+      (record { target = target; running = at_rest r rest } ∷ below))
+      (call_callee q (renamed.callee ρ r.unit f) at n (renamed.running ρ r) (map (renamed.value ρ) vs)
+      (frames ρ (record { target = target; running = at_rest r rest } ∷ below))))
       (sym (place-running ρ r rest))
-      (call_callee_same f (place_of r rest) r vs (record { target = target; running = at_rest r rest } ∷ below) kept.0.0 running (given_all r args running kept.0.1 vs is) (at_rest_kept r rest running kept.1, frames_kept)))
+      (call_callee_same f (place_of r rest) r vs (record { target = target; running = at_rest r rest } ∷ below) kept.0.0 running
+      (given_all r args running kept.0.1 vs is) (at_rest_kept r rest running kept.1, frames_kept)))
   act_same r (tree.Goto name ∷ rest) below running kept frames_kept = jump_same ρ names m n same r name below running frames_kept
   act_same r (tree.If op left right name ∷ rest) below running kept frames_kept =
-      with_value_same ρ names m n same (λ v. v) _ _ _ _ _ _ (place-running ρ r rest) (evaluate_same ρ p q names meanings m n same r (tree.Op op left right) ∙ come_to_itself (evaluate p m r (tree.Op op left right))) (λ v is. by_test (number_of v == 0))
+      with_value_same ρ names m n same (λ v. v) _ _ _ _ _ _ (place-running ρ r rest)
+      (evaluate_same ρ p q names meanings m n same r (tree.Op op left right)
+      ∙ come_to_itself (evaluate p m r (tree.Op op left right))) (λ v is. by_test (number_of v == 0))
     where
-      by_test : (b : Bool) → SameStep ρ (if b then next m (at_rest r rest) below else jump m r name below) (if b then next n (at_rest (renamed.running ρ r) (map (renamed.stmt ρ r.unit) rest)) (frames ρ below) else jump n (renamed.running ρ r) (ρ.label r.unit name) (frames ρ below))
+      by_test : (b : Bool) → SameStep ρ (if b then next m (at_rest r rest) below else jump m r name below)
+          (if b then next n (at_rest (renamed.running ρ r) (map (renamed.stmt ρ r.unit) rest)) (frames ρ below) else jump n
+          (renamed.running ρ r) (ρ.label r.unit name) (frames ρ below))
       by_test true = goes_on ρ names m n same (at_rest r rest) below (at_rest_kept r rest running kept.1) frames_kept
       by_test false = jump_same ρ names m n same r name below running frames_kept
   act_same r (tree.Switch e cases default ∷ rest) below running kept frames_kept =
-      with_value_same ρ names m n same (λ v. v) _ _ _ _ _ _ (place-running ρ r rest) (evaluate_same ρ p q names meanings m n same r e ∙ come_to_itself (evaluate p m r e)) (λ v is.
-      subst (λ name. SameStep ρ (jump m r (label_of v cases default) below) (jump n (renamed.running ρ r) name (frames ρ below))) (sym (label_of-cases ρ names r.unit v cases default))
+      with_value_same ρ names m n same (λ v. v) _ _ _ _ _ _ (place-running ρ r rest)
+      (evaluate_same ρ p q names meanings m n same r e ∙ come_to_itself (evaluate p m r e)) (λ v is.
+      subst (λ name. SameStep ρ (jump m r (label_of v cases default) below)
+      (jump n (renamed.running ρ r) name (frames ρ below))) (sym (label_of-cases ρ names r.unit v cases default))
       (jump_same ρ names m n same r (label_of v cases default) below running frames_kept))
-  act_same r (tree.ReturnNone ∷ rest) below running kept frames_kept = returned_same ρ p q names meanings m n same r None below tt frames_kept
+  act_same r (tree.ReturnNone ∷ rest) below running kept frames_kept = returned_same ρ p q names meanings m n same r None below
+      tt frames_kept
   act_same r (tree.Return a ∷ rest) below running kept frames_kept =
-      with_value_same ρ names m n same (renamed.value ρ) _ _ _ _ _ _ (place-running ρ r rest) (arg_same ρ p q names meanings m n same r a kept.0)
+      with_value_same ρ names m n same (renamed.value ρ) _ _ _ _ _ _ (place-running ρ r rest)
+      (arg_same ρ p q names meanings m n same r a kept.0)
       (λ v is. returned_same ρ p q names meanings m n same r (Some v) below (given r a running kept.0 v is) frames_kept)
 
 -- one step of states that are the same
-pub c_step_same : (ρ : Renaming) (p q : Program) → KeepsNames ρ → KeepsMeanings ρ p q → (s t : State) → SameState ρ s t → SameStep ρ (c_step p s) (c_step q t)
+pub c_step_same : (ρ : Renaming) (p q : Program) → KeepsNames ρ → KeepsMeanings ρ p q → (s t : State) → SameState ρ s t
+    → SameStep ρ (c_step p s) (c_step q t)
 c_step_same ρ p q names meanings s t same =
     subst (λ r. SameStep ρ (c_step p s) (act q t.machine r r.rest t.below)) (sym same.running)
-    (subst (λ below. SameStep ρ (c_step p s) (act q t.machine (renamed.running ρ s.running) (renamed.running ρ s.running).rest below)) (sym same.below)
-    (act_same ρ p q names meanings s.machine t.machine same.machine s.running s.running.rest s.below same.running_kept same.running_kept.rest same.below_kept))
+    (subst (λ below. SameStep ρ (c_step p s)
+    (act q t.machine (renamed.running ρ s.running) (renamed.running ρ s.running).rest below)) (sym same.below)
+    (act_same ρ p q names meanings s.machine t.machine same.machine s.running s.running.rest s.below same.running_kept
+    same.running_kept.rest same.below_kept))

@@ -8,7 +8,8 @@ use Rattle.w2c_base.specs.Values.{equal_type, equal_types, type_of, types_of}
 abbrev pub Agree : ℕ → List ValType → List Value → Type 0
 Agree i types values = equal_types (drop i types) (types_of (drop i values)) ≡ equal_types types (types_of values)
 
-pub unequal : (types : List ValType) (values : List Value) → (length types ≡ length values → ⊥) → false ≡ equal_types types (types_of values)
+pub unequal : (types : List ValType) (values : List Value) → (length types ≡ length values → ⊥)
+    → false ≡ equal_types types (types_of values)
 unequal [] [] not = absurd (not refl)
 unequal [] (v ∷ values) not = refl
 unequal (t ∷ types) [] not = refl

@@ -15,7 +15,8 @@ use Rattle.host_replay.proofs.Symbols.{function_kept, function_more, function_th
 
 pub nothing_known : (table : List (List ℕ × Place)) (hosts : List Host) → table ≡ [] → hosts ≡ [] → Knows table hosts
 nothing_known table hosts no_names no_hosts = record {
-  found = λ q p e. (let none : named {A = Place} q [] ≡ Some p = subst (λ (t : List (List ℕ × Place)). named q t ≡ Some p) no_names e in cc);
+  found = λ q p e. (let none : named {A = Place} q []
+      ≡ Some p = subst (λ (t : List (List ℕ × Place)). named q t ≡ Some p) no_names e in cc);
   every = λ q h f e. (let none : symbol_at [] h f ≡ Some q = subst (λ (l : List Host). symbol_at l h f ≡ Some q) no_hosts e in cc);
 }
 
@@ -51,7 +52,8 @@ module _ (front : List Host) (last : Host) (x : HostFunction) (table new : List 
       subst (λ (p : Place). symbol_at (front ++ with_function last x ∷ []) p.host p.function ≡ Some q) same (there ∙ ap Some (equal q test))
   found_in q p None false is test e = absurd cc
 
-  every_in : (q : List ℕ) (h f : ℕ) → symbol_at (front ++ with_function last x ∷ []) h f ≡ Some q → named q new ≡ Some (record { host = h; function = f })
+  every_in : (q : List ℕ) (h f : ℕ) → symbol_at (front ++ with_function last x ∷ []) h f ≡ Some q
+      → named q new ≡ Some (record { host = h; function = f })
   every_in q h f e = elim (function_more last x front h f q e) [
     | inl old ↦ entered q ∙ ap (λ (o : Option Place). option_or o (if bytes_eq s q then Some place else None)) (knows.every q h f old)
     | inr it ↦
@@ -102,26 +104,30 @@ module _ (before : Recorded) (f : FunctionLine) (new : NewFunction) (is : IsNewI
   pub known_already : is_some (named new.symbol table) ≡ true → (after : Recorded) → AddsFunction before f after → ⊥
   known_already e after adds =
       let same : is.last ≡ adds.last = (last_same is.front adds.front is.last adds.last (sym is.hosts_are ∙ adds.hosts_are)).1 in
-      let symbols : new.symbol ≡ symbol_of adds.last (named_function f) = is.symbol_is ∙ ap (λ (m : Host). symbol_of m (named_function f)) same in
+      let symbols : new.symbol ≡ symbol_of adds.last (named_function f) = is.symbol_is
+      ∙ ap (λ (m : Host). symbol_of m (named_function f)) same in
       adds.is_new (subst (IsOffered before.hosts) symbols (symbol_there (named new.symbol table) refl e))
 
   is_unknown : is_some (named new.symbol table) ≡ false → named (symbol_of is.last (named_function f)) table ≡ None
   is_unknown e = ap (λ (q : List ℕ). named q table) (sym is.symbol_is) ∙ is_none (named new.symbol table) e
 
   pub added : is_some (named new.symbol table) ≡ false → before.entries ≡ [] → (after : Recorded)
-      → ((front : List Host) (last : Host) → before.hosts ≡ front ++ last ∷ [] → after ≡ record { hosts = front ++ with_function last (named_function f) ∷ []; entries = [] })
+      → ((front : List Host) (last : Host) → before.hosts ≡ front ++ last ∷ []
+      → after ≡ record { hosts = front ++ with_function last (named_function f) ∷ []; entries = [] })
       → AddsFunction before f after
   added e none after pushed = record {
     front = is.front;
     last = is.last;
     hosts_are = is.hosts_are;
     no_entries = none;
-    is_new = λ offered. (let both = sym (is_unknown e) ∙ knows.every (symbol_of is.last (named_function f)) offered.0 offered.1 offered.2 in cc);
+    is_new = λ offered. (let both = sym (is_unknown e)
+        ∙ knows.every (symbol_of is.last (named_function f)) offered.0 offered.1 offered.2 in cc);
     after_is = pushed is.front is.last is.hosts_are;
   }
 
   pub known_more : is_some (named new.symbol table) ≡ false → (after : Recorded) (entered : List (List ℕ × Place))
-      → ((front : List Host) (last : Host) → before.hosts ≡ front ++ last ∷ [] → after ≡ record { hosts = front ++ with_function last (named_function f) ∷ []; entries = [] })
+      → ((front : List Host) (last : Host) → before.hosts ≡ front ++ last ∷ []
+      → after ≡ record { hosts = front ++ with_function last (named_function f) ∷ []; entries = [] })
       → ((q : List ℕ) → named q entered ≡ option_or (named q table) (if bytes_eq new.symbol q then Some new.place else None))
       → Knows entered after.hosts
   known_more e after entered pushed enters =

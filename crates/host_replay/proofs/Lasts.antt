@@ -17,7 +17,8 @@ last_in (m ∷ o ∷ items) (x ∷ front) last zero d are n = absurd (omega (ari
 last_in (m ∷ o ∷ items) (x ∷ front) last (suc k) d are n =
     let rest : modules_of (o ∷ items) ≡ front ++ last ∷ [] = cc in last_in (o ∷ items) front last k d rest (omega (arith, n))
 
-set_in : (items : List JournalModule) (front : List Host) (last new : Host) (k : ℕ) (x : JournalModule) → modules_of items ≡ front ++ last ∷ []
+set_in : (items : List JournalModule) (front : List Host) (last new : Host) (k : ℕ) (x : JournalModule)
+    → modules_of items ≡ front ++ last ∷ []
     → length items ≡ suc k → module_of x ≡ new → modules_of (slice_set items k x) ≡ front ++ new ∷ []
 set_in [] front last new k x are n is = absurd (omega (arith, n))
 set_in (m ∷ []) [] last new zero x are n is = ap (λ (h : Host). h ∷ []) is
@@ -37,10 +38,12 @@ count [] [] last n are is = absurd cc
 count [] (a ∷ front) last n are is = absurd cc
 count (m ∷ items) front last n are is = omega (arith, is)
 
-pub last_is : (items : List JournalModule) (front : List Host) (last : Host) (n : ℕ) (d : JournalModule) → modules_of items ≡ front ++ last ∷ []
+pub last_is : (items : List JournalModule) (front : List Host) (last : Host) (n : ℕ) (d : JournalModule)
+    → modules_of items ≡ front ++ last ∷ []
     → n ≡ length items → module_of (slice_index_or items (n - 1) d) ≡ last
 last_is items front last n d are is = last_in items front last (n - 1) d are (count items front last n are is)
 
-pub last_set : (items : List JournalModule) (front : List Host) (last new : Host) (n : ℕ) (x : JournalModule) → modules_of items ≡ front ++ last ∷ []
+pub last_set : (items : List JournalModule) (front : List Host) (last new : Host) (n : ℕ) (x : JournalModule)
+    → modules_of items ≡ front ++ last ∷ []
     → n ≡ length items → module_of x ≡ new → modules_of (slice_set items (n - 1) x) ≡ front ++ new ∷ []
 last_set items front last new n x are is same = set_in items front last new (n - 1) x are (count items front last n are is) same

@@ -116,7 +116,8 @@ refused_rest parts b rest known read h = record {
   refused = λ l after says adds. no_line (b ∷ rest) l h says.1;
 }
 
-pub rest_refused : (parts : List (List ℕ)) (rest : List ℕ) (known : Recorded) → (length rest ≡ 0 → ⊥) → Read empty (with_newlines parts) known
+pub rest_refused : (parts : List (List ℕ)) (rest : List ℕ) (known : Recorded) → (length rest ≡ 0 → ⊥)
+    → Read empty (with_newlines parts) known
     → lacks 10 rest ≡ true → IsRefused (ended (parts ++ rest ∷ [])) (length parts + 1)
 rest_refused parts [] known some read h = absurd (some refl)
 rest_refused parts (b ∷ rest) known some read h = refused_rest parts b rest known read h

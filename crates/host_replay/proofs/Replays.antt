@@ -28,7 +28,8 @@ module _ (hosts : List Host) (k : ℕ) (name : List ℕ) (functions : List HostF
   own : (a : Asked) → (a.host == k) ≡ true → fits hosts a ≡ true → fits_own functions a ≡ true
   own a here fit =
       let same : a.host ≡ k = eqb-true a.host k here in
-      let there : slice_get hosts a.host ≡ Some (record { name = name; functions = map function_of functions }) = ap (slice_get hosts) same ∙ at in
+      let there : slice_get hosts a.host
+      ≡ Some (record { name = name; functions = map function_of functions }) = ap (slice_get hosts) same ∙ at in
       ap (λ o. fits_function o a) (sym (ap (λ (m : Option Host). if_found m (λ m. slice_get m.functions a.function)) there
       ∙ slice_get-map function_of functions a.function)) ∙ fit
 
@@ -48,8 +49,10 @@ reply_fits : (f : HostFunction) (r : HostReply) → is_reply f.ty.result r ≡ t
 reply_fits f (reply.Value v) e = e
 reply_fits f reply.Trap e = tt
 
-pub reply_of_next : (functions : List HostFunction) (entries : List Asked) (used : ℕ) (e : Asked) → list_all (fits_own functions) entries ≡ true
-    → slice_get entries used ≡ Some e → (i : ℕ) → e.function ≡ i → (r : HostReply) → r ≡ e.reply → IfSome (slice_get functions i) (λ f. IsReply f r)
+pub reply_of_next : (functions : List HostFunction) (entries : List Asked) (used : ℕ) (e : Asked)
+    → list_all (fits_own functions) entries ≡ true
+    → slice_get entries used ≡ Some e → (i : ℕ) → e.function ≡ i → (r : HostReply) → r ≡ e.reply
+    → IfSome (slice_get functions i) (λ f. IsReply f r)
 reply_of_next functions [] used e fit at i is r reply_is = absurd cc
 reply_of_next functions (x ∷ entries) zero e fit at i is r reply_is =
     let parts = both (fits_own functions x) (list_all (fits_own functions) entries) fit in
@@ -60,13 +63,15 @@ reply_of_next functions (x ∷ entries) zero e fit at i is r reply_is =
     by_found None none fit = tt
     by_found (Some f) some fit =
         let found : slice_get functions e.function ≡ Some f = ap (slice_get functions) is ∙ some in
-        let here : fits_function (Some (function_of f)) e ≡ true = ap (λ (o : Option HostFunction). fits_function (option_map function_of o) e) (sym found) ∙ fit in
+        let here : fits_function (Some (function_of f)) e
+        ≡ true = ap (λ (o : Option HostFunction). fits_function (option_map function_of o) e) (sym found) ∙ fit in
         let given = (both (equal_types f.ty.params (types_of e.args)) (is_reply f.ty.result e.reply) here).1 in
         subst (IsReply f) (sym reply_is) (reply_fits f e.reply given)
 reply_of_next functions (x ∷ entries) (suc used) e fit at i is r reply_is =
     reply_of_next functions entries used e (both (fits_own functions x) (list_all (fits_own functions) entries) fit).1 at i is r reply_is
 
-pub module_at : (modules : List JournalModule) (k : ℕ) (m : JournalModule) → k < length (modules_of modules) → m ≡ slice_index_or modules k m
+pub module_at : (modules : List JournalModule) (k : ℕ) (m : JournalModule) → k < length (modules_of modules)
+    → m ≡ slice_index_or modules k m
     → slice_get (modules_of modules) k ≡ Some (module_of m)
 module_at [] k m within is = absurd (omega arith)
 module_at (x ∷ modules) zero m within is = ap (λ (m : JournalModule). Some (module_of m)) (sym is)
@@ -90,7 +95,8 @@ again entries seen used i args r same e = inl (record {
   after_is = refl;
 })
 
-pub reply_again : (functions : List HostFunction) (entries seen : List Asked) (used i : ℕ) (args : List Value) (r : HostReply) → seen ≡ entries
+pub reply_again : (functions : List HostFunction) (entries seen : List Asked) (used i : ℕ) (args : List Value) (r : HostReply)
+    → seen ≡ entries
     → list_all (fits_own functions) entries ≡ true → Replied seen used i args r → IfSome (slice_get functions i) (λ f. IsReply f r)
 reply_again functions entries seen used i args r same fit e =
     reply_of_next functions entries used e.0 fit (ap (λ (es : List Asked). slice_get es used) (sym same) ∙ e.1) i e.2 r e.4

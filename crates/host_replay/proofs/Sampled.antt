@@ -61,11 +61,13 @@ writable = record {
 
 no_module : (l : JournalLine) (after : Recorded) → Says (codes "module env\n") l → Adds ticks l after → ⊥
 no_module l after says adds =
-    let same : l ≡ line.Module (codes "env") = one_said (codes "module env\n") l (line.Module (codes "env")) says (writable.names.0.0, refl) in
+    let same : l ≡ line.Module (codes "env") = one_said (codes "module env\n") l (line.Module (codes "env")) says
+    (writable.names.0.0, refl) in
     let added : AddsModule ticks (codes "env") after = subst (λ (l : JournalLine). Adds ticks l after) same adds in
     (let none = added.no_entries in cc)
 
-pub behind : lines_of (text_of ticks ++ codes "module env\n") ≡ lines_of (text_of ticks) ++ codes "module env\n" ∷ [] → length (lines_of (text_of ticks)) ≡ 6
+pub behind : lines_of (text_of ticks ++ codes "module env\n") ≡ lines_of (text_of ticks) ++ codes "module env\n" ∷ []
+    → length (lines_of (text_of ticks)) ≡ 6
     → IsRefusedAt (text_of ticks ++ codes "module env\n") 7
 behind lines count = record {
   front = lines_of (text_of ticks);

@@ -71,10 +71,12 @@ modules_text (m ∷ hosts) =
     flat_map-append line_text (module_said m) (flat_map module_said hosts)
     ∙ (λ i. (module_line m.name ++ functions_text m.functions i) ++ modules_text hosts i)
 
-entries_text : (hosts : List Host) (entries : List Asked) → flat_map line_text (map (entry_said hosts) entries) ≡ flat_map (entry_text hosts) entries
+entries_text : (hosts : List Host) (entries : List Asked)
+    → flat_map line_text (map (entry_said hosts) entries) ≡ flat_map (entry_text hosts) entries
 entries_text hosts [] = refl
 entries_text hosts (a ∷ entries) = λ i.
-    replied_line (host_name hosts a.host) (function_name hosts a.host a.function) a.args (same_reply a.reply i) ++ entries_text hosts entries i
+    replied_line (host_name hosts a.host) (function_name hosts a.host a.function) a.args (same_reply a.reply i)
+    ++ entries_text hosts entries i
 
 said_text : (j : Recorded) → flat_map line_text (said j) ≡ text_of j
 said_text j =
@@ -87,7 +89,8 @@ all_join : {A : Type 0} (P : A → Type 0) (xs ys : List A) → AllByRecursion P
 all_join P [] ys x y = y
 all_join P (a ∷ xs) ys x y = (x.0, all_join P xs ys x.1 y)
 
-functions_proper : (functions : List HostFunction) → AllByRecursion HasName functions → AllByRecursion IsProper (map function_said functions)
+functions_proper : (functions : List HostFunction) → AllByRecursion HasName functions
+    → AllByRecursion IsProper (map function_said functions)
 functions_proper [] h = tt
 functions_proper (f ∷ functions) h = (h.0, functions_proper functions h.1)
 
@@ -138,7 +141,13 @@ entries_proper : (hosts : List Host) (entries : List Asked) → AllByRecursion H
 entries_proper hosts [] names fit numbers = tt
 entries_proper hosts (a ∷ entries) names fit numbers =
     let parts = both (fits hosts a) (list_all (fits hosts) entries) fit in (
-      (host_bytes hosts a.host names, function_bytes hosts a.host a.function names, numbers.0, given_by (function_at hosts a.host a.function) a parts.0),
+      (
+        host_bytes hosts a.host names,
+        function_bytes hosts a.host a.function names,
+        numbers.0,
+        given_by
+            (function_at hosts a.host a.function) a parts.0,
+      ),
       entries_proper hosts entries names parts.1 numbers.1,
     )
 
@@ -149,7 +158,8 @@ said_proper j is =
 
 -- ---- it is read back
 
-chain_read : (before after : Recorded) (ls : List JournalLine) → Chain before ls after → AllByRecursion IsProper ls → Read before (map line_text ls) after
+chain_read : (before after : Recorded) (ls : List JournalLine) → Chain before ls after → AllByRecursion IsProper ls
+    → Read before (map line_text ls) after
 chain_read before after [] chain are = chain
 chain_read before after (l ∷ ls) chain are = (l, chain.0, (are.0, refl), chain.1, chain_read chain.0 after ls chain.2 are.1)
 

@@ -3,7 +3,8 @@ use Rattle.std.proofs.Common.{◌≡◌, ◌⊎◌, inl, inr, ℕ, zero, suc, le
 use Rattle.w2c_base.specs.Run.{Host, HostFunction}
 use Rattle.host_replay.specs.Reading.{symbol_at, symbol_of, with_function}
 
-pub module_more : (hosts : List Host) (name : List ℕ) (h f : ℕ) → symbol_at (hosts ++ record { name = name; functions = [] } ∷ []) h f ≡ symbol_at hosts h f
+pub module_more : (hosts : List Host) (name : List ℕ) (h f : ℕ)
+    → symbol_at (hosts ++ record { name = name; functions = [] } ∷ []) h f ≡ symbol_at hosts h f
 module_more [] name zero f = refl
 module_more [] name (suc h) f = refl
 module_more (m ∷ hosts) name zero f = refl
@@ -26,7 +27,8 @@ module _ (m : Host) (x : HostFunction) where
   last_kept (y ∷ functions) zero s e = e
   last_kept (y ∷ functions) (suc f) s e = last_kept functions f s e
 
-  last_there : (functions : List HostFunction) → option_map (symbol_of m) (slice_get (functions ++ x ∷ []) (length functions)) ≡ Some (symbol_of m x)
+  last_there : (functions : List HostFunction)
+      → option_map (symbol_of m) (slice_get (functions ++ x ∷ []) (length functions)) ≡ Some (symbol_of m x)
   last_there [] = refl
   last_there (y ∷ functions) = last_there functions
 
@@ -52,6 +54,7 @@ module _ (last : Host) (x : HostFunction) where
   function_kept (m ∷ front) zero f s e = e
   function_kept (m ∷ front) (suc h) f s e = function_kept front h f s e
 
-  pub function_there : (front : List Host) → symbol_at (front ++ with_function last x ∷ []) (length front) (length last.functions) ≡ Some (symbol_of last x)
+  pub function_there : (front : List Host)
+      → symbol_at (front ++ with_function last x ∷ []) (length front) (length last.functions) ≡ Some (symbol_of last x)
   function_there [] = last_there last x last.functions
   function_there (m ∷ front) = function_there front

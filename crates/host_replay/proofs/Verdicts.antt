@@ -22,7 +22,8 @@ use Rattle.host_replay.proofs.Symbols.{function_more, module_more}
 pub none_distinct : AreDistinct []
 none_distinct h f k g s a b = absurd cc
 
-module_distinct : (hosts : List Host) (name : List ℕ) → AreDistinct hosts → AreDistinct (hosts ++ record { name = name; functions = [] } ∷ [])
+module_distinct : (hosts : List Host) (name : List ℕ) → AreDistinct hosts
+    → AreDistinct (hosts ++ record { name = name; functions = [] } ∷ [])
 module_distinct hosts name d h f k g s a b = d h f k g s (sym (module_more hosts name h f) ∙ a) (sym (module_more hosts name k g) ∙ b)
 
 function_distinct : (front : List Host) (last : Host) (x : HostFunction) → AreDistinct (front ++ last ∷ [])
@@ -44,7 +45,8 @@ stay_distinct before after (line.Module name) d adds =
 stay_distinct before after (line.Function f) d adds =
     subst (λ (j : Recorded). AreDistinct j.hosts) (sym adds.after_is)
     (function_distinct adds.front adds.last (named_function f) (subst AreDistinct adds.hosts_are d)
-    (λ offered. adds.is_new (subst (λ (hosts : List Host). IsOffered hosts (symbol_of adds.last (named_function f))) (sym adds.hosts_are) offered)))
+    (λ offered. adds.is_new (subst (λ (hosts : List Host). IsOffered hosts (symbol_of adds.last (named_function f)))
+    (sym adds.hosts_are) offered)))
 stay_distinct before after (line.Host call) d adds =
     subst (λ (j : Recorded). AreDistinct j.hosts) (sym adds.after_is) d
 
@@ -93,7 +95,8 @@ one_said text l m x y = one_line (join_with_byte 32 (line_words l)) l m (x.0, jo
 
 -- ---- lines
 
-pub one_read : (before a b : Recorded) (lines : List (List ℕ)) → AreDistinct before.hosts → Read before lines a → Read before lines b → a ≡ b
+pub one_read : (before a b : Recorded) (lines : List (List ℕ)) → AreDistinct before.hosts → Read before lines a
+    → Read before lines b → a ≡ b
 one_read before a b [] d x y = x ∙ sym y
 one_read before a b (text ∷ lines) d x y =
     let said = one_said text x.0 y.0 x.2 y.2 in
@@ -110,13 +113,15 @@ record Parted (before : Recorded) (front : List (List ℕ)) (text : List ℕ) : 
   says : Says text said
   adds : Adds known said after
 
-parted : (before j : Recorded) (front : List (List ℕ)) (text : List ℕ) (rest : List (List ℕ)) → Read before (front ++ text ∷ rest) j → Parted before front text
+parted : (before j : Recorded) (front : List (List ℕ)) (text : List ℕ) (rest : List (List ℕ))
+    → Read before (front ++ text ∷ rest) j → Parted before front text
 parted before j [] text rest r = record { known = before; read = refl; said = r.0; after = r.1; says = r.2; adds = r.3 }
 parted before j (t ∷ front) text rest r =
     let p = parted r.1 j front text rest r.4 in
     record { known = p.known; read = (r.0, r.1, r.2, r.3, p.read); said = p.said; after = p.after; says = p.says; adds = p.adds }
 
-stops : (j : Recorded) (lines : List (List ℕ)) (n : ℕ) (rest : List (List ℕ)) (r : IsRefused lines n) → Read empty (r.front ++ r.text_line ∷ rest) j → ⊥
+stops : (j : Recorded) (lines : List (List ℕ)) (n : ℕ) (rest : List (List ℕ)) (r : IsRefused lines n)
+    → Read empty (r.front ++ r.text_line ∷ rest) j → ⊥
 stops j lines n rest r read =
     let p = parted empty j r.front r.text_line rest read in
     let same = one_read empty p.known r.known r.front none_distinct p.read r.read in

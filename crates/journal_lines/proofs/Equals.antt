@@ -28,7 +28,8 @@ equals_same f g l m is =
     let both = last_same (f ++ codes "=" ∷ []) (g ++ codes "=" ∷ []) l m same in
     ((last_same f g (codes "=") (codes "=") both.0).0, both.1)
 
-module _ (words rest front : List (Bor (List ℕ))) (last sign : Bor (List ℕ)) (is_last : words ≡ rest ++ last ∷ []) (is_sign : rest ≡ front ++ sign ∷ []) where
+module _ (words rest front : List (Bor (List ℕ))) (last sign : Bor (List ℕ)) (is_last : words ≡ rest ++ last ∷ [])
+    (is_sign : rest ≡ front ++ sign ∷ []) where
   two : texts words ≡ (texts front ++ sign.now ∷ []) ++ last.now ∷ []
   two = texts_push words rest last is_last ∙ ap (λ (l : List (List ℕ)). l ++ last.now ∷ []) (texts_push rest front sign is_sign)
 
@@ -39,7 +40,8 @@ module _ (words rest front : List (Bor (List ℕ))) (last sign : Bor (List ℕ))
   not_around differs f l is =
       let same : (texts front ++ sign.now ∷ []) ++ last.now ∷ [] ≡ (f ++ codes "=" ∷ []) ++ l ∷ [] =
       sym two ∙ is ∙ sym (append_assoc f (codes "=" ∷ []) (l ∷ [])) in
-      let before : texts front ++ sign.now ∷ [] ≡ f ++ codes "=" ∷ [] = (last_same (texts front ++ sign.now ∷ []) (f ++ codes "=" ∷ []) last.now l same).0 in
+      let before : texts front ++ sign.now ∷ []
+      ≡ f ++ codes "=" ∷ [] = (last_same (texts front ++ sign.now ∷ []) (f ++ codes "=" ∷ []) last.now l same).0 in
       let sign_is : sign.now ≡ codes "=" = (last_same (texts front) f sign.now (codes "=") before).1 in
       let both : bytes_eq (codes "=") (codes "=") ≡ false = subst (λ w. bytes_eq w (codes "=") ≡ false) sign_is differs in
       cc

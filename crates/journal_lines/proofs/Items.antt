@@ -41,7 +41,8 @@ module _ {A : Type 0} (f : A → List ℕ) where
   -- a word that no item has
   pub not_written : (P : A → Type 0) (words : List (List ℕ)) (k : ℕ) (word : List ℕ) → slice_get words k ≡ Some word
       → ((x : A) → P x → f x ≡ word → ⊥) → (xs : List A) → AllByRecursion P xs → map f xs ≡ words → ⊥
-  not_written P words k word at none [] are is = (let none_there : slice_get {X = List ℕ} [] k ≡ Some word = subst (λ l. slice_get l k ≡ Some word) (sym is) at in cc)
+  not_written P words k word at none [] are is =
+      (let none_there : slice_get {X = List ℕ} [] k ≡ Some word = subst (λ l. slice_get l k ≡ Some word) (sym is) at in cc)
   not_written P [] k word at none (x ∷ xs) are is = cc
   not_written P (w ∷ words) zero word at none (x ∷ xs) are is =
       let first : f x ≡ w = cc in let same : w ≡ word = cc in none x are.0 (first ∙ same)

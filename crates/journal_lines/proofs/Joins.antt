@@ -42,7 +42,8 @@ module _ {A : Type 0} (text : A → List ℕ) where
 pub joined : (l : JournalLine) → line_text l ≡ join_with_byte 32 (line_words l) ++ codes "\n"
 joined (line.Module name) = refl
 joined (line.Function f) =
-    ap (λ (l : List ℕ). codes "function " ++ (l ++ codes "\n")) (spread type_text spaced_type (λ t. refl) (name_text f.name) f.ty.params (result_text f.ty.result))
+    ap (λ (l : List ℕ). codes "function " ++ (l ++ codes "\n"))
+    (spread type_text spaced_type (λ t. refl) (name_text f.name) f.ty.params (result_text f.ty.result))
 joined (line.Host h) =
     let reply : List ℕ = reply_text (reply_of h.reply) in
     ap (λ (l : List ℕ). codes "host " ++ (l ++ codes "\n"))
@@ -59,7 +60,22 @@ every_type (t ∷ types) = (tt, every_type types)
 -- what lines are made of
 pub words_are_high : (l : JournalLine) → IsProper l → AllByRecursion IsHigh (line_words l)
 words_are_high (line.Module name) is = (refl, (high_name name is, tt))
-words_are_high (line.Function f) is =
-    (refl, (high_name f.name is, all_high type_text IsAny (λ t _. high_type t) f.ty.params (result_text f.ty.result) (every_type f.ty.params) (high_result f.ty.result)))
-words_are_high (line.Host h) is =
-    (refl, (high_name h.host is.0, (high_name h.function is.1, all_high number_text IsNumber high_number h.args (reply_text (reply_of h.reply)) is.2 (high_reply h.reply is.3))))
+words_are_high (line.Function f) is = (
+  refl,
+  (
+    high_name f.name is,
+    all_high type_text IsAny (λ t _. high_type t) f.ty.params (result_text f.ty.result)
+        (every_type f.ty.params) (high_result f.ty.result),
+  ),
+)
+words_are_high (line.Host h) is = (
+  refl,
+  (
+    high_name h.host is.0,
+    (
+      high_name h.function is.1,
+      all_high number_text IsNumber high_number h.args (reply_text (reply_of h.reply)) is.2
+          (high_reply h.reply is.3),
+    ),
+  ),
+)

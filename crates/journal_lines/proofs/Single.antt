@@ -77,7 +77,8 @@ number_same (I64 n) (I64 m) hn hm e = let digits : decimal n ≡ decimal m = cc 
 number_same (I32 n) (I64 m) hn hm e = absurd (grind (arith, e))
 number_same (I64 n) (I32 m) hn hm e = absurd (grind (arith, e))
 
-numbers_same : (vs ws : List Value) → AllByRecursion IsNumber vs → AllByRecursion IsNumber ws → map number_text vs ≡ map number_text ws → vs ≡ ws
+numbers_same : (vs ws : List Value) → AllByRecursion IsNumber vs → AllByRecursion IsNumber ws
+    → map number_text vs ≡ map number_text ws → vs ≡ ws
 numbers_same [] [] hv hw e = refl
 numbers_same [] (w ∷ ws) hv hw e = absurd cc
 numbers_same (v ∷ vs) [] hv hw e = absurd cc
@@ -106,8 +107,10 @@ module_same x y e = let names : name_text x ≡ name_text y = cc in ap line.Modu
 function_same : (f g : FunctionLine) → line_words (line.Function f) ≡ line_words (line.Function g) → line.Function f ≡ line.Function g
 function_same f g e =
     let names : name_text f.name ≡ name_text g.name = cc in
-    let rest : equals (map type_text f.ty.params) (result_text f.ty.result) ≡ equals (map type_text g.ty.params) (result_text g.ty.result) = cc in
-    let both = equals_same (map type_text f.ty.params) (map type_text g.ty.params) (result_text f.ty.result) (result_text g.ty.result) rest in
+    let rest : equals (map type_text f.ty.params) (result_text f.ty.result)
+    ≡ equals (map type_text g.ty.params) (result_text g.ty.result) = cc in
+    let both = equals_same (map type_text f.ty.params) (map type_text g.ty.params) (result_text f.ty.result)
+    (result_text g.ty.result) rest in
     let name = name_same f.name g.name names in
     let params = types_same f.ty.params g.ty.params both.0 in
     let result = result_same f.ty.result g.ty.result both.1 in
@@ -118,8 +121,10 @@ host_same : (h k : HostLine) → IsProper (line.Host h) → IsProper (line.Host 
 host_same h k ih ik e =
     let hosts : name_text h.host ≡ name_text k.host = cc in
     let functions : name_text h.function ≡ name_text k.function = cc in
-    let rest : equals (map number_text h.args) (reply_text (reply_of h.reply)) ≡ equals (map number_text k.args) (reply_text (reply_of k.reply)) = cc in
-    let both = equals_same (map number_text h.args) (map number_text k.args) (reply_text (reply_of h.reply)) (reply_text (reply_of k.reply)) rest in
+    let rest : equals (map number_text h.args) (reply_text (reply_of h.reply))
+    ≡ equals (map number_text k.args) (reply_text (reply_of k.reply)) = cc in
+    let both = equals_same (map number_text h.args) (map number_text k.args) (reply_text (reply_of h.reply))
+    (reply_text (reply_of k.reply)) rest in
     let host = name_same h.host k.host hosts in
     let function = name_same h.function k.function functions in
     let args = numbers_same h.args k.args ih.2 ik.2 both.0 in

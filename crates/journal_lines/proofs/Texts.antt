@@ -25,7 +25,8 @@ cut_line (line.Host h) are = cut_words _ _ are
 
 pub said_by_words : (text : List ℕ) (l : JournalLine) → IsLine text l → SayLine (cut 32 text) l
 said_by_words text l is =
-    let same : text ≡ join_with_byte 32 (line_words l) = append_cancel_right text (join_with_byte 32 (line_words l)) (codes "\n") (sym is.1 ∙ joined l) in
+    let same : text ≡ join_with_byte 32 (line_words l) = append_cancel_right text (join_with_byte 32 (line_words l))
+    (codes "\n") (sym is.1 ∙ joined l) in
     (is.0, ap (cut 32) same ∙ cut_line l (words_are_high l is.0))
 
 pub said_by_text : (text : List ℕ) (l : JournalLine) → SayLine (cut 32 text) l → IsLine text l
@@ -43,7 +44,8 @@ said text words (Ok None) are h = tt
 said text words (Err e) are h = tt
 
 pub unsaid : {E : Type 0} (text : List ℕ) (words : List (List ℕ)) (found : Result (Option JournalLine) E) → words ≡ cut 32 text
-    → IfOk found (λ f. IfNone f ((l : JournalLine) → SayLine words l → ⊥)) → IfOk found (λ f. IfNone f ((l : JournalLine) → IsLine text l → ⊥))
+    → IfOk found (λ f. IfNone f ((l : JournalLine) → SayLine words l → ⊥))
+    → IfOk found (λ f. IfNone f ((l : JournalLine) → IsLine text l → ⊥))
 unsaid text words (Ok None) are h = λ l is. h l (subst (λ ws. SayLine ws l) (sym are) (said_by_words text l is))
 unsaid text words (Ok (Some l)) are h = tt
 unsaid text words (Err e) are h = tt

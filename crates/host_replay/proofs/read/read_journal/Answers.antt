@@ -19,4 +19,5 @@ read_lines-requires-clause-no_newline c =
     let parts : cut 10 c.args.bytes.now ≡ texts c.in-Some.lines.now ++ c.in-Some.rest.now.now ∷ [] =
     sym c.in_ok-all.ensures ∙ ap texts (sym c.as_slice.ensures.value ∙ c.in-Some.ensures.cases.0)
     ∙ map_push (λ (b : Bor (List ℕ)). b.now) c.in-Some.lines.now c.in-Some.rest.now in
-    last_of (λ (p : List ℕ). lacks 10 p ≡ true) (texts c.in-Some.lines.now) c.in-Some.rest.now.now (subst (AllLack 10) parts (parts_lack c.args.bytes.now))
+    last_of (λ (p : List ℕ). lacks 10 p ≡ true) (texts c.in-Some.lines.now) c.in-Some.rest.now.now
+    (subst (AllLack 10) parts (parts_lack c.args.bytes.now))

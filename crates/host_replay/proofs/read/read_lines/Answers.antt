@@ -11,7 +11,8 @@ returns-in-Ok-false-clause-line c = λ k is.
     let number : c.loop-k.k + 1 ≡ k = cc in
     subst (IsRefused (ended (texts c.args.lines.now ++ c.args.rest.now ∷ []))) number
     (refused_part _ (texts c.args.lines.now) (ended (c.args.rest.now ∷ [])) c.loop-k.k c.part_at.result.now (recorded c.loop-k.reading.file)
-    (ended_any (texts c.args.lines.now) c.args.rest.now) c.part_at.ensures c.loop-k.invariant.read (c.in-Ok-false.ensures.no c.in-Ok-false.field-0-test))
+    (ended_any (texts c.args.lines.now) c.args.rest.now) c.part_at.ensures c.loop-k.invariant.read
+    (c.in-Ok-false.ensures.no c.in-Ok-false.field-0-test))
 
 pub loop-k-preserved : goal.loop-k-preserved
 loop-k-preserved c = record {
@@ -27,7 +28,8 @@ returns-then-not-is_empty-clause-line c = λ k is.
     let all : c.loop-k.k ≡ length c.args.lines.now = search rules in
     let count = length-map c.args.lines.now _ in
     let read : Read empty (with_newlines (texts c.args.lines.now)) (recorded c.loop-k.reading.file) =
-    subst (λ ls. Read empty (with_newlines ls) (recorded c.loop-k.reading.file)) (take_all (texts c.args.lines.now) c.loop-k.k (all ∙ sym count)) c.loop-k.invariant.read in
+    subst (λ ls. Read empty (with_newlines ls) (recorded c.loop-k.reading.file))
+    (take_all (texts c.args.lines.now) c.loop-k.k (all ∙ sym count)) c.loop-k.invariant.read in
     subst (IsRefused (ended (texts c.args.lines.now ++ c.args.rest.now ∷ []))) (ap (λ n. n + 1) count ∙ number)
     (rest_refused (texts c.args.lines.now) c.args.rest.now (recorded c.loop-k.reading.file) some read c.requires.no_newline)
 
@@ -36,6 +38,7 @@ returns-clause-journal c =
     let none : length c.args.rest.now ≡ 0 = search rules in
     let all : c.loop-k.k ≡ length c.args.lines.now = search rules in
     let read : Read empty (with_newlines (texts c.args.lines.now)) (recorded c.loop-k.reading.file) =
-    subst (λ ls. Read empty (with_newlines ls) (recorded c.loop-k.reading.file)) (take_all (texts c.args.lines.now) c.loop-k.k (all ∙ sym (length-map c.args.lines.now _)))
+    subst (λ ls. Read empty (with_newlines ls) (recorded c.loop-k.reading.file))
+    (take_all (texts c.args.lines.now) c.loop-k.k (all ∙ sym (length-map c.args.lines.now _)))
     c.loop-k.invariant.read in
     rest_read (texts c.args.lines.now) c.args.rest.now (recorded c.loop-k.reading.file) none read

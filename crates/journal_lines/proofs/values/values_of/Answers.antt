@@ -6,7 +6,8 @@ use Rattle.journal_lines.proofs.values.values_of.Goals as goal
 
 pub loop-k-preserved : goal.loop-k-preserved
 loop-k-preserved c = record {
-  numbers = all_more IsNumber c.loop-k.values c.push.new.self c.in-Some.value c.loop-k.invariant.numbers c.in-Some.ensures.some.0 c.in_ok-push.ensures.ok;
+  numbers = all_more IsNumber c.loop-k.values c.push.new.self c.in-Some.value c.loop-k.invariant.numbers
+      c.in-Some.ensures.some.0 c.in_ok-push.ensures.ok;
   written = one_more number_text (texts c.args.words.now) c.loop-k.k c.part_at-word.result.now c.loop-k.values c.push.new.self
       c.in-Some.value c.part_at-word.ensures c.loop-k.invariant.written c.in-Some.ensures.some.1 c.in_ok-push.ensures.ok;
 }

@@ -16,7 +16,8 @@ returns-clause-read_back c = λ distinct.
     let all = take_all c.loop-entry.entry-index entries past in
     let text : c.loop-entry.text ≡ text_of (recorded c.args.self.now) =
     c.loop-entry.invariant.text
-    ∙ ap (λ (es : List Asked). flat_map module_text (modules_of c.args.self.now.modules.items) ++ flat_map (entry_text (modules_of c.args.self.now.modules.items)) es) all in
+    ∙ ap (λ (es : List Asked). flat_map module_text (modules_of c.args.self.now.modules.items)
+    ++ flat_map (entry_text (modules_of c.args.self.now.modules.items)) es) all in
     read_back (recorded c.args.self.now) c.loop-entry.text text (record {
       names = c.loop-entry.invariant.names;
       distinct = distinct;
