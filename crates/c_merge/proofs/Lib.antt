@@ -1,6 +1,4 @@
-pub mod Decimal
 pub mod Formed
-pub mod Joined
 pub mod NewFunctions
 pub mod NewItems
 pub mod NewNames

@@ -33,10 +33,6 @@ merge_names p = merging p name_in is_outside (may_name p)
 abbrev pub merge_of : Program → List tree.Item
 merge_of p = joined (merge_names p) 0 p.units
 
--- the new names, which hang on no unit's items
-abbrev pub new_names : Renaming
-new_names = merge_names (record { units = []; hosts = [] })
-
 -- the program of the one unit and the same hosts
 abbrev pub as_one : Program → Program
 as_one p = record { units = merge_of p ∷ []; hosts = p.hosts }
