@@ -9,7 +9,7 @@ use Rattle.crun_cli.proofs.top.crun_top.Goals as goal
 pub returns-in-Err-clause-complete : goal.returns-in-Err-clause-complete
 returns-in-Err-clause-complete g c =
     let files = g.F.Files in
-    stop_complete _ c.args.hosts.items (texts c.args.words.now) (files.told c.args.files.now)
+    stop_complete g.H.HostModule c.args.hosts.items (texts c.args.words.now) (files.told c.args.files.now)
     (files.read_faults c.args.files.now)
     (files.read_faults c.work.new.files) (files.fault_name c.work.new.files) (g.O.Sink.told c.args.out.now) (g.O.Sink.told c.work.new.out)
     (g.O.Sink.faults c.args.out.now) (g.O.Sink.faults c.work.new.out)
@@ -17,13 +17,13 @@ returns-in-Err-clause-complete g c =
 
 pub returns-in-Ok-clause-refused_always : goal.returns-in-Ok-clause-refused_always
 returns-in-Ok-clause-refused_always g c = λ m tells read why.
-    run_refused _ c.args.hosts.items (texts c.args.words.now) m (g.O.Sink.told c.args.out.now) (g.O.Sink.told c.work.new.out)
+    run_refused g.H.HostModule c.args.hosts.items (texts c.args.words.now) m (g.O.Sink.told c.args.out.now) (g.O.Sink.told c.work.new.out)
     c.in-Ok.status why (c.in-Ok.ensures.ran m tells)
 
 pub returns-in-Err-clause-refused_always : goal.returns-in-Err-clause-refused_always
 returns-in-Err-clause-refused_always g c =
     let files = g.F.Files in
-    stop_always _ c.args.hosts.items (texts c.args.words.now) (files.told c.args.files.now)
+    stop_always g.H.HostModule c.args.hosts.items (texts c.args.words.now) (files.told c.args.files.now)
     (files.read_faults c.args.files.now)
     (files.read_faults c.work.new.files) (files.fault_name c.work.new.files) (g.O.Sink.told c.args.out.now) (g.O.Sink.told c.work.new.out)
     (g.O.Sink.faults c.args.out.now) (g.O.Sink.faults c.work.new.out)
@@ -33,7 +33,7 @@ pub returns-in-Err-clause-refused : goal.returns-in-Err-clause-refused
 returns-in-Err-clause-refused g c = λ came.
     let files = g.F.Files in
     let err = g.E.Sink in
-    refused_line _ c.args.hosts.items (texts c.args.words.now) (files.told c.args.files.now)
+    refused_line g.H.HostModule c.args.hosts.items (texts c.args.words.now) (files.told c.args.files.now)
     (files.read_faults c.args.files.now)
     (files.read_faults c.work.new.files) (files.fault_name c.work.new.files) (g.O.Sink.told c.args.out.now) (g.O.Sink.told c.work.new.out)
     (g.O.Sink.faults c.args.out.now) (g.O.Sink.faults c.work.new.out)
@@ -45,7 +45,7 @@ pub returns-in-Err-clause-write_fault : goal.returns-in-Err-clause-write_fault
 returns-in-Err-clause-write_fault g c = λ four.
     let files = g.F.Files in
     let err = g.E.Sink in
-    write_fault _ c.args.hosts.items (texts c.args.words.now) (files.told c.args.files.now)
+    write_fault g.H.HostModule c.args.hosts.items (texts c.args.words.now) (files.told c.args.files.now)
     (files.read_faults c.args.files.now)
     (files.read_faults c.work.new.files) (files.fault_name c.work.new.files) (g.O.Sink.told c.args.out.now) (g.O.Sink.told c.work.new.out)
     (g.O.Sink.faults c.args.out.now) (g.O.Sink.faults c.work.new.out)
@@ -56,7 +56,7 @@ returns-in-Err-clause-write_fault g c = λ four.
 pub returns-in-Err-clause-part : goal.returns-in-Err-clause-part
 returns-in-Err-clause-part g c = λ status.
     let files = g.F.Files in
-    stop_part _ c.args.hosts.items (texts c.args.words.now) (files.told c.args.files.now) (files.read_faults c.args.files.now)
+    stop_part g.H.HostModule c.args.hosts.items (texts c.args.words.now) (files.told c.args.files.now) (files.read_faults c.args.files.now)
     (files.read_faults c.work.new.files) (files.fault_name c.work.new.files) (g.O.Sink.told c.args.out.now) (g.O.Sink.told c.work.new.out)
     (g.O.Sink.faults c.args.out.now) (g.O.Sink.faults c.work.new.out)
     (reason_of c.in-Err.stop) c.in-Err.ensures.stop
