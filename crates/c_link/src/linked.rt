@@ -102,6 +102,16 @@ impl Linked {
         self.units.len()
     }
 
+    /// The units that were handed in, in their order. Some text spells each, it keeps the rules, and
+    /// nothing refuses to link them with the symbols.
+    pub fn units(&self) -> &[CheckedUnit]
+        ensures units { result.now ≡ self.now.0 }
+        ensures checked { AllChecked (map unit_of self.now.0) }
+        ensures resolved { first_refusal (map unit_of self.now.0) (c_symbols self.now.1) ≡ None }
+    {
+        self.units.as_slice()
+    }
+
     /// The unit that was handed in at a place, counted from 0.
     pub fn unit(&self, k: usize) -> &CheckedUnit
         requires { k < length self.now.0 }

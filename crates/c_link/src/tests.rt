@@ -90,6 +90,7 @@ fn what_is_linked(rt: HostRuntime) -> Result<(), Fail> {
     )?;
     let linked = linked(alloc, first, second)?.ok().ok_or("the units link")?;
     assert_eq!(rt; linked.unit_count(), 2);
+    assert_eq!(rt; linked.units().len(), 2);
     assert_eq!(rt; linked.host_symbols().len(), 1);
     if linked.unit_count() == 2 {
         assert_eq!(rt; linked.unit(0).unit().len(), 2);

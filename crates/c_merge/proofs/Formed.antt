@@ -229,13 +229,14 @@ module _ (p : Program) (u : ℕ) where
   item_fits d (tree.Function f) is = (subst (λ k. 0 < k) (sym (length-map f.params (renamed.param ρ u))) is.0, body_fits d f.body is.1)
 
 -- units that texts spell become one that some text spells
-pub one_formed : (p : Program) → ((u : ℕ) (items : List tree.Item) → slice_get p.units u ≡ Some items → Formed items) → Formed (merge_of p)
-one_formed p each = formed (merge_of p) (record {
-  named = all_from NamedItem (merge_of p) named;
-  fits = all_from (FitsItem depth_limit) (merge_of p) fits;
+pub one_formed : (p : Program) → ((u : ℕ) (items : List tree.Item) → slice_get p.units u ≡ Some items → Formed items)
+    → Formed (merge_of p.units)
+one_formed p each = formed (merge_of p.units) (record {
+  named = all_from NamedItem (merge_of p.units) named;
+  fits = all_from (FitsItem depth_limit) (merge_of p.units) fits;
 })
   where
-    named : (k : ℕ) (y : tree.Item) → slice_get (merge_of p) k ≡ Some y → NamedItem y
+    named : (k : ℕ) (y : tree.Item) → slice_get (merge_of p.units) k ≡ Some y → NamedItem y
     named k y at =
         let from = (placed_at p k y at).from in
         let u = (placed_at p k y at).unit in
@@ -244,7 +245,7 @@ one_formed p each = formed (merge_of p) (record {
         (all_at NamedItem from.items (well_formed from.items (each u from.items from.there)).named from.number from.item
         from.at))
 
-    fits : (k : ℕ) (y : tree.Item) → slice_get (merge_of p) k ≡ Some y → FitsItem depth_limit y
+    fits : (k : ℕ) (y : tree.Item) → slice_get (merge_of p.units) k ≡ Some y → FitsItem depth_limit y
     fits k y at =
         let from = (placed_at p k y at).from in
         let u = (placed_at p k y at).unit in

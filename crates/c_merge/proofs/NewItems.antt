@@ -23,7 +23,8 @@ use Rattle.c_renaming.specs.NewNames.{is_outside, name_in}
 use Rattle.c_renaming.proofs.Bodies.{func_type_of-func}
 use Rattle.c_renaming.proofs.Merging.{merging_names}
 use Rattle.c_renaming.proofs.NewNames.{new_names}
-use Rattle.c_merge.specs.Merge.{AreLinked, may_name, merge_names}
+use Rattle.c_merge.specs.Merge.{may_name, merge_names}
+use Rattle.c_merge.proofs.Together.{FitTogether}
 use Rattle.c_merge.proofs.NewNames.{new, new_var, outside_stays, own_new, own_var, SameNew, new_same, new_keeps, item_name, one_type}
 use Rattle.c_merge.proofs.NewStatements.{all_gives}
 use Rattle.c_merge.proofs.Places.{Before, from_map}
@@ -99,7 +100,7 @@ types_equal (t ∷ ts) = λ i. type_equal t i && types_equal ts i
 func_types_equal : (f : tree.FuncType) → same_func_type f f ≡ true
 func_types_equal f = λ i. types_equal f.params i && type_equal f.result i
 
-module _ (p : Program) (are : AreLinked p) (u : ℕ) (items : List tree.Item) (at_u : slice_get p.units u ≡ Some items) where
+module _ (p : Program) (are : FitTogether p.units) (u : ℕ) (items : List tree.Item) (at_u : slice_get p.units u ≡ Some items) where
   abbrev ρ : Renaming
   ρ = merge_names p
 

@@ -1,28 +1,23 @@
 -- The names that the one unit declares, by those of its units.
-use Rattle.std.proofs.Common.{◌≡◌, ◌≢◌, ℕ, not, Bool, true, false, if◌then◌else◌, List, [], ◌∷◌, bytes_eq, Option, Some, None, option_map, slice_get, refl, sym, ap, ◌∙◌, subst}
-use Rattle.std.specs.Prelude.{flat_map}
+use Rattle.std.proofs.Common.{◌≡◌, ◌≢◌, ℕ, not, true, false, if◌then◌else◌, List, bytes_eq, Some, option_map, slice_get, refl, sym, ap, ◌∙◌, subst}
 use Rattle.std.proofs.lemmas.Bool.{both_ways, not-true}
-use Rattle.std.proofs.lemmas.Option.{same_Some}
 use Rattle.std.proofs.lemmas.Slice.Eq.{bytes_eq-Decides}
-use Rattle.w2c_base.specs.Lookup.{if_found, numbered}
 use Rattle.c_tree.specs.Tree as tree
-use Rattle.c_tree.specs.Runtime.{same_func_type}
 use Rattle.c_tree.specs.Scope.{name_of, variable_of, function_of, func_type_of}
 use Rattle.c_tree.specs.Rules.{is_own_name, file_name_is_free}
 use Rattle.c_meaning.specs.State.{Name}
-use Rattle.c_meaning.specs.Linking.{Program, LinkRefusal, NotDefined, TypeDiffers, external_func, external_functions, func_type, unresolved}
+use Rattle.c_meaning.specs.Linking.{Program}
 use Rattle.c_meaning.specs.Step.{depth_name}
 use Rattle.c_meaning.proofs.Lookups.{bytes_equal, bytes_differ}
-use Rattle.c_sound.proofs.Choices.{by_test, by_option}
-use Rattle.c_sound.proofs.Lists.{cons_not_none, flat_none, numbered_at, kept_at}
-use Rattle.c_sound.proofs.SameTypes.{func_types_same}
+use Rattle.c_sound.proofs.Choices.{by_test}
 use Rattle.c_renaming.specs.Renaming.{Renaming}
 use Rattle.c_renaming.specs.Renamed as renamed
 use Rattle.c_renaming.specs.NewNames.{is_outside, name_in}
 use Rattle.c_renaming.proofs.Bodies.{func_type_of-func}
 use Rattle.c_renaming.proofs.NewNames.{new_names}
-use Rattle.c_merge.specs.Merge.{AreLinked, merge_names}
-use Rattle.c_merge.proofs.Units.{external_of, none_refused, own_not_depth, func_seen}
+use Rattle.c_merge.specs.Merge.{merge_names}
+use Rattle.c_merge.proofs.Together.{FitTogether, Shows}
+use Rattle.c_merge.proofs.Units.{own_not_depth, func_seen}
 
 -- a name of a function in the one unit
 abbrev pub new : ℕ → Name → Name
@@ -114,32 +109,16 @@ module _ (p : Program) where
 
 -- ---- functions of one name have one type
 
-module _ (p : Program) (are : AreLinked p) where
-  type_found : (u : ℕ) (g : tree.Func) → unresolved p u g ≡ [] → if_found (external_func p g.name) (func_type p) ≡ Some (func_type_of g)
-  type_found u g e = by_option (if_found (external_func p g.name) (func_type p))
-      (λ none. absurd (cons_not_none (NotDefined u g.name) [] (sym (ap refusals none) ∙ e)))
-      (λ ty is. by_test (same_func_type ty (func_type_of g))
-      (λ same. is ∙ ap Some (func_types_same ty (func_type_of g) same))
-      (λ differ. absurd (cons_not_none (TypeDiffers u g.name) []
-      (sym (ap refusals is ∙ ap (λ (b : Bool). if b then [] else TypeDiffers u g.name ∷ []) differ) ∙ e))))
-    where
-      refusals : Option tree.FuncType → List LinkRefusal
-      refusals o = elim o [
-        | None ↦ NotDefined u g.name ∷ []
-        | Some ty ↦ if same_func_type ty (func_type_of g) then [] else TypeDiffers u g.name ∷ []
-      ]
-
-  pub linked_type : (u : ℕ) (items : List tree.Item) (i : ℕ) (g : tree.Func) → slice_get p.units u ≡ Some items
-      → slice_get items i ≡ Some (tree.Function g) → is_outside g.name ≡ true
-      → if_found (external_func p g.name) (func_type p) ≡ Some (func_type_of g)
-  linked_type u items i g at_u at_i outside =
-      let shown : g.is_static ≡ false = not-true g.is_static (sym (func_seen items (are.kept u items at_u) i g at_i) ∙ outside) in
-      let of_unit : flat_map (unresolved p u) (external_functions items) ≡ [] =
-      flat_none (λ (u : ℕ × List tree.Item). flat_map (unresolved p u.0) (external_functions u.1)) (numbered p.units)
-      (none_refused p are).1 u (u, items)
-      (numbered_at p.units u items at_u) in
-      let listed = kept_at external_of items i (tree.Function g) g at_i (ap (λ (b : Bool). if b then None else Some g) shown) in
-      type_found u g (flat_none (unresolved p u) (external_functions items) of_unit listed.0 g listed.1)
+module _ (p : Program) (are : FitTogether p.units) where
+  shows : (u : ℕ) (items : List tree.Item) (i : ℕ) (g : tree.Func) → slice_get p.units u ≡ Some items
+      → slice_get items i ≡ Some (tree.Function g) → is_outside g.name ≡ true → Shows p.units u g
+  shows u items i g at_u at_i outside = record {
+    items = items;
+    there = at_u;
+    item = i;
+    at = at_i;
+    shown = not-true g.is_static (sym (func_seen items (are.kept u items at_u) i g at_i) ∙ outside);
+  }
 
   -- functions of two units that are seen under one name
   pub one_type : (u w : ℕ) (items others : List tree.Item) (i j : ℕ) (f g : tree.Func) → slice_get p.units u ≡ Some items
@@ -148,6 +127,4 @@ module _ (p : Program) (are : AreLinked p) where
       → is_outside f.name ≡ true
       → func_type_of f ≡ func_type_of g
   one_type u w items others i j f g at_u at_w at_i at_j same outside =
-      let first = linked_type u items i f at_u at_i outside in
-      let second = linked_type w others j g at_w at_j (sym (ap is_outside same) ∙ outside) in
-      same_Some (func_type_of f) (func_type_of g) (sym first ∙ ap (λ n. if_found (external_func p n) (func_type p)) same ∙ second)
+      are.typed u w f g (shows u items i f at_u at_i outside) (shows w others j g at_w at_j (sym (ap is_outside same) ∙ outside)) same

@@ -24,7 +24,8 @@ use Rattle.c_renaming.specs.NewNames.{is_outside, name_in}
 use Rattle.c_renaming.proofs.Begins.{named-append}
 use Rattle.c_renaming.proofs.Merging.{merging_names}
 use Rattle.c_renaming.proofs.NewNames.{new_names}
-use Rattle.c_merge.specs.Merge.{AreLinked, may_name, merge_names}
+use Rattle.c_merge.specs.Merge.{may_name, merge_names}
+use Rattle.c_merge.proofs.Together.{FitTogether}
 use Rattle.c_merge.proofs.NewNames.{new, new_var, outside_stays, inside_new, var_apart, new_same, new_keeps, variable_item, function_item, one_type}
 use Rattle.c_merge.proofs.Places.{Before}
 use Rattle.c_merge.proofs.Units.{free, func_not_runtime, variable_free, runtime_reserved}
@@ -59,7 +60,7 @@ among_new : (f : Name → Name) → ((m n : Name) → bytes_eq (f m) (f n) ≡ b
 among_new f keeps n [] = refl
 among_new f keeps n (x ∷ xs) = λ i. keeps n x i || among_new f keeps n xs i
 
-module _ (p : Program) (are : AreLinked p) (u : ℕ) (items : List tree.Item) (at_u : slice_get p.units u ≡ Some items) where
+module _ (p : Program) (are : FitTogether p.units) (u : ℕ) (items : List tree.Item) (at_u : slice_get p.units u ≡ Some items) where
   abbrev ρ : Renaming
   ρ = merge_names p
 
@@ -250,7 +251,8 @@ module _ (p : Program) (are : AreLinked p) (u : ℕ) (items : List tree.Item) (a
     arrays_same n =
         ap (is_among (new_var u n)) (filter_map-append array_of others (map (renamed.item ρ u) (take n0 items)))
         ∙ among_append (new_var u n) (filter_map array_of others) (filter_map array_of (map (renamed.item ρ u) (take n0 items)))
-        ∙ ap (λ b. b || is_among (new_var u n) (filter_map array_of (map (renamed.item ρ u) (take n0 items)))) (arrays_other n others front)
+        ∙ ap (λ b. b || is_among (new_var u n) (filter_map array_of (map (renamed.item ρ u) (take n0 items))))
+        (arrays_other n others front)
         ∙ ap (is_among (new_var u n)) (filter_new array_of (renamed.item ρ u) (new_var u) array_item (take n0 items))
         ∙ among_new (new_var u) vars_keep n (filter_map array_of (take n0 items))
 

@@ -20,7 +20,8 @@ use Rattle.c_renaming.specs.Kept.{Each}
 use Rattle.c_renaming.specs.NewNames.{is_outside, name_in}
 use Rattle.c_renaming.proofs.Merging.{merging_names}
 use Rattle.c_renaming.proofs.NewNames.{new_names}
-use Rattle.c_merge.specs.Merge.{AreLinked, may_name, merge_names}
+use Rattle.c_merge.specs.Merge.{may_name, merge_names}
+use Rattle.c_merge.proofs.Together.{FitTogether}
 use Rattle.c_merge.proofs.NewNames.{new, new_var, outside_stays}
 use Rattle.c_merge.proofs.NewScope.{old, now, variables_same, file_variables_same, arrays_same, function_same, file_functions_there, typing_same}
 use Rattle.c_merge.proofs.Places.{Before, take_map}
@@ -59,7 +60,7 @@ or_gives false b c e gives = gives e
 behind_known : (known rule : Bool) → known ≡ true → (not known || rule) ≡ true → rule ≡ true
 behind_known known rule is e = sym (ap (λ b. not b || rule) is) ∙ e
 
-module _ (p : Program) (are : AreLinked p) (u : ℕ) (items : List tree.Item) (at_u : slice_get p.units u ≡ Some items)
+module _ (p : Program) (are : FitTogether p.units) (u : ℕ) (items : List tree.Item) (at_u : slice_get p.units u ≡ Some items)
     (n0 : ℕ) (f : tree.Func) (b : tree.Body) (others : List tree.Item) (front : Each (Before p u) others) where
   abbrev ρ : Renaming
   ρ = merge_names p
@@ -84,7 +85,8 @@ module _ (p : Program) (are : AreLinked p) (u : ℕ) (items : List tree.Item) (a
 
   -- ---- rules 2, 3 and 12
 
-  label_free : (number : ℕ) (stmt : tree.Stmt) → label_is_free (record { scope = s'; number = number; stmt = renamed.stmt ρ u stmt }) ≡ true
+  label_free : (number : ℕ) (stmt : tree.Stmt)
+      → label_is_free (record { scope = s'; number = number; stmt = renamed.stmt ρ u stmt }) ≡ true
   label_free number (tree.Label n) = refl
   label_free number _ = refl
 

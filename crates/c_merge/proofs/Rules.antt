@@ -106,7 +106,8 @@ all_keep items all = ap (λ l. slice_get l 0) (flat_empty (broken_in_item items)
     in_body k (tree.Var t n number) at = refl
     in_body k (tree.Function f) at = by_option f.body
         (λ none. ap (in_stmts items k f) none)
-        (λ b is. ap (in_stmts items k f) is ∙ flat_empty (broken_in_stmt (scope_at items k f b) k) (numbered b.stmts) (of_stmt k f b at is))
+        (λ b is. ap (in_stmts items k f) is
+        ∙ flat_empty (broken_in_stmt (scope_at items k f b) k) (numbered b.stmts) (of_stmt k f b at is))
 
     each : (i : ℕ) (entry : ℕ × tree.Item) → slice_get (numbered items) i ≡ Some entry → broken_in_item items entry ≡ []
     each i entry at =

@@ -4,7 +4,7 @@ use Rattle.std.specs.Prelude.{◌||◌}
 use Rattle.std.specs.List.{list_all, list_any}
 use Rattle.std.proofs.lemmas.Bool.{and_parts, false≢true, or_cases, both_ways, not-true, cases_order}
 use Rattle.std.proofs.lemmas.Slice.Eq.{bytes_eq-Decides}
-use Rattle.w2c_base.specs.Lookup.{if_found, named, numbered}
+use Rattle.w2c_base.specs.Lookup.{if_found, named}
 use Rattle.c_tree.specs.declared.tree.CType.{CType}
 use Rattle.c_tree.specs.Tree as tree
 use Rattle.c_tree.specs.FirstBroken.{KeepsRules}
@@ -12,19 +12,20 @@ use Rattle.c_tree.specs.Runtime.{primitives}
 use Rattle.c_tree.specs.Scope.{Scope, variable_of, variables, file_variables, function_of, functions, func_type_of}
 use Rattle.c_tree.specs.Rules.{is_runtime_name, is_symbol, is_own_name, is_void, file_name_is_free, local_names, if_any, arg_suits, args_suit, arg_uses, callee_uses, target_uses, is_known, callee_type, stmt_suits, stmt_uses, proper_types, target_suits, call_suits}
 use Rattle.c_meaning.specs.State.{Name}
-use Rattle.c_meaning.specs.Linking.{Program, LinkRefusal, definitions, is_external, defined, defined_for_all, definition_at, external_functions, twice, unresolved, host_symbol, Twice}
+use Rattle.c_meaning.specs.Linking.{Program, definitions, is_external, defined, defined_for_all, definition_at}
 use Rattle.c_meaning.specs.Step.{depth_name}
 use Rattle.c_sound.proofs.Choices.{by_test, by_option}
 use Rattle.c_sound.proofs.Defined.{any_from, defined_names, is_listed, static_defined}
 use Rattle.c_sound.proofs.Kept.{item_kept, stmt_kept}
-use Rattle.c_sound.proofs.Lists.{append_none, cons_not_none, flat_none, none_first, numbered_at, first_there, kept_at, named_from, take_keeps, take_has}
+use Rattle.c_sound.proofs.Lists.{first_there, named_from, take_keeps}
 use Rattle.c_renaming.specs.Renaming.{Renaming}
 use Rattle.c_renaming.specs.Kept.{Each, KeptArg, KeptCallee, KeptStmt}
 use Rattle.c_renaming.specs.Parts.{KeptBody, KeptItem}
 use Rattle.c_renaming.specs.Merging.{IsDefinedOnce, KeepsSeen, MayUse, Own, Foreign, MayMerge}
 use Rattle.c_renaming.specs.NewNames.{is_outside, name_in}
 use Rattle.c_renaming.proofs.NewNames.{new_names, primitives_outside}
-use Rattle.c_merge.specs.Merge.{declares, may_be_named, may_name, merge_names, AreLinked}
+use Rattle.c_merge.specs.Merge.{declares, may_be_named, may_name, merge_names}
+use Rattle.c_merge.proofs.Together.{FitTogether, Shows}
 
 -- ---- lists
 
@@ -38,6 +39,17 @@ same_first {A} a b x y e = ap first e
     first : Option (Name × A) → Name
     first None = a
     first (Some z) = z.0
+
+pub any_at : {A : Type 0} (test : A → Bool) (xs : List A) (i : ℕ) (x : A) → slice_get xs i ≡ Some x → test x ≡ true
+    → list_any test xs ≡ true
+any_at test [] i x at is = absurd cc
+any_at test (y ∷ xs) zero x at is =
+    let here : y ≡ x = cc in
+    let passes : test y ≡ true = ap test here ∙ is in
+    rw passes refl
+any_at test (y ∷ xs) (suc i) x at is = by_test (test y)
+    (λ passes. rw passes refl)
+    (λ fails. rw fails (any_at test xs i x at is))
 
 -- each of two lists that are joined
 pub all_parts : {A : Type 0} (test : A → Bool) (xs ys : List A) → list_all test (xs ++ ys) ≡ true
@@ -244,7 +256,8 @@ module _ (items : List tree.Item) (keeps : KeepsRules items) where
       if_there None test there is = absurd (false≢true there)
       if_there (Some a) test there is = (a, refl, is)
 
-      callee_kept : (c : tree.Callee) → list_all (is_known s) (callee_uses c) ≡ true → KeptCallee ρ u c × (is_some (callee_type s c) ≡ true)
+      callee_kept : (c : tree.Callee) → list_all (is_known s) (callee_uses c) ≡ true
+          → KeptCallee ρ u c × (is_some (callee_type s c) ≡ true)
       callee_kept (tree.Called n) known =
           let there = (and_parts (is_some (named n (functions s))) true known).0 in
           (known_named (k + 1) n there, there)
@@ -305,45 +318,9 @@ module _ (items : List tree.Item) (keeps : KeepsRules items) where
       (record { item = k; func = f; body = b }) listed.1 passes in
       ap is_some found.1
 
--- ---- units that link
+-- ---- units that fit together
 
-abbrev pub external_of : tree.Item → Option tree.Func
-external_of item = elim item [
-  | tree.Array name count bytes ↦ None
-  | tree.Var ty name number ↦ None
-  | tree.Function f ↦ if f.is_static then None else Some f
-]
-
-pub any_at : {A : Type 0} (test : A → Bool) (xs : List A) (i : ℕ) (x : A) → slice_get xs i ≡ Some x → test x ≡ true
-    → list_any test xs ≡ true
-any_at test [] i x at is = absurd cc
-any_at test (y ∷ xs) zero x at is =
-    let here : y ≡ x = cc in
-    let passes : test y ≡ true = ap test here ∙ is in
-    rw passes refl
-any_at test (y ∷ xs) (suc i) x at is = by_test (test y)
-    (λ passes. rw passes refl)
-    (λ fails. rw fails (any_at test xs i x at is))
-
-module _ (p : Program) (are : AreLinked p) where
-  abbrev pub all_twice : List LinkRefusal
-  all_twice = flat_map (λ (u : ℕ × List tree.Item). flat_map (twice p u.0) (external_functions u.1)) (numbered p.units)
-
-  abbrev pub all_unresolved : List LinkRefusal
-  all_unresolved = flat_map (λ (u : ℕ × List tree.Item). flat_map (unresolved p u.0) (external_functions u.1)) (numbered p.units)
-
-  pub none_refused : (all_twice ≡ []) × (all_unresolved ≡ [])
-  none_refused = append_none all_twice all_unresolved (none_first (all_twice ++ all_unresolved) are.linked)
-
-  pub not_twice : (u : ℕ) (items : List tree.Item) (i : ℕ) (g : tree.Func) → slice_get p.units u ≡ Some items
-      → slice_get items i ≡ Some (tree.Function g) → g.is_static ≡ false → twice p u g ≡ []
-  not_twice u items i g at_u at_i shown =
-      let of_unit : flat_map (twice p u) (external_functions items) ≡ [] =
-      flat_none (λ (u : ℕ × List tree.Item). flat_map (twice p u.0) (external_functions u.1)) (numbered p.units) none_refused.0 u (u, items)
-      (numbered_at p.units u items at_u) in
-      let listed = kept_at external_of items i (tree.Function g) g at_i (ap (λ (b : Bool). if b then None else Some g) shown) in
-      flat_none (twice p u) (external_functions items) of_unit listed.0 g listed.1
-
+module _ (p : Program) (are : FitTogether p.units) where
   -- a function that is seen outside, which a unit defines
   pub record Defines (u : ℕ) (x : Name) : Type 0 where
     pub items : List tree.Item
@@ -375,27 +352,20 @@ module _ (p : Program) (are : AreLinked p) where
         name_is = names.name_is;
       }))
 
+  shows : (u : ℕ) (x : Name) → is_outside x ≡ true → (d : Defines u x) → Shows p.units u d.func
+  shows u x outside d = record {
+    items = d.items;
+    there = d.there;
+    item = d.item;
+    at = d.at;
+    shown = not-true d.func.is_static (sym (func_seen d.items (are.kept u d.items d.there) d.item d.func d.at)
+        ∙ ap is_outside d.name_is ∙ outside);
+  }
+
   not_two : (u v : ℕ) (x : Name) → u < v → is_outside x ≡ true → Defines u x → Defines v x → ⊥
   not_two u v x less outside a b =
-      let keeps_b : KeepsRules b.items = are.kept v b.items b.there in
-      let seen_b : is_outside b.func.name ≡ not b.func.is_static = func_seen b.items keeps_b b.item b.func b.at in
-      let shown : b.func.is_static ≡ false = not-true b.func.is_static (sym seen_b ∙ ap is_outside b.name_is ∙ outside) in
-      let there : is_some (defined_for_all a.items a.func.name) ≡ true =
-      external_there a.items (are.kept u a.items a.there) a.item a.func a.body a.at a.body_is (ap is_outside a.name_is ∙ outside) in
-      let there' : is_some (defined_for_all a.items b.func.name)
-      ≡ true = subst (λ (n : Name). is_some (defined_for_all a.items n) ≡ true) (a.name_is ∙ sym b.name_is) there in
-      let any : list_any (λ items. is_some (defined_for_all items b.func.name)) (take v p.units) ≡ true =
-      any_at (λ items. is_some (defined_for_all items b.func.name)) (take v p.units) u a.items
-      (take_has v p.units u a.items less a.there) there' in
-      let none : twice p v b.func ≡ [] = not_twice v b.items b.item b.func b.there b.at shown in
-      cons_not_none (Twice v b.func.name) []
-      (sym (refused (is_some b.func.body) (is_some (host_symbol p b.func.name)) _ (ap is_some b.body_is) any) ∙ none)
-    where
-      refused : (h c d : Bool) → h ≡ true → d ≡ true → (if h && (c || d) then Twice v b.func.name ∷ [] else []) ≡ Twice v b.func.name ∷ []
-      refused true true d e f = refl
-      refused true false true e f = refl
-      refused true false false e f = absurd (false≢true f)
-      refused false c d e f = absurd (false≢true e)
+      are.once u v less a.func b.func (shows u x outside a) (shows v x outside b) (ap is_some a.body_is) (ap is_some b.body_is)
+      (a.name_is ∙ sym b.name_is)
 
   -- a function that is seen outside is defined by one unit at most
   pub defined_once : (u v : ℕ) (x : Name) → v ≢ u → is_outside x ≡ true → Defines u x → Defines v x → ⊥

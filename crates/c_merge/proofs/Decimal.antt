@@ -1,0 +1,21 @@
+-- Numbers of units in decimal, as the machine writes them, and the new names that are made of them.
+use Rattle.std.proofs.Common.{◌≡◌, ℕ, zero, suc, ◌<◌, ◌^◌, [], ◌∷◌, ◌++◌, ap, ◌∙◌, arith, append_assoc}
+use Rattle.std.specs.Prelude.{decimal}
+use Rattle.std.proofs.lemmas.Fmt.{decimal_digit, decimal-digits_of}
+use Rattle.c_meaning.specs.State.{Name}
+use Rattle.c_renaming.specs.NewNames.{decimal_text, name_in}
+
+decimal_is : (n : ℕ) → n < 2 ^ 64 → decimal n ≡ decimal_text n
+decimal_is zero small = decimal_digit 0 (omega arith)
+decimal_is (suc n) small = decimal-digits_of (suc n) (omega arith) small
+
+-- a name that is put together piece by piece
+pub spelled : (u : ℕ) (name start a text b d e : Name) → u < 2 ^ 64 → start ≡ [] → text ≡ decimal u → a ≡ start ++ 117 ∷ []
+    → b ≡ a ++ text → d ≡ b ++ 95 ∷ [] → e ≡ d ++ name
+    → e ≡ name_in u name
+spelled u name start a text b d e small none digits first second third fourth =
+    fourth
+    ∙ ap (λ l. l ++ name) (third ∙ ap (λ l. l ++ 95 ∷ []) (second ∙ (λ i. first i ++ digits i)))
+    ∙ ap (λ l. (((l ++ 117 ∷ []) ++ decimal u) ++ 95 ∷ []) ++ name) none
+    ∙ ap (λ l. 117 ∷ l) (append_assoc (decimal u) (95 ∷ []) name)
+    ∙ ap (λ l. 117 ∷ (l ++ 95 ∷ name)) (decimal_is u small)

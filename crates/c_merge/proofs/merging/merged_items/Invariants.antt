@@ -1,0 +1,8 @@
+use Rattle.std.proofs.Common.{◌≡◌, map, take}
+use Rattle.c_tree.specs.View.{unit_of}
+use Rattle.c_renaming.specs.Merging.{joined}
+use Rattle.c_merge.specs.Merge.{new_names}
+use Rattle.c_merge.proofs.merging.merged_items.Given as goal
+
+abbrev pub invariant-loop-unit : goal.invariant-loop-unit
+invariant-loop-unit l = unit_of l.one ≡ joined new_names 0 (take l.unit (map unit_of l.linked.0))

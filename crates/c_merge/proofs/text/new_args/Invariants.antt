@@ -1,0 +1,8 @@
+use Rattle.std.proofs.Common.{◌≡◌, map, take}
+use Rattle.c_tree.specs.View.{arg_of}
+use Rattle.c_renaming.specs.Renamed as renamed
+use Rattle.c_merge.specs.Merge.{new_names}
+use Rattle.c_merge.proofs.text.new_args.Given as goal
+
+abbrev pub invariant-loop-arg : goal.invariant-loop-arg
+invariant-loop-arg l = map arg_of l.made ≡ map (renamed.arg new_names l.unit) (map arg_of (take l.arg-index l.args))

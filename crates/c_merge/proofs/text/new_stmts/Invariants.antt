@@ -1,0 +1,8 @@
+use Rattle.std.proofs.Common.{◌≡◌, map, take}
+use Rattle.c_tree.specs.View.{stmt_of}
+use Rattle.c_renaming.specs.Renamed as renamed
+use Rattle.c_merge.specs.Merge.{new_names}
+use Rattle.c_merge.proofs.text.new_stmts.Given as goal
+
+abbrev pub invariant-loop-stmt : goal.invariant-loop-stmt
+invariant-loop-stmt l = map stmt_of l.made ≡ map (renamed.stmt new_names l.unit) (map stmt_of (take l.stmt-index l.stmts))
