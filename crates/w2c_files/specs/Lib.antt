@@ -1,5 +1,6 @@
 -- promised
 pub mod Words
+pub mod CFile
 pub mod Reading
 pub mod Standing
 pub mod Stopping

@@ -1,5 +1,5 @@
-// Files in memory that are read and written in order: the happy path, each stop, and what stands then.
-use crate::{Limits, Output, ReadStop, WriteStop, read_files, write_files};
+// Files in memory that are read and written in order: the happy path, each stop, and what stands then; and names of C files.
+use crate::{Limits, Output, ReadStop, WriteStop, is_c_file, read_files, write_files};
 use std::alloc::Global;
 use std::test::Fail;
 use w2c_base::Bytes;
@@ -96,5 +96,13 @@ fn writing_stops(rt: HostRuntime) -> Result<(), Fail> {
     );
     assert!(rt; files.get("a").is_some_and(|text| text == b"x".as_slice()));
     assert!(rt; files.get("d").is_some_and(|text| text == b"y".as_slice()));
+    Ok(())
+}
+
+#[test]
+fn names_of_c_files(rt: HostRuntime) -> Result<(), Fail> {
+    assert!(rt; is_c_file(b"a.c"));
+    assert!(rt; !is_c_file(b".c"));
+    assert!(rt; !is_c_file(b"a.h"));
     Ok(())
 }

@@ -10,7 +10,8 @@ use Rattle.w2c_io.specs.Contents.{Name}
 use Rattle.w2c_files.specs.Standing.{IsOneOf, AreDistinct, file_names}
 use Rattle.wasm2c_words.specs.Command.{Values, values_of}
 use Rattle.wasm2c_words.specs.CommandLine.{Line, Translation, FileSet, Generation, translate, set, generate, runtime, are_names, is_set, is_count, in_range, count_of, translation, generation, line_with_output, line_with_dir, line_with_count, line_with_runtime, line_by, line_of_values, line_of}
-use Rattle.wasm2c_words.specs.Names.{are_distinct, header_name_of, is_c_file, is_module_name, module_name_of}
+use Rattle.w2c_files.specs.CFile.{is_c_file}
+use Rattle.wasm2c_words.specs.Names.{are_distinct, header_name_of, is_module_name, module_name_of}
 use Rattle.wasm2c_words.specs.SetFiles.{files_of}
 use Rattle.wasm2c_words.proofs.HeaderName.{is_apart}
 use Rattle.wasm2c_words.proofs.SetFiles.{files_are_distinct}

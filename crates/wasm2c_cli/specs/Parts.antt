@@ -16,7 +16,8 @@ use Rattle.wasm_valid.specs.FileVerdict.{Read, IsVerdictOn}
 use Rattle.w2c_sim.specs.declared.refusal.Refusal.{Refusal}
 use Rattle.w2c_gen.specs.GeneratedFile.{IsGeneratedFile}
 use Rattle.wasm2c_words.specs.CommandLine.{Line, Generation, translate, set, generate, runtime, line_of}
-use Rattle.wasm2c_words.specs.Names.{are_distinct, is_c_file, module_name_of}
+use Rattle.w2c_files.specs.CFile.{is_c_file}
+use Rattle.wasm2c_words.specs.Names.{are_distinct, module_name_of}
 use Rattle.wasm2c_words.specs.declared.read.NoLine.{NoLine}
 use Rattle.wasm2c_words.specs.declared.read.NoLine.TheVariants as no_line
 use Rattle.wasm2c_cli.specs.Plan as plan

@@ -1,6 +1,6 @@
 // The modules that a line asks for, with the names of their files.
 ghost use Rattle.std.specs.Prelude.{◌≡◌, IfOk, IsTrue, map};
-ghost use Rattle.wasm2c_words.specs.Names.{is_c_file};
+ghost use Rattle.w2c_files.specs.CFile.{is_c_file};
 ghost use Rattle.wasm2c_cli.specs.Parts.{seen_target, seen_targets};
 ghost use Rattle.wasm2c_cli.specs.Plan.{target, target_in};
 ghost use Rattle.w2c_files.specs.Words.{names_of};

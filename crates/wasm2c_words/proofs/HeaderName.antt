@@ -4,7 +4,8 @@ use Rattle.std.proofs.Math.Seq.{get_or-append_seam, take-append_seam}
 use Rattle.std.proofs.lemmas.List.{append_cancel_left}
 use Rattle.std.proofs.lemmas.Slice.Eq.{bytes_eq-Decides}
 use Rattle.w2c_io.specs.Contents.{Name}
-use Rattle.wasm2c_words.specs.Names.{header_name_of, is_c_file}
+use Rattle.w2c_files.specs.CFile.{is_c_file}
+use Rattle.wasm2c_words.specs.Names.{header_name_of}
 
 not_true : IsTrue false → ⊥
 not_true h = cc

@@ -13,7 +13,8 @@ use Rattle.w2c_mangle.specs.Escaping.{escaped}
 use Rattle.w2c_mangle.specs.Symbols.{is_identifier_character}
 use Rattle.w2c_mangle.proofs.EscapedNames.{escaped-injective}
 use Rattle.w2c_mangle.proofs.SymbolNames.{list_all-escaped}
-use Rattle.wasm2c_words.specs.Names.{are_distinct, header_name_of, is_c_file}
+use Rattle.w2c_files.specs.CFile.{is_c_file}
+use Rattle.wasm2c_words.specs.Names.{are_distinct, header_name_of}
 use Rattle.wasm2c_words.specs.SetFiles.{c_file_of, files_of, header_of}
 
 ascii : (b : ℕ) → is_identifier_character b ≡ true → b < 128

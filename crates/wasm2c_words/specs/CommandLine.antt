@@ -4,8 +4,9 @@ use Rattle.std.specs.List.{list_all}
 use Rattle.std.specs.Char.{is_ascii_digit}
 use Rattle.std.specs.Str.Parse.{digits_value}
 use Rattle.w2c_io.specs.Contents.{Name}
+use Rattle.w2c_files.specs.CFile.{is_c_file}
 use Rattle.wasm2c_words.specs.Command.{Values, values_of}
-use Rattle.wasm2c_words.specs.Names.{are_distinct, is_c_file, is_module_name, module_name_of}
+use Rattle.wasm2c_words.specs.Names.{are_distinct, is_module_name, module_name_of}
 
 -- FILE -o OUT.c [-n NAME]: the file to read, the file to write, and the module's name
 pub record Translation : Type 0 where

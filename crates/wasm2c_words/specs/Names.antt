@@ -1,5 +1,5 @@
 -- Names of modules and of files.
-use Rattle.std.specs.Prelude.{ℕ, ◌-◌, ◌==◌, ◌&&◌, nat_le, Bool, true, not, List, [], ◌∷◌, ◌++◌, length, take, drop, codes}
+use Rattle.std.specs.Prelude.{ℕ, ◌-◌, ◌==◌, ◌&&◌, nat_le, Bool, true, not, List, [], ◌∷◌, ◌++◌, length, take, codes}
 use Rattle.std.specs.Str.{bytes_eq}
 use Rattle.std.specs.List.{after_last, before_last, list_any}
 use Rattle.w2c_io.specs.Contents.{Name}
@@ -26,10 +26,6 @@ module_name_of file = without_ending (after_last is_slash file)
 -- it has 1 to 1,024 bytes
 abbrev pub is_module_name : List ℕ → Bool
 is_module_name name = nat_le 1 (length name) && nat_le (length name) 1024
-
--- it ends in .c and has at least 3 bytes
-abbrev pub is_c_file : Name → Bool
-is_c_file name = nat_le 3 (length name) && bytes_eq (drop (length name - 2) name) (codes ".c")
 
 -- the header's name, beside a C file: .h in place of .c
 abbrev pub header_name_of : Name → Name

@@ -2,7 +2,8 @@
 ghost use Rattle.std.specs.Prelude.{◌≡◌, IfOk, IsTrue, map, string_bytes};
 ghost use Rattle.std.specs.List.{list_all, list_any};
 ghost use Rattle.std.specs.Str.{bytes_eq};
-ghost use Rattle.wasm2c_words.specs.Names.{are_distinct as are_distinct_names, header_name_of, is_c_file as is_c_file_name, is_module_name as is_module_name_of, module_name_of};
+ghost use Rattle.wasm2c_words.specs.Names.{are_distinct as are_distinct_names, header_name_of, is_module_name as is_module_name_of, module_name_of};
+ghost use Rattle.w2c_files.specs.CFile.{is_c_file};
 ghost use Rattle.w2c_files.specs.Words.{names_of};
 
 use crate::file_name::module_name;
@@ -10,19 +11,13 @@ use std::alloc::{AllocError, Global};
 
 /// The name of the header beside a C file: `.h` in place of `.c`. An error where memory is wanting.
 pub fn header_name(alloc: Global, output: &str) -> Result<String, AllocError>
-    requires { IsTrue (is_c_file_name output.now) }
+    requires { IsTrue (is_c_file output.now) }
     ensures { IfOk result (λ name. string_bytes name ≡ header_name_of output.now) }
 {
     let mut name = String::from_str(alloc, output)?;
     name.pop();
     name.push('h')?;
     Ok(name)
-}
-
-pub(crate) fn is_c_file(name: &[u8]) -> bool
-    ensures { result ≡ is_c_file_name name.now }
-{
-    name.len() >= 3 && &name[name.len() - 2..] == b".c".as_slice()
 }
 
 pub(crate) fn is_module_name(name: &[u8]) -> bool

@@ -2,7 +2,8 @@
 ghost use Rattle.std.specs.Prelude.{◌≡◌, ◌++◌, ◌<◌, All, IfOk, OnOk, IsTrue, List, ℕ, true, codes, string_bytes};
 ghost use Rattle.w2c_io.specs.Contents.{Name};
 ghost use Rattle.w2c_mangle.specs.Escaping.{escaped};
-ghost use Rattle.wasm2c_words.specs.Names.{are_distinct, header_name_of, is_c_file};
+ghost use Rattle.w2c_files.specs.CFile.{is_c_file};
+ghost use Rattle.wasm2c_words.specs.Names.{are_distinct, header_name_of};
 ghost use Rattle.wasm2c_words.specs.SetFiles.{c_file_of, files_of, header_of};
 
 use std::alloc::{AllocError, Global};
