@@ -1,19 +1,17 @@
--- Words ask for at most one job.
-use Rattle.std.proofs.Common.{◌≡◌, ℕ, List, Option, Some, None, MatchOption, refl, sym, ap, ◌∙◌, subst}
+-- Texts come to one job at most.
+use Rattle.std.proofs.Common.{◌≡◌, ℕ, List, Some, refl, sym, ap, ◌∙◌, subst}
 use Rattle.std.specs.Prelude.{slice_get}
 use Rattle.std.proofs.lemmas.Option.{same_Some}
-use Rattle.w2c_io.specs.Contents.{Name, Contents}
+use Rattle.w2c_io.specs.Contents.{Name}
 use Rattle.c_tree.specs.Tree as tree
 use Rattle.c_meaning.specs.Linking.{SymbolCall}
-use Rattle.crun_words.specs.CommandLine.{Line, line_of}
-use Rattle.crun_words.specs.Inputs.{Reading, AllRead, NotThere, LongUnit, LongCalls}
+use Rattle.crun_words.specs.CommandLine.{RunLine}
 use Rattle.crun_words.specs.CallsFile.{call_lines_of, NumberedLine}
-use Rattle.crun_words.proofs.InputStops.{one_reading}
 use Rattle.crun_job.specs.declared.stop.Cause.{Cause}
 use Rattle.crun_job.specs.Links.{AreLinked, IsRefusedUnit, Symbols}
 use Rattle.crun_job.specs.Calls.{AreCalls, IsFirstRefusedLine, IsRefusedLine, NamesFrom}
-use Rattle.crun_job.specs.Lines.{Usage, CallsTooLong, CallsLine, Refused, Unread, Unwritten, WantOfMemory}
-use Rattle.crun_job.specs.Job.{IsJob, IsJobBehind, IsJobOf, IsTextsJob, Job, Run, Stops}
+use Rattle.crun_job.specs.Lines.{Usage, CallsTooLong, CallsLine, JournalTooLong, JournalLine, Refused, Unread, Unwritten, WantOfMemory}
+use Rattle.crun_job.specs.Job.{IsTextsJob, Job, Run, Stops, Write}
 use Rattle.crun_job.proofs.Each.{first_apart, one_each, one_first}
 use Rattle.crun_job.proofs.Calls.{one_named}
 use Rattle.crun_job.proofs.UnitLaws.{linked_apart, one_refused_unit, one_units}
@@ -38,7 +36,7 @@ module _ (units : List (List tree.Item)) where
 
 -- ---- what texts come to
 
-module _ (line : Line) (symbols : Symbols) (texts : List (List ℕ)) (text : List ℕ) where
+module _ (line : RunLine) (symbols : Symbols) (texts : List (List ℕ)) (text : List ℕ) where
   -- a unit is refused, or all are linked; then a line is refused, or all name calls
   data IsSeen (job : Job) : Type 0 where
     Unit_refused : (number : ℕ) → (file : Name) → (why : Cause) → slice_get line.units number ≡ Some file
@@ -56,9 +54,12 @@ module _ (line : Line) (symbols : Symbols) (texts : List (List ℕ)) (text : Lis
   seen (Stops (CallsLine number)) (units, linked, first) = Line_refused units number linked first refl
   seen (Stops Usage) is = absurd is
   seen (Stops CallsTooLong) is = absurd is
+  seen (Stops JournalTooLong) is = absurd is
+  seen (Stops (JournalLine number)) is = absurd is
   seen (Stops (Unread file)) is = absurd is
   seen (Stops Unwritten) is = absurd is
   seen (Stops WantOfMemory) is = absurd is
+  seen (Write output unit) is = absurd is
 
   one_seen : (a b : Job) → IsSeen a → IsSeen b → a ≡ b
   one_seen a b (Unit_refused k file why named refused is) (Unit_refused n other why' named' refused' is') =
@@ -91,26 +92,3 @@ module _ (line : Line) (symbols : Symbols) (texts : List (List ℕ)) (text : Lis
 
   pub one_texts_job : (a b : Job) → IsTextsJob line symbols texts text a → IsTextsJob line symbols texts text b → a ≡ b
   one_texts_job a b first second = one_seen a b (seen a first) (seen b second)
-
--- ---- what words ask for
-
-one_behind : (line : Line) (symbols : Symbols) (reading : Reading) (a b : Job) → IsJobBehind line symbols reading a
-    → IsJobBehind line symbols reading b → a ≡ b
-one_behind line symbols (AllRead texts text) a b first second = one_texts_job line symbols texts text a b first second
-one_behind line symbols (NotThere file) a b first second = first ∙ sym second
-one_behind line symbols (LongUnit file) a b first second = first ∙ sym second
-one_behind line symbols LongCalls a b first second = first ∙ sym second
-
-one_line_job : (line : Line) (symbols : Symbols) (m : Contents) (a b : Job) → IsJobOf line symbols m a → IsJobOf line symbols m b → a ≡ b
-one_line_job line symbols m a b (reading, is, behind) (other, is', behind') =
-    one_behind line symbols reading a b behind
-    (subst (λ r. IsJobBehind line symbols r b) (one_reading m line.units line.calls other reading is' is) behind')
-
-pub one_job : (words : List Name) (symbols : Symbols) (m : Contents) (a b : Job) → IsJob words symbols m a
-    → IsJob words symbols m b → a ≡ b
-one_job words symbols m a b = go (line_of words)
-  where
-    go : (o : Option Line) → MatchOption o (a ≡ Stops Usage) (λ line. IsJobOf line symbols m a)
-        → MatchOption o (b ≡ Stops Usage) (λ line. IsJobOf line symbols m b) → a ≡ b
-    go None is is' = is ∙ sym is'
-    go (Some line) is is' = one_line_job line symbols m a b is is'

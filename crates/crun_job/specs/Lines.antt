@@ -12,11 +12,11 @@ use Rattle.c_tree.specs.Tokens.{fixed_text}
 use Rattle.crun_job.specs.declared.stop.Cause.{Cause}
 use Rattle.crun_job.specs.declared.stop.Cause.TheVariants as cause
 
--- Why the program stops: the words, the calls file, one of its lines, a unit, a file that is not
--- read, a line that is not written, and want of memory.
+-- Why the program stops: the words, the calls file or a journal, one of its lines, a unit, a file that is not
+-- read, what is not written, and want of memory.
 pub data Reason : Type 0 where
-  Usage CallsTooLong Unwritten WantOfMemory : Reason
-  CallsLine : (number : ℕ) → Reason
+  Usage CallsTooLong JournalTooLong Unwritten WantOfMemory : Reason
+  CallsLine JournalLine : (number : ℕ) → Reason
   Refused : (file : Name) → (why : Cause) → Reason
   Unread : (file : Name) → Reason
 
@@ -87,6 +87,8 @@ abbrev pub reason_text : Reason → List ℕ
 reason_text Usage = codes "bad command line"
 reason_text CallsTooLong = codes "calls file too long"
 reason_text (CallsLine number) = codes "calls line " ++ decimal number
+reason_text JournalTooLong = codes "journal too long"
+reason_text (JournalLine number) = codes "journal line " ++ decimal number
 reason_text (Refused file why) = file ++ codes ": " ++ cause_text why
 reason_text (Unread file) = file ++ codes ": read fault"
 reason_text Unwritten = codes "write fault"
@@ -99,6 +101,8 @@ abbrev pub status_of : Reason → ℕ
 status_of Usage = 2
 status_of CallsTooLong = 2
 status_of (CallsLine number) = 2
+status_of JournalTooLong = 2
+status_of (JournalLine number) = 2
 status_of (Refused file why) = 6
 status_of (Unread file) = 3
 status_of Unwritten = 4

@@ -23,5 +23,7 @@ reason_of (stop.Unread name) = lines.Unread (string_bytes name)
 reason_of (stop.Refused name why) = lines.Refused (string_bytes name) why
 reason_of stop.CallsTooLong = lines.CallsTooLong
 reason_of (stop.CallsLine number) = lines.CallsLine number
+reason_of stop.JournalTooLong = lines.JournalTooLong
+reason_of (stop.JournalLine number) = lines.JournalLine number
 reason_of stop.Unwritten = lines.Unwritten
 reason_of stop.Memory = lines.WantOfMemory

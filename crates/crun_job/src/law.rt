@@ -1,6 +1,5 @@
 // Laws of texts, of units that are refused, of the linker's refusals, of calls, and of the job.
 ghost use Rattle.std.specs.Prelude.{◌≡◌, ℕ, List};
-ghost use Rattle.w2c_io.specs.Contents.{Name, Contents};
 ghost use Rattle.c_tree.specs.Tree as tree;
 ghost use Rattle.crun_job.specs.declared.stop.Cause.{Cause};
 ghost use Rattle.c_meaning.specs.Linking.{fits, Program, SymbolCall, link_refusal};
@@ -8,8 +7,9 @@ ghost use Rattle.c_link.specs.declared.host_symbol.HostSymbol.{HostSymbol};
 ghost use Rattle.c_link.specs.Offers.{c_symbols};
 ghost use Rattle.c_link.specs.Programs.{IsProgramOf};
 ghost use Rattle.c_link.specs.Refusals.{first_refusal};
+ghost use Rattle.crun_words.specs.CommandLine.{RunLine};
 ghost use Rattle.crun_job.specs.Calls.{program_of};
-ghost use Rattle.crun_job.specs.Job.{IsJob, Job};
+ghost use Rattle.crun_job.specs.Job.{IsTextsJob, Job};
 ghost use Rattle.crun_job.specs.Links.{AreLinked, IsRefusedUnit, Symbols};
 ghost use Rattle.crun_job.specs.Texts.{AreUnitTexts, IsFirstRefusedText};
 
@@ -48,8 +48,8 @@ pub fn hosts_say_nothing()
     ensures { (p : Program) (call : SymbolCall) → fits (program_of p.units) call ≡ fits p call }
 {}
 
-/// The law that words ask for at most one job, over what the files hold and the hosts' symbols.
-pub fn one_job()
-    ensures { (words : List Name) (symbols : Symbols) (contents : Contents) (job other : Job)
-        → IsJob words symbols contents job → IsJob words symbols contents other → job ≡ other }
+/// The law that the texts of a run's units and of its calls file come to one thing at most.
+pub fn one_texts_job()
+    ensures { (line : RunLine) (symbols : Symbols) (units : List (List ℕ)) (calls : List ℕ) (job other : Job)
+        → IsTextsJob line symbols units calls job → IsTextsJob line symbols units calls other → job ≡ other }
 {}

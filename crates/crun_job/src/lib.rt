@@ -7,7 +7,7 @@ mod checking;
 mod law;
 mod line;
 mod linking;
-mod prepare;
+mod reading;
 mod refusal;
 mod stop;
 mod task;
@@ -17,11 +17,12 @@ mod tests;
 pub use calls_file::{NamedCall, read_calls};
 pub use checking::check_units;
 pub use law::{
-    hosts_say_nothing, one_job, one_list_of_units, one_refused_text, one_refused_unit,
+    hosts_say_nothing, one_list_of_units, one_refused_text, one_refused_unit, one_texts_job,
     refusals_are_those_of_the_meaning,
 };
 pub use line::report;
 pub use linking::link_units;
+pub use reading::stop_of;
 pub use refusal::{CallsRefusal, UnitsRefusal};
 pub use stop::{Cause, Stop};
-pub use task::Task;
+pub use task::{Task, stop_at};

@@ -30,14 +30,15 @@ pub fn report<E: Sink>(alloc: Global, stop: &Stop, err: &mut E) -> u8
 }
 
 impl Stop {
-    /// The program's exit status: 2 for words without a reading and for the calls file, 3 for a file
-    /// that is not read, 4 for a line of the run that is not written, 5 for want of memory, 6 for a
-    /// unit that is refused.
+    /// The program's exit status: 2 for words without a reading, for the calls file and for a journal, 3 for a
+    /// file that is not read, 4 for a line of the run or a file that is not written, 5 for want of memory, 6 for
+    /// a unit that is refused.
     pub fn status(&self) -> u8
         ensures { result ≡ status_of (reason_of self.now) }
     {
         match self {
             Stop::Usage | Stop::CallsTooLong | Stop::CallsLine(_) => 2,
+            Stop::JournalTooLong | Stop::JournalLine(_) => 2,
             Stop::Unread(_) => 3,
             Stop::Unwritten => 4,
             Stop::Memory => 5,
@@ -64,6 +65,8 @@ fn put_reason(line: &mut Bytes, stop: &Stop) -> Result<(), Memory>
         Stop::Usage => line.extend(b"bad command line"),
         Stop::CallsTooLong => line.extend(b"calls file too long"),
         Stop::CallsLine(number) => put_counted(line, b"calls line ", *number as u64),
+        Stop::JournalTooLong => line.extend(b"journal too long"),
+        Stop::JournalLine(number) => put_counted(line, b"journal line ", u64::from(*number)),
         Stop::Refused(name, cause) => put_refusal(line, name, cause),
         Stop::Unread(name) => {
             line.extend(name.as_bytes())?;

@@ -38,7 +38,10 @@ pub enum Stop {
     CallsTooLong,
     /// A line of the calls file, counted from 1, that names no call.
     CallsLine(usize),
-    /// A line of the run that is not written.
+    JournalTooLong,
+    /// The first line of the journal, counted from 1, that is refused.
+    JournalLine(u32),
+    /// A line of the run, or a part of a file, that is not written.
     Unwritten,
     Memory,
 }

@@ -3,7 +3,7 @@ ghost use Rattle.std.specs.Prelude.{◌≡◌, length, map, IfOk, IfErr};
 ghost use Rattle.w2c_files.specs.Words.{names_of};
 ghost use Rattle.c_tree.specs.View.{unit_of};
 ghost use Rattle.c_link.specs.Offers.{c_symbols};
-ghost use Rattle.crun_words.specs.Seen.{seen_line};
+ghost use Rattle.crun_words.specs.Seen.{seen_run};
 ghost use Rattle.crun_job.specs.Job.{IsTextsJob};
 ghost use Rattle.crun_job.specs.Texts.{AreShort};
 ghost use Rattle.crun_job.specs.Refusals.{IsWithin};
@@ -15,7 +15,7 @@ use crate::linking::link_units;
 use crate::refusal::{CallsRefusal, UnitsRefusal};
 use crate::stop::Stop;
 use c_link::{HostSymbol, Linked};
-use crun_words::{Inputs, Line};
+use crun_words::{Inputs, RunLine};
 use std::alloc::Global;
 use w2c_files::name_at;
 
@@ -35,16 +35,16 @@ impl Task {
     /// The first refusal ends it.
     pub fn of_inputs(
         alloc: Global,
-        line: &Line<'_>,
+        line: &RunLine<'_>,
         inputs: &Inputs,
         hosts: &[HostSymbol],
     ) -> Result<Task, Stop>
         requires many { length inputs.now.units.items ≡ length line.now.units.items }
         requires short { AreShort inputs.now.units.items }
-        ensures task { IfOk result (λ task. IsTextsJob (seen_line line.now) (c_symbols hosts.now) inputs.now.units.items inputs.now.calls (job_of task)) }
+        ensures task { IfOk result (λ task. IsTextsJob (seen_run line.now) (c_symbols hosts.now) inputs.now.units.items inputs.now.calls (job_of task)) }
         ensures hosts { IfOk result (λ task. task.linked.1 ≡ hosts.now) }
         ensures fit { IfOk result (λ task. AllFit (map unit_of task.linked.0) task.calls.items) }
-        ensures stop { IfErr result (λ stop. StopsTexts (seen_line line.now) (c_symbols hosts.now) inputs.now.units.items inputs.now.calls (reason_of stop)) }
+        ensures stop { IfErr result (λ stop. StopsTexts (seen_run line.now) (c_symbols hosts.now) inputs.now.units.items inputs.now.calls (reason_of stop)) }
     {
         let linked = match link_units(alloc, inputs.units.as_slice(), hosts) {
             Ok(linked) => linked,
@@ -64,8 +64,8 @@ impl Task {
     }
 }
 
-// The refusal of a unit, by the name of its file.
-fn stop_at(alloc: Global, names: &[&str], refusal: UnitsRefusal) -> Stop
+/// Why the program stops where a unit is refused: the refusal, by the name of the unit's file. Want of memory for the name is want of memory.
+pub fn stop_at(alloc: Global, names: &[&str], refusal: UnitsRefusal) -> Stop
     requires { IsWithin (length names.now) refusal }
     ensures { StopsUnit (names_of names.now) refusal (reason_of result) }
 {

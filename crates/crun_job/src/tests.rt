@@ -1,12 +1,13 @@
-// A line with its status, texts that are read, checked and linked, and the way from words to a task.
+// A line with its status, texts that are read, checked and linked, and the way from a line to a task.
 ghost use Rattle.std.specs.Prelude.{◌≤◌, length, IfOk};
 ghost use Rattle.crun_job.specs.Texts.{most_unit_bytes};
 
 use crate::{Cause, Stop, Task, UnitsRefusal, check_units, link_units, read_calls, report};
+use crun_words::{Inputs, RunLine};
 use std::alloc::Global;
 use std::test::Fail;
 use w2c_base::Bytes;
-use w2c_io::{Files, MemFiles, MemSink};
+use w2c_io::MemSink;
 
 const ADDS_C: &str =
     "#include \"w2c_rt.h\"\nu32 w2cZ_uZ_fZ_q(u32 x, u32 y) {\nu32 z = 0u;\nz = (x + y);\nreturn z;\n}\n";
@@ -90,21 +91,22 @@ fn calls_that_lines_name(rt: HostRuntime) -> Result<(), Fail> {
     Ok(())
 }
 
-// What `--steps 8 --calls c u.c` comes to over files.
-fn task_over<F: Files>(alloc: Global, files: &mut F) -> Result<Result<Task, Stop>, Fail> {
-    let mut words = Vec::new(alloc);
-    for word in ["--steps", "8", "--calls", "c", "u.c"] {
-        words.push(String::from_str(alloc, word)?)?;
-    }
-    Ok(Task::of_words(alloc, words.as_slice(), files, &[]))
-}
-
-// The same, where the files hold these texts.
+// What `--steps 8 --calls c u.c` comes to, where the files hold these texts.
 fn prepared(alloc: Global, unit: &str, calls: &str) -> Result<Result<Task, Stop>, Fail> {
-    let mut files = MemFiles::new(alloc);
-    files.add("u.c", unit.as_bytes())?;
-    files.add("c", calls.as_bytes())?;
-    task_over(alloc, &mut files)
+    let mut units = Vec::new(alloc);
+    units.push(unit_text(alloc, unit)?)?;
+    let mut names = Vec::new(alloc);
+    names.push("u.c")?;
+    let line = RunLine {
+        steps: 8,
+        calls: "c",
+        shows_state: false,
+        journal: None,
+        replayed: None,
+        units: names,
+    };
+    let calls = Bytes::from_vec(calls.as_bytes().to_vec(alloc)?);
+    Ok(Task::of_inputs(alloc, &line, &Inputs { units, calls }, &[]))
 }
 
 #[test]

@@ -14,7 +14,7 @@ use Rattle.w2c_files.specs.Stopping.{StopsAt}
 use Rattle.w2c_files.proofs.Stops.{one_stop, no_stop, same_bytes}
 use Rattle.crun_words.specs.declared.inputs.InputStop.{InputStop}
 use Rattle.crun_words.specs.declared.inputs.InputStop.TheVariants as stop
-use Rattle.crun_words.specs.Inputs.{most_calls_bytes, most_unit_bytes, most_units_bytes, AllRead, AreUnits, HasUnits, IsLongUnit, IsReading, LongCalls, LongUnit, NotThere, Reading, StopsCalls, StopsInputs, StopsUnits}
+use Rattle.crun_words.specs.Inputs.{most_calls_bytes, most_journal_bytes, most_unit_bytes, most_units_bytes, AllRead, AreUnits, HasUnits, Held, IsJournalReading, IsLongUnit, IsReading, IsUnitsReading, JournalReading, LongCalls, LongJournal, LongUnit, NoJournal, NoUnit, NotThere, Reading, StopsCalls, StopsInputs, StopsUnits, UnitsRead, UnitsReading, UnitTooLong}
 use Rattle.crun_words.proofs.Lists.{same_some}
 
 pub one_at : (names : List Name) (k : ℕ) (name : Name) → slice_get names k ≡ Some name → IsOneOf name names
@@ -87,6 +87,7 @@ stops_at_unit told units calls before after named (stop.Unread name) (one, inl f
 stops_at_unit told units calls before after named (stop.Unread name) (one, inr (contents, is, missing)) = (inl one, inr (contents, is, inl missing))
 stops_at_unit told units calls before after named (stop.UnitTooLong name) s = s
 stops_at_unit told units calls before after named stop.CallsTooLong s = absurd s
+stops_at_unit told units calls before after named stop.JournalTooLong s = absurd s
 stops_at_unit told units calls before after named stop.Memory s = tt
 
 pub stops_at_calls : (told : Told) (units : List Name) (calls : Name) (start before after : ℕ) (named : Option Name) (why : InputStop) → start ≤ before
@@ -98,22 +99,35 @@ stops_at_calls told units calls start before after named (stop.Unread name) late
     (inr same, inr (contents, is, inr (same, has contents is, none)))
 stops_at_calls told units calls start before after named (stop.UnitTooLong name) later has s = absurd s
 stops_at_calls told units calls start before after named stop.CallsTooLong later has s = λ contents tells. (has contents tells, s contents tells)
+stops_at_calls told units calls start before after named stop.JournalTooLong later has s = absurd s
 stops_at_calls told units calls start before after named stop.Memory later has s = tt
 
 -- ---- one reading at most
 
-module _ (contents : Contents) (units : List Name) (calls : Name) where
-  no_calls : (text : List ℕ) → get contents calls ≡ None → get contents calls ≡ Some text → ⊥
-  no_calls text none some = cc
+module _ (contents : Contents) (name : Name) where
+  no_text : (text : List ℕ) → get contents name ≡ None → get contents name ≡ Some text → ⊥
+  no_text text none some = cc
 
-  same_calls : (text other : List ℕ) → get contents calls ≡ Some text → get contents calls ≡ Some other → text ≡ other
-  same_calls text other is is' = cc
+  same_text : (text other : List ℕ) → get contents name ≡ Some text → get contents name ≡ Some other → text ≡ other
+  same_text text other is is' = cc
 
-  too_long_and_fit : (text other : List ℕ) → get contents calls ≡ Some text → get contents calls ≡ Some other → length text ≤ most_calls_bytes
-      → most_calls_bytes < length other → ⊥
-  too_long_and_fit text other is is' fits long =
-      let same : length text ≡ length other = ap length (same_calls text other is is') in omega (arith, same, fits, long)
+  too_long_and_fit : (most : ℕ) (text other : List ℕ) → get contents name ≡ Some text → get contents name ≡ Some other → length text ≤ most
+      → most < length other → ⊥
+  too_long_and_fit most text other is is' fits long =
+      let same : length text ≡ length other = ap length (same_text text other is is') in omega (arith, same, fits, long)
 
+  pub one_journal_reading : (a b : JournalReading) → IsJournalReading contents name a → IsJournalReading contents name b → a ≡ b
+  one_journal_reading (Held text) (Held other) r s = ap Held (same_text text other r.0 s.0)
+  one_journal_reading (Held text) NoJournal r s = absurd (no_text text s r.0)
+  one_journal_reading (Held text) LongJournal r (other, is, long) = absurd (too_long_and_fit most_journal_bytes text other r.0 is r.1 long)
+  one_journal_reading NoJournal (Held text) r s = absurd (no_text text r s.0)
+  one_journal_reading NoJournal NoJournal r s = refl
+  one_journal_reading NoJournal LongJournal r (other, is, long) = absurd (no_text other r is)
+  one_journal_reading LongJournal (Held text) (other, is, long) s = absurd (too_long_and_fit most_journal_bytes text other s.0 is s.1 long)
+  one_journal_reading LongJournal NoJournal (other, is, long) s = absurd (no_text other s is)
+  one_journal_reading LongJournal LongJournal r s = refl
+
+module _ (contents : Contents) (units : List Name) where
   read_all : (name : Name) (texts : List (List ℕ)) → AreUnits contents units texts
       → StopsReading most_unit_bytes most_units_bytes contents units name Missing → ⊥
   read_all name texts are stops = no_stop most_unit_bytes most_units_bytes contents units name Missing texts stops are
@@ -129,33 +143,51 @@ module _ (contents : Contents) (units : List Name) (calls : Name) where
       → StopsReading most_unit_bytes most_units_bytes contents units other Missing → name ≡ other
   one_missing name other s t = (one_stop most_unit_bytes most_units_bytes contents units name other Missing Missing s t).0
 
-  pub one_reading : (a b : Reading) → IsReading contents units calls a → IsReading contents units calls b → a ≡ b
-  one_reading (AllRead texts text) (AllRead others other) r s =
-      let units_same : texts ≡ others = same_bytes most_unit_bytes most_units_bytes contents units texts others r.units_are s.units_are in
-      let calls_same : text ≡ other = same_calls text other r.calls_are s.calls_are in
-      λ i. AllRead (units_same i) (calls_same i)
-  one_reading (AllRead texts text) (NotThere name) r (inl s) = absurd (read_all name texts r.units_are s)
-  one_reading (AllRead texts text) (NotThere name) r (inr s) = absurd (no_calls text s.2 r.calls_are)
-  one_reading (AllRead texts text) (LongUnit name) r s = absurd (read_short name texts r.units_are s)
-  one_reading (AllRead texts text) LongCalls r (has, (other, is, long)) = absurd (too_long_and_fit text other r.calls_are is r.calls_fit long)
-  one_reading (NotThere name) (AllRead texts text) (inl r) s = absurd (read_all name texts s.units_are r)
-  one_reading (NotThere name) (AllRead texts text) (inr r) s = absurd (no_calls text r.2 s.calls_are)
-  one_reading (NotThere name) (NotThere other) (inl r) (inl s) = ap NotThere (one_missing name other r s)
-  one_reading (NotThere name) (NotThere other) (inl r) (inr s) = absurd (read_all name s.1.0 s.1.1 r)
-  one_reading (NotThere name) (NotThere other) (inr r) (inl s) = absurd (read_all other r.1.0 r.1.1 s)
-  one_reading (NotThere name) (NotThere other) (inr r) (inr s) = ap NotThere (r.0 ∙ sym s.0)
-  one_reading (NotThere name) (LongUnit other) (inl r) s = absurd (two_reasons name other r s)
-  one_reading (NotThere name) (LongUnit other) (inr r) s = absurd (read_short other r.1.0 r.1.1 s)
-  one_reading (NotThere name) LongCalls (inl r) s = absurd (read_all name s.0.0 s.0.1 r)
-  one_reading (NotThere name) LongCalls (inr r) (has, (other, is, long)) = absurd (no_calls other r.2 is)
-  one_reading (LongUnit name) (AllRead texts text) r s = absurd (read_short name texts s.units_are r)
-  one_reading (LongUnit name) (NotThere other) r (inl s) = absurd (two_reasons other name s r)
-  one_reading (LongUnit name) (NotThere other) r (inr s) = absurd (read_short name s.1.0 s.1.1 r)
-  one_reading (LongUnit name) (LongUnit other) r s =
-      ap LongUnit (one_stop most_unit_bytes most_units_bytes contents units name other TooLong TooLong r s).0
-  one_reading (LongUnit name) LongCalls r s = absurd (read_short name s.0.0 s.0.1 r)
-  one_reading LongCalls (AllRead texts text) (has, (other, is, long)) s = absurd (too_long_and_fit text other s.calls_are is s.calls_fit long)
-  one_reading LongCalls (NotThere name) r (inl s) = absurd (read_all name r.0.0 r.0.1 s)
-  one_reading LongCalls (NotThere name) (has, (other, is, long)) (inr s) = absurd (no_calls other s.2 is)
-  one_reading LongCalls (LongUnit name) r s = absurd (read_short name r.0.0 r.0.1 s)
-  one_reading LongCalls LongCalls r s = refl
+  one_long : (name other : Name) → IsLongUnit contents units name → IsLongUnit contents units other → name ≡ other
+  one_long name other s t = (one_stop most_unit_bytes most_units_bytes contents units name other TooLong TooLong s t).0
+
+  same_units : (texts others : List (List ℕ)) → AreUnits contents units texts → AreUnits contents units others → texts ≡ others
+  same_units texts others r s = same_bytes most_unit_bytes most_units_bytes contents units texts others r s
+
+  pub one_units_reading : (a b : UnitsReading) → IsUnitsReading contents units a → IsUnitsReading contents units b → a ≡ b
+  one_units_reading (UnitsRead texts) (UnitsRead others) r s = ap UnitsRead (same_units texts others r s)
+  one_units_reading (UnitsRead texts) (NoUnit name) r s = absurd (read_all name texts r s)
+  one_units_reading (UnitsRead texts) (UnitTooLong name) r s = absurd (read_short name texts r s)
+  one_units_reading (NoUnit name) (UnitsRead texts) r s = absurd (read_all name texts s r)
+  one_units_reading (NoUnit name) (NoUnit other) r s = ap NoUnit (one_missing name other r s)
+  one_units_reading (NoUnit name) (UnitTooLong other) r s = absurd (two_reasons name other r s)
+  one_units_reading (UnitTooLong name) (UnitsRead texts) r s = absurd (read_short name texts s r)
+  one_units_reading (UnitTooLong name) (NoUnit other) r s = absurd (two_reasons other name s r)
+  one_units_reading (UnitTooLong name) (UnitTooLong other) r s = ap UnitTooLong (one_long name other r s)
+
+  module _ (calls : Name) where
+    pub one_reading : (a b : Reading) → IsReading contents units calls a → IsReading contents units calls b → a ≡ b
+    one_reading (AllRead texts text) (AllRead others other) r s =
+        let units_same : texts ≡ others = same_units texts others r.units_are s.units_are in
+        let calls_same : text ≡ other = same_text contents calls text other r.calls_are s.calls_are in
+        λ i. AllRead (units_same i) (calls_same i)
+    one_reading (AllRead texts text) (NotThere name) r (inl s) = absurd (read_all name texts r.units_are s)
+    one_reading (AllRead texts text) (NotThere name) r (inr s) = absurd (no_text contents calls text s.2 r.calls_are)
+    one_reading (AllRead texts text) (LongUnit name) r s = absurd (read_short name texts r.units_are s)
+    one_reading (AllRead texts text) LongCalls r (has, (other, is, long)) = absurd (too_long_and_fit contents calls most_calls_bytes text other r.calls_are is r.calls_fit long)
+    one_reading (NotThere name) (AllRead texts text) (inl r) s = absurd (read_all name texts s.units_are r)
+    one_reading (NotThere name) (AllRead texts text) (inr r) s = absurd (no_text contents calls text r.2 s.calls_are)
+    one_reading (NotThere name) (NotThere other) (inl r) (inl s) = ap NotThere (one_missing name other r s)
+    one_reading (NotThere name) (NotThere other) (inl r) (inr s) = absurd (read_all name s.1.0 s.1.1 r)
+    one_reading (NotThere name) (NotThere other) (inr r) (inl s) = absurd (read_all other r.1.0 r.1.1 s)
+    one_reading (NotThere name) (NotThere other) (inr r) (inr s) = ap NotThere (r.0 ∙ sym s.0)
+    one_reading (NotThere name) (LongUnit other) (inl r) s = absurd (two_reasons name other r s)
+    one_reading (NotThere name) (LongUnit other) (inr r) s = absurd (read_short other r.1.0 r.1.1 s)
+    one_reading (NotThere name) LongCalls (inl r) s = absurd (read_all name s.0.0 s.0.1 r)
+    one_reading (NotThere name) LongCalls (inr r) (has, (other, is, long)) = absurd (no_text contents calls other r.2 is)
+    one_reading (LongUnit name) (AllRead texts text) r s = absurd (read_short name texts s.units_are r)
+    one_reading (LongUnit name) (NotThere other) r (inl s) = absurd (two_reasons other name s r)
+    one_reading (LongUnit name) (NotThere other) r (inr s) = absurd (read_short name s.1.0 s.1.1 r)
+    one_reading (LongUnit name) (LongUnit other) r s =
+        ap LongUnit (one_long name other r s)
+    one_reading (LongUnit name) LongCalls r s = absurd (read_short name s.0.0 s.0.1 r)
+    one_reading LongCalls (AllRead texts text) (has, (other, is, long)) s = absurd (too_long_and_fit contents calls most_calls_bytes text other s.calls_are is s.calls_fit long)
+    one_reading LongCalls (NotThere name) r (inl s) = absurd (read_all name r.0.0 r.0.1 s)
+    one_reading LongCalls (NotThere name) (has, (other, is, long)) (inr s) = absurd (no_text contents calls other s.2 is)
+    one_reading LongCalls (LongUnit name) r s = absurd (read_short name r.0.0 r.0.1 s)
+    one_reading LongCalls LongCalls r s = refl

@@ -24,17 +24,24 @@ units_left = record (new_rule (codes "units")) { action = Some Append }
 abbrev pub bare : App
 bare = on_top (λ top. record top { no_binary_name = true }) (new_app (codes "crun"))
 
--- --steps N, --calls FILE, --state and units
+-- --steps N, --calls FILE, --state, --record J, --replay J, --merge OUT.c, --trim OUT.c and units
 abbrev pub crun : App
 crun =
-    with_rule (with_rule (with_rule (with_rule bare (word_option (codes "steps"))) (word_option (codes "calls")))
-    (word_flag (codes "state"))) units_left
+    with_rule (with_rule (with_rule (with_rule (with_rule (with_rule (with_rule (with_rule bare
+    (word_option (codes "steps"))) (word_option (codes "calls"))) (word_flag (codes "state")))
+    (word_option (codes "record"))) (word_option (codes "replay")))
+    (word_option (codes "merge"))) (word_option (codes "trim")))
+    units_left
 
 -- the values of the options, each where it was used, whether the flag was used, and the units in order
 pub record Values : Type 0 where
   pub steps : Option (List ℕ)
   pub calls : Option Name
   pub shows_state : Bool
+  pub journal : Option Name
+  pub replayed : Option Name
+  pub merged : Option Name
+  pub trimmed : Option Name
   pub units : List Name
 
 -- a flag's text is true
@@ -47,6 +54,10 @@ values_in rows = record {
   steps = first_of (codes "steps") rows;
   calls = first_of (codes "calls") rows;
   shows_state = is_used (first_of (codes "state") rows);
+  journal = first_of (codes "record") rows;
+  replayed = first_of (codes "replay") rows;
+  merged = first_of (codes "merge") rows;
+  trimmed = first_of (codes "trim") rows;
   units = unwrap_or (all_of (codes "units") rows) [];
 }
 

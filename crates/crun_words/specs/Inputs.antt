@@ -1,4 +1,4 @@
--- The files that crun reads: the units in the order of the words, then the calls file.
+-- The files that crun reads: the units in the order of the words, then the calls file; and the file of a journal.
 use Rattle.std.specs.Prelude.{◌≡◌, ◌⊎◌, ℕ, ◌*◌, ◌<◌, ◌≤◌, List, length, Option, Some, None, string_bytes}
 use Rattle.std.specs.FinMap.{get}
 use Rattle.w2c_io.specs.Contents.{Name, Contents, Told}
@@ -8,8 +8,10 @@ use Rattle.w2c_files.specs.Reading.{AreRead, StopsReading, Missing, TooLong}
 use Rattle.w2c_files.specs.Standing.{IsOneOf}
 use Rattle.crun_words.specs.declared.inputs.InputStop.{InputStop}
 use Rattle.crun_words.specs.declared.inputs.InputStop.TheVariants as stop
+use Rattle.crun_words.specs.declared.inputs.FileStop.{FileStop}
+use Rattle.crun_words.specs.declared.inputs.FileStop.TheVariants as file_stop
 
--- the most bytes of a unit, of 16 units together (which is no limit of its own), and of the calls file
+-- the most bytes of a unit, of 16 units together (which is no limit of its own), of the calls file, and of a journal
 abbrev pub most_unit_bytes : ℕ
 most_unit_bytes = 67108864
 
@@ -18,6 +20,9 @@ most_units_bytes = 16 * most_unit_bytes
 
 abbrev pub most_calls_bytes : ℕ
 most_calls_bytes = 1048576
+
+abbrev pub most_journal_bytes : ℕ
+most_journal_bytes = 67108864
 
 -- the units' files are there and hold these bytes, each within its limit
 abbrev pub AreUnits : Contents → List Name → List (List ℕ) → Type 0
@@ -33,6 +38,10 @@ pub record AreInputs (contents : Contents) (units : List Name) (calls : Name) (t
 abbrev pub HasUnits : Contents → List Name → Type 0
 HasUnits contents units = (texts : List (List ℕ)) × AreUnits contents units texts
 
+-- a file is there, and has more bytes than this
+abbrev pub IsLong : ℕ → Contents → Name → Type 0
+IsLong most contents name = (text : List ℕ) × (get contents name ≡ Some text) × (most < length text)
+
 -- the first file that is not there: a unit's, or the calls file behind all units
 abbrev pub IsMissing : Contents → List Name → Name → Name → Type 0
 IsMissing contents units calls name =
@@ -46,7 +55,7 @@ IsLongUnit contents units name = StopsReading most_unit_bytes most_units_bytes c
 -- the calls file is too long, behind units that can all be read
 abbrev pub IsLongCalls : Contents → List Name → Name → Type 0
 IsLongCalls contents units calls =
-    HasUnits contents units × ((text : List ℕ) × (get contents calls ≡ Some text) × (most_calls_bytes < length text))
+    HasUnits contents units × IsLong most_calls_bytes contents calls
 
 -- what reading the files comes to, by what they hold
 pub data Reading : Type 0 where
@@ -61,6 +70,28 @@ IsReading contents units calls (NotThere name) = IsMissing contents units calls 
 IsReading contents units calls (LongUnit name) = IsLongUnit contents units name
 IsReading contents units calls LongCalls = IsLongCalls contents units calls
 
+-- what reading the units alone comes to
+pub data UnitsReading : Type 0 where
+  UnitsRead : (texts : List (List ℕ)) → UnitsReading
+  NoUnit : (name : Name) → UnitsReading
+  UnitTooLong : (name : Name) → UnitsReading
+
+abbrev pub IsUnitsReading : Contents → List Name → UnitsReading → Type 0
+IsUnitsReading contents units (UnitsRead texts) = AreUnits contents units texts
+IsUnitsReading contents units (NoUnit name) = StopsReading most_unit_bytes most_units_bytes contents units name Missing
+IsUnitsReading contents units (UnitTooLong name) = IsLongUnit contents units name
+
+-- what reading a journal's file comes to
+pub data JournalReading : Type 0 where
+  Held : (text : List ℕ) → JournalReading
+  NoJournal : JournalReading
+  LongJournal : JournalReading
+
+abbrev pub IsJournalReading : Contents → Name → JournalReading → Type 0
+IsJournalReading contents name (Held text) = (get contents name ≡ Some text) × (length text ≤ most_journal_bytes)
+IsJournalReading contents name NoJournal = get contents name ≡ None
+IsJournalReading contents name LongJournal = IsLong most_journal_bytes contents name
+
 -- one of the files to be read
 abbrev pub IsInput : Name → List Name → Name → Type 0
 IsInput name units calls = IsOneOf name units ⊎ (name ≡ calls)
@@ -73,9 +104,10 @@ StopsInputs told units calls before after named (stop.Unread name) = IsInput (st
 StopsInputs told units calls before after named (stop.UnitTooLong name) =
     IsOneOf (string_bytes name) units × Tells told (λ contents. IsLongUnit contents units (string_bytes name))
 StopsInputs told units calls before after named stop.CallsTooLong = Tells told (λ contents. IsLongCalls contents units calls)
+StopsInputs told units calls before after named stop.JournalTooLong = ⊥
 StopsInputs told units calls before after named stop.Memory = Unit {0}
 
--- ---- the same of the units alone, and of the calls file alone
+-- ---- the same of the units alone, and of one file alone: the calls file, or a journal's
 
 abbrev pub StopsUnits : Told → List Name → ℕ → ℕ → Option Name → InputStop → Type 0
 StopsUnits told units before after named (stop.Unread name) = IsOneOf (string_bytes name) units
@@ -84,13 +116,29 @@ StopsUnits told units before after named (stop.Unread name) = IsOneOf (string_by
 StopsUnits told units before after named (stop.UnitTooLong name) =
     IsOneOf (string_bytes name) units × Tells told (λ contents. IsLongUnit contents units (string_bytes name))
 StopsUnits told units before after named stop.CallsTooLong = ⊥
+StopsUnits told units before after named stop.JournalTooLong = ⊥
 StopsUnits told units before after named stop.Memory = Unit {0}
 
+-- the file of this name is the one that is read, and it is not there or cannot be read
+abbrev pub IsUnread : Told → Name → ℕ → ℕ → Option Name → Name → Type 0
+IsUnread told file before after named name =
+    (name ≡ file) × (Faulted name before after named ⊎ ((contents : Contents) × (told ≡ Some contents) × (get contents file ≡ None)))
+
 abbrev pub StopsCalls : Told → Name → ℕ → ℕ → Option Name → InputStop → Type 0
-StopsCalls told calls before after named (stop.Unread name) = (string_bytes name ≡ calls)
-    × (Faulted (string_bytes name) before after named
-    ⊎ ((contents : Contents) × (told ≡ Some contents) × (get contents calls ≡ None)))
+StopsCalls told calls before after named (stop.Unread name) = IsUnread told calls before after named (string_bytes name)
 StopsCalls told calls before after named (stop.UnitTooLong name) = ⊥
-StopsCalls told calls before after named stop.CallsTooLong =
-    Tells told (λ contents. (text : List ℕ) × (get contents calls ≡ Some text) × (most_calls_bytes < length text))
+StopsCalls told calls before after named stop.CallsTooLong = Tells told (λ contents. IsLong most_calls_bytes contents calls)
+StopsCalls told calls before after named stop.JournalTooLong = ⊥
 StopsCalls told calls before after named stop.Memory = Unit {0}
+
+abbrev pub StopsJournal : Told → Name → ℕ → ℕ → Option Name → InputStop → Type 0
+StopsJournal told journal before after named (stop.Unread name) = IsUnread told journal before after named (string_bytes name)
+StopsJournal told journal before after named (stop.UnitTooLong name) = ⊥
+StopsJournal told journal before after named stop.CallsTooLong = ⊥
+StopsJournal told journal before after named stop.JournalTooLong = Tells told (λ contents. IsLong most_journal_bytes contents journal)
+StopsJournal told journal before after named stop.Memory = Unit {0}
+
+abbrev pub StopsFile : ℕ → Told → Name → ℕ → ℕ → Option Name → FileStop → Type 0
+StopsFile most told file before after named (file_stop.Unread name) = IsUnread told file before after named (string_bytes name)
+StopsFile most told file before after named file_stop.TooLong = Tells told (λ contents. IsLong most contents file)
+StopsFile most told file before after named file_stop.Memory = Unit {0}

@@ -6,17 +6,22 @@ ghost use Rattle.crun_words.specs.Command.{bare as bare_app, crun, units_left as
 use clap::{Arg, ArgAction, Command};
 use std::alloc::{AllocError, Global};
 
-/// The options `--steps` and `--calls` of one value each, the flag `--state`, and units. The words leave out the program's
-/// name.
+/// The options `--steps`, `--calls`, `--record`, `--replay`, `--merge` and `--trim` of one value each, the flag `--state`,
+/// and units. The words leave out the program's name.
 pub(crate) fn command<'a>(alloc: Global) -> Result<Command<'a>, AllocError>
     ensures { IfOk result (λ command. app_of command ≡ crun) }
 {
     let steps = word_option(alloc, "steps");
     let calls = word_option(alloc, "calls");
     let state = word_flag(alloc, "state");
+    let journal = word_option(alloc, "record");
+    let replayed = word_option(alloc, "replay");
+    let merged = word_option(alloc, "merge");
+    let trimmed = word_option(alloc, "trim");
     let units = units_left(alloc);
-    let command = bare(alloc).arg(steps)?.arg(calls)?;
-    let command = command.arg(state)?.arg(units)?;
+    let command = bare(alloc).arg(steps)?.arg(calls)?.arg(state)?;
+    let command = command.arg(journal)?.arg(replayed)?.arg(merged)?;
+    let command = command.arg(trimmed)?.arg(units)?;
     Ok(command)
 }
 

@@ -5,7 +5,8 @@ ghost use Rattle.std.specs.List.{AllByRecursion};
 ghost use Rattle.w2c_io.specs.Telling.{Tells};
 ghost use Rattle.w2c_files.specs.Words.{names_of};
 ghost use Rattle.crun_words.specs.declared.inputs.InputStop.TheVariants.{Memory as memory_wanted};
-ghost use Rattle.crun_words.specs.Inputs.{most_calls_bytes, most_unit_bytes, AreInputs, AreUnits, StopsCalls, StopsInputs, StopsUnits};
+ghost use Rattle.crun_words.specs.declared.inputs.FileStop.TheVariants.{Memory as file_memory_wanted};
+ghost use Rattle.crun_words.specs.Inputs.{most_calls_bytes, most_journal_bytes, most_unit_bytes, AreInputs, AreUnits, StopsCalls, StopsFile, StopsInputs, StopsJournal, StopsUnits};
 
 use crate::line::UNITS;
 use c_tree::UNIT_BYTES;
@@ -16,6 +17,9 @@ use w2c_io::{Files, ReadAnswer};
 
 // The most bytes of a calls file.
 const CALLS_BYTES: usize = 1_048_576;
+
+// The most bytes of a journal's file.
+const JOURNAL_BYTES: usize = 67_108_864;
 
 /// The bytes of the units' files, in the order of the words, and of the calls file.
 #[derive(Drop)]
@@ -33,6 +37,8 @@ pub enum InputStop {
     UnitTooLong(String),
     /// The calls file has more than 1,048,576 bytes.
     CallsTooLong,
+    /// The file of a journal has more than 67,108,864 bytes.
+    JournalTooLong,
     Memory,
 }
 
@@ -79,7 +85,9 @@ pub fn read_inputs<F: Files>(
     })
 }
 
-fn read_units<F: Files>(
+/// The bytes of the files of 16 units at most, one after another, each 67,108,864 at most; or why the first that is not
+/// read is not: it is not there or cannot be read (`Unread`), it has more bytes (`UnitTooLong`), or memory is wanting.
+pub fn read_units<F: Files>(
     alloc: Global,
     units: &[&str],
     files: &mut F,
@@ -130,11 +138,75 @@ fn read_calls<F: Files>(alloc: Global, calls: &str, files: &mut F) -> Result<Byt
     ensures stop { IfErr result (StopsCalls (F.told files.old) calls.now
         (F.read_faults files.old) (F.read_faults files.new) (F.fault_name files.new)) }
 {
-    match files.read(alloc, calls, CALLS_BYTES) {
+    match read_file(alloc, calls, CALLS_BYTES, files) {
         Ok(text) => Ok(text),
-        Err(ReadAnswer::Absent) => Err(InputStop::Unread(String::from_str(alloc, calls)?)),
-        Err(ReadAnswer::Failed) => Err(InputStop::Unread(String::from_str(alloc, calls)?)),
-        Err(ReadAnswer::TooLong) => Err(InputStop::CallsTooLong),
-        Err(ReadAnswer::Memory) => Err(InputStop::Memory),
+        Err(FileStop::Unread(name)) => Err(InputStop::Unread(name)),
+        Err(FileStop::TooLong) => Err(InputStop::CallsTooLong),
+        Err(FileStop::Memory) => Err(InputStop::Memory),
+    }
+}
+
+/// The bytes of a journal's file, 67,108,864 at most; or why they are not read: it is not there or cannot be read
+/// (`Unread`), it has more bytes (`JournalTooLong`), or memory is wanting.
+pub fn read_journal_file<F: Files>(
+    alloc: Global,
+    name: &str,
+    files: &mut F,
+) -> Result<Bytes, InputStop>
+    ensures told { F.told files.new ≡ F.told files.old }
+    ensures current { F.current files.new ≡ F.current files.old }
+    ensures writes { F.write_faults files.new ≡ F.write_faults files.old }
+    ensures later { F.read_faults files.old ≤ F.read_faults files.new }
+    ensures read { IfOk result (λ text. Tells (F.told files.old) (λ contents. get contents name.now ≡ Some text)) }
+    ensures fit { IfOk result (λ text. length text ≤ most_journal_bytes) }
+    ensures stop { IfErr result (StopsJournal (F.told files.old) name.now
+        (F.read_faults files.old) (F.read_faults files.new) (F.fault_name files.new)) }
+{
+    match read_file(alloc, name, JOURNAL_BYTES, files) {
+        Ok(text) => Ok(text),
+        Err(FileStop::Unread(name)) => Err(InputStop::Unread(name)),
+        Err(FileStop::TooLong) => Err(InputStop::JournalTooLong),
+        Err(FileStop::Memory) => Err(InputStop::Memory),
+    }
+}
+
+// Why one file is not read.
+#[derive(Debug, Drop)]
+enum FileStop {
+    Unread(String),
+    TooLong,
+    Memory,
+}
+
+impl From<AllocError> for FileStop {
+    ghost from_gives = { λ _ e. e ≡ file_memory_wanted };
+
+    fn from(_: AllocError) -> Self {
+        FileStop::Memory
+    }
+}
+
+// The bytes of one file, which may have so many.
+fn read_file<F: Files>(
+    alloc: Global,
+    name: &str,
+    most: usize,
+    files: &mut F,
+) -> Result<Bytes, FileStop>
+    ensures told { F.told files.new ≡ F.told files.old }
+    ensures current { F.current files.new ≡ F.current files.old }
+    ensures writes { F.write_faults files.new ≡ F.write_faults files.old }
+    ensures later { F.read_faults files.old ≤ F.read_faults files.new }
+    ensures read { IfOk result (λ text. Tells (F.told files.old) (λ contents. get contents name.now ≡ Some text)) }
+    ensures fit { IfOk result (λ text. length text ≤ most) }
+    ensures stop { IfErr result (StopsFile most (F.told files.old) name.now
+        (F.read_faults files.old) (F.read_faults files.new) (F.fault_name files.new)) }
+{
+    match files.read(alloc, name, most) {
+        Ok(text) => Ok(text),
+        Err(ReadAnswer::Absent) => Err(FileStop::Unread(String::from_str(alloc, name)?)),
+        Err(ReadAnswer::Failed) => Err(FileStop::Unread(String::from_str(alloc, name)?)),
+        Err(ReadAnswer::TooLong) => Err(FileStop::TooLong),
+        Err(ReadAnswer::Memory) => Err(FileStop::Memory),
     }
 }

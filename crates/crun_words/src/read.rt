@@ -1,10 +1,10 @@
 // The reading of the words.
-ghost use Rattle.std.specs.Prelude.{◌≡◌, ◌≤◌, None, Some, IfOk, IsErrOf, option_map, vec_len};
+ghost use Rattle.std.specs.Prelude.{◌≡◌, None, Some, IfOk, IsErrOf, option_map};
 ghost use Rattle.clap.specs.Words.{found_of, kind_of, rows_of};
 ghost use Rattle.w2c_files.specs.Words.{texts};
 ghost use Rattle.crun_words.specs.Command.{values_in};
 ghost use Rattle.crun_words.specs.CommandLine.{line_of, line_of_values as line_by_values};
-ghost use Rattle.crun_words.specs.Seen.{seen_line};
+ghost use Rattle.crun_words.specs.Seen.{HasFewUnits, seen_line};
 ghost use Rattle.crun_words.specs.declared.read.NoLine.{NoLine};
 ghost use Rattle.crun_words.specs.declared.read.NoLine.TheVariants as no_line;
 
@@ -34,10 +34,10 @@ impl From<AllocError> for NoLine {
 
 /// The line of the words, which leave out the program's name: which spellings of an option count is `clap`'s definition
 /// for a command of these options, this flag and files. Usage exactly where the words have no reading, `--help` among
-/// them, unless memory is wanting. It names 16 units at most.
+/// them, unless memory is wanting. Each form names 16 units at most.
 pub fn read_words(alloc: Global, words: &[String]) -> Result<Line<'_>, NoLine>
     ensures line { IfOk result (λ line. line_of (texts words.now) ≡ Some (seen_line line)) }
-    ensures few { IfOk result (λ line. vec_len line.units ≤ 16) }
+    ensures few { IfOk result HasFewUnits }
     ensures usage { IsErrOf result NoLine.Usage → line_of (texts words.now) ≡ None }
 {
     let command = command(alloc)?;
@@ -49,7 +49,7 @@ pub fn read_words(alloc: Global, words: &[String]) -> Result<Line<'_>, NoLine>
 
 fn line_of_matches<'a>(alloc: Global, matches: &ArgMatches<'a>) -> Result<Line<'a>, NoLine>
     ensures line { IfOk result (λ line. line_by_values (values_in (rows_of (found_of matches.now))) ≡ Some (seen_line line)) }
-    ensures few { IfOk result (λ line. vec_len line.units ≤ 16) }
+    ensures few { IfOk result HasFewUnits }
     ensures usage { IsErrOf result NoLine.Usage → line_by_values (values_in (rows_of (found_of matches.now))) ≡ None }
 {
     let values = Values::of(alloc, matches)?;

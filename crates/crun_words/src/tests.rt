@@ -1,7 +1,7 @@
 // Each public function on its happy path, words and lines that are refused, and each stop of reading.
 use crate::{
-    InputStop, NoLine, arguments, call_line, call_lines, number, read_inputs, read_words, refusal,
-    word_option,
+    InputStop, Line, NoLine, arguments, call_line, call_lines, number, read_inputs,
+    read_journal_file, read_units, read_words, refusal, word_option,
 };
 use c_tree::CType;
 use clap::Command;
@@ -24,7 +24,7 @@ fn is_usage(alloc: Global, texts: &[&str]) -> Result<bool, Fail> {
 }
 
 #[test]
-fn a_command_line(rt: HostRuntime) -> Result<(), Fail> {
+fn a_run(rt: HostRuntime) -> Result<(), Fail> {
     let alloc = rt.alloc();
     let words = words(
         alloc,
@@ -37,9 +37,51 @@ fn a_command_line(rt: HostRuntime) -> Result<(), Fail> {
             "--state",
         ],
     )?;
-    let line = read_words(alloc, words.as_slice()).ok().ok_or("a line")?;
+    let Ok(Line::Run(line)) = read_words(alloc, words.as_slice()) else {
+        return Err(Fail::from("a run"));
+    };
+    assert!(rt; line.journal.is_none() && line.replayed.is_none());
     assert!(rt; line.steps == 18_446_744_073_709_551_615 && line.calls == "c" && line.shows_state);
     assert!(rt; line.units.len() == 2 && line.units[0] == "a.c" && line.units[1] == "b.c");
+    Ok(())
+}
+
+#[test]
+fn a_run_with_journals(rt: HostRuntime) -> Result<(), Fail> {
+    let alloc = rt.alloc();
+    let words = words(
+        alloc,
+        &[
+            "--steps=1",
+            "--calls=c",
+            "u.c",
+            "--replay",
+            "old",
+            "--record=new",
+        ],
+    )?;
+    let Ok(Line::Run(line)) = read_words(alloc, words.as_slice()) else {
+        return Err(Fail::from("a run"));
+    };
+    assert!(rt; line.journal == Some("new") && line.replayed == Some("old"));
+    assert!(rt; !line.shows_state);
+    Ok(())
+}
+
+#[test]
+fn a_merge_and_a_trim(rt: HostRuntime) -> Result<(), Fail> {
+    let alloc = rt.alloc();
+    let merge = words(alloc, &["a.c", "--merge", "out.c", "b.c"])?;
+    let Ok(Line::Merge(line)) = read_words(alloc, merge.as_slice()) else {
+        return Err(Fail::from("a merge"));
+    };
+    assert!(rt; line.output == "out.c" && line.units.len() == 2);
+    assert!(rt; line.units[0] == "a.c" && line.units[1] == "b.c");
+    let trim = words(alloc, &["--trim=out.c", "a.c"])?;
+    let Ok(Line::Trim(line)) = read_words(alloc, trim.as_slice()) else {
+        return Err(Fail::from("a trim"));
+    };
+    assert!(rt; line.output == "out.c" && line.unit == "a.c");
     Ok(())
 }
 
@@ -51,12 +93,46 @@ fn bad_command_lines(rt: HostRuntime) -> Result<(), Fail> {
     assert!(rt; is_usage(alloc, &["--calls", "c", "u.c"])?);
     assert!(rt; is_usage(alloc, &["--steps", "1", "u.c"])?);
     assert!(rt; is_usage(alloc, &["--help"])?);
+    assert!(rt; is_usage(alloc, &["--merge", "o.c", "u.c", "--state"])?);
+    assert!(rt; is_usage(alloc, &["--merge", "o.c", "--trim", "p.c", "u.c"])?);
+    assert!(rt; is_usage(alloc, &["--merge", "o.h", "u.c"])?);
+    assert!(rt; is_usage(alloc, &["--trim", "o.c", "u.c", "v.c"])?);
+    assert!(rt; is_usage(alloc, &["--trim", "o.c"])?);
     let many = [
         "--steps", "1", "--calls", "c", "1", "2", "3", "4", "5", "6", "7", "8", "9", "10", "11",
         "12", "13", "14", "15", "16", "17",
     ];
     assert!(rt; is_usage(alloc, &many)?);
     assert!(rt; !is_usage(alloc, &many[..20])?);
+    Ok(())
+}
+
+#[test]
+fn a_merge_of_many(rt: HostRuntime) -> Result<(), Fail> {
+    let alloc = rt.alloc();
+    let many = [
+        "--merge=o.c",
+        "1",
+        "2",
+        "3",
+        "4",
+        "5",
+        "6",
+        "7",
+        "8",
+        "9",
+        "10",
+        "11",
+        "12",
+        "13",
+        "14",
+        "15",
+        "16",
+        "17",
+    ];
+    assert!(rt; is_usage(alloc, &many)?);
+    assert!(rt; is_usage(alloc, &many[..1])?);
+    assert!(rt; !is_usage(alloc, &many[..17])?);
     Ok(())
 }
 
@@ -144,6 +220,37 @@ fn reading_stops(rt: HostRuntime) -> Result<(), Fail> {
         .err()
         .ok_or("a long file")?;
     assert!(rt; matches!(stop, InputStop::CallsTooLong));
+    Ok(())
+}
+
+#[test]
+fn units_are_read(rt: HostRuntime) -> Result<(), Fail> {
+    let alloc = rt.alloc();
+    let mut files = three_files(alloc)?;
+    let units = read_units(alloc, &["b.c", "a.c"], &mut files)
+        .ok()
+        .ok_or("each unit is read")?;
+    assert_eq!(rt; units.len(), 2);
+    assert!(rt; units[1].as_slice() == b"1".as_slice());
+    let stop = read_units(alloc, &["a.c", "d.c"], &mut files)
+        .err()
+        .ok_or("no unit")?;
+    assert!(rt; is_unread(stop, "d.c"));
+    Ok(())
+}
+
+#[test]
+fn a_journal_is_read(rt: HostRuntime) -> Result<(), Fail> {
+    let alloc = rt.alloc();
+    let mut files = three_files(alloc)?;
+    let text = read_journal_file(alloc, "c", &mut files)
+        .ok()
+        .ok_or("a journal")?;
+    assert!(rt; text.as_slice() == b"m x\n".as_slice());
+    let stop = read_journal_file(alloc, "e", &mut files)
+        .err()
+        .ok_or("no journal")?;
+    assert!(rt; is_unread(stop, "e"));
     Ok(())
 }
 

@@ -13,6 +13,10 @@ pub struct Values<'a> {
     pub steps: Option<&'a str>,
     pub calls: Option<&'a str>,
     pub shows_state: bool,
+    pub journal: Option<&'a str>,
+    pub replayed: Option<&'a str>,
+    pub merged: Option<&'a str>,
+    pub trimmed: Option<&'a str>,
     pub units: Vec<&'a str>,
 }
 
@@ -29,6 +33,10 @@ impl<'a> Values<'a> {
             steps: matches.get_str("steps"),
             calls: matches.get_str("calls"),
             shows_state: is_used(matches.get_str("state")),
+            journal: matches.get_str("record"),
+            replayed: matches.get_str("replay"),
+            merged: matches.get_str("merge"),
+            trimmed: matches.get_str("trim"),
             units,
         })
     }

@@ -28,6 +28,14 @@ state_twice_is : line_of (codes "--steps=1" ∷ codes "--calls=c" ∷ codes "--s
 unfolding values_of clap_on_literals
 state_twice_is = refl
 
+journal_twice_is : line_of (codes "--steps=1" ∷ codes "--calls=c" ∷ codes "--record=j" ∷ codes "--record=j" ∷ codes "u.c" ∷ []) ≡ None
+unfolding values_of clap_on_literals
+journal_twice_is = refl
+
+replayed_twice_is : line_of (codes "--steps=1" ∷ codes "--calls=c" ∷ codes "--replay=j" ∷ codes "--replay=j" ∷ codes "u.c" ∷ []) ≡ None
+unfolding values_of clap_on_literals
+replayed_twice_is = refl
+
 state_with_a_value_is : line_of (codes "--steps=1" ∷ codes "--calls=c" ∷ codes "--state=true" ∷ codes "u.c" ∷ []) ≡ None
 unfolding values_of clap_on_literals
 state_with_a_value_is = refl
@@ -35,6 +43,10 @@ state_with_a_value_is = refl
 no_value_is : line_of (codes "u.c" ∷ codes "--steps" ∷ codes "1" ∷ codes "--calls" ∷ []) ≡ None
 unfolding values_of clap_on_literals
 no_value_is = refl
+
+no_journal_is : line_of (codes "u.c" ∷ codes "--steps" ∷ codes "1" ∷ codes "--calls" ∷ codes "c" ∷ codes "--record" ∷ []) ≡ None
+unfolding values_of clap_on_literals
+no_journal_is = refl
 
 unknown_is : line_of (codes "--steps=1" ∷ codes "--calls=c" ∷ codes "-s" ∷ codes "u.c" ∷ []) ≡ None
 unfolding values_of clap_on_literals
@@ -68,8 +80,11 @@ returns c = record {
   no_unit = no_unit_is;
   calls_twice = calls_twice_is;
   state_twice = state_twice_is;
+  journal_twice = journal_twice_is;
+  replayed_twice = replayed_twice_is;
   state_with_a_value = state_with_a_value_is;
   no_value = no_value_is;
+  no_journal = no_journal_is;
   unknown = unknown_is;
   help = help_is;
   no_digit = no_digit_is;

@@ -3,7 +3,7 @@ use Rattle.w2c_files.specs.Words.{names_of}
 use Rattle.c_tree.specs.View.{unit_of}
 use Rattle.c_link.specs.Offers.{c_symbols}
 use Rattle.crun_words.specs.CallsFile.{call_lines_of}
-use Rattle.crun_words.specs.Seen.{seen_line}
+use Rattle.crun_words.specs.Seen.{seen_run}
 use Rattle.crun_job.specs.Calls.{AreCalls, IsFirstRefusedLine}
 use Rattle.crun_job.specs.Links.{AreLinked}
 use Rattle.crun_job.specs.Refusals.{IsWithin, RefusesUnits}
@@ -21,7 +21,7 @@ pub returns-in-Err-clause-stop : goal.returns-in-Err-clause-stop
 returns-in-Err-clause-stop c =
     let symbols = c_symbols c.args.hosts.now in
     let inputs = c.args.inputs.now in
-    unit_stops (seen_line c.args.line.now) symbols inputs.units.items inputs.calls c.in-Err.refusal (reason_of c.stop_at.result)
+    unit_stops (seen_run c.args.line.now) symbols inputs.units.items inputs.calls c.in-Err.refusal (reason_of c.stop_at.result)
     (subst (λ ts. RefusesUnits ts symbols c.in-Err.refusal) c.as_slice.ensures.value c.in-Err.ensures.first)
     (subst (λ ns. StopsUnit (names_of ns) c.in-Err.refusal (reason_of c.stop_at.result)) c.as_slice-in-Err.ensures.value c.stop_at.ensures)
 

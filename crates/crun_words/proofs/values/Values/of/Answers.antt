@@ -29,6 +29,14 @@ returns c =
     let calls : option_map (λ (name : Bor (List ℕ)). name.now) c.get_str-2.result ≡ first_of (codes "calls") rows = search rules ∙ first_value-rows found (codes "calls") in
     let state : option_map (λ (name : Bor (List ℕ)). name.now) c.get_str-3.result ≡ first_of (codes "state") rows = search rules ∙ first_value-rows found (codes "state") in
     let used = c.is_used.ensures ∙ ap is_used state in
+    let journal : option_map (λ (name : Bor (List ℕ)). name.now) c.get_str-4.result ≡ first_of (codes "record") rows =
+    search rules ∙ first_value-rows found (codes "record") in
+    let replayed : option_map (λ (name : Bor (List ℕ)). name.now) c.get_str-5.result ≡ first_of (codes "replay") rows =
+    search rules ∙ first_value-rows found (codes "replay") in
+    let merged : option_map (λ (name : Bor (List ℕ)). name.now) c.get_str-6.result ≡ first_of (codes "merge") rows =
+    search rules ∙ first_value-rows found (codes "merge") in
+    let trimmed : option_map (λ (name : Bor (List ℕ)). name.now) c.get_str-7.result ≡ first_of (codes "trim") rows =
+    search rules ∙ first_value-rows found (codes "trim") in
     let all : option_map (λ (s : Bor (List (Bor (List ℕ)))). names_of s.now) c.get_strs.result ≡ all_of (codes "units") rows =
     search rules ∙ raw_values-rows found (codes "units") in
     let units : names_of c.match-get_strs.units.items ≡ unwrap_or (all_of (codes "units") rows) [] = elim c.match-get_strs.branch [
@@ -43,5 +51,9 @@ returns c =
       steps = steps i;
       calls = calls i;
       shows_state = used i;
+      journal = journal i;
+      replayed = replayed i;
+      merged = merged i;
+      trimmed = trimmed i;
       units = units i;
     }

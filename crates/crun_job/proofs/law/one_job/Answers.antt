@@ -1,5 +1,0 @@
-use Rattle.crun_job.proofs.JobLaws.{one_job}
-use Rattle.crun_job.proofs.law.one_job.Goals as goal
-
-pub returns : goal.returns
-returns c = one_job
