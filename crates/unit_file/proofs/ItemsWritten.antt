@@ -1,0 +1,120 @@
+-- The include line and the first items of a unit stand in the current file, and the others are left.
+use Rattle.std.proofs.Common.{
+  ◌≡◌,
+  ℕ,
+  ◌≤◌,
+  List,
+  [],
+  ◌∷◌,
+  ◌++◌,
+  append_assoc,
+  append-nil,
+  refl,
+  sym,
+  ◌∙◌,
+  ap,
+  subst,
+  arith,
+  Option,
+  Result,
+  Ok,
+}
+use Rattle.std.specs.List.{Contains}
+use Rattle.std.proofs.lemmas.List.Elements.{Contains-append_right}
+use Rattle.w2c_io.specs.Contents.{Name, Told, appending, AppendsPart}
+use Rattle.w2c_io.specs.Causes.{WriteCause, name_after_write}
+use Rattle.w2c_io.specs.declared.answers.WriteAnswer.{WriteAnswer}
+use Rattle.w2c_io.proofs.Appending.{append_more, part_in_front, part_behind}
+use Rattle.w2c_io.proofs.Telling.{rose_from}
+use Rattle.c_tree.specs.declared.token.Tok.TheVariants as tok
+use Rattle.c_tree.specs.Tree.{Item}
+use Rattle.c_tree.specs.Tokens.{fixed_text}
+use Rattle.c_tree.specs.Trees.{each}
+use Rattle.c_print.specs.Print.{print_of, print_item_of}
+
+pub record IsWritten (old now : Told) (current : Option Name) (all left : List Item) : Type 0 where
+  pub given : List Item
+  pub split : all ≡ given ++ left
+  pub stands : now ≡ appending old current (print_of given)
+
+-- ---- texts of items
+
+each_both : {A B : Type 0} (f : A → List B) (xs ys : List A) → each f (xs ++ ys) ≡ each f xs ++ each f ys
+each_both f [] ys = refl
+each_both f (x ∷ xs) ys = ap (λ l. f x ++ l) (each_both f xs ys) ∙ sym (append_assoc (f x) (each f xs) (each f ys))
+
+print_both : (given left : List Item) → print_of (given ++ left) ≡ print_of given ++ each print_item_of left
+print_both given left =
+    ap (λ l. fixed_text tok.Include ++ l) (each_both print_item_of given left)
+    ∙ sym (append_assoc (fixed_text tok.Include) (each print_item_of given) (each print_item_of left))
+
+print_next : (given : List Item) (item : Item) → print_of (given ++ item ∷ []) ≡ print_of given ++ print_item_of item
+print_next given item = print_both given (item ∷ []) ∙ ap (λ l. print_of given ++ l) (append-nil (print_item_of item))
+
+-- ---- from the include line to the end
+
+pub begun : (old now : Told) (current : Option Name) (all : List Item) → now ≡ appending old current (fixed_text tok.Include)
+    → IsWritten old now current all all
+begun old now current all is = record {
+  given = [];
+  split = refl;
+  stands = is ∙ ap (appending old current) (sym (append-nil (fixed_text tok.Include)));
+}
+
+pub is_contained : (old now : Told) (current : Option Name) (all left after : List Item) (item : Item)
+    → IsWritten old now current all left → left ≡ item ∷ after → Contains all item
+is_contained old now current all left after item so_far next =
+    subst (λ items. Contains items item) (sym (so_far.split ∙ ap (λ l. so_far.given ++ l) next))
+    (Contains-append_right so_far.given (item ∷ after) item (0, omega arith, refl))
+
+pub one_more : (old before now : Told) (current : Option Name) (all left after : List Item) (item : Item)
+    → IsWritten old before current all left → left ≡ item ∷ after → now ≡ appending before current (print_item_of item)
+    → IsWritten old now current all after
+one_more old before now current all left after item so_far next is = record {
+  given = so_far.given ++ item ∷ [];
+  split = so_far.split ∙ ap (λ l. so_far.given ++ l) next ∙ sym (append_assoc so_far.given (item ∷ []) after);
+  stands = is ∙ ap (λ told. appending told current (print_item_of item)) so_far.stands
+      ∙ append_more old current (print_of so_far.given) (print_item_of item)
+      ∙ ap (appending old current) (sym (print_next so_far.given item));
+}
+
+pub all_written : (old now : Told) (current : Option Name) (all left : List Item)
+    → IsWritten old now current all left → left ≡ [] → now ≡ appending old current (print_of all)
+all_written old now current all left so_far none =
+    so_far.stands ∙ ap (λ items. appending old current (print_of items))
+    (sym (so_far.split ∙ ap (λ l. so_far.given ++ l) none ∙ append-nil so_far.given))
+
+-- ---- where it stops
+
+pub stops_at_include : (old now : Told) (current : Option Name) (all : List Item)
+    → AppendsPart old now current (fixed_text tok.Include) → AppendsPart old now current (print_of all)
+stops_at_include old now current all part = part_in_front old now current (fixed_text tok.Include) (each print_item_of all) part
+
+pub stops_in : (old before now : Told) (current : Option Name) (all left after : List Item) (item : Item)
+    → IsWritten old before current all left → left ≡ item ∷ after → AppendsPart before now current (print_item_of item)
+    → AppendsPart old now current (print_of all)
+stops_in old before now current all left after item so_far next part =
+    subst (AppendsPart old now current)
+    (sym (ap print_of (so_far.split ∙ ap (λ l. so_far.given ++ l) next) ∙ print_both so_far.given (item ∷ after)))
+    (part_behind old before now current (print_of so_far.given) (each print_item_of (item ∷ after)) so_far.stands
+    (part_in_front before now current (print_item_of item) (each print_item_of after) part))
+
+-- ---- causes, where counts and names have stayed before the last call
+
+-- the last call's cause
+pub cause_behind : {A : Type 0} (before between after : ℕ) (result : Result A WriteAnswer) → before ≤ between
+    → WriteCause between after result → WriteCause before after result
+cause_behind before between after result le cause = record {
+  later = omega (arith, le, cause.later);
+  failed = λ e. rose_from before between after le (cause.failed e);
+}
+
+pub done_cause : {A : Type 0} (x : A) (before after : ℕ) → before ≤ after → WriteCause before after (Ok x)
+done_cause x before after le = record { later = le; failed = λ e. absurd cc }
+
+pub named_behind : {A : Type 0} (result : Result A WriteAnswer) (current earlier_current : Option Name)
+    (fault earlier_fault new : Option Name)
+    → current ≡ earlier_current → fault ≡ earlier_fault → new ≡ name_after_write result current fault
+    → new ≡ name_after_write result earlier_current earlier_fault
+named_behind result current earlier_current fault earlier_fault new same_current same_fault is =
+    is ∙ (λ i. name_after_write result (same_current i) (same_fault i))

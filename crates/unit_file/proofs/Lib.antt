@@ -1,0 +1,2 @@
+pub mod ItemsWritten
+pub mod OneFile

@@ -1,0 +1,130 @@
+use Rattle.std.proofs.Common.{◌≡◌, ◌+◌, ◌<◌, ◌≤◌, rules, ◌∙◌, ap, subst, arith, length, drop, get_or, Option, Result, Err, inr}
+use Rattle.std.proofs.lemmas.List.{drop_all}
+use Rattle.std.proofs.lemmas.Result.{err_from_is_err_and}
+use Rattle.w2c_io.specs.Contents.{Name, appending, AppendsPart}
+use Rattle.w2c_io.specs.declared.answers.WriteAnswer.{WriteAnswer}
+use Rattle.c_tree.specs.View.{item_of, unit_of}
+use Rattle.c_tree.proofs.Tested.{at_front}
+use Rattle.c_print.specs.Print.{print_item_of}
+use Rattle.unit_file.proofs.ItemsWritten.{
+  begun,
+  is_contained,
+  one_more,
+  all_written,
+  stops_at_include,
+  stops_in,
+  cause_behind,
+  done_cause,
+  named_behind,
+}
+use Rattle.unit_file.proofs.writing.put_unit.Goals as goal
+
+pub returns-in_err-put-clause-part : goal.returns-in_err-put-clause-part
+returns-in_err-put-clause-part g c =
+    let files = g.F.Files in
+    let p = err_from_is_err_and c.from_residual.result c.from_residual.ensures.1 in
+    rw p.1 (stops_at_include (files.told c.args.files.now) (files.told c.put.new.self) (files.current c.args.files.now)
+    (unit_of c.args.unit.now) (subst (AppendsPart (files.told c.args.files.now) (files.told c.put.new.self)
+    (files.current c.args.files.now)) c.text.ensures (inr c.in_err-put.ensures.part)))
+
+pub returns-in_err-put-clause-cause : goal.returns-in_err-put-clause-cause
+returns-in_err-put-clause-cause g c =
+    let p = err_from_is_err_and c.from_residual.result c.from_residual.ensures.1 in
+    rw (p.1, p.2) c.in_err-put.ensures.cause
+
+pub loop-item-init : goal.loop-item-init
+loop-item-init g c =
+    let files = g.F.Files in
+    record {
+      written = begun (files.told c.args.files.now) (files.told c.put.new.self) (files.current c.args.files.now)
+          (unit_of c.args.unit.now)
+          (subst (λ l. files.told c.put.new.self ≡ appending (files.told c.args.files.now) (files.current c.args.files.now) l)
+          c.text.ensures c.in_ok-put.ensures.written);
+      current = c.in_ok-put.ensures.current;
+      fault = c.in_ok-put.ensures.named;
+      reads = c.in_ok-put.ensures.reads;
+      later = c.in_ok-put.ensures.cause.later;
+    }
+
+pub print_item_to-requires-clause-formed : goal.print_item_to-requires-clause-formed
+print_item_to-requires-clause-formed g c =
+    let files = g.F.Files in
+    let xs = c.args.unit.now in
+    let same : c.as_slice-item-items.result.now ≡ xs = c.as_slice-item-items.ensures ∙ c.unit-items.ensures.unit in
+    let i = c.loop-item.item-index in
+    let item = c.item-item.result in
+    let next = ap unit_of (at_front xs i item (subst (λ l. i < length l) same c.loop-item-test.true)
+    (subst (λ l. item ≡ get_or l i item) same c.item-item.is)) in (
+      unit_of c.args.unit.now,
+      c.unit-items.ensures.formed,
+      is_contained (files.told c.args.files.now) (files.told c.loop-item.files) (files.current c.args.files.now)
+          (unit_of c.args.unit.now) (unit_of (drop i xs)) (unit_of (drop (i + 1) xs)) (item_of item) c.loop-item.invariant.written next,
+    )
+
+pub returns-in_err-print_item_to-clause-part : goal.returns-in_err-print_item_to-clause-part
+returns-in_err-print_item_to-clause-part g c =
+    let files = g.F.Files in
+    let xs = c.args.unit.now in
+    let same : c.as_slice-item-items.result.now ≡ xs = c.as_slice-item-items.ensures ∙ c.unit-items.ensures.unit in
+    let i = c.loop-item.item-index in
+    let item = c.item-item.result in
+    let next = ap unit_of (at_front xs i item (subst (λ l. i < length l) same c.loop-item-test.true)
+    (subst (λ l. item ≡ get_or l i item) same c.item-item.is)) in
+    let p = err_from_is_err_and c.from_residual-in_err-print_item_to.result c.from_residual-in_err-print_item_to.ensures.1 in
+    rw p.1 (stops_in (files.told c.args.files.now) (files.told c.loop-item.files) (files.told c.print_item_to.new.files)
+    (files.current c.args.files.now) (unit_of c.args.unit.now) (unit_of (drop i xs)) (unit_of (drop (i + 1) xs)) (item_of item)
+    c.loop-item.invariant.written next
+    (subst (λ (current : Option Name). AppendsPart (files.told c.loop-item.files) (files.told c.print_item_to.new.files) current
+    (print_item_of (item_of item))) c.loop-item.invariant.current c.in_err-print_item_to.ensures.part))
+
+pub returns-in_err-print_item_to-clause-cause : goal.returns-in_err-print_item_to-clause-cause
+returns-in_err-print_item_to-clause-cause g c =
+    let files = g.F.Files in
+    let p = err_from_is_err_and c.from_residual-in_err-print_item_to.result c.from_residual-in_err-print_item_to.ensures.1 in
+    let answer : Result (Unit {0}) WriteAnswer = Err c.in_err-print_item_to.field-0.0 in
+    rw (p.1, p.2) (cause_behind (files.write_faults c.args.files.now) (files.write_faults c.loop-item.files)
+    (files.write_faults c.print_item_to.new.files) answer c.loop-item.invariant.later c.in_err-print_item_to.ensures.cause)
+
+pub returns-in_err-print_item_to-clause-fault : goal.returns-in_err-print_item_to-clause-fault
+returns-in_err-print_item_to-clause-fault g c =
+    let files = g.F.Files in
+    let p = err_from_is_err_and c.from_residual-in_err-print_item_to.result c.from_residual-in_err-print_item_to.ensures.1 in
+    let answer : Result (Unit {0}) WriteAnswer = Err c.in_err-print_item_to.field-0.0 in
+    rw (p.1, p.2) (named_behind answer (files.current c.loop-item.files) (files.current c.args.files.now)
+    (files.fault_name c.loop-item.files) (files.fault_name c.args.files.now) (files.fault_name c.print_item_to.new.files)
+    c.loop-item.invariant.current c.loop-item.invariant.fault c.in_err-print_item_to.ensures.named)
+
+pub loop-item-preserved : goal.loop-item-preserved
+loop-item-preserved g c =
+    let files = g.F.Files in
+    let xs = c.args.unit.now in
+    let same : c.as_slice-item-items.result.now ≡ xs = c.as_slice-item-items.ensures ∙ c.unit-items.ensures.unit in
+    let i = c.loop-item.item-index in
+    let item = c.item-item.result in
+    let next = ap unit_of (at_front xs i item (subst (λ l. i < length l) same c.loop-item-test.true)
+    (subst (λ l. item ≡ get_or l i item) same c.item-item.is)) in
+    record {
+      written = one_more (files.told c.args.files.now) (files.told c.loop-item.files) (files.told c.print_item_to.new.files)
+          (files.current c.args.files.now) (unit_of c.args.unit.now) (unit_of (drop i xs)) (unit_of (drop (i + 1) xs)) (item_of item)
+          c.loop-item.invariant.written next (c.in_ok-print_item_to.ensures.written
+          ∙ ap (λ (current : Option Name). appending (files.told c.loop-item.files) current (print_item_of (item_of item)))
+          c.loop-item.invariant.current);
+      current = search rules;
+      fault = search rules;
+      reads = search rules;
+      later = omega (arith, c.loop-item.invariant.later, c.in_ok-print_item_to.ensures.cause.later);
+    }
+
+pub returns-clause-written : goal.returns-clause-written
+returns-clause-written g c =
+    let files = g.F.Files in
+    let xs = c.args.unit.now in
+    let same : c.as_slice-item-items.result.now ≡ xs = c.as_slice-item-items.ensures ∙ c.unit-items.ensures.unit in
+    all_written (files.told c.args.files.now) (files.told c.loop-item.files) (files.current c.args.files.now)
+    (unit_of c.args.unit.now) (unit_of (drop c.loop-item.item-index xs)) c.loop-item.invariant.written
+    (ap unit_of (drop_all c.loop-item.item-index xs (subst (λ l. length l ≤ c.loop-item.item-index) same c.loop-item-test.false)))
+
+pub returns-clause-cause : goal.returns-clause-cause
+returns-clause-cause g c =
+    let files = g.F.Files in
+    done_cause _ (files.write_faults c.args.files.now) (files.write_faults c.loop-item.files) c.loop-item.invariant.later

@@ -1,0 +1,9 @@
+//! Checked units as files of C.
+#![tactic(auto)]
+
+mod writing;
+
+pub use writing::write_unit;
+
+#[cfg(test)]
+mod tests;
