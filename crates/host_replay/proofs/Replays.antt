@@ -25,7 +25,7 @@ both false b e = absurd cc
 
 module _ (hosts : List Host) (k : ℕ) (name : List ℕ) (functions : List HostFunction)
     (at : slice_get hosts k ≡ Some (record { name = name; functions = map function_of functions })) where
-  own : (a : Asked) → (a.host == k) ≡ true → fits hosts a ≡ true → fits_own functions a ≡ true
+  pub own : (a : Asked) → (a.host == k) ≡ true → fits hosts a ≡ true → fits_own functions a ≡ true
   own a here fit =
       let same : a.host ≡ k = eqb-true a.host k here in
       let there : slice_get hosts a.host

@@ -64,7 +64,7 @@ last_same (a ∷ xs) (b ∷ ys) x y e =
     let first : a ≡ b = cc in
     ((λ i. first i ∷ both.0 i), both.1)
 
-reply_same : (r s : HostReply) → reply_of r ≡ reply_of s → r ≡ s
+pub reply_same : (r s : HostReply) → reply_of r ≡ reply_of s → r ≡ s
 reply_same (reply.Value v) (reply.Value w) e = let same : v ≡ w = cc in ap reply.Value same
 reply_same (reply.Value v) reply.Trap e = absurd cc
 reply_same reply.Trap (reply.Value w) e = absurd cc
@@ -155,3 +155,9 @@ one_refused lines m n r s = elim (fronts r.front s.front r.text_line s.text_line
     | inr p ↦ absurd (stops r.known lines n p.0 s (subst (λ (ls : List (List ℕ)). Read empty ls r.known) p.1 r.read))
   ]
 ]
+
+-- the symbols of a journal that is read differ
+pub read_distinct : (before after : Recorded) (lines : List (List ℕ)) → AreDistinct before.hosts → Read before lines after
+    → AreDistinct after.hosts
+read_distinct before after [] d r = subst (λ (j : Recorded). AreDistinct j.hosts) (sym r) d
+read_distinct before after (text ∷ lines) d r = read_distinct r.1 after lines (stay_distinct before r.1 r.0 d r.3) r.4

@@ -7,6 +7,8 @@ pub mod Modules
 -- Hosts that reply again what a journal says
 pub mod Replaying
 pub mod Replayed
+-- Runs that hosts have answered
+pub mod Runs
 -- Which journals can be written
 pub mod Writable
 -- A journal for closed cases
@@ -14,3 +16,4 @@ pub mod Samples
 -- What the code keeps
 pub mod Knowing
 pub mod NewFunctions
+pub mod Giving

@@ -6,7 +6,7 @@ ghost use Rattle.host_replay.specs.Replaying.{fits_own};
 
 use crate::calls::calls_of;
 use crate::file::JournalFile;
-use crate::module::functions_copy;
+use crate::module::{JournalModule, functions_copy};
 use crate::values::are_same;
 use c_hosts::{Asked, HostFunction, HostModule, HostReply};
 use std::alloc::Global;
@@ -23,7 +23,10 @@ pub struct ReplayHost {
 }
 
 impl ReplayHost {
-    ghost use Rattle.std.specs.Prelude.{IfOk};
+    ghost use Rattle.std.specs.Prelude.{[], ◌∷◌, map, IfOk, OnOk};
+    ghost use Rattle.c_hosts.specs.Asking.{function_of};
+    ghost use Rattle.host_replay.specs.Giving.{HasMore};
+    ghost use Rattle.host_replay.specs.Modules.{module_of as module_seen};
     ghost use Rattle.host_replay.specs.Recording.{recorded};
     ghost use Rattle.host_replay.specs.Replayed.{IsReplayOf};
 
@@ -42,6 +45,29 @@ impl ReplayHost {
             entries,
             used: 0,
         })
+    }
+
+    // A module without calls.
+    pub(crate) fn of_module(alloc: Global, of: &JournalModule) -> Result<ReplayHost, Memory>
+        ensures module { IfOk result (λ r. module_seen of.now ≡ record { name = r.name; functions = map function_of r.functions.items }) }
+        ensures no_calls { IfOk result (λ r. r.entries.items ≡ []) }
+        ensures unused { IfOk result (λ r. r.used ≡ 0) }
+    {
+        Ok(ReplayHost {
+            name: of.name.copy(alloc)?,
+            functions: functions_copy(alloc, of.functions.as_slice())?,
+            entries: Vec::new(alloc),
+            used: 0,
+        })
+    }
+
+    // A call of the module behind its others.
+    pub(crate) fn push(&mut self, entry: Asked) -> Result<(), Memory>
+        requires { fits_own self.old.functions.items entry ≡ true }
+        ensures { OnOk result (HasMore self.old (entry ∷ []) self.new) }
+    {
+        self.entries.push(entry)?;
+        Ok(())
     }
 }
 
@@ -75,16 +101,15 @@ fn is_of(entry: &Asked, i: usize, args: &[Value]) -> bool
 }
 
 impl HostModule for ReplayHost {
-    ghost use Rattle.std.specs.Prelude.{[], ◌∷◌};
-    ghost use Rattle.host_replay.specs.Replaying.{Replays};
+    ghost use Rattle.host_replay.specs.Replayed.{replaying};
 
-    ghost name_of = { λ h. h.name };
+    ghost name_of = { replaying.name_of };
 
-    ghost functions_of = { λ h. h.functions.items };
+    ghost functions_of = { replaying.functions_of };
 
-    ghost state = { λ h. h.used ∷ [] };
+    ghost state = { replaying.state };
 
-    ghost may = { λ h. Replays h.entries.items };
+    ghost may = { replaying.may };
 
     fn name(&self) -> &[u8] {
         self.name.as_slice()

@@ -1,5 +1,5 @@
 // Each public function on its happy path, and lines that are refused.
-use crate::{JournalFault, JournalFile, ReplayHost, read_journal};
+use crate::{JournalFault, JournalFile, ReplayHost, read_journal, replay_hosts};
 use c_hosts::{HostModule, HostReply, Hosts, Journal};
 use c_thread::HostCall;
 use std::alloc::Global;
@@ -12,6 +12,10 @@ const OFFERED: &str =
 const TICKS: &str =
     "module env\nfunction put_i32 i32 = none\nfunction put_i64 i64 = none\nfunction tick = i64\n\
 host env tick = i64:1\nhost env tick = i64:2\n";
+
+// Calls of two modules in turn.
+const TURNS: &str = "module a\nfunction f = i32\nmodule b\nfunction g = i32\n\
+host a f = i32:1\nhost b g = i32:2\nhost a f = i32:3\n";
 
 // A module behind a call, at line 7.
 const BEHIND: &str =
@@ -113,6 +117,31 @@ fn a_host_replies_again(rt: HostRuntime) -> Result<(), Fail> {
         let call = HostCall {
             host: 0,
             function: 2,
+            args: Vec::new(alloc),
+        };
+        assert_eq!(rt; hosts.ask(call)?, Some(reply));
+    }
+    Ok(())
+}
+
+#[test]
+fn hosts_of_a_journal_reply_again(rt: HostRuntime) -> Result<(), Fail> {
+    let alloc = rt.alloc();
+    let file = read(alloc, TURNS)?;
+    let mut hosts = Hosts {
+        list: replay_hosts(alloc, &file)?,
+        journal: Journal::new(alloc),
+    };
+    let rows = [
+        (1, HostReply::Value(Some(Value::I32(2)))),
+        (0, HostReply::Value(Some(Value::I32(1)))),
+        (1, HostReply::Trap),
+        (0, HostReply::Value(Some(Value::I32(3)))),
+    ];
+    for (host, reply) in rows {
+        let call = HostCall {
+            host,
+            function: 0,
             args: Vec::new(alloc),
         };
         assert_eq!(rt; hosts.ask(call)?, Some(reply));

@@ -1,0 +1,24 @@
+-- Asks that hosts answer as their functions' types say.
+use Rattle.std.specs.Prelude.{◌≡◌, true, Some, None, ⊤}
+use Rattle.w2c_base.specs.declared.signature.FuncType.{FuncType}
+use Rattle.w2c_base.specs.Run.{Ask, Asked, CallEnded, Event, Reply, Gave, HostTrapped}
+use Rattle.w2c_base.specs.Values.{equal_types, is_result, types_of}
+use Rattle.c_meaning.specs.Linking.{Program, host_type}
+
+-- a value of a function's result type, none where it has none, or a trap
+abbrev pub IsReplyOf : FuncType → Reply → Type 0
+IsReplyOf ty (Gave v) = is_result ty.result v ≡ true
+IsReplyOf ty HostTrapped = ⊤
+
+-- the function is there, and arguments and reply are of its types
+pub record IsAnswer (p : Program) (ask : Ask) (reply : Reply) : Type 0 where
+  pub ty : FuncType
+  pub type_is : host_type p ask.host ask.function ≡ Some ty
+  pub takes : equal_types ty.params (types_of ask.args) ≡ true
+  pub gives : IsReplyOf ty reply
+
+-- where a host has replied, it has answered so
+abbrev pub IsAnswered : Program → Event → Type 0
+IsAnswered p (Asked ask None) = ⊤
+IsAnswered p (Asked ask (Some reply)) = IsAnswer p ask reply
+IsAnswered p (CallEnded value) = ⊤

@@ -1,0 +1,175 @@
+-- Hosts that reply again: what they offer, and that they stay such where one has a call more.
+use Rattle.std.proofs.Common.{◌≡◌, ◌==◌, ◌≤◌, ◌+◌, ◌⊎◌, inl, inr, ◌<◌, ℕ, zero, suc, Bool, true, false, IfSome, slice_set, get_or, take, List, [], ◌∷◌, ◌++◌, length, map, slice_get, option_map, Option, Some, None, refl, sym, ap, ◌∙◌, subst, arith}
+use Rattle.std.proofs.lemmas.Bool.{eq-eqb, eqb-false, eqb-true}
+use Rattle.std.proofs.lemmas.Option.{slice_get-map, slice_get_within}
+use Rattle.std.proofs.lemmas.List.{append-nil, length-append, length-set, take_more}
+use Rattle.std.proofs.lemmas.List.Folds.{list_all_at}
+use Rattle.std.specs.List.{list_all}
+use Rattle.std.proofs.lemmas.List.Elements.{filter-append}
+use Rattle.w2c_base.specs.Run.{Host}
+use Rattle.c_hosts.specs.declared.journal.Asked.{Asked}
+use Rattle.c_hosts.specs.Asking.{function_of, host_of, hosts_of}
+use Rattle.host_replay.specs.declared.replay.ReplayHost.{ReplayHost}
+use Rattle.host_replay.specs.Giving.{HasMore, IsGiven}
+use Rattle.host_replay.specs.Replayed.{replaying, AreReplays, IsReplayOf}
+use Rattle.host_replay.specs.Fitting.{fits}
+use Rattle.host_replay.specs.Replaying.{calls_of, fits_own}
+use Rattle.host_replay.specs.Texts.{Recorded}
+use Rattle.c_sound.proofs.Choices.{by_test}
+use Rattle.host_replay.proofs.Replays.{own}
+use Rattle.host_replay.proofs.Used.{get-behind, other_call, own_call, set_other, set_same}
+
+-- ---- lists
+
+list_same : {A : Type 0} (xs ys : List A) → length xs ≡ length ys
+    → ((k : ℕ) (x : A) → slice_get xs k ≡ Some x → slice_get ys k ≡ Some x) → xs ≡ ys
+list_same [] [] n h = refl
+list_same [] (y ∷ ys) n h = absurd (omega (arith, n))
+list_same (x ∷ xs) [] n h = absurd (omega (arith, n))
+list_same (x ∷ xs) (y ∷ ys) n h =
+    let first = h 0 x refl in
+    let same : x ≡ y = cc in
+    λ i. same i ∷ list_same xs ys (omega (arith, n)) (λ k a at. h (suc k) a at) i
+
+length-map : {A B : Type 0} (f : A → B) (xs : List A) → length (map f xs) ≡ length xs
+length-map f [] = refl
+length-map f (x ∷ xs) = ap suc (length-map f xs)
+
+-- nothing more
+stays : (r s : ReplayHost) → r ≡ s → HasMore r [] s
+stays r s same = record {
+  name = ap (λ (h : ReplayHost). h.name) (sym same);
+  functions = ap (λ (h : ReplayHost). h.functions.items) (sym same);
+  entries = ap (λ (h : ReplayHost). h.entries.items) (sym same) ∙ sym (append-nil r.entries.items);
+  used = ap (λ (h : ReplayHost). h.used) (sym same);
+}
+
+-- ---- what they offer
+
+pub hosts_same : (j : Recorded) (hosts : List ReplayHost) → AreReplays j hosts → hosts_of replaying hosts ≡ j.hosts
+hosts_same j hosts are =
+    list_same (hosts_of replaying hosts) j.hosts (length-map (host_of replaying) hosts ∙ are.so_many) (λ k x at.
+    by k (slice_get hosts k) refl x (sym (slice_get-map (host_of replaying) hosts k) ∙ at))
+  where
+    by : (k : ℕ) (o : Option ReplayHost) → slice_get hosts k ≡ o → (x : Host) → option_map (host_of replaying) o ≡ Some x
+        → slice_get j.hosts k ≡ Some x
+    by k None none x is = absurd cc
+    by k (Some r) some x is = (are.each k r some).module_is ∙ is
+
+-- ---- a module more
+
+last_get : {A : Type 0} (xs : List A) (y : A) (k : ℕ) (x : A) → slice_get (xs ++ y ∷ []) k ≡ Some x
+    → (slice_get xs k ≡ Some x) ⊎ ((k ≡ length xs) × (y ≡ x))
+last_get [] y zero x at = inr (refl, cc)
+last_get [] y (suc k) x at = absurd cc
+last_get (z ∷ xs) y zero x at = inl at
+last_get (z ∷ xs) y (suc k) x at = elim (last_get xs y k x at) [
+  | inl h ↦ inl h
+  | inr h ↦ inr (ap suc h.0, h.1)
+]
+
+get_front : {A : Type 0} (xs ys : List A) (k : ℕ) (x : A) → slice_get xs k ≡ Some x → slice_get (xs ++ ys) k ≡ Some x
+get_front [] ys k x at = absurd cc
+get_front (z ∷ xs) ys zero x at = at
+get_front (z ∷ xs) ys (suc k) x at = get_front xs ys k x at
+
+abbrev without_calls : List Host → Recorded
+without_calls hosts = record { hosts = hosts; entries = [] }
+
+pub module_more : (hosts : List Host) (replays : List ReplayHost) (h : Host) (r : ReplayHost) → AreReplays (without_calls hosts) replays
+    → h ≡ record { name = r.name; functions = map function_of r.functions.items } → r.entries.items ≡ [] → r.used ≡ 0
+    → AreReplays (without_calls (hosts ++ h ∷ [])) (replays ++ r ∷ [])
+module_more hosts replays h r are is none unused = record {
+  so_many = length-append replays (r ∷ []) ∙ ap (λ n. n + length (r ∷ [])) are.so_many ∙ sym (length-append hosts (h ∷ []));
+  each = λ k x at. elim (last_get replays r k x at) [
+    | inl before ↦ (let old = are.each k x before in record {
+      module_is = get_front hosts (h ∷ []) k _ old.module_is;
+      calls_are = old.calls_are;
+      unused = old.unused;
+    })
+    | inr last ↦ subst (IsReplayOf (without_calls (hosts ++ h ∷ [])) k) last.1 (record {
+      module_is = ap (slice_get (hosts ++ h ∷ [])) (last.0 ∙ are.so_many) ∙ get-behind hosts h [] ∙ ap Some is;
+      calls_are = none;
+      unused = unused;
+    })
+  ];
+}
+
+-- ---- a call more
+
+get_there : {A B : Type 0} (xs : List A) (ys : List B) (k : ℕ) (x : A) → length xs ≡ length ys → slice_get xs k ≡ Some x
+    → (y : B) × (slice_get ys k ≡ Some y)
+get_there [] ys k x n at = absurd cc
+get_there (z ∷ xs) [] k x n at = absurd (omega (arith, n))
+get_there (z ∷ xs) (y ∷ ys) zero x n at = (y, refl)
+get_there (z ∷ xs) (y ∷ ys) (suc k) x n at = get_there xs ys k x (omega (arith, n)) at
+
+pub call_more : (j : Recorded) (a : Asked) (before after : List ReplayHost) → AreReplays j before → IsGiven before a after
+    → AreReplays (record { hosts = j.hosts; entries = j.entries ++ a ∷ [] }) after
+call_more j a before after are given = record {
+  so_many = given.so_many ∙ are.so_many;
+  each = λ k new at.
+      let found = get_there after before k new given.so_many at in
+      let old = are.each k found.0 found.1 in
+      let more = given.each k found.0 new found.1 at in
+      record {
+        module_is = old.module_is ∙ (λ i. Some (record { name = sym more.name i; functions = map function_of (sym more.functions i) }));
+        calls_are = more.entries ∙ ap (λ es. es ++ calls_of k (a ∷ [])) old.calls_are
+            ∙ sym (filter-append (λ a. a.host == k) j.entries (a ∷ []));
+        unused = more.used ∙ old.unused;
+      };
+}
+
+-- a call that fits the journal's modules fits the functions of its host
+pub fits_its_host : (j : Recorded) (a : Asked) (replays : List ReplayHost) → AreReplays j replays → fits j.hosts a ≡ true
+    → IfSome (slice_get replays a.host) (λ h. fits_own h.functions.items a ≡ true)
+fits_its_host j a replays are fit = by (slice_get replays a.host) refl
+  where
+    by : (o : Option ReplayHost) → slice_get replays a.host ≡ o → IfSome o (λ h. fits_own h.functions.items a ≡ true)
+    by None none = tt
+    by (Some r) some = own j.hosts a.host r.name r.functions.items (are.each a.host r some).module_is a (eq-eqb a.host a.host refl) fit
+
+-- the host with this number has the call of its module behind its own
+pub given_at : (before after : List ReplayHost) (a : Asked) (old new : ReplayHost) → slice_get before a.host ≡ Some old
+    → after ≡ slice_set before a.host new → HasMore old (a ∷ []) new → IsGiven before a after
+given_at before after a old new at is more = record {
+  so_many = ap length is ∙ length-set before a.host new;
+  each = λ k r s found found'. by_test (a.host == k)
+      (λ here. (let same = eqb-true a.host k here in
+      let r_is : Some old ≡ Some r = sym at ∙ ap (slice_get before) same ∙ found in
+      let s_is : Some new ≡ Some s = sym (set_same before a.host old new at) ∙ ap (λ l. slice_get l a.host) (sym is)
+      ∙ ap (slice_get after) same ∙ found' in
+      let r_same : old ≡ r = cc in
+      let s_same : new ≡ s = cc in
+      subst (λ calls. HasMore r calls s) (sym (own_call k a [] same))
+      (subst (λ r. HasMore r (a ∷ []) s) r_same (subst (λ s. HasMore old (a ∷ []) s) s_same more))))
+      (λ other. (let apart = eqb-false a.host k other in
+      let s_is : Some r ≡ Some s = sym found ∙ sym (set_other before a.host k new (λ e. apart (sym e)))
+      ∙ ap (λ l. slice_get l k) (sym is) ∙ found' in
+      let same : r ≡ s = cc in
+      subst (λ calls. HasMore r calls s) (sym (other_call k a [] apart)) (stays r s same)));
+}
+
+-- no host has the number
+pub none_given : (before : List ReplayHost) (a : Asked) → length before ≤ a.host → IsGiven before a before
+none_given before a past = record {
+  so_many = refl;
+  each = λ k r s found found'.
+      let both : Some r ≡ Some s = sym found ∙ found' in
+      let same : r ≡ s = cc in
+      let within = slice_get_within before k r found in
+      subst (λ calls. HasMore r calls s) (sym (other_call k a [] (λ e. omega (arith, e, past, within)))) (stays r s same);
+}
+
+-- ---- items in order
+
+module _ {A : Type 0} (xs seen : List A) (k : ℕ) (x : A) (same : seen ≡ xs) (within : k < length seen) (is : x ≡ get_or seen k x) where
+  pub next_item : take (k + 1) xs ≡ take k xs ++ x ∷ []
+  next_item = subst (λ (l : List A). take (k + 1) l ≡ take k l ++ x ∷ []) same
+      (take_more seen k x within ∙ ap (λ y. take k seen ++ y ∷ []) (sym is))
+
+  pub test_passed : (test : A → Bool) → list_all test xs ≡ true → test x ≡ true
+  test_passed test all = by_test (test x) (λ yes_. yes_) (λ no_.
+      let none = list_all_at test seen k x within (ap test (sym is) ∙ no_) in
+      let contrary : true ≡ false = sym all ∙ ap (list_all test) (sym same) ∙ none in
+      absurd cc)
