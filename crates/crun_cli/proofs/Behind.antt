@@ -45,7 +45,9 @@ use Rattle.crun_lines.specs.RunLines.{event_lines, lines_of}
 use Rattle.crun_lines.specs.StateLines.{state_lines}
 use Rattle.crun_lines.proofs.Events.{event_lines_append}
 use Rattle.crun_cli.specs.Playing.{lines_at, run_at, HasPlayed, IsBehind, IsLeft, IsSince, IsStored}
-use Rattle.crun_cli.specs.Runs.{asked_events, HasPart, HasRun, HasStatus}
+use Rattle.host_replay.specs.Runs.{asked_events}
+use Rattle.crun_cli.specs.Recording.{HasAsked}
+use Rattle.crun_cli.specs.Runs.{HasPart, HasStatus}
 use Rattle.crun_cli.specs.Views.{lines_behind, status_of_outcome}
 use Rattle.crun_cli.proofs.Lines.{asks_are, asks_are_asked, call_lines, came_out, end_is, inits_lines, status_is, told_asks}
 use Rattle.crun_cli.proofs.Sessions.{has_ended, told_in_front}
@@ -380,29 +382,35 @@ module _ {H : Type 0} (m : HostModule H) (e : State H) where
     }
 
     module _ (middle : Option (List ℕ)) (status : ℕ) (played : HasPlayed m e s calls old middle status) where
-      pub ran_alone : HasRun m e.hosts (map unit_of e.linked.0) calls e.steps false old middle status
+      pub ran_alone : HasAsked m e.hosts (map unit_of e.linked.0) calls e.steps false old middle status s.journal
       ran_alone = record {
-        asks = s.journal;
-        after = s.hosts;
-        answered = played.since.answered;
-        told = played.asks;
-        has_status = played.has_status;
-        lines = played.printed ∙ ap (extended old) (sym (append-nil (lines_at m e s calls)) ∙ all_lines false);
+        run = record {
+          asks = s.journal;
+          after = s.hosts;
+          answered = played.since.answered;
+          told = played.asks;
+          has_status = played.has_status;
+          lines = played.printed ∙ ap (extended old) (sym (append-nil (lines_at m e s calls)) ∙ all_lines false);
+        };
+        asks_are = refl;
       }
 
       state_is : state_lines (hosts_of m s.hosts) (objects_of s) ≡ state_lines hosts the_run.units
       state_is = ap (λ hs. state_lines hs (objects_of s)) played.since.hosts ∙ ap (state_lines hosts) (sym played.objects)
 
       pub ran_shown : (now : Option (List ℕ)) → now ≡ extended middle (state_lines (hosts_of m s.hosts) (objects_of s))
-          → HasRun m e.hosts (map unit_of e.linked.0) calls e.steps true old now status
+          → HasAsked m e.hosts (map unit_of e.linked.0) calls e.steps true old now status s.journal
       ran_shown now printed = record {
-        asks = s.journal;
-        after = s.hosts;
-        answered = played.since.answered;
-        told = played.asks;
-        has_status = played.has_status;
-        lines = whole_behind old middle now (lines_at m e s calls) (state_lines hosts the_run.units) played.printed
-            (printed ∙ ap (extended middle) state_is) ∙ ap (extended old) (all_lines true);
+        run = record {
+          asks = s.journal;
+          after = s.hosts;
+          answered = played.since.answered;
+          told = played.asks;
+          has_status = played.has_status;
+          lines = whole_behind old middle now (lines_at m e s calls) (state_lines hosts the_run.units) played.printed
+              (printed ∙ ap (extended middle) state_is) ∙ ap (extended old) (all_lines true);
+        };
+        asks_are = refl;
       }
 
       pub shown_part : (now : Option (List ℕ)) → SaysPart middle now (state_lines (hosts_of m s.hosts) (objects_of s))

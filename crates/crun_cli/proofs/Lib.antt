@@ -1,13 +1,26 @@
+-- lines, sessions and the run of a task
 pub mod Written
 pub mod Loops
 pub mod Lines
 pub mod Sessions
 pub mod Behind
 pub mod Steps
+pub mod Recorded
+pub mod RecordLaws
 pub mod CallLists
 pub mod Shown
-pub mod Offered
 pub mod Named
 pub mod Objects
-pub mod WorkLaws
+-- hosts
+pub mod Offered
+pub mod EnvOffered
+pub mod ReplaysOffered
+-- what words ask for, form by form
+pub mod RunForm
+pub mod WriteForms
+pub mod WriteJobs
+pub mod WriteStops
+pub mod OneJob
+-- the top call
+pub mod AgainLaws
 pub mod TopLaws

@@ -38,7 +38,9 @@ use Rattle.crun.specs.Sessions.{told_by, IsEnd}
 use Rattle.crun_lines.specs.CallLines.{ended_line, last_line}
 use Rattle.crun_lines.specs.RunLines.{event_lines}
 use Rattle.crun_lines.proofs.Events.{event_lines_append}
-use Rattle.crun_cli.specs.Runs.{asked_events, HasStatus}
+use Rattle.host_replay.specs.Runs.{asked_events}
+use Rattle.host_replay.proofs.Again.{asked-append}
+use Rattle.crun_cli.specs.Runs.{HasStatus}
 use Rattle.crun_cli.specs.Views.{asked_line, asks_lines, lines_behind, outcome_line, status_of_outcome}
 
 -- ---- asks
@@ -47,11 +49,6 @@ use Rattle.crun_cli.specs.Views.{asked_line, asks_lines, lines_behind, outcome_l
 no_values : (asks : List Asked) → values_in (events_in asks) ≡ []
 no_values [] = refl
 no_values (a ∷ asks) = no_values asks
-
-asked_append : (events more : List Event) → asked_events (events ++ more) ≡ asked_events events ++ asked_events more
-asked_append [] more = refl
-asked_append (run.Asked ask reply ∷ events) more = ap (λ l. run.Asked ask reply ∷ l) (asked_append events more)
-asked_append (CallEnded value ∷ events) more = asked_append events more
 
 pub asks_are_asked : (asks : List Asked) → asked_events (events_in asks) ≡ events_in asks
 asks_are_asked [] = refl
@@ -62,11 +59,11 @@ pub told_asks : (told : List Event) (journal asks : List Asked) (o : Outcome) �
 told_asks told journal asks o are = by o
   where
     front : asked_events (told ++ events_in asks) ≡ events_in (journal ++ asks)
-    front = asked_append told (events_in asks) ∙ ap (λ l. l ++ asked_events (events_in asks)) are
+    front = asked-append told (events_in asks) ∙ ap (λ l. l ++ asked_events (events_in asks)) are
         ∙ ap (λ l. events_in journal ++ l) (asks_are_asked asks) ∙ sym (map-append event_in journal asks)
 
     by : (o : Outcome) → asked_events (told_by told asks o) ≡ events_in (journal ++ asks)
-    by (outcome.Ended value) = asked_append (told ++ events_in asks) (CallEnded value ∷ [])
+    by (outcome.Ended value) = asked-append (told ++ events_in asks) (CallEnded value ∷ [])
         ∙ append-nil (asked_events (told ++ events_in asks)) ∙ front
     by (outcome.Trapped kind) = front
     by (outcome.Undefined u) = front

@@ -1,72 +1,116 @@
--- What the clauses of the top call say, over the job that the words ask for (crun_job, specs/Job): its refusal, or its run.
-use Rattle.std.specs.Prelude.{◌≡◌, ◌⊎◌, ℕ, Bool, true, List, Option, None}
-use Rattle.w2c_io.specs.Contents.{Name, Contents, Told}
-use Rattle.w2c_io.specs.Telling.{Tells}
-use Rattle.c_tree.specs.Rules.{are_distinct}
+-- What a command line asks for, over what the files hold and the hosts that were handed in: a run, a unit to write, or the first
+-- refusal. The order is: the words, the units' files in their order, the calls file, the journal that is replayed, the texts of
+-- the units, the linker, and the lines of the calls file.
+use Rattle.std.specs.Prelude.{◌≡◌, ◌⊎◌, ℕ, List, [], ◌∷◌, MatchOption, slice_get, Some}
+use Rattle.w2c_base.specs.Run.{Host}
+use Rattle.w2c_io.specs.Contents.{Name, Contents}
 use Rattle.c_tree.specs.Tree as tree
-use Rattle.c_meaning.specs.Linking.{SymbolCall}
 use Rattle.c_link.specs.Offers.{c_symbols}
-use Rattle.c_link.specs.Resolved.{symbol_names}
+use Rattle.c_trim.specs.Trim.{IsTrimmed}
+use Rattle.c_merge.specs.Merge.{merge_of}
 use Rattle.crun.specs.HostSymbols.{symbols_of_hosts}
-use Rattle.c_hosts.specs.declared.host.HostModule.{Ghosts as HostModule}
-use Rattle.c_hosts.specs.declared.journal.Asked.{Asked}
-use Rattle.c_hosts.specs.Asking.{hosts_of, Answered}
-use Rattle.crun_words.specs.CommandLine.{line_of}
-use Rattle.crun_job.specs.Job.{IsJob, Job, Run, Stops}
-use Rattle.crun_job.specs.Lines.{Reason, Usage, CallsTooLong, CallsLine, Refused, Unread, Unwritten, WantOfMemory, status_of}
-use Rattle.crun_job.specs.Links.{Symbols}
-use Rattle.crun_job.specs.Stopping.{HasReading, IsUnitFile}
-use Rattle.crun_cli.specs.Runs.{run_with, HasPart, HasRun, HasStatus}
+use Rattle.host_replay.specs.Reading.{IsJournal, IsRefusedAt}
+use Rattle.host_replay.specs.Texts.{Recorded}
+use Rattle.crun_words.specs.CommandLine.{MergeLine, RunLine, TrimLine, Line, line_of, runs, merges, trims}
+use Rattle.crun_words.specs.Inputs.{
+  IsJournalReading,
+  IsReading,
+  IsUnitsReading,
+  JournalReading,
+  Reading,
+  UnitsReading,
+  AllRead,
+  NotThere,
+  LongUnit,
+  LongCalls,
+  Held,
+  NoJournal,
+  LongJournal,
+  UnitsRead,
+  NoUnit,
+  UnitTooLong,
+}
+use Rattle.crun_job.specs.declared.stop.Cause.{Cause}
+use Rattle.crun_job.specs.declared.stop.Cause.TheVariants.{TooLong}
+use Rattle.crun_job.specs.Job.{IsTextsJob, Job, Run, Stops, Write}
+use Rattle.crun_job.specs.Lines.{JournalLine, JournalTooLong, CallsTooLong, Refused, Unread, Usage}
+use Rattle.crun_job.specs.Links.{AreLinked, IsRefusedUnit, Symbols}
+use Rattle.crun_job.specs.Texts.{AreUnitTexts, IsFirstRefusedText}
 
--- the symbols of the hosts' functions, with their types, and that none comes twice
-abbrev pub symbols_with : {H : Type 0} → HostModule H → List H → Symbols
-symbols_with m hosts = c_symbols (symbols_of_hosts (hosts_of m hosts))
+-- the symbols of the hosts' functions, with their types
+abbrev pub symbols_of : List Host → Symbols
+symbols_of hosts = c_symbols (symbols_of_hosts hosts)
 
-abbrev pub AreOffered : {H : Type 0} → HostModule H → List H → Type 0
-AreOffered m hosts = are_distinct (symbol_names (symbols_of_hosts (hosts_of m hosts))) ≡ true
+-- ---- the run form
 
--- the words ask for this over what the files hold, with these hosts
-abbrev pub IsJobWith : {H : Type 0} → HostModule H → List H → List Name → Contents → Job → Type 0
-IsJobWith m hosts words contents job = IsJob words (symbols_with m hosts) contents job
+-- a journal's file is there, and its text is this journal
+abbrev pub HoldsJournal : Contents → Name → Recorded → Type 0
+HoldsJournal contents name j = (text : List ℕ) × IsJournalReading contents name (Held text) × IsJournal text j
 
--- the status that answers a job: that of its refusal, or that of its run with what the hosts replied
-abbrev pub Answers : {H : Type 0} → HostModule H → List H → Job → ℕ → Type 0
-Answers m hosts (Stops why) status = status ≡ status_of why
-Answers {H} m hosts (Run units calls steps shown) status = (asks : List Asked) × (after : List H) × Answered m hosts asks after
-    × HasStatus (run_with m hosts units calls steps asks).outcome status
+-- what the texts of the units and of the calls file come to behind the journal's file: the units are linked with its modules
+abbrev pub IsReplayJob : RunLine → Name → List (List ℕ) → List ℕ → JournalReading → Job → Type 0
+IsReplayJob line name texts text (Held journal) job =
+    ((j : Recorded) × IsJournal journal j × IsTextsJob line (symbols_of j.hosts) texts text job)
+    ⊎ ((number : ℕ) × IsRefusedAt journal number × (job ≡ Stops (JournalLine number)))
+IsReplayJob line name texts text NoJournal job = job ≡ Stops (Unread name)
+IsReplayJob line name texts text LongJournal job = job ≡ Stops JournalTooLong
 
-abbrev pub IsAnswered : {H : Type 0} → HostModule H → List H → List Name → Contents → ℕ → Type 0
-IsAnswered m hosts words contents status = (job : Job) × IsJobWith m hosts words contents job × Answers m hosts job status
+-- what they come to: with the hosts that were handed in, or with the modules of the journal that is replayed
+abbrev pub IsJobOfTexts : RunLine → List Host → Contents → List (List ℕ) → List ℕ → Job → Type 0
+IsJobOfTexts line handed contents texts text job =
+    MatchOption line.replayed (IsTextsJob line (symbols_of handed) texts text job)
+    (λ name. (reading : JournalReading) × IsJournalReading contents name reading × IsReplayJob line name texts text reading job)
 
--- the words ask for a run, whose lines the stream has gained, and this is its status
-abbrev pub Ran : {H : Type 0} → HostModule H → List H → List Name → Contents → Option (List ℕ) → Option (List ℕ) → ℕ → Type 0
-Ran m hosts words contents old new status =
-    (units : List (List tree.Item)) × (calls : List SymbolCall) × (steps : ℕ) × (shown : Bool)
-    × IsJobWith m hosts words contents (Run units calls steps shown) × HasRun m hosts units calls steps shown old new status
+-- by what reading the units and the calls file comes to
+abbrev pub IsJobBehind : RunLine → List Host → Contents → Reading → Job → Type 0
+IsJobBehind line handed contents (AllRead texts text) job = IsJobOfTexts line handed contents texts text job
+IsJobBehind line handed contents (NotThere file) job = job ≡ Stops (Unread file)
+IsJobBehind line handed contents (LongUnit file) job = job ≡ Stops (Refused file TooLong)
+IsJobBehind line handed contents LongCalls job = job ≡ Stops CallsTooLong
 
--- the words ask for a run, and the stream has gained a prefix of its lines
-abbrev pub RunsPart : {H : Type 0} → HostModule H → List H → List Name → Contents → Option (List ℕ) → Option (List ℕ) → Type 0
-RunsPart m hosts words contents old new =
-    (units : List (List tree.Item)) × (calls : List SymbolCall) × (steps : ℕ) × (shown : Bool)
-    × IsJobWith m hosts words contents (Run units calls steps shown) × HasPart m hosts units calls steps shown old new
+abbrev pub IsRunJob : RunLine → List Host → Contents → Job → Type 0
+IsRunJob line handed contents job =
+    (reading : Reading) × IsReading contents line.units line.calls reading × IsJobBehind line handed contents reading job
 
--- the stream is as at entry, or has gained a prefix of a run's lines
-abbrev pub RanPart : {H : Type 0} → HostModule H → List H → List Name → Contents → Option (List ℕ) → Option (List ℕ) → Type 0
-RanPart m hosts words contents old new = (new ≡ old) ⊎ RunsPart m hosts words contents old new
+-- ---- the forms that write a unit
 
--- the statuses of runs
-abbrev pub IsRunStatus : ℕ → Type 0
-IsRunStatus status = (status ≡ 0) ⊎ (status ≡ 1) ⊎ (status ≡ 7) ⊎ (status ≡ 8)
+-- the texts are those of linked units, as one unit; or the first refusal
+abbrev pub IsMerged : MergeLine → Symbols → List (List ℕ) → Job → Type 0
+IsMerged line symbols texts job =
+    ((units : List (List tree.Item)) × AreLinked texts symbols units × (job ≡ Write line.output (merge_of units)))
+    ⊎ ((number : ℕ) × (file : Name) × (why : Cause) × (slice_get line.units number ≡ Some file)
+    × IsRefusedUnit texts symbols number why × (job ≡ Stops (Refused file why)))
 
--- why the words, a unit or the calls file are refused: the first refusal, over what the files tell
-abbrev pub Refuses : {H : Type 0} → HostModule H → List H → List Name → Told → Reason → Type 0
-Refuses m hosts words told Usage = line_of words ≡ None
-Refuses m hosts words told (Refused file why) =
-    IsUnitFile file (line_of words) × Tells told (λ contents. IsJobWith m hosts words contents (Stops (Refused file why)))
-Refuses m hosts words told CallsTooLong =
-    HasReading words × Tells told (λ contents. IsJobWith m hosts words contents (Stops CallsTooLong))
-Refuses m hosts words told (CallsLine number) =
-    HasReading words × Tells told (λ contents. IsJobWith m hosts words contents (Stops (CallsLine number)))
-Refuses m hosts words told (Unread file) = ⊥
-Refuses m hosts words told Unwritten = ⊥
-Refuses m hosts words told WantOfMemory = ⊥
+-- the text is that of a unit, which is trimmed; or the refusal
+abbrev pub IsTrimmedText : TrimLine → List (List ℕ) → Job → Type 0
+IsTrimmedText line texts job =
+    ((unit : List tree.Item) × (trimmed : List tree.Item) × AreUnitTexts texts (unit ∷ []) × IsTrimmed unit trimmed
+    × (job ≡ Write line.output trimmed))
+    ⊎ ((number : ℕ) × (why : Cause) × IsFirstRefusedText texts number why × (job ≡ Stops (Refused line.unit why)))
+
+-- by what reading the units comes to
+abbrev pub IsBehindUnits : (List (List ℕ) → Job → Type 0) → UnitsReading → Job → Type 0
+IsBehindUnits IsOf (UnitsRead texts) job = IsOf texts job
+IsBehindUnits IsOf (NoUnit file) job = job ≡ Stops (Unread file)
+IsBehindUnits IsOf (UnitTooLong file) job = job ≡ Stops (Refused file TooLong)
+
+abbrev pub IsUnitsJob : Contents → List Name → (List (List ℕ) → Job → Type 0) → Job → Type 0
+IsUnitsJob contents units IsOf job =
+    (reading : UnitsReading) × IsUnitsReading contents units reading × IsBehindUnits IsOf reading job
+
+abbrev pub IsMergeJob : MergeLine → Symbols → Contents → Job → Type 0
+IsMergeJob line symbols contents job = IsUnitsJob contents line.units (IsMerged line symbols) job
+
+abbrev pub IsTrimJob : TrimLine → Contents → Job → Type 0
+IsTrimJob line contents job = IsUnitsJob contents (line.unit ∷ []) (IsTrimmedText line) job
+
+-- ---- what words ask for
+
+abbrev pub IsLineJob : List Host → Contents → Line → Job → Type 0
+IsLineJob handed contents (runs line) job = IsRunJob line handed contents job
+IsLineJob handed contents (merges line) job = IsMergeJob line (symbols_of handed) contents job
+IsLineJob handed contents (trims line) job = IsTrimJob line contents job
+
+-- a bad command line where the words have no reading, else what their line asks for
+abbrev pub IsJob : List Name → List Host → Contents → Job → Type 0
+IsJob words handed contents job = MatchOption (line_of words) (job ≡ Stops Usage) (λ line. IsLineJob handed contents line job)

@@ -1,10 +1,17 @@
--- promised: the run that a command line asks for, with hosts, its lines, and what the clauses of the top call say
+-- promised: the run that a command line asks for, with hosts, its lines and its journal, the unit that it asks for, and what the
+-- clauses of the top call say
 pub mod Runs
+pub mod Files
+pub mod Outside
 pub mod Jobs
+pub mod Ends
+pub mod Again
 pub mod EnvHost
 -- of the code alone
 pub mod Writing
 pub mod Views
 pub mod Playing
+pub mod Recording
 pub mod Showing
+pub mod Output
 pub mod Stopping

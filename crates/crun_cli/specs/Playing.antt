@@ -15,7 +15,8 @@ use Rattle.crun_lines.specs.CallLines.{last_line}
 use Rattle.crun_lines.specs.RunLines.{event_lines}
 use Rattle.crun.specs.Names.{naming_of}
 use Rattle.c_objects.specs.Stores.{AreStored}
-use Rattle.crun_cli.specs.Runs.{asked_events, run_with, HasStatus}
+use Rattle.host_replay.specs.Runs.{asked_events, run_with}
+use Rattle.crun_cli.specs.Runs.{HasStatus}
 
 -- the session still runs the same program, and its hosts have answered the asks of its journal
 pub record IsSince {H : Type 0} (m : HostModule H) (e s : State H) : Type 0 where

@@ -1,33 +1,19 @@
 -- The run of linked units with hosts whose replies are what the hosts may give, one after another, each from the state that
 -- the one before it left; the first state of each host is that at entry. The lines of a run are those of crun_lines.
-use Rattle.std.specs.Prelude.{◌≡◌, ℕ, Bool, List, [], ◌∷◌, ◌++◌, map, Option}
-use Rattle.w2c_base.specs.Run.{Ask, Event, CallEnded, asks_in}
-use Rattle.w2c_base.specs.Run as run
+use Rattle.std.specs.Prelude.{◌≡◌, ℕ, Bool, List, ◌++◌, map, Option}
+use Rattle.w2c_base.specs.Run.{Ask, asks_in}
 use Rattle.w2c_io.specs.Contents.{extended}
 use Rattle.w2c_io.specs.Telling.{SaysPart}
 use Rattle.c_tree.specs.Tree as tree
 use Rattle.c_meaning.specs.State.{Trapped, Undefined, Asks, Stuck}
-use Rattle.c_meaning.specs.Linking.{Program, SymbolCall}
-use Rattle.c_meaning.specs.Run.{CRun, Outcome, Ended, Stopped, OutOfSteps, c_run}
+use Rattle.c_meaning.specs.Linking.{SymbolCall}
+use Rattle.c_meaning.specs.Run.{Outcome, Ended, Stopped, OutOfSteps}
 use Rattle.c_hosts.specs.declared.host.HostModule.{Ghosts as HostModule}
 use Rattle.c_hosts.specs.declared.journal.Asked.{Asked}
 use Rattle.c_hosts.specs.Asking.{hosts_of, Answered}
-use Rattle.c_hosts.specs.Journals.{ask_of, events_in, replies_in}
+use Rattle.c_hosts.specs.Journals.{ask_of, events_in}
 use Rattle.crun_lines.specs.RunLines.{lines_of}
-
--- linked units with these hosts
-abbrev pub program_with : {H : Type 0} → HostModule H → List H → List (List tree.Item) → Program
-program_with m hosts units = record { units = units; hosts = hosts_of m hosts }
-
--- the run of these calls, with at most so many statements, where these asks are answered as they were
-abbrev pub run_with : {H : Type 0} → HostModule H → List H → List (List tree.Item) → List SymbolCall → (steps : ℕ) → List Asked → CRun
-run_with m hosts units calls steps asks = c_run (program_with m hosts units) calls steps (replies_in asks)
-
--- the asks of a run, with their replies
-abbrev pub asked_events : List Event → List Event
-asked_events [] = []
-asked_events (run.Asked ask reply ∷ events) = run.Asked ask reply ∷ asked_events events
-asked_events (CallEnded value ∷ events) = asked_events events
+use Rattle.host_replay.specs.Runs.{asked_events, run_with}
 
 -- the status of a run
 abbrev pub HasStatus : Outcome → ℕ → Type 0

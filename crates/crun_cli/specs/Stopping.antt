@@ -1,33 +1,122 @@
--- Why the work stops: before the run, with nothing written, or in the middle of it.
-use Rattle.std.specs.Prelude.{◌≡◌, ℕ, List, Option}
-use Rattle.w2c_io.specs.Contents.{Name, Told}
-use Rattle.w2c_io.specs.Causes.{Rose}
+-- Why the work stops: before anything is written, or in the middle of it.
+use Rattle.std.specs.Prelude.{◌≡◌, ◌⊎◌, ℕ, List, Option, Some}
+use Rattle.w2c_io.specs.Contents.{Name, Contents}
+use Rattle.w2c_io.specs.Causes.{Faulted, Rose}
 use Rattle.w2c_io.specs.Telling.{Tells}
 use Rattle.w2c_io.specs.declared.answers.WriteAnswer.{WriteAnswer}
 use Rattle.w2c_io.specs.declared.answers.WriteAnswer.TheVariants as answer
+use Rattle.w2c_files.specs.Standing.{IsBegun, IsOneOf}
+use Rattle.c_tree.specs.Tree as tree
+use Rattle.c_meaning.specs.Linking.{SymbolCall}
+use Rattle.c_print.specs.Print.{print_of}
 use Rattle.c_hosts.specs.declared.host.HostModule.{Ghosts as HostModule}
-use Rattle.crun_job.specs.Lines.{Reason, Usage, CallsTooLong, CallsLine, Refused, Unread, Unwritten, WantOfMemory}
-use Rattle.crun_job.specs.Stopping.{HasReading, StopsBefore}
-use Rattle.crun_cli.specs.Jobs.{symbols_with, RanPart, RunsPart}
+use Rattle.c_hosts.specs.Asking.{hosts_of}
+use Rattle.host_replay.specs.Reading.{IsRefusedAt}
+use Rattle.crun_words.specs.CommandLine.{RunLine}
+use Rattle.crun_words.specs.Inputs.{IsJournalReading, Held, LongJournal, NoJournal}
+use Rattle.crun_job.specs.Job.{IsTextsJob, Job, Run, Stops, Write}
+use Rattle.crun_job.specs.Lines.{
+  Reason,
+  Usage,
+  CallsTooLong,
+  CallsLine,
+  JournalTooLong,
+  JournalLine,
+  Refused,
+  Unread,
+  Unwritten,
+  WantOfMemory,
+}
+use Rattle.crun_job.specs.Stopping.{StopsTexts}
+use Rattle.crun_cli.specs.Ends.{Begun, BegunIfAny, HasPlayedPart, IsUnread, IsUnwritten, Refuses}
+use Rattle.crun_cli.specs.Files.{HasReading}
+use Rattle.crun_cli.specs.Jobs.{symbols_of}
+use Rattle.crun_cli.specs.Outside.{AreUntouched, FilesSeen, IsUntouched, Outside}
 
--- why a line is not written, as a reason
+-- why something is not written, as a reason
 abbrev pub reason_for : WriteAnswer → Reason
 reason_for answer.Failed = Unwritten
 reason_for answer.Memory = WantOfMemory
 
-abbrev pub StopsWork : {H : Type 0} → HostModule H → List H → List Name → Told → ℕ → ℕ → Option Name
-    → Option (List ℕ) → Option (List ℕ) → ℕ → ℕ → Reason → Type 0
-StopsWork m hosts words told reads reads' named old new faults faults' Unwritten =
-    Rose faults faults' × HasReading words × Tells told (λ contents. RunsPart m hosts words contents old new)
-StopsWork m hosts words told reads reads' named old new faults faults' WantOfMemory =
-    Tells told (λ contents. RanPart m hosts words contents old new)
-StopsWork m hosts words told reads reads' named old new faults faults' Usage =
-    StopsBefore words (symbols_with m hosts) told reads reads' named Usage × (new ≡ old)
-StopsWork m hosts words told reads reads' named old new faults faults' (Unread file) =
-    StopsBefore words (symbols_with m hosts) told reads reads' named (Unread file) × (new ≡ old)
-StopsWork m hosts words told reads reads' named old new faults faults' (Refused file why) =
-    StopsBefore words (symbols_with m hosts) told reads reads' named (Refused file why) × (new ≡ old)
-StopsWork m hosts words told reads reads' named old new faults faults' CallsTooLong =
-    StopsBefore words (symbols_with m hosts) told reads reads' named CallsTooLong × (new ≡ old)
-StopsWork m hosts words told reads reads' named old new faults faults' (CallsLine number) =
-    StopsBefore words (symbols_with m hosts) told reads reads' named (CallsLine number) × (new ≡ old)
+-- ---- a run, over the texts of its units and of the calls file, with these hosts
+
+-- the texts come to a run, and this holds of its units and calls
+abbrev pub IsTextsRun : {H : Type 0} → HostModule H → List H → RunLine → List (List ℕ) → List ℕ
+    → (List (List tree.Item) → List SymbolCall → Type 0) → Type 0
+IsTextsRun m hosts line texts text P = (units : List (List tree.Item)) × (calls : List SymbolCall)
+    × IsTextsJob line (symbols_of (hosts_of m hosts)) texts text (Run units calls line.steps line.shows_state) × P units calls
+
+-- a part of it is done
+abbrev pub IsTextsPart : {H : Type 0} → HostModule H → List H → RunLine → List (List ℕ) → List ℕ → Outside → Outside → Type 0
+IsTextsPart m hosts line texts text old new =
+    IsTextsRun m hosts line texts text (λ units calls. HasPlayedPart m hosts line units calls old new)
+
+-- a line, or the journal's file, is not written
+abbrev pub IsRunUnwritten : RunLine → Outside → Outside → Type 0
+IsRunUnwritten line old new = Rose old.out.faults new.out.faults
+    ⊎ ((file : Name) × (line.journal ≡ Some file) × Faulted file old.files.write_faults new.files.write_faults new.files.fault_name)
+
+abbrev pub StopsRun : {H : Type 0} → HostModule H → List H → RunLine → List (List ℕ) → List ℕ → Outside → Outside → Reason → Type 0
+StopsRun m hosts line texts text old new (Refused file why) =
+    StopsTexts line (symbols_of (hosts_of m hosts)) texts text (Refused file why) × IsUntouched old new
+StopsRun m hosts line texts text old new (CallsLine number) =
+    StopsTexts line (symbols_of (hosts_of m hosts)) texts text (CallsLine number) × IsUntouched old new
+StopsRun m hosts line texts text old new Unwritten = IsRunUnwritten line old new × IsTextsPart m hosts line texts text old new
+StopsRun m hosts line texts text old new WantOfMemory = IsUntouched old new ⊎ IsTextsPart m hosts line texts text old new
+StopsRun m hosts line texts text old new Usage = ⊥
+StopsRun m hosts line texts text old new CallsTooLong = ⊥
+StopsRun m hosts line texts text old new JournalTooLong = ⊥
+StopsRun m hosts line texts text old new (JournalLine number) = ⊥
+StopsRun m hosts line texts text old new (Unread file) = ⊥
+
+-- ---- the journal that is replayed, by its file's name
+
+abbrev pub StopsReplay : Name → FilesSeen → FilesSeen → Reason → Type 0
+StopsReplay name old new (Unread file) = (file ≡ name) × (Faulted file old.read_faults new.read_faults new.fault_name
+    ⊎ ((contents : Contents) × (old.told ≡ Some contents) × IsJournalReading contents name NoJournal))
+StopsReplay name old new JournalTooLong = Tells old.told (λ contents. IsJournalReading contents name LongJournal)
+StopsReplay name old new (JournalLine number) =
+    Tells old.told (λ contents. (text : List ℕ) × IsJournalReading contents name (Held text) × IsRefusedAt text number)
+StopsReplay name old new WantOfMemory = Unit {0}
+StopsReplay name old new Usage = ⊥
+StopsReplay name old new CallsTooLong = ⊥
+StopsReplay name old new (CallsLine number) = ⊥
+StopsReplay name old new (Refused file why) = ⊥
+StopsReplay name old new Unwritten = ⊥
+
+-- ---- a unit that is written, where this is what is asked for over what files hold
+
+-- a unit is asked for, and of its text a part is written
+abbrev pub IsUnitPart : (Contents → Job → Type 0) → Name → Contents → FilesSeen → FilesSeen → Type 0
+IsUnitPart Asks output contents old new =
+    (unit : List tree.Item) × Asks contents (Write output unit) × IsBegun old.told new.told output (print_of unit)
+
+abbrev pub StopsWrite : (Contents → Job → Type 0) → List Name → Name → FilesSeen → FilesSeen → Reason → Type 0
+StopsWrite Asks units output old new (Unread file) = IsOneOf file units
+    × (Faulted file old.read_faults new.read_faults new.fault_name
+    ⊎ ((contents : Contents) × (old.told ≡ Some contents) × Asks contents (Stops (Unread file)))) × AreUntouched old new
+StopsWrite Asks units output old new (Refused file why) =
+    IsOneOf file units × Tells old.told (λ contents. Asks contents (Stops (Refused file why))) × AreUntouched old new
+StopsWrite Asks units output old new Unwritten = Faulted output old.write_faults new.write_faults new.fault_name
+    × Tells old.told (λ contents. IsUnitPart Asks output contents old new)
+StopsWrite Asks units output old new WantOfMemory =
+    Tells old.told (λ contents. AreUntouched old new ⊎ IsUnitPart Asks output contents old new)
+StopsWrite Asks units output old new Usage = ⊥
+StopsWrite Asks units output old new CallsTooLong = ⊥
+StopsWrite Asks units output old new (CallsLine number) = ⊥
+StopsWrite Asks units output old new JournalTooLong = ⊥
+StopsWrite Asks units output old new (JournalLine number) = ⊥
+
+-- ---- what words ask for
+
+abbrev pub StopsWork : {H : Type 0} → HostModule H → List H → List Name → Outside → Outside → Reason → Type 0
+StopsWork m hosts words old new Unwritten = IsUnwritten words old new × HasReading words
+    × Tells old.files.told (λ contents. Begun m hosts words contents old new)
+StopsWork m hosts words old new WantOfMemory = Tells old.files.told (λ contents. BegunIfAny m hosts words contents old new)
+StopsWork m hosts words old new (Unread file) = IsUnread m hosts words old new file × IsUntouched old new
+StopsWork m hosts words old new Usage = Refuses m hosts words old.files.told Usage × IsUntouched old new
+StopsWork m hosts words old new (Refused file why) = Refuses m hosts words old.files.told (Refused file why) × IsUntouched old new
+StopsWork m hosts words old new CallsTooLong = Refuses m hosts words old.files.told CallsTooLong × IsUntouched old new
+StopsWork m hosts words old new (CallsLine number) = Refuses m hosts words old.files.told (CallsLine number) × IsUntouched old new
+StopsWork m hosts words old new JournalTooLong = Refuses m hosts words old.files.told JournalTooLong × IsUntouched old new
+StopsWork m hosts words old new (JournalLine number) = Refuses m hosts words old.files.told (JournalLine number) × IsUntouched old new

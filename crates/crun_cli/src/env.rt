@@ -1,7 +1,6 @@
 // The host `env`.
 ghost use Rattle.std.specs.Prelude.{◌≡◌, ◌∷◌, [], None, IfOk};
 ghost use Rattle.crun_cli.specs.EnvHost.{tick as tick_of};
-ghost use Rattle.crun_cli.specs.Jobs.{AreOffered};
 
 use c_hosts::{HostFunction, HostModule, HostReply};
 use std::alloc::Global;
@@ -81,16 +80,6 @@ impl HostModule for Env {
         self.ticks = self.ticks.wrapping_add(1);
         HostReply::Value(Some(Value::I64(self.ticks)))
     }
-}
-
-/// The hosts that units are linked with: `env` alone, before its first call.
-pub fn env_hosts(alloc: Global) -> Result<Vec<Env>, Memory>
-    ensures one { IfOk result (λ hosts. hosts.items ≡ 0 ∷ []) }
-    ensures offered { IfOk result (λ hosts. AreOffered ⟦<Env as HostModule>⟧ hosts.items) }
-{
-    let mut hosts = Vec::new(alloc);
-    hosts.push(Env::new(alloc)?)?;
-    Ok(hosts)
 }
 
 // A function that takes a value and gives none.

@@ -2,19 +2,30 @@
 #![tactic(auto)]
 
 mod env;
+mod merging;
 mod names;
 mod naming;
+mod offering;
+mod output;
 mod play;
+mod recording;
+mod replaying;
+mod running;
 mod show;
 mod show_objects;
 mod telling;
 #[cfg(test)]
 mod tests;
 mod top;
+mod trimming;
 mod work;
 mod writing;
+#[cfg(test)]
+mod writing_tests;
 
-use env::env_hosts;
+use c_hosts::BoxedHost;
+use env::Env;
+use std::boxed::Box;
 use std::io::ErrorKind;
 use std::process::ExitCode;
 pub use top::crun_top;
@@ -22,35 +33,42 @@ use w2c_base::Memory;
 use w2c_io::{StdFiles, StdSink};
 
 fn main(rt: HostRuntime) -> ExitCode {
-    ExitCode::from(status(&rt))
-}
-
-// Where memory is wanting for the host or the words, it is for a line too. Arguments that are not text are a bad command line,
-// as none are.
-fn status(rt: &HostRuntime) -> u8 {
-    let alloc = rt.alloc();
-    let hosts = match env_hosts(alloc) {
-        Ok(hosts) => hosts,
-        Err(Memory) => return 5,
-    };
-    let mut files = StdFiles::new(rt, alloc);
-    let mut out = StdSink::out(rt);
-    let mut err = StdSink::err(rt);
-    match words_of(rt) {
-        Ok(words) => crun_top(
-            alloc,
-            words.as_slice(),
-            &mut files,
-            &mut out,
-            &mut err,
-            hosts,
-        ),
-        Err(e) if e.kind() == ErrorKind::OutOfMemory => 5,
-        Err(_) => crun_top(alloc, &[], &mut files, &mut out, &mut err, hosts),
+    match status(&rt) {
+        Ok(status) => ExitCode::from(status),
+        Err(Memory) => ExitCode::from(5),
     }
 }
 
-fn words_of(rt: &HostRuntime) -> std::io::Result<Vec<String>> {
+// The hosts are `env` alone, in a box.
+fn status(rt: &HostRuntime) -> Result<u8, Memory> {
+    let alloc = rt.alloc();
+    let words = words(rt)?;
+    let host = Box::new(alloc, Env::new(alloc)?)?;
+    let mut hosts = Vec::new(alloc);
+    hosts.push(BoxedHost { host })?;
+    let mut files = StdFiles::new(rt, alloc);
+    let mut out = StdSink::out(rt);
+    let mut err = StdSink::err(rt);
+    Ok(crun_top(
+        alloc,
+        words.as_slice(),
+        &mut files,
+        &mut out,
+        &mut err,
+        hosts,
+    ))
+}
+
+// The words behind the program's name. Arguments that are not text are a bad command line, as none are.
+fn words(rt: &HostRuntime) -> Result<Vec<String>, Memory> {
+    match read_words(rt) {
+        Ok(words) => Ok(words),
+        Err(e) if e.kind() == ErrorKind::OutOfMemory => Err(Memory),
+        Err(_) => Ok(Vec::new(rt.alloc())),
+    }
+}
+
+fn read_words(rt: &HostRuntime) -> std::io::Result<Vec<String>> {
     let mut words = Vec::new(rt.alloc());
     for word in std::env::args(rt)?.skip(1) {
         words.push(word)?;

@@ -9,31 +9,43 @@ ghost use Rattle.crun.specs.declared.outcome.Standing.TheVariants as standing;
 ghost use Rattle.crun.specs.Sessions.{State};
 ghost use Rattle.crun_job.specs.Seen.{call_seen, calls_seen, AllFit};
 ghost use Rattle.crun_cli.specs.Playing.{HasPlayed, IsBehind, IsLeft};
-ghost use Rattle.crun_cli.specs.Runs.{HasPart, HasRun};
+ghost use Rattle.crun_cli.specs.Recording.{AreToFill, HasAsked, HasRecorded, HasTaken, IsBlank};
+ghost use Rattle.crun_cli.specs.Runs.{HasPart};
 
 use crate::show::show;
 use crate::telling::{status, tell};
-use c_hosts::HostModule;
+use c_hosts::{HostModule, Journal};
 use crun::{Session, Stop};
 use crun_job::{NamedCall, Task};
 use crun_lines::Phase;
+use host_replay::JournalFile;
 use std::alloc::Global;
 use w2c_base::Memory;
 use w2c_io::{Sink, WriteAnswer};
 
+/// What a run comes to: its status, and the journal file that was handed in, with the run's calls of hosts.
+#[derive(Drop)]
+pub struct Played {
+    pub status: u8,
+    pub journal: Option<JournalFile>,
+}
+
 /// Runs the init functions of a task, then its calls in order, with these hosts, until one does not end. Writes while it runs a
 /// line for each call of a host, for each call that ended, and for what did not end, and at last the state where it is to be
 /// shown. Gives the status: 0 where all ended, 1 for a trap, 7 where the statements are spent, 8 where what is undefined came up.
+/// A journal file, which has the modules of the hosts and no calls, comes back as the journal of the run.
 pub fn play<H: HostModule, O: Sink>(
     alloc: Global,
     task: Task,
     hosts: Vec<H>,
+    journal: Option<JournalFile>,
     out: &mut O,
-) -> Result<u8, WriteAnswer>
+) -> Result<Played, WriteAnswer>
     requires symbols { task.linked.1 ≡ symbols_of_hosts (hosts_of H.HostModule hosts.items) }
     requires fit { AllFit (map unit_of task.linked.0) task.calls.items }
-    ensures ran { IfOk result (HasRun H.HostModule hosts.items (map unit_of task.linked.0) (calls_seen task.calls.items) task.steps task.shows_state
-        (O.told out.old) (O.told out.new)) }
+    requires blank { IsBlank H.HostModule hosts.items journal }
+    ensures ran { IfOk result (λ played. HasRecorded H.HostModule hosts.items (map unit_of task.linked.0) (calls_seen task.calls.items) task.steps task.shows_state
+        (O.told out.old) (O.told out.new) played.status journal played.journal) }
     ensures part { OnErr result (HasPart H.HostModule hosts.items (map unit_of task.linked.0) (calls_seen task.calls.items) task.steps task.shows_state
         (O.told out.old) (O.told out.new)) }
     ensures cause { WriteCause (O.faults out.old) (O.faults out.new) result }
@@ -44,12 +56,60 @@ pub fn play<H: HostModule, O: Sink>(
         Ok(session) => session,
         Err(Memory) => return Err(WriteAnswer::Memory),
     };
-    let came = play_and_show(alloc, &mut session, calls.as_slice(), shows_state, out);
+    let came = play_and_record(
+        alloc,
+        &mut session,
+        calls.as_slice(),
+        shows_state,
+        journal,
+        out,
+    );
     session.close();
     came
 }
 
 // The same with a session that has run nothing.
+fn play_and_record<H: HostModule, O: Sink>(
+    alloc: Global,
+    session: &mut Session<H>,
+    calls: &[NamedCall],
+    shows_state: bool,
+    journal: Option<JournalFile>,
+    out: &mut O,
+) -> Result<Played, WriteAnswer>
+    requires fresh { session.old.standing ≡ standing.Fresh }
+    requires none_asked { session.old.journal ≡ [] }
+    requires fit { AllFit (map unit_of session.old.linked.0) calls.now }
+    requires blank { IsBlank H.HostModule session.old.hosts journal }
+    ensures ran { IfOk result (λ played. HasRecorded H.HostModule session.old.hosts (map unit_of session.old.linked.0) (calls_seen calls.now) session.old.steps shows_state
+        (O.told out.old) (O.told out.new) played.status journal played.journal) }
+    ensures part { OnErr result (HasPart H.HostModule session.old.hosts (map unit_of session.old.linked.0) (calls_seen calls.now) session.old.steps shows_state
+        (O.told out.old) (O.told out.new)) }
+    ensures cause { WriteCause (O.faults out.old) (O.faults out.new) result }
+{
+    let status = match play_and_show(alloc, session, calls, shows_state, out) {
+        Ok(status) => status,
+        Err(answer) => return Err(answer),
+    };
+    match filled(journal, session.journal()) {
+        Ok(journal) => Ok(Played { status, journal }),
+        Err(Memory) => Err(WriteAnswer::Memory),
+    }
+}
+
+// A journal file without calls, with those of a run.
+fn filled(journal: Option<JournalFile>, asks: &Journal) -> Result<Option<JournalFile>, Memory>
+    requires fit { AreToFill journal asks.now }
+    ensures { IfOk result (HasTaken journal asks.now) }
+{
+    let Some(mut file) = journal else {
+        return Ok(None);
+    };
+    file.add(asks)?;
+    Ok(Some(file))
+}
+
+// Runs what is to run, and shows the state where it is to be shown.
 fn play_and_show<H: HostModule, O: Sink>(
     alloc: Global,
     session: &mut Session<H>,
@@ -60,8 +120,8 @@ fn play_and_show<H: HostModule, O: Sink>(
     requires fresh { session.old.standing ≡ standing.Fresh }
     requires none_asked { session.old.journal ≡ [] }
     requires fit { AllFit (map unit_of session.old.linked.0) calls.now }
-    ensures ran { IfOk result (HasRun H.HostModule session.old.hosts (map unit_of session.old.linked.0) (calls_seen calls.now) session.old.steps shows_state
-        (O.told out.old) (O.told out.new)) }
+    ensures ran { IfOk result (λ status. HasAsked H.HostModule session.old.hosts (map unit_of session.old.linked.0) (calls_seen calls.now) session.old.steps shows_state
+        (O.told out.old) (O.told out.new) status session.new.journal) }
     ensures part { OnErr result (HasPart H.HostModule session.old.hosts (map unit_of session.old.linked.0) (calls_seen calls.now) session.old.steps shows_state
         (O.told out.old) (O.told out.new)) }
     ensures cause { WriteCause (O.faults out.old) (O.faults out.new) result }

@@ -1,10 +1,15 @@
-// The program over files in memory: a run with a host and the state, units that call each other, and faults of the outside.
-// Rows say what is said of many more units and calls (crates/run_rows).
-use crate::env::env_hosts;
+// The program over files in memory: a run with a host and the state, units that call each other, journals, units that are written,
+// and faults of the outside.
+use crate::env::Env;
 use crate::top::crun_top;
+use c_hosts::{BoxedHost, HostFunction, HostModule, HostReply};
 use std::alloc::Global;
+use std::boxed::Box;
+use std::cell::Cell;
+use std::rc::Rc;
 use std::test::Fail;
-use w2c_io::{MemFiles, MemSink};
+use w2c_base::Value;
+use w2c_io::{FileCall, Files, MemFiles, MemSink};
 
 // A module `a` with a variable, a memory and a table, which counts by the host `env`.
 const A_C: &str = "#include \"w2c_rt.h\"
@@ -32,6 +37,11 @@ u32 w2cZ_aZ_fZ_half(u32 x);
 u32 w2cZ_bZ_fZ_over(u32 x, u32 y) { u32 r = 0u; r = w2cZ_aZ_fZ_half(x); r = (r / y); return r; }
 ";
 
+// A module `d`, which traps.
+const D_C: &str = "#include \"w2c_rt.h\"
+void w2cZ_dZ_fZ_stop(void) { w2c_trap(1u); return; }
+";
+
 const STATE: &str = "state 0 g0 u32:9
 state 0 m0 pages 1
 state 0 m0 at 32 05000000000000000000000000000000
@@ -47,7 +57,17 @@ fn text_of(alloc: Global, texts: &[&str]) -> Result<Vec<String>, Fail> {
     Ok(words)
 }
 
-// The status of these words where `a.c` and `b.c` hold the modules and `calls` this text.
+// The modules in `a.c`, `b.c` and `d.c`, and this text in `calls`.
+fn files_of(alloc: Global, calls: &str) -> Result<MemFiles, Fail> {
+    let mut files = MemFiles::new(alloc);
+    files.add("a.c", A_C.as_bytes())?;
+    files.add("b.c", B_C.as_bytes())?;
+    files.add("d.c", D_C.as_bytes())?;
+    files.add("calls", calls.as_bytes())?;
+    Ok(files)
+}
+
+// The status of these words over the files with this text of calls, with the host `env`.
 fn status_of(
     alloc: Global,
     words: &[&str],
@@ -55,19 +75,23 @@ fn status_of(
     out: &mut MemSink,
     err: &mut MemSink,
 ) -> Result<u8, Fail> {
-    let mut files = MemFiles::new(alloc);
-    files.add("a.c", A_C.as_bytes())?;
-    files.add("b.c", B_C.as_bytes())?;
-    files.add("calls", calls.as_bytes())?;
+    let mut files = files_of(alloc, calls)?;
+    status_over(alloc, words, &mut files, out, err)
+}
+
+// The status of these words over files, with the host `env`.
+fn status_over(
+    alloc: Global,
+    words: &[&str],
+    files: &mut MemFiles,
+    out: &mut MemSink,
+    err: &mut MemSink,
+) -> Result<u8, Fail> {
     let words = text_of(alloc, words)?;
-    Ok(crun_top(
-        alloc,
-        words.as_slice(),
-        &mut files,
-        out,
-        err,
-        env_hosts(alloc)?,
-    ))
+    let host = Box::new(alloc, Env::new(alloc)?)?;
+    let mut hosts = Vec::new(alloc);
+    hosts.push(BoxedHost { host })?;
+    Ok(crun_top(alloc, words.as_slice(), files, out, err, hosts))
 }
 
 #[test]
@@ -165,6 +189,219 @@ fn refusals(rt: HostRuntime) -> Result<(), Fail> {
         assert!(rt; came == status, "{line}");
         assert_eq!(rt; err.bytes(), line.as_bytes());
         assert_eq!(rt; out.bytes(), b"".as_slice());
+    }
+    Ok(())
+}
+
+const JOURNAL: &str = "module env
+function put_i32 i32 = none
+function put_i64 i64 = none
+function tick = i64
+host env tick = i64:1
+host env tick = i64:2
+";
+
+const TICKS: &str = "host env tick = i64:1
+call 1 = i64:1
+host env tick = i64:2
+call 2 = i64:2
+";
+
+const RECORDS: &[&str] = &[
+    "--steps", "1000", "--calls", "calls", "--record", "j", "a.c",
+];
+
+const REPLAYS: &[&str] = &[
+    "--steps", "1000", "--calls", "calls", "--replay", "j", "--record", "k", "a.c",
+];
+
+#[test]
+fn a_recorded_run_is_replayed(rt: HostRuntime) -> Result<(), Fail> {
+    let alloc = rt.alloc();
+    let mut files = files_of(alloc, "a tick\na tick\n")?;
+    let mut out = MemSink::new(alloc);
+    let mut err = MemSink::new(alloc);
+    let recorded = status_over(alloc, RECORDS, &mut files, &mut out, &mut err)?;
+    assert!(rt; recorded == 0);
+    assert_eq!(rt; out.bytes(), TICKS.as_bytes());
+    assert_eq!(rt; files.get("j"), Some(JOURNAL.as_bytes()));
+    let mut again = MemSink::new(alloc);
+    let replayed = status_over(alloc, REPLAYS, &mut files, &mut again, &mut err)?;
+    assert!(rt; replayed == 0);
+    assert_eq!(rt; again.bytes(), TICKS.as_bytes());
+    assert_eq!(rt; files.get("k"), Some(JOURNAL.as_bytes()));
+    Ok(())
+}
+
+#[test]
+fn other_journals(rt: HostRuntime) -> Result<(), Fail> {
+    let alloc = rt.alloc();
+    let head = "module env\nfunction tick = i64\nhost env tick = i64:1\n";
+    let rows = [
+        (
+            "host env tick = i64:5\n",
+            0,
+            "host env tick = i64:1\ncall 1 = i64:1\nhost env tick = i64:5\ncall 2 = i64:5\n",
+            "",
+        ),
+        (
+            "",
+            1,
+            "host env tick = i64:1\ncall 1 = i64:1\nhost env tick = trap\ncall 2 trap 11 host trap\n",
+            "",
+        ),
+        ("module env\n", 2, "", "crun: journal line 4\n"),
+    ];
+    for (last, status, lines, line) in rows {
+        let mut files = files_of(alloc, "a tick\na tick\n")?;
+        let mut journal = String::from_str(alloc, head)?;
+        journal.push_str(last)?;
+        files.add("j", journal.as_bytes())?;
+        let mut out = MemSink::new(alloc);
+        let mut err = MemSink::new(alloc);
+        let came = status_over(alloc, REPLAYS, &mut files, &mut out, &mut err)?;
+        assert!(rt; came == status, "{line}");
+        assert_eq!(rt; out.bytes(), lines.as_bytes());
+        assert_eq!(rt; err.bytes(), line.as_bytes());
+    }
+    Ok(())
+}
+
+#[test]
+fn a_journal_that_is_not_written(rt: HostRuntime) -> Result<(), Fail> {
+    let alloc = rt.alloc();
+    let mut files = files_of(alloc, "a tick\na tick\n")?;
+    files.fail(FileCall::Put, 1)?;
+    let mut out = MemSink::new(alloc);
+    let mut err = MemSink::new(alloc);
+    let status = status_over(alloc, RECORDS, &mut files, &mut out, &mut err)?;
+    assert!(rt; status == 4);
+    assert_eq!(rt; out.bytes(), TICKS.as_bytes());
+    assert_eq!(rt; err.bytes(), b"crun: write fault\n".as_slice());
+    Ok(())
+}
+
+#[test]
+fn units_are_written(rt: HostRuntime) -> Result<(), Fail> {
+    let alloc = rt.alloc();
+    let rows: [(&[&str], u8, &str); 4] = [
+        (&["--merge", "m.c", "a.c", "b.c"], 0, ""),
+        (&["--trim", "m.c", "a.c"], 0, ""),
+        (
+            &["--merge", "m.c", "b.c"],
+            6,
+            "crun: b.c: undefined w2cZ_aZ_fZ_half\n",
+        ),
+        (
+            &["--merge", "m.c", "d.c", "d.c"],
+            6,
+            "crun: d.c: twice w2cZ_dZ_fZ_stop\n",
+        ),
+    ];
+    for (words, status, line) in rows {
+        let mut files = files_of(alloc, "b over 9 2\n")?;
+        let mut out = MemSink::new(alloc);
+        let mut err = MemSink::new(alloc);
+        let came = status_over(alloc, words, &mut files, &mut out, &mut err)?;
+        assert!(rt; came == status, "{line}");
+        assert_eq!(rt; out.bytes(), b"".as_slice());
+        assert_eq!(rt; err.bytes(), line.as_bytes());
+        assert!(rt; files.get("m.c").is_some() == (status == 0));
+    }
+    Ok(())
+}
+
+// The host `env`, with a counter of drops.
+struct Watched {
+    env: Env,
+    drops: Rc<Cell<u64>>,
+}
+
+impl Drop for Watched {
+    fn drop(self) {
+        self.drops.set(self.drops.get().wrapping_add(1));
+        let Watched { env: _, drops: _ } = self;
+    }
+}
+
+impl HostModule for Watched {
+    ghost use Rattle.std.specs.Prelude.{◌∷◌, []};
+    ghost use Rattle.crun_cli.specs.EnvHost.{env_functions, env_name, MayAnswer};
+
+    ghost name_of = { λ h. env_name };
+
+    ghost functions_of = { λ h. env_functions };
+
+    ghost state = { λ h. h.env ∷ [] };
+
+    ghost may = { λ h before function args reply after. MayAnswer before function args reply after };
+
+    fn name(&self) -> &[u8] {
+        self.env.name()
+    }
+
+    fn count(&self) -> usize {
+        self.env.count()
+    }
+
+    fn function(&self, i: usize) -> &HostFunction {
+        self.env.function(i)
+    }
+
+    fn call(&mut self, i: usize, args: &[Value]) -> HostReply {
+        self.env.call(i, args)
+    }
+}
+
+// The status of these words with a host whose drops are counted.
+fn watched_status(
+    alloc: Global,
+    words: &[&str],
+    calls: &str,
+    out: &mut MemSink,
+    drops: &Rc<Cell<u64>>,
+) -> Result<u8, Fail> {
+    let mut files = files_of(alloc, calls)?;
+    let mut err = MemSink::new(alloc);
+    let words = text_of(alloc, words)?;
+    let env = Env::new(alloc)?;
+    let host = Box::new(
+        alloc,
+        Watched {
+            env,
+            drops: drops.clone()?,
+        },
+    )?;
+    let mut hosts = Vec::new(alloc);
+    hosts.push(BoxedHost { host })?;
+    Ok(crun_top(alloc, words.as_slice(), &mut files, out, &mut err, hosts))
+}
+
+#[test]
+fn hosts_are_dropped_once(rt: HostRuntime) -> Result<(), Fail> {
+    let alloc = rt.alloc();
+    let run: &[&str] = &["--steps", "1000", "--calls", "calls", "a.c", "b.c", "d.c"];
+    let short: &[&str] = &["--steps", "7", "--calls", "calls", "a.c"];
+    let absent: &[&str] = &["--steps", "9", "--calls", "calls", "c.c"];
+    let alone: &[&str] = &["--steps", "9", "--calls", "calls", "b.c"];
+    // The words, the calls, the put that fails where one does, and the status.
+    let rows = [
+        (run, "a tick\n", 0, 0),
+        (run, "d stop\n", 0, 1),
+        (run, "a half\n", 0, 2),
+        (absent, "", 0, 3),
+        (run, "a tick\n", 1, 4),
+        (alone, "", 0, 6),
+        (short, "a tick\n", 0, 7),
+        (run, "b over 9 0\n", 0, 8),
+    ];
+    for (words, calls, failing, status) in rows {
+        let mut out = MemSink::new(alloc);
+        out.fail(failing)?;
+        let drops = Rc::new(alloc, Cell::new(0u64))?;
+        let came = watched_status(alloc, words, calls, &mut out, &drops)?;
+        assert!(rt; came == status, "{status}");
+        assert!(rt; drops.get() == 1, "{status}");
     }
     Ok(())
 }

@@ -1,32 +1,34 @@
-use Rattle.std.proofs.Common.{◌≡◌, ◌∙◌, sym, ap, subst}
-use Rattle.std.specs.Prelude.{Err}
+use Rattle.std.proofs.Common.{◌∙◌, ap, subst, Some}
 use Rattle.w2c_files.specs.Words.{texts}
 use Rattle.c_hosts.specs.Asking.{hosts_of}
-use Rattle.c_link.specs.Offers.{c_symbols}
-use Rattle.crun.specs.HostSymbols.{symbols_of_hosts, IsTwiceAt}
+use Rattle.crun_words.specs.CommandLine.{line_of}
+use Rattle.crun_words.specs.Seen.{seen_line, seen_merge, seen_trim}
 use Rattle.crun_job.specs.Seen.{reason_of}
-use Rattle.crun_job.specs.Stopping.{StopsBefore}
-use Rattle.crun_cli.proofs.Offered.{none_twice}
-use Rattle.crun_cli.proofs.WorkLaws.{before_work}
+use Rattle.crun_cli.specs.Jobs.{symbols_of, IsMergeJob}
+use Rattle.crun_cli.specs.Outside.{files_seen, sink_seen}
+use Rattle.crun_cli.specs.Stopping.{StopsWrite}
+use Rattle.crun_cli.proofs.WriteForms.{merge_done, merge_stop, trim_stop}
 use Rattle.crun_cli.proofs.work.work.Goals as goal
 
-pub unreachable-requires : goal.unreachable-requires
-unreachable-requires g c =
-    none_twice (hosts_of g.H.HostModule c.args.hosts.items) c.in-Err-Twice.field-0-0 c.requires.offered
-    (subst (λ hs. IsTwiceAt (hosts_of g.H.HostModule hs) c.in-Err-Twice.field-0-0) c.as_slice.ensures.value
-    (c.in-Err-Twice.ensures.twice c.in-Err-Twice.field-0-0 (ap Err c.in-Err-Twice.field-0-is)))
-
-pub returns-in-Err-clause-stop : goal.returns-in-Err-clause-stop
-returns-in-Err-clause-stop g c =
+pub returns-in-Ok-merge-clause-finished : goal.returns-in-Ok-merge-clause-finished
+returns-in-Ok-merge-clause-finished g c = λ m tells.
     let files = g.F.Files in
-    let symbols_are : c_symbols c.as_slice-2.result.now ≡ c_symbols (symbols_of_hosts (hosts_of g.H.HostModule c.args.hosts.items)) =
-    ap c_symbols (c.as_slice-2.ensures.value ∙ c.in-Ok.ensures.symbols
-    ∙ ap (λ hs. symbols_of_hosts (hosts_of g.H.HostModule hs)) c.as_slice.ensures.value) in
-    before_work g.H.HostModule c.args.hosts.items (texts c.args.words.now) (files.told c.args.files.now)
-    (files.read_faults c.args.files.now)
-    (files.read_faults c.of_words.new.files) (files.fault_name c.of_words.new.files) (g.O.Sink.told c.args.out.now)
-    (g.O.Sink.faults c.args.out.now)
-    (reason_of c.in-Err.stop)
-    (subst (λ symbols. StopsBefore (texts c.args.words.now) symbols (files.told c.args.files.now) (files.read_faults c.args.files.now)
-    (files.read_faults c.of_words.new.files) (files.fault_name c.of_words.new.files) (reason_of c.in-Err.stop)) symbols_are
-    c.in-Err.ensures.stop)
+    rw c.as_slice.ensures.value at
+    (merge_done g.H.HostModule c.as_slice.result.now (texts c.args.words.now) (sink_seen g.O.Sink c.args.out.now)
+    (files_seen files c.args.files.now) (files_seen files c.merge.new.files) (seen_merge c.in-Merge.line)
+    (c.in-Ok.ensures.line ∙ ap (λ l. Some (seen_line l)) c.in-Merge.is) m (c.in-Ok-merge.ensures.wrote m tells))
+
+pub returns-in-Merge-clause-stop : goal.returns-in-Merge-clause-stop
+returns-in-Merge-clause-stop g c =
+    let files = g.F.Files in
+    rw c.as_slice.ensures.value at
+    (merge_stop g.H.HostModule c.as_slice.result.now (texts c.args.words.now) (sink_seen g.O.Sink c.args.out.now)
+    (files_seen files c.args.files.now) (files_seen files c.merge.new.files) (seen_merge c.in-Merge.line)
+    (c.in-Ok.ensures.line ∙ ap (λ l. Some (seen_line l)) c.in-Merge.is) (reason_of c.in-Err-merge.stop) c.in-Err-merge.ensures.stop)
+
+pub returns-clause-stop : goal.returns-clause-stop
+returns-clause-stop g c =
+    let files = g.F.Files in
+    trim_stop g.H.HostModule c.args.hosts.items (texts c.args.words.now) (sink_seen g.O.Sink c.args.out.now)
+    (files_seen files c.args.files.now) (files_seen files c.trim_unit.new.files) (seen_trim c.in-Trim.line)
+    (c.in-Ok.ensures.line ∙ ap (λ l. Some (seen_line l)) c.in-Trim.is) (reason_of c.in-Err-trim_unit.stop) c.in-Err-trim_unit.ensures.stop

@@ -1,0 +1,180 @@
+-- A run whose journal is written: from what its steps say to what the line asks for.
+use Rattle.std.proofs.Common.{◌≡◌, ◌⊎◌, inl, inr, ℕ, Bool, List, [], ◌∷◌, ◌++◌, map, Option, Some, None, refl, sym, ap, ◌∙◌, subst}
+use Rattle.std.proofs.lemmas.List.{map-append}
+use Rattle.w2c_base.specs.Run.{Host, HostFunction}
+use Rattle.w2c_io.specs.Contents.{Name, Told, holding}
+use Rattle.w2c_files.specs.Standing.{IsBegun}
+use Rattle.c_tree.specs.Rules.{are_distinct}
+use Rattle.c_tree.specs.Tree as tree
+use Rattle.c_meaning.specs.State.{Trapped, Undefined, Asks, Stuck}
+use Rattle.c_meaning.specs.Linking.{SymbolCall}
+use Rattle.c_meaning.specs.Run.{Outcome, Ended, Stopped, OutOfSteps}
+use Rattle.c_link.specs.declared.host_symbol.HostSymbol.{HostSymbol}
+use Rattle.c_link.specs.Resolved.{symbol_names}
+use Rattle.crun.specs.HostSymbols.{symbol_in, symbols_of_host, symbols_of_hosts}
+use Rattle.c_hosts.specs.declared.host.HostModule.{Ghosts as HostModule}
+use Rattle.c_hosts.specs.declared.journal.Asked.{Asked}
+use Rattle.c_hosts.specs.Asking.{hosts_of}
+use Rattle.host_replay.specs.declared.file.JournalFile.{JournalFile}
+use Rattle.host_replay.specs.Reading.{symbol_of}
+use Rattle.host_replay.specs.Recording.{recorded}
+use Rattle.host_replay.specs.Texts.{text_of, Recorded}
+use Rattle.host_replay.specs.Writable.{symbols_of as symbols_of_modules, AreDistinct}
+use Rattle.host_replay.proofs.Distinct.{symbols_distinct}
+use Rattle.crun_words.specs.CommandLine.{RunLine}
+use Rattle.crun_job.specs.Job.{IsTextsJob, Run}
+use Rattle.crun_job.specs.Lines.{
+  Reason,
+  Usage,
+  CallsTooLong,
+  CallsLine,
+  JournalTooLong,
+  JournalLine,
+  Refused,
+  Unread,
+  Unwritten,
+  WantOfMemory,
+}
+use Rattle.crun_job.specs.Stopping.{StopsTexts}
+use Rattle.crun_cli.specs.Ends.{journal_of, AreOffered, HasJournalPart, HasPlayed, HasPlayedPart, IsJournaled, IsRunStatus}
+use Rattle.crun_cli.specs.Jobs.{symbols_of}
+use Rattle.crun_cli.specs.Outside.{IsUntouched, Outside}
+use Rattle.crun_cli.specs.Recording.{HasRecorded, IsBlank, IsBlankFor, IsFilled, IsNamed, IsText, IsWritten, IsWrittenPart}
+use Rattle.crun_cli.specs.Runs.{HasPart, HasRun, HasStatus}
+use Rattle.crun_cli.specs.Stopping.{IsTextsPart, IsTextsRun, StopsRun}
+
+-- ---- the status
+
+status_of_run : (o : Outcome) (status : ℕ) → HasStatus o status → IsRunStatus status
+status_of_run Ended status is = inl is
+status_of_run OutOfSteps status is = inr (inr (inl is))
+status_of_run (Stopped (Trapped kind)) status is = inr (inl is)
+status_of_run (Stopped (Undefined kind place)) status is = inr (inr (inr is))
+status_of_run (Stopped Asks) status is = absurd is
+status_of_run (Stopped Stuck) status is = absurd is
+
+pub ran_status : {H : Type 0} (m : HostModule H) (hosts : List H) (units : List (List tree.Item)) (calls : List SymbolCall) (steps : ℕ)
+    (shown : Bool) (old new : Option (List ℕ)) (status : ℕ) → HasRun m hosts units calls steps shown old new status → IsRunStatus status
+ran_status m hosts units calls steps shown old new status ran = status_of_run _ status ran.has_status
+
+-- ---- the file of the journal, by the name that the line gives for it
+
+module _ {H : Type 0} (m : HostModule H) (hosts : List H) where
+  pub is_blank : (name : Option Name) (file : Option JournalFile) → IsBlankFor m hosts name file → IsBlank m hosts file
+  is_blank None None blank = tt
+  is_blank None (Some file) blank = absurd cc
+  is_blank (Some name) None blank = tt
+  is_blank (Some name) (Some file) blank = blank
+
+  pub is_named : (name : Option Name) (file filled : Option JournalFile) (asks : List Asked) → IsBlankFor m hosts name file
+      → IsFilled m hosts asks file filled → IsNamed name filled
+  is_named None file filled asks blank is = tt
+  is_named (Some name) None filled asks blank is = absurd blank
+  is_named (Some name) (Some file) None asks blank is = absurd is
+  is_named (Some name) (Some file) (Some filled) asks blank is = tt
+
+  is_journaled : (name : Option Name) (file filled : Option JournalFile) (asks : List Asked) (old new : Told)
+      → AreDistinct (hosts_of m hosts) → IsBlankFor m hosts name file → IsFilled m hosts asks file filled → IsWritten name filled old new
+      → IsJournaled name (journal_of m hosts asks) old new
+  is_journaled None file filled asks old new distinct blank is written = written
+  is_journaled (Some name) None filled asks old new distinct blank is written = absurd blank
+  is_journaled (Some name) (Some file) None asks old new distinct blank is written = absurd is
+  is_journaled (Some name) (Some file) (Some filled) asks old new distinct blank is written =
+      let both = subst (λ (j : Recorded). (new ≡ holding old name (text_of j)) × IsText j) is written in
+      (both.0, both.1 distinct)
+
+  pub record IsPart (name : Option Name) (asks : List Asked) (old new : Told) : Type 0 where
+    pub file : Name
+    pub named : name ≡ Some file
+    pub begun : IsBegun old new file (text_of (journal_of m hosts asks))
+
+  is_part : (name : Option Name) (file filled : Option JournalFile) (asks : List Asked) (old new : Told)
+      → IsFilled m hosts asks file filled → IsBlankFor m hosts name file → IsWrittenPart name filled old new → IsPart name asks old new
+  is_part None file filled asks old new is blank part = absurd part
+  is_part (Some name) None filled asks old new is blank part = absurd blank
+  is_part (Some name) (Some file) None asks old new is blank part = absurd is
+  is_part (Some name) (Some file) (Some filled) asks old new is blank part = record {
+    file = name;
+    named = refl;
+    begun = subst (λ (j : Recorded). IsBegun old new name (text_of j)) is part;
+  }
+
+-- no file changes but the one that is named
+pub kept_part : (name : Option Name) (file : Option JournalFile) (old new : Told) → IsWrittenPart name file old new
+    → (new ≡ old) ⊎ ((other : Name) × (text : List ℕ) × (name ≡ Some other) × (new ≡ holding old other text))
+kept_part None file old new part = absurd part
+kept_part (Some name) None old new part = absurd part
+kept_part (Some name) (Some file) old new (inl same) = inl same
+kept_part (Some name) (Some file) old new (inr (text, prefix, is)) = inr (name, text, refl, is)
+
+-- ---- symbols
+
+own_symbols : (h : Host) (functions : List HostFunction) → symbol_names (map (symbol_in h.name) functions) ≡ map (symbol_of h) functions
+own_symbols h [] = refl
+own_symbols h (f ∷ functions) = ap (λ l. symbol_of h f ∷ l) (own_symbols h functions)
+
+symbols_are : (hosts : List Host) → symbol_names (symbols_of_hosts hosts) ≡ symbols_of_modules hosts
+symbols_are [] = refl
+symbols_are (h ∷ hosts) =
+    map-append (λ (s : HostSymbol). s.symbol) (symbols_of_host h) (symbols_of_hosts hosts)
+    ∙ (λ i. own_symbols h h.functions i ++ symbols_are hosts i)
+
+-- where no symbol comes twice, each belongs to one function
+pub offered_distinct : {H : Type 0} (m : HostModule H) (hosts : List H) → AreOffered m hosts → AreDistinct (hosts_of m hosts)
+offered_distinct m hosts offered =
+    symbols_distinct (hosts_of m hosts) (ap are_distinct (sym (symbols_are (hosts_of m hosts))) ∙ offered)
+
+-- ---- the run that the texts come to
+
+module _ {H : Type 0} (m : HostModule H) (hosts : List H) (line : RunLine) (texts : List (List ℕ)) (text : List ℕ) (old new : Outside) where
+  module _ (units : List (List tree.Item)) (calls : List SymbolCall) (steps : ℕ) (shown : Bool)
+      (job : IsTextsJob line (symbols_of (hosts_of m hosts)) texts text (Run units calls steps shown)) where
+    -- with the line's number of statements, and the state where the line shows it
+    of_line : (P : ℕ → Bool → Type 0) → P steps shown → P line.steps line.shows_state
+    of_line P of = subst (P line.steps) job.3 (subst (λ n. P n shown) job.2 of)
+
+    texts_run : (P : List (List tree.Item) → List SymbolCall → Type 0) → P units calls → IsTextsRun m hosts line texts text P
+    texts_run P of = (units, calls, (job.0, job.1, refl, refl), of)
+
+    pub lines_part : HasPart m hosts units calls steps shown old.out.told new.out.told → new.files.told ≡ old.files.told
+        → IsTextsPart m hosts line texts text old new
+    lines_part part same = texts_run (λ us cs. HasPlayedPart m hosts line us cs old new)
+        (inl (of_line (λ n b. HasPart m hosts units calls n b old.out.told new.out.told) part, same))
+
+    module _ (status : ℕ) (file filled : Option JournalFile)
+        (ran : HasRecorded m hosts units calls steps shown old.out.told new.out.told status file filled)
+        (blank : IsBlankFor m hosts line.journal file) where
+      recorded_run : HasRecorded m hosts units calls line.steps line.shows_state old.out.told new.out.told status file filled
+      recorded_run = of_line (λ n b. HasRecorded m hosts units calls n b old.out.told new.out.told status file filled) ran
+
+      pub whole_run : AreDistinct (hosts_of m hosts) → IsWritten line.journal filled old.files.told new.files.told
+          → IsTextsRun m hosts line texts text (λ us cs. HasPlayed m hosts line us cs old new status)
+      whole_run distinct written = texts_run (λ us cs. HasPlayed m hosts line us cs old new status) (record {
+        run = recorded_run.run;
+        written = is_journaled m hosts line.journal file filled recorded_run.run.asks old.files.told new.files.told distinct blank
+            recorded_run.filled_is written;
+      })
+
+      pub journal_part : IsWrittenPart line.journal filled old.files.told new.files.told → IsTextsPart m hosts line texts text old new
+      journal_part part =
+          let p = is_part m hosts line.journal file filled recorded_run.run.asks old.files.told new.files.told recorded_run.filled_is blank part in
+          texts_run (λ us cs. HasPlayedPart m hosts line us cs old new) (inr (record {
+            status = status;
+            run = recorded_run.run;
+            name = p.file;
+            named = p.named;
+            begun = p.begun;
+          }))
+
+  -- the texts come to no task
+  pub texts_stop : IsUntouched old new → (why : Reason) → StopsTexts line (symbols_of (hosts_of m hosts)) texts text why
+      → StopsRun m hosts line texts text old new why
+  texts_stop untouched (Refused file cause) stop = (stop, untouched)
+  texts_stop untouched (CallsLine number) stop = (stop, untouched)
+  texts_stop untouched WantOfMemory stop = inl untouched
+  texts_stop untouched Usage stop = absurd stop
+  texts_stop untouched CallsTooLong stop = absurd stop
+  texts_stop untouched JournalTooLong stop = absurd stop
+  texts_stop untouched (JournalLine number) stop = absurd stop
+  texts_stop untouched (Unread file) stop = absurd stop
+  texts_stop untouched Unwritten stop = absurd stop

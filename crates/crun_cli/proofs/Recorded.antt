@@ -1,0 +1,56 @@
+-- The journal of a run, which a file takes.
+use Rattle.std.proofs.Common.{◌≡◌, ℕ, Bool, true, List, [], ◌++◌, map, Option, Some, None, refl, sym, ap, ◌∙◌, subst}
+use Rattle.std.specs.List.{list_all}
+use Rattle.std.proofs.lemmas.List.{append-nil}
+use Rattle.w2c_io.specs.Telling.{SaysPart}
+use Rattle.c_tree.specs.Tree as tree
+use Rattle.c_meaning.specs.Linking.{SymbolCall}
+use Rattle.c_hosts.specs.declared.host.HostModule.{Ghosts as HostModule}
+use Rattle.c_hosts.specs.declared.journal.Asked.{Asked}
+use Rattle.c_hosts.specs.Asking.{hosts_of}
+use Rattle.c_hosts.specs.Journals.{ask_of}
+use Rattle.host_replay.specs.declared.file.JournalFile.{JournalFile}
+use Rattle.host_replay.specs.Fitting.{fits}
+use Rattle.host_replay.specs.Recording.{recorded}
+use Rattle.host_replay.specs.Runs.{run_with}
+use Rattle.host_replay.specs.Texts.{Recorded}
+use Rattle.host_replay.proofs.Fits.{answered_fit}
+use Rattle.crun_lines.specs.RunLines.{lines_of}
+use Rattle.crun_cli.specs.Ends.{journal_of}
+use Rattle.crun_cli.specs.Recording.{AreToFill, HasTaken, IsBlank, IsFilled}
+use Rattle.crun_cli.specs.Runs.{HasPart, HasRun}
+use Rattle.crun_cli.proofs.Lines.{asks_are}
+
+-- calls that fit the hosts can be taken by a file that has their modules
+pub to_fill : {H : Type 0} (m : HostModule H) (hosts : List H) (file : Option JournalFile) (asks : List Asked) → IsBlank m hosts file
+    → list_all (fits (hosts_of m hosts)) asks ≡ true → AreToFill file asks
+to_fill m hosts None asks blank fit = tt
+to_fill m hosts (Some file) asks blank fit = ap (λ (j : Recorded). list_all (fits j.hosts) asks) blank ∙ fit
+
+pub is_filled : {H : Type 0} (m : HostModule H) (hosts : List H) (file filled : Option JournalFile) (asks : List Asked)
+    → IsBlank m hosts file → HasTaken file asks filled → IsFilled m hosts asks file filled
+is_filled m hosts None filled asks blank taken = taken
+is_filled m hosts (Some file) None asks blank taken = taken
+is_filled m hosts (Some file) (Some filled) asks blank taken =
+    taken ∙ ap (λ (j : Recorded). record { hosts = j.hosts; entries = j.entries ++ asks }) blank
+
+module _ {H : Type 0} (m : HostModule H) (hosts : List H) (units : List (List tree.Item)) (calls : List SymbolCall) (steps : ℕ)
+    (shown : Bool) (old new : Option (List ℕ)) (status : ℕ) where
+  -- what was asked fits the hosts' functions
+  pub asks_fit : (run : HasRun m hosts units calls steps shown old new status) → list_all (fits (hosts_of m hosts)) run.asks ≡ true
+  asks_fit run = answered_fit m hosts units calls steps run.asks
+      (record { after = run.after; answered = run.answered; told = run.told })
+
+  -- a whole run is a part of it
+  pub whole_part : HasRun m hosts units calls steps shown old new status → HasPart m hosts units calls steps shown old new
+  whole_part run = record {
+    asks = run.asks;
+    after = run.after;
+    answered = run.answered;
+    more = [];
+    first = asks_are (run_with m hosts units calls steps run.asks).events run.asks run.told ∙ sym (append-nil (map ask_of run.asks));
+    part = (lines, ([], sym (append-nil lines)), run.lines);
+  }
+    where
+      lines : List ℕ
+      lines = lines_of (hosts_of m hosts) shown (run_with m hosts units calls steps run.asks)

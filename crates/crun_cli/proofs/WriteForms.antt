@@ -1,0 +1,134 @@
+-- The forms that write a unit: from what is asked for over what files hold to what the words ask for.
+use Rattle.std.proofs.Common.{◌≡◌, ◌⊎◌, inl, inr, List, [], ◌∷◌, Option, Some, None, MatchOption, refl, sym, ap, ◌∙◌, subst}
+use Rattle.w2c_io.specs.Contents.{Name, Contents, holding}
+use Rattle.w2c_io.specs.Causes.{Faulted}
+use Rattle.w2c_io.specs.Telling.{Tells}
+use Rattle.w2c_files.specs.Standing.{IsOneOf}
+use Rattle.c_tree.specs.Spelled.{CSpells}
+use Rattle.c_tree.specs.Tree as tree
+use Rattle.c_print.specs.Print.{print_of}
+use Rattle.c_hosts.specs.declared.host.HostModule.{Ghosts as HostModule}
+use Rattle.c_hosts.specs.Asking.{hosts_of}
+use Rattle.crun_words.specs.CommandLine.{Line, MergeLine, TrimLine, line_of, merges, trims}
+use Rattle.crun_job.specs.Job.{Job, Stops, Write}
+use Rattle.crun_job.specs.Lines.{
+  Reason,
+  Usage,
+  CallsTooLong,
+  CallsLine,
+  JournalTooLong,
+  JournalLine,
+  Refused,
+  Unread,
+  Unwritten,
+  WantOfMemory,
+}
+use Rattle.crun_cli.specs.Ends.{BegunIfAny, Finished, IsJobWith, WrotePart}
+use Rattle.crun_cli.specs.Files.{HasReading, IsReadBy, IsToRead, IsToWrite, IsUnitFile, IsUnitOf, IsWrittenBy}
+use Rattle.crun_cli.specs.Jobs.{symbols_of, IsLineJob, IsMergeJob, IsTrimJob}
+use Rattle.crun_cli.specs.Outside.{AreUntouched, FilesSeen, IsUntouched, Outside, SinkSeen}
+use Rattle.crun_cli.specs.Stopping.{IsUnitPart, StopsWork, StopsWrite}
+
+module _ {H : Type 0} (hm : HostModule H) (hosts : List H) (words : List Name) (form : Line) (is : line_of words ≡ Some form)
+    (Asks : Contents → Job → Type 0) (jobs : (m : Contents) (job : Job) → Asks m job → IsLineJob (hosts_of hm hosts) m form job)
+    (units : List Name) (output : Name) (reads : (file : Name) → IsOneOf file units → IsReadBy file form)
+    (unit_file : (file : Name) → IsOneOf file units → IsUnitOf file form) (writes : IsWrittenBy output form) (out : SinkSeen)
+    (start new : FilesSeen) where
+  abbrev Old : Outside
+  Old = record { files = start; out = out }
+
+  abbrev New : Outside
+  New = record { files = new; out = out }
+
+  there : (m : Contents) (job : Job) → Asks m job → IsJobWith hm hosts words m job
+  there m job of = subst (λ o. MatchOption o (job ≡ Stops Usage) (λ l. IsLineJob (hosts_of hm hosts) m l job)) (sym is) (jobs m job of)
+
+  has_reading : HasReading words
+  has_reading none = (let both : ◌≡◌ {A = Option Line} None (Some form) = sym none ∙ is in cc)
+
+  untouched : AreUntouched start new → IsUntouched Old New
+  untouched same = record { files = same; lines = refl }
+
+  part : (m : Contents) → IsUnitPart Asks output m start new → WrotePart hm hosts words m Old New
+  part m (unit, asks, begun) = record {
+    output = output;
+    unit = unit;
+    job = there m (Write output unit) asks;
+    begun = begun;
+    nothing = refl;
+  }
+
+  unit_done : (m : Contents) → (unit : List tree.Item) × Asks m (Write output unit) × CSpells unit (print_of unit)
+      × (new.told ≡ holding start.told output (print_of unit)) → Finished hm hosts words m Old New 0
+  unit_done m (unit, asks, spells, written) = inr (
+    refl,
+    record {
+      output = output;
+      unit = unit;
+      job = there m (Write output unit) asks;
+      spells = spells;
+      written = written;
+      nothing = refl;
+    },
+  )
+
+  unit_stop : (why : Reason) → StopsWrite Asks units output start new why → StopsWork hm hosts words Old New why
+  unit_stop (Unread file) (one, cause, same) = (
+    record { to_read = subst (IsToRead file) (sym is) (reads file one); cause = by cause },
+    untouched same,
+  )
+    where
+      by : Faulted file start.read_faults new.read_faults new.fault_name
+          ⊎ ((m : Contents) × (start.told ≡ Some m) × Asks m (Stops (Unread file)))
+          → Faulted file start.read_faults new.read_faults new.fault_name
+          ⊎ ((m : Contents) × (start.told ≡ Some m) × IsJobWith hm hosts words m (Stops (Unread file)))
+      by (inl faulted) = inl faulted
+      by (inr (m, tells, asks)) = inr (m, tells, there m (Stops (Unread file)) asks)
+  unit_stop (Refused file why) (one, first, same) = (
+    (subst (IsUnitFile file) (sym is) (unit_file file one), λ m tells. there m (Stops (Refused file why)) (first m tells)),
+    untouched same,
+  )
+  unit_stop Unwritten (faulted, begun) = (
+    inr (output, subst (IsToWrite output) (sym is) writes, faulted),
+    has_reading,
+    λ m tells. inr (part m (begun m tells)),
+  )
+  unit_stop WantOfMemory stop = λ m tells. by m (stop m tells)
+    where
+      by : (m : Contents) → AreUntouched start new ⊎ IsUnitPart Asks output m start new → BegunIfAny hm hosts words m Old New
+      by m (inl same) = inl (untouched same)
+      by m (inr begun) = inr (inr (part m begun))
+  unit_stop Usage stop = absurd stop
+  unit_stop CallsTooLong stop = absurd stop
+  unit_stop (CallsLine number) stop = absurd stop
+  unit_stop JournalTooLong stop = absurd stop
+  unit_stop (JournalLine number) stop = absurd stop
+
+module _ {H : Type 0} (hm : HostModule H) (hosts : List H) (words : List Name) (out : SinkSeen) (start new : FilesSeen) where
+  module _ (line : MergeLine) (is : line_of words ≡ Some (merges line)) where
+    pub merge_done : (m : Contents) → (unit : List tree.Item) × IsMergeJob line (symbols_of (hosts_of hm hosts)) m (Write line.output unit)
+        × CSpells unit (print_of unit) × (new.told ≡ holding start.told line.output (print_of unit))
+        → Finished hm hosts words m (record { files = start; out = out }) (record { files = new; out = out }) 0
+    merge_done = unit_done hm hosts words (merges line) is (IsMergeJob line (symbols_of (hosts_of hm hosts))) (λ m job of. of) line.units
+        line.output (λ file one. one) (λ file one. one) refl out start new
+
+    pub merge_stop : (why : Reason) → StopsWrite (IsMergeJob line (symbols_of (hosts_of hm hosts))) line.units line.output start new why
+        → StopsWork hm hosts words (record { files = start; out = out }) (record { files = new; out = out }) why
+    merge_stop = unit_stop hm hosts words (merges line) is (IsMergeJob line (symbols_of (hosts_of hm hosts))) (λ m job of. of) line.units
+        line.output (λ file one. one) (λ file one. one) refl out start new
+
+  module _ (line : TrimLine) (is : line_of words ≡ Some (trims line)) where
+    only : (file : Name) → IsOneOf file (line.unit ∷ []) → file ≡ line.unit
+    only file (inl same) = same
+    only file (inr none) = absurd none
+
+    pub trim_done : (m : Contents) → (unit : List tree.Item) × IsTrimJob line m (Write line.output unit)
+        × CSpells unit (print_of unit) × (new.told ≡ holding start.told line.output (print_of unit))
+        → Finished hm hosts words m (record { files = start; out = out }) (record { files = new; out = out }) 0
+    trim_done = unit_done hm hosts words (trims line) is (IsTrimJob line) (λ m job of. of) (line.unit ∷ []) line.output only only refl out
+        start new
+
+    pub trim_stop : (why : Reason) → StopsWrite (IsTrimJob line) (line.unit ∷ []) line.output start new why
+        → StopsWork hm hosts words (record { files = start; out = out }) (record { files = new; out = out }) why
+    trim_stop = unit_stop hm hosts words (trims line) is (IsTrimJob line) (λ m job of. of) (line.unit ∷ []) line.output only only refl out
+        start new

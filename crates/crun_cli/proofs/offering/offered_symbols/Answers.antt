@@ -1,0 +1,11 @@
+use Rattle.std.proofs.Common.{ap, subst}
+use Rattle.std.specs.Prelude.{Err}
+use Rattle.c_hosts.specs.Asking.{hosts_of}
+use Rattle.crun.specs.HostSymbols.{IsTwiceAt}
+use Rattle.crun_cli.proofs.Offered.{none_twice}
+use Rattle.crun_cli.proofs.offering.offered_symbols.Goals as goal
+
+pub unreachable-requires : goal.unreachable-requires
+unreachable-requires g c =
+    none_twice (hosts_of g.H.HostModule c.args.hosts.now) c.in-Err-Twice.field-0-0 c.requires.offered
+    (c.in-Err-Twice.ensures.twice c.in-Err-Twice.field-0-0 (ap Err c.in-Err-Twice.field-0-is))

@@ -1,0 +1,36 @@
+use Rattle.std.proofs.Common.{◌≡◌, ◌∙◌, true, sym, ap, subst, map}
+use Rattle.std.specs.List.{list_all}
+use Rattle.c_tree.specs.View.{unit_of}
+use Rattle.c_hosts.specs.Asking.{hosts_of}
+use Rattle.host_replay.specs.Fitting.{fits}
+use Rattle.crun_job.specs.Seen.{calls_seen}
+use Rattle.crun_cli.specs.Recording.{AreToFill, HasTaken, IsFilled}
+use Rattle.crun_cli.proofs.Recorded.{asks_fit, is_filled, to_fill, whole_part}
+use Rattle.crun_cli.proofs.play.play_and_record.Goals as goal
+
+pub filled-requires : goal.filled-requires
+filled-requires g c =
+    let e = c.args.session.now in
+    let ran = c.in-Ok.ensures.ran in
+    record {
+      fit = to_fill g.H.HostModule e.hosts c.args.journal c.journal.result.now c.requires.blank
+          (ap (λ asks. list_all (fits (hosts_of g.H.HostModule e.hosts)) asks) (c.journal.ensures ∙ sym ran.asks_are)
+          ∙ asks_fit g.H.HostModule e.hosts (map unit_of e.linked.0) (calls_seen c.args.calls.now) e.steps c.args.shows_state
+          (g.O.Sink.told c.args.out.now) (g.O.Sink.told c.play_and_show.new.out) c.in-Ok.status ran.run);
+    }
+
+pub returns-in-Ok-filled-clause-ran : goal.returns-in-Ok-filled-clause-ran
+returns-in-Ok-filled-clause-ran g c =
+    let e = c.args.session.now in
+    let ran = c.in-Ok.ensures.ran in
+    record {
+      run = ran.run;
+      filled_is = subst (λ asks. IsFilled g.H.HostModule e.hosts asks c.args.journal c.in-Ok-filled.journal) (c.journal.ensures ∙ sym ran.asks_are)
+          (is_filled g.H.HostModule e.hosts c.args.journal c.in-Ok-filled.journal c.journal.result.now c.requires.blank c.in-Ok-filled.ensures);
+    }
+
+pub returns-in-Err-filled-clause-part : goal.returns-in-Err-filled-clause-part
+returns-in-Err-filled-clause-part g c =
+    let e = c.args.session.now in
+    whole_part g.H.HostModule e.hosts (map unit_of e.linked.0) (calls_seen c.args.calls.now) e.steps c.args.shows_state
+    (g.O.Sink.told c.args.out.now) (g.O.Sink.told c.play_and_show.new.out) c.in-Ok.status c.in-Ok.ensures.ran.run
