@@ -1,0 +1,117 @@
+-- A call fits exactly where the module of its name offers a function that takes its arguments.
+use Rattle.std.proofs.Common.{◌≡◌, ◌≤◌, true, List, [], ◌∷◌, map, length, append-nil, Option, Some, None, option_map, refl, sym, ap, ◌∙◌, subst, arith}
+use Rattle.std.specs.List.{AllByRecursion, list_all}
+use Rattle.std.proofs.lemmas.Bool.Decides.{nat_tests}
+use Rattle.std.proofs.lemmas.List.{take_all}
+use Rattle.w2c_base.specs.declared.value.Value.{Value}
+use Rattle.w2c_base.specs.declared.value.ValType.{ValType}
+use Rattle.w2c_base.specs.declared.signature.FuncType.{FuncType}
+use Rattle.w2c_base.specs.Lookup.{if_found}
+use Rattle.w2c_base.specs.Values.{IsNumber, is_number, types_of, equal_types}
+use Rattle.wasm_tree.specs.declared.tree.Module.{Module}
+use Rattle.wasm_tree.specs.IndexSpaces.{type_in}
+use Rattle.wasm_meaning.specs.LinkedSet.{LinkedSet, NamedModule, Instance, External, IsFunc, IsTable, IsMemory, IsGlobal, FuncAddress, IsLinked, as_func, instances, exported, func_type}
+use Rattle.wasm_meaning.specs.Run.{ListedCall, Fits}
+use Rattle.wasm_set.specs.declared.set_module.SetModule.{SetModule}
+use Rattle.wasm_set.specs.declared.offer.Offer.{Offer}
+use Rattle.wasm_set.specs.declared.offer.Offer.TheVariants.{Func, Table, Memory, Global}
+use Rattle.wasm_set.specs.Sets.{named_of, set_of}
+use Rattle.wasm_set.specs.Offers.{offered}
+use Rattle.wasm_set.specs.Joining.{module_named, takes, offer_takes, module_takes}
+use Rattle.wasm_set.proofs.Pairs.{Together}
+use Rattle.wasm_set.proofs.EqualTypes.{both_hold, one_list, same_list}
+use Rattle.wasm_set.proofs.Stands.{Stands}
+use Rattle.wasm_set.proofs.Instances.{IsInstanceOf, StandsIn, behind_is, first_stand, found_stands}
+
+-- values that are numbers of their types
+numbers : (values : List Value) → list_all is_number values ≡ true → AllByRecursion IsNumber values
+numbers [] e = tt
+numbers (v ∷ values) e =
+    let h = both_hold (is_number v) (list_all is_number values) e in
+    (is_one v h.0, numbers values h.1)
+  where
+    is_one : (v : Value) → is_number v ≡ true → IsNumber v
+    is_one v e = grind (arith, nat_tests)
+
+taken : (ty : Option FuncType) (args : List Value) → takes ty args ≡ true
+    → (f : FuncType) × (ty ≡ Some f) × (f.params ≡ types_of args)
+taken None args e = absurd (cc)
+taken (Some f) args e = (f, refl, one_list f.params (types_of args) e)
+
+-- the instances of a linked set go together with its modules
+all_stand : (modules : List SetModule) → IsLinked (set_of modules)
+    → Together (IsInstanceOf (set_of modules)) (instances (set_of modules)) (map named_of modules)
+all_stand modules linked =
+    let front : List NamedModule = map named_of modules in
+    let s : LinkedSet = set_of modules in
+    let h = first_stand s front [] (sym (append-nil front)) (λ i m at.
+    let is = ap (option_map (λ (m : NamedModule). m.tree)) at in
+    record { is = is; resolves = linked.imports_resolve i m.tree is }) in
+    let b = behind_is [] [] front in
+    let count : length (instances s) ≤ length front = omega (arith, ap length b.1, b.2) in
+    subst (λ (all : List Instance). Together (IsInstanceOf s) all front)
+    (sym h.1 ∙ take_all (length front) (instances s) count) h.2
+
+-- ---- what stands under the names
+
+abbrev called : LinkedSet → Option External → List Value → Type 0
+called s x args = (f : FuncAddress) × (ty : FuncType) × (if_found x as_func ≡ Some f) × (func_type s f ≡ Some ty)
+    × (ty.params ≡ types_of args)
+
+called_from : (s : LinkedSet) (m : Module) (x : Option External) (o : Option Offer) (args : List Value) → Stands s m x o
+    → offer_takes m o args ≡ true → called s x args
+called_from s m (Some (IsFunc f)) (Some (Func u)) args stands e =
+    let h = taken (type_in m u) args e in (f, h.0, refl, stands ∙ h.1, h.2)
+called_from s m None (Some (Func u)) args stands e = absurd stands
+called_from s m (Some (IsTable owner)) (Some (Func u)) args stands e = absurd stands
+called_from s m (Some (IsMemory owner)) (Some (Func u)) args stands e = absurd stands
+called_from s m (Some (IsGlobal g)) (Some (Func u)) args stands e = absurd stands
+called_from s m x None args stands e = absurd (cc)
+called_from s m x (Some Table) args stands e = absurd (cc)
+called_from s m x (Some Memory) args stands e = absurd (cc)
+called_from s m x (Some (Global ty mutable)) args stands e = absurd (cc)
+
+called_takes : (s : LinkedSet) (m : Module) (x : Option External) (o : Option Offer) (args : List Value) → Stands s m x o
+    → called s x args → offer_takes m o args ≡ true
+called_takes s m (Some (IsFunc f)) (Some (Func u)) args stands h =
+    let same : f ≡ h.0 = cc in
+    ap (λ (ty : Option FuncType). takes ty args) (sym stands ∙ ap (func_type s) same ∙ h.3)
+    ∙ ap (λ (types : List ValType). equal_types types (types_of args)) h.4 ∙ same_list (types_of args)
+called_takes s m (Some (IsTable owner)) (Some Table) args stands h = absurd (cc)
+called_takes s m (Some (IsMemory owner)) (Some Memory) args stands h = absurd (cc)
+called_takes s m (Some (IsGlobal g)) (Some (Global ty mutable)) args stands h = absurd (cc)
+called_takes s m None None args stands h = absurd (cc)
+called_takes s m x o args stands h = absurd (assumption)
+
+-- ---- the call
+
+-- what stands under its names
+abbrev under : List SetModule → ListedCall → Option External
+under modules c = exported (instances (set_of modules)) c.module_name c.export_name
+
+pub taken_fits : (modules : List SetModule) → IsLinked (set_of modules) → (c : ListedCall)
+    → module_takes (module_named modules c.module_name) c.export_name c.args ≡ true → list_all is_number c.args ≡ true
+    → Fits (set_of modules) c
+taken_fits modules linked c e small =
+    let h = by (module_named modules c.module_name)
+    (found_stands (set_of modules) (instances (set_of modules)) modules (all_stand modules linked) c.module_name c.export_name) e in
+    (h.0, h.1, h.2, h.3, h.4, numbers c.args small)
+  where
+    by : (from : Option SetModule) → StandsIn (set_of modules) (under modules c) from c.export_name
+        → module_takes from c.export_name c.args ≡ true → called (set_of modules) (under modules c) c.args
+    by None stands e = absurd (cc)
+    by (Some from) stands e = called_from (set_of modules) from.«module» (under modules c) (offered from.«module» c.export_name)
+        c.args stands e
+
+pub fits_is_taken : (modules : List SetModule) → IsLinked (set_of modules) → (c : ListedCall) → Fits (set_of modules) c
+    → module_takes (module_named modules c.module_name) c.export_name c.args ≡ true
+fits_is_taken modules linked c fits =
+    by (module_named modules c.module_name)
+    (found_stands (set_of modules) (instances (set_of modules)) modules (all_stand modules linked) c.module_name c.export_name)
+  where
+    by : (from : Option SetModule) → StandsIn (set_of modules) (under modules c) from c.export_name
+        → module_takes from c.export_name c.args ≡ true
+    by None none =
+        let wrong : Some fits.0 ≡ None = sym fits.2 ∙ ap (λ (x : Option External). if_found x as_func) none in absurd (cc)
+    by (Some from) stands = called_takes (set_of modules) from.«module» (under modules c) (offered from.«module» c.export_name)
+        c.args stands (fits.0, fits.1, fits.2, fits.3, fits.4)

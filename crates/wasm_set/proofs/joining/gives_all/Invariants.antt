@@ -1,0 +1,9 @@
+use Rattle.std.proofs.Common.{◌≡◌, drop}
+use Rattle.std.specs.List.{list_all}
+use Rattle.wasm_set.specs.Joining.{is_given}
+use Rattle.wasm_set.proofs.joining.gives_all.Given as goal
+
+abbrev pub invariant-loop-import : goal.invariant-loop-import
+invariant-loop-import l =
+    let given = is_given l.modules l.m in
+    list_all given (drop l.import-index l.m.imports) ≡ list_all given l.m.imports

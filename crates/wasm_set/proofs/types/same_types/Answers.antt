@@ -1,0 +1,5 @@
+use Rattle.wasm_set.proofs.Unequal.{unequal}
+use Rattle.wasm_set.proofs.types.same_types.Goals as goal
+
+pub returns-then-left-right : goal.returns-then-left-right
+returns-then-left-right c = unequal c.args.left.now c.args.right.now c.if-left-right.true

@@ -1,0 +1,7 @@
+-- promised
+pub mod Sets
+-- tools
+pub mod Offers
+pub mod Joining
+pub mod Spaces
+pub mod Tables

@@ -1,0 +1,22 @@
+// What a module offers under each name.
+ghost use Rattle.std.specs.Prelude.{IfOk};
+ghost use Rattle.wasm_set.specs.Tables.{Tells};
+
+use crate::offer::OfferTable;
+use crate::spaces::Spaces;
+use c_scope::NameTable;
+use std::alloc::Global;
+use w2c_base::Memory;
+use wasm_tree::Module;
+
+/// A table of what a module offers under each name.
+pub(crate) fn offers_of(alloc: Global, m: &Module) -> Result<OfferTable, Memory>
+    ensures { IfOk result (λ table. Tells table m.now) }
+{
+    let spaces = Spaces::new(alloc, m)?;
+    let mut table = NameTable::new(alloc);
+    for export in m.exports.as_slice() {
+        table.enter(alloc, export.name.as_slice(), spaces.offer(export))?;
+    }
+    Ok(table)
+}
