@@ -1,0 +1,170 @@
+-- What a command comes to, from what its parts come to.
+use Rattle.std.proofs.Common.{◌≡◌, ℕ, ◌≤◌, inl, inr, List, [], ◌∷◌, ◌++◌, length, Option, Some, None, refl, sym, ap, ◌∙◌, subst}
+use Rattle.std.specs.Borrow.{Bor}
+use Rattle.std.specs.Prelude.{map}
+use Rattle.w2c_io.specs.Contents.{Name, Contents, Told, HasFile, HasNoFile, HasLongFile}
+use Rattle.w2c_io.specs.Telling.{Tells}
+use Rattle.w2c_io.proofs.Telling.{file_told, long_file_told, no_file_told}
+use Rattle.wasm_tree.specs.declared.tree.Module.{Module}
+use Rattle.wasm_spelling.specs.Limits.{most_module_bytes}
+use Rattle.wasm_spelling.specs.declared.fault.Cause.{Cause}
+use Rattle.wasm_spelling.specs.declared.fault.Which.{Which}
+use Rattle.wasm_spelling.specs.declared.fault.ReadFault.TheVariants as fault
+use Rattle.wasm_valid.specs.declared.fault.ValidCause.{ValidCause}
+use Rattle.wasm_valid.specs.Verdict.{Accepted, Invalid}
+use Rattle.wasm_valid.specs.FileVerdict.{FileVerdict, Read, Unread, IsVerdictOn}
+use Rattle.w2c_base.specs.declared.value.Value.{Value}
+use Rattle.w2c_base.specs.declared.trap.TrapKind.{TrapKind}
+use Rattle.wasm_meaning.specs.Run.{Fits, WasmRun}
+use Rattle.wasm_set.specs.Sets.{named_of}
+use Rattle.wast_script.specs.Lines.{Reason, Usage, Unwritten, WantOfMemory, Refused, Unread}
+use Rattle.wast_script.specs.Seen.{seen_call}
+use Rattle.wast_script.specs.declared.command.Call.{Call}
+use Rattle.wast_script.specs.Commands as script
+use Rattle.wast_script.specs.Commands.{ModuleFile}
+use Rattle.wast_run.specs.declared.judging.Judged.{Judged}
+use Rattle.wast_run.specs.declared.judging.Judged.TheVariants as judged
+use Rattle.wast_run.specs.declared.stage.Stage.{Stage}
+use Rattle.wast_run.specs.declared.word.Word.{Word}
+use Rattle.wast_run.specs.declared.word.Word.TheVariants as word
+use Rattle.wast_run.specs.Runs.{listed_call, listed_calls}
+use Rattle.wast_run.specs.Report.{accepted_tree, Asserts, Comes, IsFile, IsTimely, Joins, Keeps, Setting, holds, is_invalid}
+use Rattle.wast_run.specs.Report.{is_malformed, listed, set_at}
+use Rattle.wast_run.specs.Judging.{Agrees, says_invalid, says_malformed, tree_of}
+use Rattle.wast_run.specs.Stages.{HasRun, setting_of}
+use Rattle.wast_run.specs.Stopping.{IsUnreadFile, StopsCommand, StopsFile}
+use Rattle.wast_run.proofs.StageLaws.{kept_more}
+
+-- ---- files
+
+-- what is said of bytes
+abbrev pub IsSaid : List ℕ → Judged → Type 0
+IsSaid bytes j = (verdict : FileVerdict) × IsVerdictOn bytes verdict × Agrees j (Some verdict)
+
+agreed : {j : Judged} {verdict : Option FileVerdict} → accepted_tree verdict ≡ tree_of j → is_invalid verdict ≡ says_invalid j
+    → is_malformed verdict ≡ says_malformed j → Agrees j verdict
+agreed tree invalid malformed = record { tree = tree; invalid = invalid; malformed = malformed }
+
+pub said_accepted : (bytes : List ℕ) (tree : Module) → IsVerdictOn bytes (Read tree Accepted) → IsSaid bytes (judged.Accepted tree)
+said_accepted bytes tree is = (Read tree Accepted, is, agreed refl refl refl)
+
+pub said_malformed : (bytes : List ℕ) (place : ℕ) (cause : Cause) → IsVerdictOn bytes (Unread (fault.Malformed place cause))
+    → IsSaid bytes judged.Malformed
+said_malformed bytes place cause is = (Unread (fault.Malformed place cause), is, agreed refl refl refl)
+
+pub said_float : (bytes : List ℕ) (place : ℕ) → IsVerdictOn bytes (Unread (fault.Float place)) → IsSaid bytes judged.Beyond
+said_float bytes place is = (Unread (fault.Float place), is, agreed refl refl refl)
+
+pub said_limit : (bytes : List ℕ) (place : ℕ) (which : Which) → IsVerdictOn bytes (Unread (fault.Limit place which))
+    → IsSaid bytes judged.Beyond
+said_limit bytes place which is = (Unread (fault.Limit place which), is, agreed refl refl refl)
+
+pub said_invalid : (bytes : List ℕ) (place : ℕ) (cause : ValidCause)
+    → (tree : Module) × IsVerdictOn bytes (Read tree (Invalid (record { place = place; cause = cause }))) → IsSaid bytes judged.Invalid
+said_invalid bytes place cause (tree, is) = (Read tree (Invalid (record { place = place; cause = cause })), is, agreed refl refl refl)
+
+-- what was read is the file, and what is said of its bytes is said of it
+pub judged_file : (told : Told) (name bytes : List ℕ) (j : Judged) → HasFile told name bytes → length bytes ≤ most_module_bytes
+    → (verdict : FileVerdict) × IsVerdictOn bytes verdict × Agrees j (Some verdict)
+    → Tells told (λ contents. (verdict : Option FileVerdict) × IsFile contents name verdict × Agrees j verdict)
+judged_file told name bytes j has short (verdict, is, agrees) m tells =
+    (Some verdict, (bytes, file_told told m name bytes tells has, (short, is)), agrees)
+
+pub long_file : (told : Told) (name : List ℕ) → HasLongFile told name most_module_bytes
+    → Tells told (λ contents. (verdict : Option FileVerdict) × IsFile contents name verdict × Agrees judged.Beyond verdict)
+long_file told name has m tells =
+    let long = long_file_told told m name most_module_bytes tells has in
+    (None, (long.0, long.1, long.2), record { tree = refl; invalid = refl; malformed = refl })
+
+pub absent_file : (told : Told) (name : List ℕ) (before after : ℕ) (named : Option Name) → HasNoFile told name
+    → IsUnreadFile told name before after named
+absent_file told name before after named has = inr (no_file_told told name has)
+
+pub invalid_word : (told : Told) (name : List ℕ) (j : Judged)
+    → Tells told (λ contents. (verdict : Option FileVerdict) × IsFile contents name verdict × Agrees j verdict)
+    → Tells told (λ contents. (verdict : Option FileVerdict) × IsFile contents name verdict
+    × (holds (says_invalid j) ≡ holds (is_invalid verdict)))
+invalid_word told name j said m tells = let s = said m tells in (s.0, s.1, ap holds (sym s.2.invalid))
+
+pub malformed_word : (told : Told) (name : List ℕ) (j : Judged)
+    → Tells told (λ contents. (verdict : Option FileVerdict) × IsFile contents name verdict × Agrees j verdict)
+    → Tells told (λ contents. (verdict : Option FileVerdict) × IsFile contents name verdict
+    × (holds (says_malformed j) ≡ holds (is_malformed verdict)))
+malformed_word told name j said m tells = let s = said m tells in (s.0, s.1, ap holds (sym s.2.malformed))
+
+-- why a command stops whose file is not read
+pub file_stops : (told : Told) (file : Name) (before after : ℕ) (named : Option Name) (why : Reason)
+    → StopsFile told file before after named why → StopsCommand told (Some file) before after named why
+file_stops told file before after named (Unread name) stop =
+    (ap Some (sym stop.0), subst (λ f. IsUnreadFile told f before after named) (sym stop.0) stop.1)
+file_stops told file before after named WantOfMemory stop = tt
+file_stops told file before after named Usage stop = absurd stop
+file_stops told file before after named (Refused why) stop = absurd stop
+file_stops told file before after named Unwritten stop = absurd stop
+
+-- ---- commands on files
+
+-- a module command whose file is accepted
+pub file_accepted : (told : Told) (at after : Setting) (file : ModuleFile) (filename name : Name) (j : Judged) (tree : Module) (w : Word)
+    → filename ≡ file.filename → name ≡ file.name → j ≡ judged.Accepted tree
+    → Tells told (λ contents. (verdict : Option FileVerdict) × IsFile contents filename verdict × Agrees j verdict)
+    → Joins at name (Some tree) w after
+    → Tells told (λ contents. Comes contents 0 at (script.Module file) w after)
+file_accepted told at after file filename name j tree w filename_is name_is is said joins m tells =
+    let s = said m tells in
+    let tree_is = s.2.tree ∙ ap tree_of is in (
+      s.0,
+      subst (λ n. IsFile m n s.0) filename_is s.1,
+      subst (λ n. Joins at n (accepted_tree s.0) w after) name_is (subst (λ t. Joins at name t w after) (sym tree_is) joins),
+    )
+
+module _ (contents : Contents) (at after : Setting) where
+  pub module_refused : (file : ModuleFile) (j : Judged) → tree_of j ≡ None → after ≡ at
+      → (verdict : Option FileVerdict) × IsFile contents file.filename verdict × Agrees j verdict
+      → Comes contents 0 at (script.Module file) word.Refused after
+  module_refused file j none same (verdict, is_file, agrees) =
+      (verdict, is_file, subst (λ t. Joins at file.name t word.Refused after) (sym (agrees.tree ∙ none)) (refl, same))
+
+  pub invalid_comes : (steps : ℕ) (file : Name) (w : Word) → after ≡ at
+      → (verdict : Option FileVerdict) × IsFile contents file verdict × (w ≡ holds (is_invalid verdict))
+      → Comes contents steps at (script.AssertInvalid file) w after
+  invalid_comes steps file w same (verdict, is_file, is) = (verdict, is_file, is, same)
+
+  pub malformed_comes : (steps : ℕ) (file : Name) (w : Word) → after ≡ at
+      → (verdict : Option FileVerdict) × IsFile contents file verdict × (w ≡ holds (is_malformed verdict))
+      → Comes contents steps at (script.AssertMalformed file) w after
+  malformed_comes steps file w same (verdict, is_file, is) = (verdict, is_file, is, same)
+
+-- ---- calls
+
+pub keeps_call : (stage after : Stage) (call : Bor Call) → Fits (set_at (setting_of stage)) (listed_call call.now)
+    → after.set ≡ stage.set → after.kept.items ≡ stage.kept.items ++ call ∷ []
+    → Keeps (setting_of stage) (seen_call call.now) word.Ok (setting_of after)
+keeps_call stage after call fits same more =
+    inl (fits, (refl, keeping_is))
+  where
+    keeping_is : setting_of after
+        ≡ record { modules = (setting_of stage).modules; kept = (setting_of stage).kept ++ listed_call call.now ∷ [] }
+    keeping_is =
+        ap (λ set. record { modules = map named_of set; kept = listed_calls after.kept.items }) same
+        ∙ ap (λ calls. record { modules = (setting_of stage).modules; kept = calls })
+        (kept_more (setting_of stage).modules stage.kept.items after.kept.items call more)
+
+pub keeps_not : (at : Setting) (call : script.Call) → (Fits (set_at at) (listed call) → ⊥) → Keeps at call word.NoSuchCall at
+keeps_not at call not = inr (not, (refl, refl))
+
+module _ (stage : Stage) (call : script.Call) (steps : ℕ) (not : HasRun stage call steps None) where
+  pub asserts_none : (IsRight : WasmRun → Type 0)
+      → Asserts (setting_of stage) call steps IsRight word.NoSuchCall (setting_of stage)
+  asserts_none IsRight = (refl, inr (not, refl))
+
+no_call_differs : word.NoSuchCall ≡ word.OutOfSteps → ⊥
+no_call_differs e = absurd cc
+
+pub timely_end_none : (at : Setting) (call : script.Call) (steps : ℕ) (expected : Option Value)
+    → IsTimely steps at (script.AssertReturn call expected) word.NoSuchCall
+timely_end_none at call steps expected e = absurd (no_call_differs e)
+
+pub timely_trap_none : (at : Setting) (call : script.Call) (steps : ℕ) (cause : TrapKind)
+    → IsTimely steps at (script.AssertTrap call cause) word.NoSuchCall
+timely_trap_none at call steps cause e = absurd (no_call_differs e)

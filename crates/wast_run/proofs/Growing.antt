@@ -1,0 +1,73 @@
+-- What fits a set of modules fits it with one module more.
+use Rattle.std.proofs.Common.{◌≡◌, ℕ, zero, suc, Bool, true, false, List, [], ◌∷◌, ◌++◌, bytes_eq, find, slice_get, Option, Some, None}
+use Rattle.std.proofs.Common.{option_map, refl, ap, ◌∙◌}
+use Rattle.std.specs.Prelude.{if◌then◌else◌}
+use Rattle.std.proofs.lemmas.Option.{none-some}
+use Rattle.wasm_tree.specs.IndexSpaces.{at_defined, type_in}
+use Rattle.std.specs.List.{AllByRecursion}
+use Rattle.w2c_base.specs.Lookup.{if_found, named}
+use Rattle.w2c_base.specs.declared.signature.FuncType.{FuncType}
+use Rattle.w2c_base.specs.Run.{Host}
+use Rattle.wasm_meaning.specs.LinkedSet.{NamedModule, External, FuncAddress, ModuleFunc, HostFunc, Instance, as_func}
+use Rattle.wasm_meaning.specs.LinkedSet.{exported, func_type, instance_of, instances, instances_behind}
+use Rattle.wasm_meaning.specs.Run.{Fits, ListedCall}
+use Rattle.wast_run.specs.Report.{set_with}
+
+instances_more : (hosts : List Host) (earlier : List Instance) (modules : List NamedModule) (m : NamedModule)
+    → instances_behind hosts earlier (modules ++ m ∷ [])
+    ≡ instances_behind hosts earlier modules ++ instance_of hosts (instances_behind hosts earlier modules) m ∷ []
+instances_more hosts earlier [] m = refl
+instances_more hosts earlier (x ∷ modules) m = instances_more hosts (earlier ++ instance_of hosts earlier x ∷ []) modules m
+
+exported_more : (some others : List Instance) (module_name name : List ℕ) (e : External)
+    → exported some module_name name ≡ Some e → exported (some ++ others) module_name name ≡ Some e
+exported_more [] others module_name name e is = absurd (none-some e is)
+exported_more (i ∷ some) others module_name name e is =
+    by (bytes_eq i.name module_name) (exported_more some others module_name name e) is
+  where
+    by : (b : Bool) → (exported some module_name name ≡ Some e → exported (some ++ others) module_name name ≡ Some e)
+        → if_found (if b then Some i else find (λ i. bytes_eq i.name module_name) some) (λ i. if_found (named name i.exports) (λ e. e))
+        ≡ Some e
+        → if_found (if b then Some i else find (λ i. bytes_eq i.name module_name) (some ++ others))
+        (λ i. if_found (named name i.exports) (λ e. e)) ≡ Some e
+    by true behind is = is
+    by false behind is = behind is
+
+at_more : (modules others : List NamedModule) (p : ℕ) (m : NamedModule) → slice_get modules p ≡ Some m
+    → slice_get (modules ++ others) p ≡ Some m
+at_more [] others p m is = absurd (none-some m is)
+at_more (x ∷ modules) others zero m is = is
+at_more (x ∷ modules) others (suc p) m is = at_more modules others p m is
+
+-- the type of the function with an index of a module
+abbrev type_by : ℕ → Option NamedModule → Option FuncType
+type_by index o = if_found (option_map (λ (m : NamedModule). m.tree) o) (λ m. if_found (at_defined m m.funcs index) (λ f.
+    if_found (option_map (λ (m : NamedModule). m.tree) o) (λ m. type_in m f.type_index)))
+
+func_type_more : (modules : List NamedModule) (m : NamedModule) (f : FuncAddress) (ty : FuncType)
+    → func_type (set_with modules) f ≡ Some ty → func_type (set_with (modules ++ m ∷ [])) f ≡ Some ty
+func_type_more modules m (HostFunc h f) ty is = is
+func_type_more modules m (ModuleFunc p index) ty is = by (slice_get modules p) refl is
+  where
+    by : (o : Option NamedModule) → slice_get modules p ≡ o → type_by index o ≡ Some ty
+        → type_by index (slice_get (modules ++ m ∷ []) p) ≡ Some ty
+    by None found is = absurd (none-some ty is)
+    by (Some x) found is = ap (type_by index) (at_more modules (m ∷ []) p x found) ∙ is
+
+func_more : (o : Option External) (f : FuncAddress) → if_found o as_func ≡ Some f → (e : External) × (o ≡ Some e) × (as_func e ≡ Some f)
+func_more None f is = absurd (none-some f is)
+func_more (Some e) f is = (e, refl, is)
+
+pub fits_more : (modules : List NamedModule) (m : NamedModule) (c : ListedCall)
+    → Fits (set_with modules) c → Fits (set_with (modules ++ m ∷ [])) c
+fits_more modules m c (f, ty, called, typed, params, numbers) =
+    let e = func_more (exported (instances (set_with modules)) c.module_name c.export_name) f called in
+    let all = instances (set_with modules) in
+    let found = exported_more all (instance_of [] all m ∷ []) c.module_name c.export_name e.0 e.1 in
+    let there = ap (λ all. exported all c.module_name c.export_name) (instances_more [] [] modules m) ∙ found in
+    (f, ty, ap (λ o. if_found o as_func) there ∙ e.2, func_type_more modules m f ty typed, params, numbers)
+
+pub all_fit_more : (modules : List NamedModule) (m : NamedModule) (calls : List ListedCall)
+    → AllByRecursion (Fits (set_with modules)) calls → AllByRecursion (Fits (set_with (modules ++ m ∷ []))) calls
+all_fit_more modules m [] all = tt
+all_fit_more modules m (c ∷ calls) all = (fits_more modules m c all.0, all_fit_more modules m calls all.1)

@@ -1,0 +1,39 @@
+-- The calls that were kept, one by one.
+use Rattle.std.proofs.Common.{◌≡◌, ℕ, zero, suc, ◌+◌, ◌<◌, List, [], ◌∷◌, ◌++◌, length, map, take, drop, get_or, take-append-drop, drop-cons, add-one, sym, ap, ◌∙◌, arith}
+use Rattle.std.specs.List.{AllByRecursion}
+use Rattle.std.proofs.Math.Seq.{take-suc}
+use Rattle.std.proofs.lemmas.List.{length-map, length-take-le, map-append}
+
+module _ {A B : Type 0} (f : A → B) where
+  module _ (xs : List A) (k : ℕ) (d x : A) (less : k < length xs) (at : x ≡ get_or xs k d) where
+    pub front_next : map f (take k xs) ++ f x ∷ [] ≡ map f (take (k + 1) xs)
+    front_next = sym (map-append f (take k xs) (x ∷ []))
+        ∙ ap (map f) (ap (λ y. take k xs ++ y ∷ []) at ∙ sym (take-suc xs k d less) ∙ ap (λ n. take n xs) (sym (add-one k)))
+
+    pub front_split : map f (take k xs) ++ f x ∷ map f (drop (k + 1) xs) ≡ map f xs
+    front_split = sym (map-append f (take k xs) (x ∷ drop (k + 1) xs))
+        ∙ ap (map f) (ap (λ ys. take k xs ++ ys) (ap (λ y. y ∷ drop (k + 1) xs) at ∙ ap (λ n. get_or xs k d ∷ drop n xs) (add-one k)
+        ∙ sym (drop-cons xs k d less)) ∙ take-append-drop k xs)
+
+    pub front_count : length (map f (take k xs)) ≡ k
+    front_count = length-map (take k xs) f ∙ length-take-le k xs (omega (arith, less))
+
+  pub all_at : (P : B → Type 0) (xs : List A) (k : ℕ) (d : A) → k < length xs → AllByRecursion P (map f xs) → P (f (get_or xs k d))
+  all_at P [] k d less of_all = absurd (omega (arith, less))
+  all_at P (y ∷ xs) zero d less of_all = of_all.0
+  all_at P (y ∷ xs) (suc k) d less of_all = all_at P xs k d (omega (arith, less)) of_all.1
+
+-- of one more
+pub all_joined : {A : Type 0} (P : A → Type 0) (xs : List A) (x : A) → AllByRecursion P xs → P x → AllByRecursion P (xs ++ x ∷ [])
+all_joined P [] x of_all one = (one, tt)
+all_joined P (y ∷ xs) x (first, of_all) one = (first, all_joined P xs x of_all one)
+
+-- of calls and a last one
+module _ {B : Type 0} (P : B → Type 0) where
+  pub all_before : (ys : List B) (y : B) → AllByRecursion P (ys ++ y ∷ []) → AllByRecursion P ys
+  all_before [] y of_all = tt
+  all_before (z ∷ ys) y (one, of_all) = (one, all_before ys y of_all)
+
+  pub all_last : (ys : List B) (y : B) → AllByRecursion P (ys ++ y ∷ []) → P y
+  all_last [] y of_all = of_all.0
+  all_last (z ∷ ys) y (one, of_all) = all_last ys y of_all

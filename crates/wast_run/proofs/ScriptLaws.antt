@@ -1,0 +1,105 @@
+-- The names that a script gives to modules have 1 to 1,024 bytes.
+use Rattle.std.proofs.Common.{◌≡◌, ℕ, ◌≤◌, Bool, true, false, List, [], ◌∷◌, length, Option, Some, None, option_map, refl, subst}
+use Rattle.std.proofs.Common.{arith}
+use Rattle.std.specs.Prelude.{◌&&◌, if◌then◌else◌, bytes_eq, codes, find, nat_le, option_and_then}
+use Rattle.std.specs.List.{AllByRecursion}
+use Rattle.std.proofs.lemmas.Bool.Decides.{nat_tests}
+use Rattle.std.proofs.lemmas.Option.{none-some, same_Some}
+use Rattle.w2c_base.specs.declared.value.Value.{Value}
+use Rattle.w2c_base.specs.declared.trap.TrapKind.{TrapKind}
+use Rattle.serde_json.specs.Data.{Data}
+use Rattle.wast_script.specs.Commands as script
+use Rattle.wast_script.specs.Commands.{Call, Command}
+use Rattle.wast_script.specs.Forms.{call_in, cause_in, command_by, command_of, expected_in, is_module_name, kind_named, kind_text, kinds}
+use Rattle.wast_script.specs.Forms.{module_with, return_with, trap_with}
+use Rattle.wast_script.specs.Values.{text_in}
+use Rattle.wast_script.specs.Lists.{all_given}
+use Rattle.wast_script.specs.Scripts.{IsScript}
+use Rattle.wast_run.specs.Stages.{HasModuleName}
+
+-- something that is made of what was found
+of_found : {A : Type 0} (make : A → Command) → ((a : A) → HasModuleName (make a)) → (o : Option A) (c : Command)
+    → option_map make o ≡ Some c → HasModuleName c
+of_found make holds None c is = absurd (none-some c is)
+of_found make holds (Some a) c is = subst HasModuleName (same_Some (make a) c is) (holds a)
+
+both_tests : (a b : Bool) → a && b ≡ true → (a ≡ true) × (b ≡ true)
+both_tests true true e = (refl, refl)
+both_tests true false e = absurd cc
+both_tests false b e = absurd cc
+
+long_enough : (n : ℕ) → nat_le 1 n && nat_le n 1024 ≡ true → (1 ≤ n) × (n ≤ 1024)
+long_enough n is =
+    let h = both_tests (nat_le 1 n) (nat_le n 1024) is in
+    let low = h.0 in
+    let high = h.1 in
+    (grind (arith, nat_tests, low), grind (arith, nat_tests, high))
+
+of_module : (name filename : Option (List ℕ)) (c : Command) → option_map script.Module (module_with name filename) ≡ Some c → HasModuleName c
+of_module (Some name) (Some filename) c is = by (is_module_name name) refl is
+  where
+    by : (b : Bool) → is_module_name name ≡ b
+        → option_map script.Module (if b then Some (record { name = name; filename = filename }) else None) ≡ Some c → HasModuleName c
+    by true named is = subst HasModuleName (same_Some _ c is) (long_enough (length name) named)
+    by false named is = absurd (none-some c is)
+of_module (Some name) None c is = absurd (none-some c is)
+of_module None filename c is = absurd (none-some c is)
+
+of_return : (call : Option Call) (expected : Option (Option Value)) (c : Command) → return_with call expected ≡ Some c → HasModuleName c
+of_return (Some call) (Some expected) c is = subst HasModuleName (same_Some (script.AssertReturn call expected) c is) tt
+of_return (Some call) None c is = absurd (none-some c is)
+of_return None expected c is = absurd (none-some c is)
+
+of_trap : (call : Option Call) (cause : Option TrapKind) (c : Command) → trap_with call cause ≡ Some c → HasModuleName c
+of_trap (Some call) (Some cause) c is = subst HasModuleName (same_Some (script.AssertTrap call cause) c is) tt
+of_trap (Some call) None c is = absurd (none-some c is)
+of_trap None cause c is = absurd (none-some c is)
+
+-- what each of some kinds gives, the first of them that passes gives
+of_first : {A : Type 0} (f : A → Option Command) (passes : A → Bool) (xs : List A)
+    → AllByRecursion (λ x. (c : Command) → f x ≡ Some c → HasModuleName c) xs
+    → (c : Command) → option_and_then f (find passes xs) ≡ Some c → HasModuleName c
+of_first f passes [] all c is = absurd (none-some c is)
+of_first f passes (x ∷ xs) all c is = by (passes x) (of_first f passes xs all.1 c) is
+  where
+    by : (b : Bool) → (option_and_then f (find passes xs) ≡ Some c → HasModuleName c)
+        → option_and_then f (if b then Some x else find passes xs) ≡ Some c → HasModuleName c
+    by true others is = all.0 c is
+    by false others is = others is
+
+of_text : (d : Data) (text : Option (List ℕ)) (c : Command)
+    → option_and_then (command_by d) (option_and_then kind_named text) ≡ Some c → HasModuleName c
+of_text d None c is = absurd (none-some c is)
+of_text d (Some text) c is =
+    of_first (command_by d) (λ kind. bytes_eq (kind_text kind) text) kinds (
+      of_module (text_in (codes "name") d) (text_in (codes "filename") d),
+      (
+        of_found script.Invoke (λ call. tt) (call_in d),
+        (
+          of_return (call_in d) (expected_in d),
+          (
+            of_trap (call_in d) (cause_in d),
+            (
+              of_found script.AssertInvalid (λ file. tt) (text_in (codes "filename") d),
+              (of_found script.AssertMalformed (λ file. tt) (text_in (codes "filename") d), tt),
+            ),
+          ),
+        ),
+      ),
+    )
+    c is
+
+all_named : (ds : List Data) (commands : List Command) → all_given command_of ds ≡ Some commands → AllByRecursion HasModuleName commands
+all_named [] commands is = subst (AllByRecursion HasModuleName) (same_Some [] commands is) tt
+all_named (d ∷ ds) commands is = by (command_of d) refl (all_given command_of ds) (all_named ds) is
+  where
+    by : (o : Option Command) → command_of d ≡ o → (all : Option (List Command))
+        → ((commands : List Command) → all ≡ Some commands → AllByRecursion HasModuleName commands)
+        → option_and_then (λ y. option_map (λ ys. y ∷ ys) all) o ≡ Some commands → AllByRecursion HasModuleName commands
+    by None of all named is = absurd (none-some commands is)
+    by (Some c) of None named is = absurd (none-some commands is)
+    by (Some c) of (Some cs) named is =
+        subst (AllByRecursion HasModuleName) (same_Some (c ∷ cs) commands is) (of_text d (text_in (codes "type") d) c of, named cs refl)
+
+pub names_of_script : (text : List ℕ) (commands : List Command) → IsScript text commands → AllByRecursion HasModuleName commands
+names_of_script text commands is = all_named is.has_commands.objects commands is.has_commands.commands_are

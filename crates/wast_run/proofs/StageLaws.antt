@@ -1,0 +1,74 @@
+-- A module that joins, and a call that is kept.
+use Rattle.std.proofs.Common.{◌≡◌, ℕ, inl, inr, List, [], ◌∷◌, ◌++◌, map, Some, refl, sym, ap, ◌∙◌, subst}
+use Rattle.std.specs.List.{AllByRecursion}
+use Rattle.std.specs.Borrow.{Bor}
+use Rattle.std.proofs.lemmas.List.{map-append}
+use Rattle.wasm_tree.specs.declared.tree.Module.{Module}
+use Rattle.wasm_meaning.specs.LinkedSet.{NamedModule, IsLinked}
+use Rattle.wasm_meaning.specs.Run.{Fits, ListedCall}
+use Rattle.wasm_set.specs.declared.set_module.SetModule.{SetModule}
+use Rattle.wasm_set.specs.Sets.{named_of, set_of}
+use Rattle.wast_script.specs.declared.command.Call.{Call}
+use Rattle.wast_run.specs.declared.word.Word.TheVariants as word
+use Rattle.wast_run.specs.Runs.{listed_call, listed_calls, AreNamed}
+use Rattle.wast_run.specs.Report.{Joins, Setting, joined, set_at, set_with}
+use Rattle.wast_run.specs.Stages.{HasName, IsReady}
+use Rattle.wast_run.proofs.Lists.{all_more}
+use Rattle.wast_run.proofs.Growing.{all_fit_more}
+
+pub names_of_modules : (modules : List SetModule) → AllByRecursion HasName (map named_of modules) → AreNamed modules
+names_of_modules [] all = tt
+names_of_modules (m ∷ modules) all = (all.0, names_of_modules modules all.1)
+
+abbrev pub at_with : List SetModule → List ListedCall → Setting
+at_with set kept = record { modules = map named_of set; kept = kept }
+
+-- a module joins a set, under a copy of its name
+module _ (set : List SetModule) (kept : List ListedCall) (name copy : List ℕ) (tree : Module) (same : copy ≡ name) where
+  abbrev set_more : List SetModule
+  set_more = set ++ record { name = copy; «module» = tree } ∷ []
+
+  modules_more : map named_of set_more ≡ map named_of set ++ record { name = name; tree = tree } ∷ []
+  modules_more =
+      map-append named_of set (record { name = copy; «module» = tree } ∷ [])
+      ∙ ap (λ n. map named_of set ++ record { name = n; tree = tree } ∷ []) same
+
+  linked_more : IsLinked (set_of set_more) → IsLinked (set_at (joined (at_with set kept) name tree))
+  linked_more linked = subst (λ modules. IsLinked (set_with modules)) modules_more linked
+
+  joined_is : (new : List SetModule) → new ≡ set_more → at_with new kept ≡ joined (at_with set kept) name tree
+  joined_is new is = ap (λ modules. record { modules = modules; kept = kept }) (ap (map named_of) is ∙ modules_more)
+
+  pub joins_set : (new : List SetModule) → new ≡ set_more → IsLinked (set_of set_more)
+      → Joins (at_with set kept) name (Some tree) word.Ok (at_with new kept)
+  joins_set new is linked = inl (linked_more linked, (refl, joined_is new is))
+
+  pub joins_not : (new : List SetModule) → new ≡ set → (IsLinked (set_of set_more) → ⊥)
+      → Joins (at_with set kept) name (Some tree) word.Unlinked (at_with new kept)
+  joins_not new is not = inr (
+    λ linked. not (subst (λ modules. IsLinked (set_with modules)) (sym modules_more) linked),
+    (refl, ap (λ modules. at_with modules kept) is),
+  )
+
+  pub ready_more : (new : List SetModule) → new ≡ set_more → IsLinked (set_of set_more)
+      → HasName (record { name = name; tree = tree }) → IsReady (at_with set kept) → IsReady (at_with new kept)
+  ready_more new is linked named ready =
+      subst IsReady (sym (joined_is new is)) (record {
+        linked = linked_more linked;
+        names = all_more HasName (map named_of set) (record { name = name; tree = tree }) ready.names named;
+        fit = all_fit_more (map named_of set) (record { name = name; tree = tree }) kept ready.fit;
+      })
+
+-- one call more is kept
+module _ (modules : List NamedModule) (kept new : List (Bor Call)) (call : Bor Call) (is : new ≡ kept ++ call ∷ []) where
+  pub kept_more : listed_calls new ≡ listed_calls kept ++ listed_call call.now ∷ []
+  kept_more = ap listed_calls is ∙ map-append (λ (c : Bor Call). listed_call c.now) kept (call ∷ [])
+
+  pub ready_kept : Fits (set_with modules) (listed_call call.now) → IsReady (record { modules = modules; kept = listed_calls kept })
+      → IsReady (record { modules = modules; kept = listed_calls new })
+  ready_kept fits ready =
+      subst (λ calls. IsReady (record { modules = modules; kept = calls })) (sym kept_more) (record {
+        linked = ready.linked;
+        names = ready.names;
+        fit = all_more (Fits (set_with modules)) (listed_calls kept) (listed_call call.now) ready.fit fits;
+      })

@@ -1,0 +1,322 @@
+-- What the work's stop means for the status, and for what stands.
+use Rattle.std.specs.Prelude.{if◌then◌else◌}
+use Rattle.std.proofs.lemmas.List.{append-nil}
+use Rattle.std.proofs.Common.{◌==◌, Bool, true, false, length}
+use Rattle.std.proofs.Common.{◌≡◌, ◌≢◌, ◌⊎◌, inl, inr, ℕ, ◌<◌, ◌≤◌, List, [], ◌∷◌, ◌++◌, Option, Some, None, refl, sym, ◌∙◌, subst, arith}
+use Rattle.std.specs.Prelude.{MatchOption}
+use Rattle.std.specs.FinMap.{get}
+use Rattle.std.specs.List.{AllByRecursion}
+use Rattle.std.proofs.lemmas.Option.{same_Some}
+use Rattle.w2c_io.specs.Contents.{Name, Contents, Told}
+use Rattle.w2c_io.specs.Causes.{Rose}
+use Rattle.w2c_io.specs.Telling.{Tells}
+use Rattle.wast_script.specs.declared.fault.ScriptFault.{ScriptFault}
+use Rattle.wast_script.specs.declared.fault.ScriptFault.TheVariants as fault
+use Rattle.wast_script.specs.CommandLine.{line_of}
+use Rattle.wast_script.specs.Commands.{Command}
+use Rattle.wast_script.specs.Lines.{Reason, Usage, Unwritten, WantOfMemory, Refused, Unread, fault_status, status_of}
+use Rattle.wast_run.specs.declared.word.Word.{Word}
+use Rattle.wast_run.specs.Report.{at_first, ok_count, report_of, LeadInTime, Setting}
+use Rattle.wast_run.specs.Parts.{file_of, GainsLinesBefore, HasItsFile, IsFirstMissing, IsNamed, IsPart}
+use Rattle.wast_run.specs.Jobs.{Answers, AsksFor, GainedPart, GainsPrefix, IsAnswered, IsJob, IsJobBehind, IsUnread, Refuses, Reported, ReportedPart, Reports}
+use Rattle.wast_run.specs.Jobs.{Stops}
+use Rattle.wast_run.specs.Stopping.{StopsWork}
+use Rattle.wast_run.proofs.JobLaws.{AreApart, IsOneScript, job_apart, one_list, one_status}
+use Rattle.wast_run.proofs.Leads.{lead_plain, lead_there, there_at}
+use Rattle.wast_run.proofs.OneReport.{part_is_prefix}
+use Rattle.wast_run.proofs.PartLaws.{part_before}
+use Rattle.wast_run.proofs.Written.{none_written, prefix_of_itself}
+
+-- the whole report is a part of it
+whole_part : (m : Contents) (steps : ℕ) (commands : List Command) (all : List Word) (after : Setting)
+    → LeadInTime m steps at_first commands all after → IsPart m steps commands (report_of all)
+whole_part m steps commands all after lead = record {
+  front = commands;
+  rest = [];
+  split = sym (append-nil commands);
+  words = all;
+  after = after;
+  lead = lead_plain m steps at_first commands all after lead;
+  prefix = prefix_of_itself (report_of all);
+}
+
+zero_or_one : (b : Bool) (status : ℕ) → status ≡ (if b then 0 else 1) → (status ≡ 0) ⊎ (status ≡ 1) ⊎ (status ≡ 5)
+zero_or_one true status is = inl is
+zero_or_one false status is = inr (inl is)
+
+below : (a b : ℕ) → a < b → b ≡ a → ⊥
+below a b less e = omega (arith, less, e)
+
+between : (n : ℕ) → 2 ≤ n → n ≤ 5 → (2 ≤ n) × (n ≤ 5)
+between n low high = (low, high)
+
+fault_between : (why : ScriptFault) → (2 ≤ fault_status why) × (fault_status why ≤ 5)
+fault_between fault.TooLong = between 2 (omega arith) (omega arith)
+fault_between fault.NotJson = between 2 (omega arith) (omega arith)
+fault_between fault.NoCommands = between 2 (omega arith) (omega arith)
+fault_between (fault.Command number) = between 2 (omega arith) (omega arith)
+fault_between fault.Memory = between 5 (omega arith) (omega arith)
+
+pub status_between : (why : Reason) → (2 ≤ status_of why) × (status_of why ≤ 5)
+status_between Usage = between 2 (omega arith) (omega arith)
+status_between (Refused why) = fault_between why
+status_between (Unread file) = between 3 (omega arith) (omega arith)
+status_between Unwritten = between 4 (omega arith) (omega arith)
+status_between WantOfMemory = between 5 (omega arith) (omega arith)
+
+fault_not_3 : (why : ScriptFault) → fault_status why ≢ 3
+fault_not_3 fault.TooLong e = below 2 3 (omega arith) (sym e)
+fault_not_3 fault.NotJson e = below 2 3 (omega arith) (sym e)
+fault_not_3 fault.NoCommands e = below 2 3 (omega arith) (sym e)
+fault_not_3 (fault.Command number) e = below 2 3 (omega arith) (sym e)
+fault_not_3 fault.Memory e = below 3 5 (omega arith) e
+
+fault_not_4 : (why : ScriptFault) → fault_status why ≢ 4
+fault_not_4 fault.TooLong e = below 2 4 (omega arith) (sym e)
+fault_not_4 fault.NotJson e = below 2 4 (omega arith) (sym e)
+fault_not_4 fault.NoCommands e = below 2 4 (omega arith) (sym e)
+fault_not_4 (fault.Command number) e = below 2 4 (omega arith) (sym e)
+fault_not_4 fault.Memory e = below 4 5 (omega arith) e
+
+-- the status that is reported: that of the reason, or want of memory
+abbrev pub Ends : Reason → ℕ → Type 0
+Ends why status = (status ≡ status_of why) ⊎ (status ≡ 5)
+
+-- a stop's status is no report's
+pub no_report : (why : Reason) (status : ℕ) → Ends why status → (status ≡ 0) ⊎ (status ≡ 1) → ⊥
+no_report why status (inl is) (inl at_0) = omega (arith, is, at_0, (status_between why).0)
+no_report why status (inl is) (inr at_1) = omega (arith, is, at_1, (status_between why).0)
+no_report why status (inr is) (inl at_0) = omega (arith, is, at_0)
+no_report why status (inr is) (inr at_1) = omega (arith, is, at_1)
+
+pub status_small : (why : Reason) (status : ℕ) → Ends why status → status ≤ 5
+status_small why status (inl is) = omega (arith, is, (status_between why).1)
+status_small why status (inr is) = omega (arith, is)
+
+-- which of the two it is
+ends_so : (why : Reason) (status wanted : ℕ) → Ends why status → status ≡ wanted → wanted ≢ 5 → status_of why ≡ wanted
+ends_so why status wanted (inl is) e not = sym is ∙ e
+ends_so why status wanted (inr is) e not = absurd (not (sym e ∙ is))
+
+said : (S : Type 0) (status wanted : ℕ) → S ⊎ (status ≡ 5) → status ≡ wanted → wanted ≢ 5 → S
+said S status wanted (inl says) e not = says
+said S status wanted (inr is) e not = absurd (not (sym e ∙ is))
+
+not_5 : (n : ℕ) → n ≤ 4 → n ≢ 5
+not_5 n le e = omega (arith, le, e)
+
+module _ (words : List Name) (told : Told) (reads reads' : ℕ) (named : Option Name) (old new : Option (List ℕ)) (faults faults' : ℕ) where
+  abbrev pub Stopped : Reason → Type 0
+  Stopped why = StopsWork words told reads reads' named old new faults faults' why
+
+  -- words without a reading
+  usage_job : (m : Contents) → line_of words ≡ None → IsJob words m (Stops Usage)
+  usage_job m none =
+      subst (λ o. MatchOption o (Stops Usage ≡ Stops Usage) (λ line. IsJobBehind line (get m line.script) (Stops Usage))) (sym none) refl
+
+  -- whatever stops it, the stream has gained a part
+  pub stop_part : (why : Reason) → Stopped why → Tells told (λ m. GainedPart words m old new)
+  stop_part Usage stop = λ m tells. inl stop.1
+  stop_part (Refused why) stop = λ m tells. inl stop.1
+  stop_part (Unread file) stop = stop.1
+  stop_part Unwritten stop = λ m tells. inr (stop.2 m tells)
+  stop_part WantOfMemory stop = stop
+
+  module _ (why : Reason) (status : ℕ) (stop : Stopped why) (ends : Ends why status) where
+    pub stop_refused : (S : Reason → Type 0) → S why ⊎ (status ≡ 5) → status ≡ 2
+        → (why : Reason) × (status_of why ≡ 2) × Refuses words told why × S why
+    stop_refused S says two =
+        by why stop (ends_so why status 2 ends two (not_5 2 (omega arith))) (said (S why) status 2 says two (not_5 2 (omega arith)))
+      where
+        by : (why : Reason) → Stopped why → status_of why ≡ 2 → S why
+            → (why : Reason) × (status_of why ≡ 2) × Refuses words told why × S why
+        by Usage stop is says = (Usage, is, stop.0, says)
+        by (Refused why) stop is says = (Refused why, is, stop.0, says)
+        by (Unread file) stop is says = absurd (below 2 3 (omega arith) is)
+        by Unwritten stop is says = absurd (below 2 4 (omega arith) is)
+        by WantOfMemory stop is says = absurd (below 2 5 (omega arith) is)
+
+    pub stop_unread : (S : Reason → Type 0) → S why ⊎ (status ≡ 5) → status ≡ 3
+        → (file : Name) × IsUnread words told reads reads' named file × S (Unread file)
+    stop_unread S says three =
+        by why stop (ends_so why status 3 ends three (not_5 3 (omega arith))) (said (S why) status 3 says three (not_5 3 (omega arith)))
+      where
+        by : (why : Reason) → Stopped why → status_of why ≡ 3 → S why
+            → (file : Name) × IsUnread words told reads reads' named file × S (Unread file)
+        by Usage stop is says = absurd (below 2 3 (omega arith) (sym is))
+        by (Refused why) stop is says = absurd (fault_not_3 why is)
+        by (Unread file) stop is says = (file, stop.0, says)
+        by Unwritten stop is says = absurd (below 3 4 (omega arith) is)
+        by WantOfMemory stop is says = absurd (below 3 5 (omega arith) is)
+
+    pub stop_unwritten : (S : Reason → Type 0) → S why ⊎ (status ≡ 5) → status ≡ 4
+        → Rose faults faults' × Tells told (λ m. ReportedPart words m old new) × S Unwritten
+    stop_unwritten S says four =
+        by why stop (ends_so why status 4 ends four (not_5 4 (omega arith))) (said (S why) status 4 says four (not_5 4 (omega arith)))
+      where
+        by : (why : Reason) → Stopped why → status_of why ≡ 4 → S why
+            → Rose faults faults' × Tells told (λ m. ReportedPart words m old new) × S Unwritten
+        by Usage stop is says = absurd (below 2 4 (omega arith) (sym is))
+        by (Refused why) stop is says = absurd (fault_not_4 why is)
+        by (Unread file) stop is says = absurd (below 3 4 (omega arith) (sym is))
+        by Unwritten stop is says = (stop.0, stop.2, says)
+        by WantOfMemory stop is says = absurd (below 4 5 (omega arith) is)
+
+    pub stop_silent : status ≡ 2 → new ≡ old
+    stop_silent two = by why stop (ends_so why status 2 ends two (not_5 2 (omega arith)))
+      where
+        by : (why : Reason) → Stopped why → status_of why ≡ 2 → new ≡ old
+        by Usage stop is = stop.1
+        by (Refused why) stop is = stop.1
+        by (Unread file) stop is = absurd (below 2 3 (omega arith) is)
+        by Unwritten stop is = absurd (below 2 4 (omega arith) is)
+        by WantOfMemory stop is = absurd (below 2 5 (omega arith) is)
+
+    -- words without a reading
+    pub stop_usage : line_of words ≡ None → (status ≡ 2) ⊎ (status ≡ 5)
+    stop_usage none = by why stop ends
+      where
+        by : (why : Reason) → Stopped why → Ends why status → (status ≡ 2) ⊎ (status ≡ 5)
+        by Usage stop ends = ends
+        by (Refused why) stop ends = absurd (stop.0.0 none)
+        by (Unread file) stop ends =
+            absurd (subst (λ o. MatchOption o ⊥ (λ line. (file ≡ line.script)
+            ⊎ Tells told (λ m. AsksFor words m (λ steps commands. IsNamed commands file)))) none stop.0.0)
+        by Unwritten stop ends = absurd (stop.1 none)
+        by WantOfMemory stop ends = elim ends [ inl is ↦ inr is | inr is ↦ inr is ]
+
+    pub stop_complete : Tells told (λ m. (Rose reads reads' → ⊥) → (Rose faults faults' → ⊥) → (status ≡ 5) ⊎ IsAnswered words m status)
+    stop_complete m tells no_read no_write = either ends
+      where
+        by : (why : Reason) → Stopped why → status ≡ status_of why → (status ≡ 5) ⊎ IsAnswered words m status
+        by Usage stop is = inr (Stops Usage, usage_job m stop.0, is)
+        by (Refused why) stop is = inr (Stops (Refused why), stop.0.1 m tells, is)
+        by (Unread file) ((to_read, inl faulted), part) is = absurd (no_read faulted.rose)
+        by (Unread file) ((to_read, inr (n, tells_n, inl job)), part) is =
+            let same : n ≡ m = same_Some n m (sym tells_n ∙ tells) in
+            inr (Stops (Unread file), subst (λ m. IsJob words m (Stops (Unread file))) same job, is)
+        by (Unread file) ((to_read, inr (n, tells_n, inr (steps, commands, job, missing))), part) is =
+            let same : n ≡ m = same_Some n m (sym tells_n ∙ tells) in
+            inr (
+              Reports steps commands,
+              subst (λ m. IsJob words m (Reports steps commands)) same job,
+              inl (file, subst (λ m. IsFirstMissing m commands file) same missing, is),
+            )
+        by Unwritten stop is = absurd (no_write stop.0)
+        by WantOfMemory stop is = inl is
+
+        either : Ends why status → (status ≡ 5) ⊎ IsAnswered words m status
+        either (inl is) = by why stop is
+        either (inr five) = inl five
+
+    module _ (apart : AreApart) where
+      pub stop_always : Tells told (λ m. (Rose reads reads' → ⊥) → (other : Reason) → IsJob words m (Stops other)
+          → (status ≡ status_of other) ⊎ (status ≡ 5))
+      stop_always m tells no_read other other_job = either ends
+        where
+          by : (why : Reason) → Stopped why → status ≡ status_of why → (status ≡ status_of other) ⊎ (status ≡ 5)
+          by Usage stop is = inl (is ∙ one_status words m Usage other (usage_job m stop.0) other_job)
+          by (Refused why) stop is = inl (is ∙ one_status words m (Refused why) other (stop.0.1 m tells) other_job)
+          by (Unread file) ((to_read, inl faulted), part) is = absurd (no_read faulted.rose)
+          by (Unread file) ((to_read, inr (n, tells_n, inl job)), part) is =
+              let same : n ≡ m = same_Some n m (sym tells_n ∙ tells) in
+              inl (is ∙ one_status words m (Unread file) other (subst (λ m. IsJob words m (Stops (Unread file))) same job) other_job)
+          by (Unread file) ((to_read, inr (n, tells_n, inr (steps, commands, job, missing))), part) is =
+              let same : n ≡ m = same_Some n m (sym tells_n ∙ tells) in
+              absurd (job_apart apart words m steps commands other (subst (λ m. IsJob words m (Reports steps commands)) same job) other_job)
+          by Unwritten stop is = let p = stop.2 m tells in absurd (job_apart apart words m p.0 p.1 other p.2 other_job)
+          by WantOfMemory stop is = inr is
+
+          either : Ends why status → (status ≡ status_of other) ⊎ (status ≡ 5)
+          either (inl is) = by why stop is
+          either (inr five) = inr five
+
+-- ---- what `out` has gained
+
+module _ (words : List Name) (m : Contents) (old new : Option (List ℕ)) where
+  pub nothing_gained : AreApart → (why : Reason) → IsJob words m (Stops why) → GainedPart words m old new → new ≡ old
+  nothing_gained apart why job (inl same) = same
+  nothing_gained apart why job (inr (steps, commands, asked, gained)) = absurd (job_apart apart words m steps commands why asked job)
+
+  pub none_reported : AreApart → (status : ℕ) (why : Reason) → IsJob words m (Stops why) → Reported words m old new status → ⊥
+  none_reported apart status why job (steps, commands, asked, gained) = job_apart apart words m steps commands why asked job
+
+  pub report_complete : (status : ℕ) → Reported words m old new status → (status ≡ 5) ⊎ IsAnswered words m status
+  report_complete status (steps, commands, asked, (all, (after, lead), gained, is)) =
+      inr (Reports steps commands, asked, inr (all, (after, lead_plain m steps at_first commands all after lead), is))
+
+  module _ (one : IsOneScript) (steps : ℕ) (before behind : List Command) (command : Command) (file : Name)
+      (job : IsJob words m (Reports steps (before ++ command ∷ behind))) (names : file_of command ≡ Some file)
+      (missing : get m file ≡ None) where
+    pub gained_before : GainedPart words m old new → GainsLinesBefore m steps before old new
+    gained_before (inl same) = (
+      [],
+      record { front = []; rest = before; split = refl; words = []; after = at_first; lead = (refl, refl); prefix = prefix_of_itself [] },
+      same ∙ none_written old,
+    )
+    gained_before (inr (others, commands, asked, (text, part, gained))) =
+        let same = one_list one words m others steps commands (before ++ command ∷ behind) asked job in (
+          text,
+          part_before m steps before behind command file text names missing
+              (subst (λ s. IsPart m s (before ++ command ∷ behind) text) same.0 (subst (λ cs. IsPart m others cs text) same.1 part)),
+          gained,
+        )
+
+    pub not_reported : (status : ℕ) → Reported words m old new status → ⊥
+    not_reported status (others, commands, asked, (all, (after, lead), gained, is)) =
+        let same = one_list one words m others steps commands (before ++ command ∷ behind) asked job in
+        let there = lead_there m others at_first commands all after (lead_plain m others at_first commands all after lead) in
+        there_at m before behind command (subst (AllByRecursion (HasItsFile m)) same.1 there) file names missing
+
+-- ---- a script whose files are all there, and one of which a file is not there
+
+module _ (apart : AreApart) (one : IsOneScript) (words : List Name) (m : Contents) (steps : ℕ) (commands : List Command)
+    (job : IsJob words m (Reports steps commands)) where
+  -- the answer to the job is that to these commands
+  answer_to : (status : ℕ) → (status ≡ 5) ⊎ IsAnswered words m status → (status ≡ 5) ⊎ Answers m (Reports steps commands) status
+  answer_to status (inl five) = inl five
+  answer_to status (inr (Stops why, other, answers)) = absurd (job_apart apart words m steps commands why job other)
+  answer_to status (inr (Reports others asked, other, answers)) =
+      let same = one_list one words m others steps asked commands other job in
+      inr (subst (λ steps. Answers m (Reports steps commands) status) same.0
+      (subst (λ commands. Answers m (Reports others commands) status) same.1 answers))
+
+  pub reported_always : (status : ℕ) → AllByRecursion (HasItsFile m) commands → (status ≡ 5) ⊎ IsAnswered words m status
+      → (status ≡ 0) ⊎ (status ≡ 1) ⊎ (status ≡ 5)
+  reported_always status there came = by (answer_to status came)
+    where
+      by : (status ≡ 5) ⊎ Answers m (Reports steps commands) status → (status ≡ 0) ⊎ (status ≡ 1) ⊎ (status ≡ 5)
+      by (inl five) = inr (inr five)
+      by (inr (inl (file, first, is))) =
+          absurd (there_at m first.front first.rest first.command (subst (AllByRecursion (HasItsFile m)) first.split there)
+          file first.names first.missing)
+      by (inr (inr (all, are, is))) = zero_or_one (ok_count all == length all) status is
+
+  pub missing_always : (status : ℕ) (file : Name) → IsNamed commands file → get m file ≡ None
+      → (status ≡ 5) ⊎ IsAnswered words m status → (status ≡ 3) ⊎ (status ≡ 5)
+  missing_always status file named missing came = by (answer_to status came)
+    where
+      by : (status ≡ 5) ⊎ Answers m (Reports steps commands) status → (status ≡ 3) ⊎ (status ≡ 5)
+      by (inl five) = inr five
+      by (inr (inl (other, first, is))) = inl is
+      by (inr (inr (all, (after, lead), is))) =
+          let there = lead_there m steps at_first commands all after lead in
+          absurd (there_at m named.front named.rest named.command (subst (AllByRecursion (HasItsFile m)) named.split there)
+          file named.names missing)
+
+-- ---- the report
+
+module _ (one : IsOneScript) (words : List Name) (m : Contents) (old new : Option (List ℕ)) where
+  pub part_gains : GainedPart words m old new → GainsPrefix words m old new
+  part_gains (inl same) steps commands all job are = ([], (report_of all, refl), same ∙ none_written old)
+  part_gains (inr (others, asked, other, (text, part, gained))) steps commands all job are =
+      let same = one_list one words m others steps asked commands other job in (
+        text,
+        part_is_prefix m steps commands all text are
+            (subst (λ steps. IsPart m steps commands text) same.0 (subst (λ commands. IsPart m others commands text) same.1 part)),
+        gained,
+      )
+
+  pub report_gains : (status : ℕ) → Reported words m old new status → GainsPrefix words m old new
+  report_gains status (others, asked, other, (whole, (behind, in_time), gained, is)) =
+      part_gains (inr (others, asked, other, (report_of whole, whole_part m others asked whole behind in_time, gained)))

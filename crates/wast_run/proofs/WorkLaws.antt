@@ -1,0 +1,114 @@
+-- Why the commands stop, and why a script is refused, as why the work stops.
+use Rattle.std.specs.Prelude.{if◌then◌else◌}
+use Rattle.std.proofs.Common.{◌≡◌, ◌⊎◌, inl, inr, ℕ, ◌≤◌, Bool, List, Option, Some, None, refl, sym, ap, ◌∙◌, subst}
+use Rattle.std.specs.FinMap.{get}
+use Rattle.std.specs.Prelude.{MatchOption}
+use Rattle.std.proofs.lemmas.Option.{none-some}
+use Rattle.w2c_io.specs.Contents.{Name, Contents, Told}
+use Rattle.w2c_io.specs.Causes.{Faulted}
+use Rattle.w2c_io.specs.Telling.{Tells}
+use Rattle.w2c_io.proofs.Telling.{rose_from}
+use Rattle.wast_script.specs.CommandLine.{Line, line_of}
+use Rattle.wast_script.specs.Commands.{Command}
+use Rattle.wast_script.specs.Lines.{Reason, Usage, Unwritten, WantOfMemory, Refused, Unread}
+use Rattle.wast_run.specs.Jobs.{AsksFor, HasReading, IsJob, IsJobBehind, IsToRead, Job, Reported, ReportedPart, Reports, Stops}
+use Rattle.wast_run.specs.Telling.{HasReported}
+use Rattle.wast_run.specs.Parts.{IsNamed}
+use Rattle.wast_run.specs.Stopping.{HasGained, IsUnreadFile, StopsCommand, StopsFile, StopsReport, StopsScript, StopsWords, StopsWork}
+
+pub file_stops : (told : Told) (file : Name) (before after : ℕ) (named : Option Name) (why : Reason)
+    → StopsFile told file before after named why → StopsCommand told (Some file) before after named why
+file_stops told file before after named (Unread name) stop =
+    (ap Some (sym stop.0), subst (λ f. IsUnreadFile told f before after named) (sym stop.0) stop.1)
+file_stops told file before after named WantOfMemory stop = tt
+file_stops told file before after named Usage stop = absurd stop
+file_stops told file before after named (Refused why) stop = absurd stop
+file_stops told file before after named Unwritten stop = absurd stop
+
+pub words_stop : (words : List Name) (told : Told) (reads reads' : ℕ) (named : Option Name) (old : Option (List ℕ)) (faults : ℕ)
+    (why : Reason)
+    → StopsWords words why → StopsWork words told reads reads' named old old faults faults why
+words_stop words told reads reads' named old faults Usage stop = (stop, refl)
+words_stop words told reads reads' named old faults WantOfMemory stop = λ m tells. inl refl
+words_stop words told reads reads' named old faults (Refused why) stop = absurd stop
+words_stop words told reads reads' named old faults (Unread file) stop = absurd stop
+words_stop words told reads reads' named old faults Unwritten stop = absurd stop
+
+module _ (words : List Name) (line : Line) (is : line_of words ≡ Some line) (told : Told) where
+  has_reading : HasReading words
+  has_reading none = none-some line (sym none ∙ is)
+
+  -- what a line asks for is what the words ask for
+  pub job_by_line : (m : Contents) (job : Job) → IsJobBehind line (get m line.script) job → IsJob words m job
+  job_by_line m job behind =
+      subst (λ o. MatchOption o (job ≡ Stops Usage) (λ line. IsJobBehind line (get m line.script) job)) (sym is) behind
+
+  pub job_of_text : (m : Contents) (text : List ℕ) (job : Job) → get m line.script ≡ Some text → IsJobBehind line (Some text) job
+      → IsJob words m job
+  job_of_text m text job held behind = job_by_line m job (subst (λ o. IsJobBehind line o job) (sym held) behind)
+
+  job_of_none : (m : Contents) → get m line.script ≡ None → IsJob words m (Stops (Unread line.script))
+  job_of_none m none = job_by_line m _ (subst (λ o. IsJobBehind line o (Stops (Unread line.script))) (sym none) refl)
+
+  to_read : (file : Name) → (file ≡ line.script) ⊎ Tells told (λ m. AsksFor words m (λ steps commands. IsNamed commands file))
+      → IsToRead words told file
+  to_read file which = subst (λ o. MatchOption o ⊥ (λ line. (file ≡ line.script)
+      ⊎ Tells told (λ m. AsksFor words m (λ steps commands. IsNamed commands file)))) (sym is) which
+
+  pub script_stops : (reads reads' : ℕ) (named : Option Name) (old : Option (List ℕ)) (faults : ℕ) (why : Reason)
+      → StopsScript told line.script reads reads' named why
+      → StopsWork words told reads reads' named old old faults faults why
+  script_stops reads reads' named old faults (Unread name) (same, inl faulted) =
+      ((to_read name (inl same), inl (subst (λ f. Faulted f reads reads' named) (sym same) faulted)), λ m tells. inl refl)
+  script_stops reads reads' named old faults (Unread name) (same, inr (m, tells, none)) = (
+    (
+      to_read name (inl same),
+      inr (
+        m,
+        tells,
+        inl (subst (λ file. IsJob words m (Stops (Unread file))) (sym same)
+            (job_of_none m none)),
+      ),
+    ),
+    λ m tells. inl refl,
+  )
+  script_stops reads reads' named old faults (Refused why) (not, faulty) =
+      ((has_reading, λ m tells. let f = faulty m tells in job_of_text m f.0 (Stops (Refused why)) f.1 (f.2, not)), refl)
+  script_stops reads reads' named old faults WantOfMemory stop = λ m tells. inl refl
+  script_stops reads reads' named old faults Usage stop = absurd stop
+  script_stops reads reads' named old faults Unwritten stop = absurd stop
+
+  module _ (commands : List Command)
+      (job : Tells told (λ m. IsJob words m (Reports line.steps commands))) where
+    gained : (old new : Option (List ℕ)) → Tells told (λ m. HasGained m line.steps commands old new)
+        → Tells told (λ m. ReportedPart words m old new)
+    gained old new gains m tells = (line.steps, commands, job m tells, gains m tells)
+
+    pub reports : (m : Contents) → told ≡ Some m → (old new : Option (List ℕ)) (all_ok : Bool) (status : ℕ)
+        → HasReported m line.steps commands old new all_ok → status ≡ (if all_ok then 0 else 1) → Reported words m old new status
+    reports m tells old new all_ok status (all, words_are, gained, ok_is) status_is =
+        (line.steps, commands, job m tells, (all, words_are, gained, status_is ∙ ap (λ b. if b then 0 else 1) ok_is))
+
+    pub report_stops : (start reads reads' : ℕ) (named : Option Name) (old new : Option (List ℕ)) (faults faults' : ℕ) (why : Reason)
+        → start ≤ reads
+        → StopsReport told line.steps commands reads reads' named old new faults faults' why
+        → StopsWork words told start reads' named old new faults faults' why
+    report_stops start reads reads' named old new faults faults' (Unread file) later (is_named, inl faulted, gains) = (
+      (
+        to_read file (inr (λ m tells. (line.steps, commands, job m tells, is_named))),
+        inl (record { rose = rose_from start reads reads' later faulted.rose; named = faulted.named }),
+      ),
+      λ m tells. inr (gained old new gains m tells),
+    )
+    report_stops start reads reads' named old new faults faults' (Unread file) later (is_named, inr (m, tells, missing), gains) = (
+      (
+        to_read file (inr (λ m tells. (line.steps, commands, job m tells, is_named))),
+        inr (m, tells, inr (line.steps, commands, job m tells, missing)),
+      ),
+      λ m tells. inr (gained old new gains m tells),
+    )
+    report_stops start reads reads' named old new faults faults' Unwritten later (rose, gains) = (rose, has_reading, gained old new gains)
+    report_stops start reads reads' named old new faults faults' WantOfMemory later gains =
+        λ m tells. inr (gained old new gains m tells)
+    report_stops start reads reads' named old new faults faults' Usage later stop = absurd stop
+    report_stops start reads reads' named old new faults faults' (Refused why) later stop = absurd stop

@@ -1,0 +1,75 @@
+use Rattle.std.proofs.Common.{◌≤◌, ◌+◌, ◌∙◌, length, take, drop, sym, subst, arith}
+use Rattle.std.proofs.lemmas.List.{length-map, take_all}
+use Rattle.w2c_io.specs.Contents.{Told}
+use Rattle.wast_script.specs.Seen.{reason_of, seen_command, seen_commands}
+use Rattle.wast_run.specs.Stages.{setting_of, HasModuleName}
+use Rattle.wast_run.specs.Telling.{IsBehind, StopsTelling}
+use Rattle.wast_run.specs.Report.{is_ok}
+use Rattle.wast_run.proofs.WordLines.{counted_few}
+use Rattle.wast_run.proofs.Lists.{all_mapped_at, mapped_front, mapped_next, mapped_split}
+use Rattle.wast_run.proofs.PartLaws.{behind_more}
+use Rattle.wast_run.proofs.ReportStops.{telling_stops}
+use Rattle.wast_run.proofs.reporting.tell_commands.Goals as goal
+
+pub tell_command-requires-clause-named : goal.tell_command-requires-clause-named
+tell_command-requires-clause-named g c =
+    all_mapped_at HasModuleName seen_command c.args.commands.now c.loop-index.index c.index-commands-index.result
+    c.loop-index-test.true c.index-commands-index.is c.requires.named
+
+pub returns-in-Err-clause-stop : goal.returns-in-Err-clause-stop
+returns-in-Err-clause-stop g c =
+    let files = g.F.Files in
+    let out = g.O.Sink in
+    let commands = c.args.commands.now in
+    let seen = seen_commands commands in
+    let k = c.loop-index.index in
+    let item = c.index-commands-index.result in
+    let lt = c.loop-index-test.true in
+    telling_stops (files.told c.args.files.now) c.args.steps seen
+    (files.read_faults c.args.files.now) (files.read_faults c.loop-index.files) (files.read_faults c.tell_command.new.files)
+    (files.fault_name c.tell_command.new.files)
+    (out.told c.args.out.now) (out.told c.loop-index.out) (out.told c.tell_command.new.out)
+    (out.faults c.args.out.now) (out.faults c.loop-index.out) (out.faults c.tell_command.new.out)
+    c.loop-index.ok (setting_of c.loop-index.stage) c.loop-index.invariant.later
+    (take k seen) (drop (k + 1) seen) (seen_command item) k (reason_of c.in-Err.stop)
+    (mapped_split seen_command commands k item lt c.index-commands-index.is) (mapped_front seen_command commands k lt)
+    c.loop-index.invariant.reads c.loop-index.invariant.behind
+    (subst (λ (told : Told). StopsTelling told c.args.steps k (setting_of c.loop-index.stage) (seen_command item)
+    (files.read_faults c.loop-index.files) (files.read_faults c.tell_command.new.files) (files.fault_name c.tell_command.new.files)
+    (out.told c.loop-index.out) (out.told c.tell_command.new.out) (out.faults c.loop-index.out) (out.faults c.tell_command.new.out)
+    (reason_of c.in-Err.stop)) c.loop-index.invariant.told c.in-Err.ensures.stop)
+
+pub loop-index-preserved : goal.loop-index-preserved
+loop-index-preserved g c =
+    let files = g.F.Files in
+    let out = g.O.Sink in
+    let commands = c.args.commands.now in
+    let k = c.loop-index.index in
+    let item = c.index-commands-index.result in
+    let lt = c.loop-index-test.true in
+    record {
+      told = c.tell_command.ensures.told ∙ c.loop-index.invariant.told;
+      current = c.tell_command.ensures.current ∙ c.loop-index.invariant.current;
+      reads = omega (arith, c.loop-index.invariant.reads, c.tell_command.ensures.reads);
+      later = omega (arith, c.loop-index.invariant.later, c.tell_command.ensures.later);
+      sound = c.in-Ok.ensures.sound;
+      few = counted_few (is_ok c.in-Ok.word) c.loop-index.ok c.counted-ok.result k c.counted-ok.ensures c.loop-index.invariant.few;
+      behind = λ m tells.
+          subst (λ front. IsBehind m c.args.steps front (setting_of c.tell_command.new.stage) (out.told c.args.out.now)
+          (out.told c.tell_command.new.out) c.counted-ok.result) (sym (mapped_next seen_command commands k item lt c.index-commands-index.is))
+          (behind_more m c.args.steps k (take k (seen_commands commands)) (seen_command item) c.in-Ok.word
+          (setting_of c.loop-index.stage) (setting_of c.tell_command.new.stage)
+          (out.told c.args.out.now) (out.told c.loop-index.out) (out.told c.tell_command.new.out) c.loop-index.ok c.counted-ok.result
+          (mapped_front seen_command commands k lt) c.counted-ok.ensures
+          (c.loop-index.invariant.behind m tells) (c.in-Ok.ensures.tells m (c.loop-index.invariant.told ∙ tells)));
+    }
+
+pub returns-clause-behind : goal.returns-clause-behind
+returns-clause-behind g c = λ m tells.
+    let commands = c.args.commands.now in
+    let k = c.loop-index.index in
+    let past : length (seen_commands commands) ≤ k = omega (arith, c.loop-index-test.false, length-map commands seen_command) in (
+      setting_of c.loop-index.stage,
+      subst (λ front. IsBehind m c.args.steps front (setting_of c.loop-index.stage) (g.O.Sink.told c.args.out.now)
+          (g.O.Sink.told c.loop-index.out) c.loop-index.ok) (take_all k (seen_commands commands) past) (c.loop-index.invariant.behind m tells),
+    )

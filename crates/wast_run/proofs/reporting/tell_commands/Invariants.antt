@@ -1,0 +1,22 @@
+use Rattle.std.proofs.Common.{◌≡◌, ◌≤◌, take}
+use Rattle.w2c_io.specs.Telling.{Tells}
+use Rattle.wast_script.specs.Seen.{seen_commands}
+use Rattle.wast_run.specs.Stages.{setting_of, IsSound}
+use Rattle.wast_run.specs.Telling.{IsBehind}
+use Rattle.wast_run.proofs.reporting.tell_commands.Given as goal
+
+-- the lines of so many commands are written
+abbrev pub invariant-loop-index : goal.invariant-loop-index
+invariant-loop-index g l =
+    let files = g.F.Files in
+    let out = g.O.Sink in
+    record {
+      told : files.told l.files ≡ files.told l.fn.files;
+      current : files.current l.files ≡ files.current l.fn.files;
+      reads : files.read_faults l.fn.files ≤ files.read_faults l.files;
+      later : out.faults l.fn.out ≤ out.faults l.out;
+      sound : IsSound l.stage;
+      few : l.ok ≤ l.index;
+      behind : Tells (files.told l.fn.files) (λ m. IsBehind m l.steps (take l.index (seen_commands l.commands)) (setting_of l.stage)
+          (out.told l.fn.out) (out.told l.out) l.ok);
+    }

@@ -1,0 +1,31 @@
+use Rattle.std.proofs.Common.{◌≡◌, ◌++◌, ◌∙◌, ap}
+use Rattle.wast_run.specs.Runs.{listed_calls}
+use Rattle.wast_run.proofs.StageLaws.{joins_set, joins_not, ready_more}
+use Rattle.wast_run.proofs.stage.Stage.join.Goals as goal
+
+pub returns-in-Ok-true-clause-joins : goal.returns-in-Ok-true-clause-joins
+returns-in-Ok-true-clause-joins c =
+    let stage = c.args.self.now in
+    let name = c.args.name.now in
+    let same : c.extend.new.self ≡ name = c.in_ok-extend.ensures.ok ∙ ap (λ l. l ++ name) c.new-owned.ensures in
+    let is = c.in-Ok-true.field-0-test in
+    joins_set stage.set (listed_calls stage.kept.items) name c.extend.new.self c.args.«module» same
+    c.join.new.self (c.in-Ok-true.ensures.joined is) (c.in-Ok-true.ensures.linked is)
+
+pub returns-in-Ok-true-clause-sound : goal.returns-in-Ok-true-clause-sound
+returns-in-Ok-true-clause-sound c =
+    let stage = c.args.self.now in
+    let name = c.args.name.now in
+    let same : c.extend.new.self ≡ name = c.in_ok-extend.ensures.ok ∙ ap (λ l. l ++ name) c.new-owned.ensures in
+    let is = c.in-Ok-true.field-0-test in
+    ready_more stage.set (listed_calls stage.kept.items) name c.extend.new.self c.args.«module» same
+    c.join.new.self (c.in-Ok-true.ensures.joined is) (c.in-Ok-true.ensures.linked is) c.requires.named c.requires.sound
+
+pub returns-in-Ok-false-clause-joins : goal.returns-in-Ok-false-clause-joins
+returns-in-Ok-false-clause-joins c =
+    let stage = c.args.self.now in
+    let name = c.args.name.now in
+    let same : c.extend.new.self ≡ name = c.in_ok-extend.ensures.ok ∙ ap (λ l. l ++ name) c.new-owned.ensures in
+    let is = c.in-Ok-false.field-0-test in
+    joins_not stage.set (listed_calls stage.kept.items) name c.extend.new.self c.args.«module» same
+    c.join.new.self (c.in-Ok-false.ensures.unchanged is) (c.in-Ok-false.ensures.unlinked is)

@@ -1,0 +1,68 @@
+use Rattle.std.proofs.Common.{◌∙◌, refl, subst}
+use Rattle.w2c_files.specs.Words.{texts}
+use Rattle.w2c_io.specs.Contents.{Told}
+use Rattle.w2c_io.specs.Telling.{Tells}
+use Rattle.wast_script.specs.Seen.{reason_of, seen_commands, seen_line, seen_script}
+use Rattle.wast_run.specs.Jobs.{IsJob, Reports}
+use Rattle.wast_run.specs.Stopping.{StopsReport}
+use Rattle.wast_run.specs.Telling.{HasReported}
+use Rattle.wast_run.proofs.WorkLaws.{job_of_text, report_stops, reports, script_stops, words_stop}
+use Rattle.wast_run.proofs.work.work.Goals as goal
+
+pub returns-in-Err-clause-stop : goal.returns-in-Err-clause-stop
+returns-in-Err-clause-stop g c =
+    let files = g.F.Files in
+    words_stop (texts c.args.words.now) (files.told c.args.files.now) (files.read_faults c.args.files.now)
+    (files.read_faults c.args.files.now) (files.fault_name c.args.files.now) (g.O.Sink.told c.args.out.now) (g.O.Sink.faults c.args.out.now)
+    (reason_of c.in-Err.stop) c.in-Err.ensures.stop
+
+pub returns-in-Err-script_in-clause-stop : goal.returns-in-Err-script_in-clause-stop
+returns-in-Err-script_in-clause-stop g c =
+    let files = g.F.Files in
+    script_stops (texts c.args.words.now) (seen_line c.in-Ok.line) c.in-Ok.ensures.line (files.told c.args.files.now)
+    (files.read_faults c.args.files.now) (files.read_faults c.script_in.new.files) (files.fault_name c.script_in.new.files)
+    (g.O.Sink.told c.args.out.now) (g.O.Sink.faults c.args.out.now)
+    (reason_of c.in-Err-script_in.stop) c.in-Err-script_in.ensures.stop
+
+pub returns-clause-stop : goal.returns-clause-stop
+returns-clause-stop g c =
+    let files = g.F.Files in
+    let words = texts c.args.words.now in
+    let line = seen_line c.in-Ok.line in
+    let told = files.told c.args.files.now in
+    let commands = seen_script c.in-Ok-script_in.script in
+    let job : Tells told (λ m. IsJob words m (Reports line.steps commands)) =
+    λ m tells. let s = c.in-Ok-script_in.ensures.script m tells in
+    job_of_text words line c.in-Ok.ensures.line told m s.0 (Reports line.steps commands) s.1 (s.2, refl) in
+    report_stops words line c.in-Ok.ensures.line told commands job
+    (files.read_faults c.args.files.now) (files.read_faults c.script_in.new.files) (files.read_faults c.report_commands.new.files)
+    (files.fault_name c.report_commands.new.files) (g.O.Sink.told c.args.out.now) (g.O.Sink.told c.report_commands.new.out)
+    (g.O.Sink.faults c.args.out.now) (g.O.Sink.faults c.report_commands.new.out)
+    (reason_of c.in-Err-report_commands.stop) c.in-Ok-script_in.ensures.later
+    (subst (λ (told : Told). StopsReport told line.steps commands (files.read_faults c.script_in.new.files)
+    (files.read_faults c.report_commands.new.files) (files.fault_name c.report_commands.new.files)
+    (g.O.Sink.told c.args.out.now) (g.O.Sink.told c.report_commands.new.out)
+    (g.O.Sink.faults c.args.out.now) (g.O.Sink.faults c.report_commands.new.out) (reason_of c.in-Err-report_commands.stop))
+    c.script_in.ensures.told
+    (subst (λ items. StopsReport (files.told c.script_in.new.files) line.steps (seen_commands items) (files.read_faults c.script_in.new.files)
+    (files.read_faults c.report_commands.new.files) (files.fault_name c.report_commands.new.files)
+    (g.O.Sink.told c.args.out.now) (g.O.Sink.told c.report_commands.new.out)
+    (g.O.Sink.faults c.args.out.now) (g.O.Sink.faults c.report_commands.new.out) (reason_of c.in-Err-report_commands.stop))
+    c.as_slice.ensures.value c.in-Err-report_commands.ensures.stop))
+
+pub returns-in-Ok-report_commands-clause-reported : goal.returns-in-Ok-report_commands-clause-reported
+returns-in-Ok-report_commands-clause-reported g c = λ m tells.
+    let files = g.F.Files in
+    let words = texts c.args.words.now in
+    let line = seen_line c.in-Ok.line in
+    let told = files.told c.args.files.now in
+    let commands = seen_script c.in-Ok-script_in.script in
+    let job : Tells told (λ m. IsJob words m (Reports line.steps commands)) =
+    λ m tells. let s = c.in-Ok-script_in.ensures.script m tells in
+    job_of_text words line c.in-Ok.ensures.line told m s.0 (Reports line.steps commands) s.1 (s.2, refl) in
+    reports words line c.in-Ok.ensures.line told commands job m tells (g.O.Sink.told c.args.out.now) (g.O.Sink.told c.report_commands.new.out)
+    c.in-Ok-report_commands.all_ok c.status_for.result
+    (subst (λ items. HasReported m line.steps (seen_commands items) (g.O.Sink.told c.args.out.now) (g.O.Sink.told c.report_commands.new.out)
+    c.in-Ok-report_commands.all_ok) c.as_slice.ensures.value
+    (c.in-Ok-report_commands.ensures.reported m (c.script_in.ensures.told ∙ tells)))
+    c.status_for.ensures
