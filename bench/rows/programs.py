@@ -1,7 +1,8 @@
-# programs.py stdin|stdout FEATURE...: rows of command lines of wasm2c and crun, and what must be said of each, for
+# programs.py stdin|stdout FEATURE...: rows of command lines of wasm2c, crun and wast_run, and what must be said of each, for
 # crates/program_rows. A row stands where the features that it needs are named: `linked` (crun runs units of any module, one
-# or several), `state`, `words` (options in any order), `set` (--dir), `gen`. What must be said is written here by hand, or computed as the
+# or several), `state`, `words` (options in any order), `set` (--dir), `gen`, `wast` (scripts of assertions). What must be said is written here by hand, or computed as the
 # standard has it; the programs have no part in it.
+import json
 import subprocess
 import sys
 import pathlib
@@ -397,6 +398,184 @@ Row("a session in which something was undefined is over", "linked").text(
     f"u32 {R}(void) {{ g0 = (g0 / 0u); return g0; }}").session(
     1000, "s.c", ("init", "ended; g0 5, asks 0"), (F, "i32:6; g0 6, asks 0"), (R, "undefined 1; g0 6, asks 0"),
     (F, "over, undefined 1; g0 6, asks 0"))
+
+# ---- units that are merged and trimmed
+
+MERGED = ['#include "w2c_rt.h"', "u32 w2cZ_uZ_fZ_q(u32 u0_x, u32 u0_y) {", "u32 u0_z = 0u;", "u0_z = (u0_x / u0_y);", "return u0_z;", "}"]
+MERGE = "--merge m.c out/a.c out/b.c"
+linked("two linked modules merged").ran("crun", MERGE, 0, [], []).crun(
+    "three m.c", 0, "call 1 = i32:11", "call 2 = i32:5", "call 3 = i32:7")
+Row("a unit merged alone", "linked").text("u.c", *DIVIDES).ran("crun", "--merge m.c u.c", 0, [], []).holds("m.c", *MERGED).calls(
+    "m.c", 8, ["u q 1 0"], "call 1 undefined 1 unit 0 item 0 statement 1")
+Row("a merged unit with an import", "linked").module("b.wasm", B).translates("b").ran(
+    "crun", "--merge m.c b.c", 6, [], ["crun: b.c: undefined w2cZ_aZ_mZ_mem"]).none("m.c")
+Row("a unit merged with itself", "linked").text("u.c", *DIVIDES).ran(
+    "crun", "--merge m.c u.c u.c", 6, [], ["crun: u.c: twice w2cZ_uZ_fZ_q"]).none("m.c")
+Row("a merged unit that breaks a rule", "linked").text("u.c", *DIVIDES).text("l.c", *LABEL).ran(
+    "crun", "--merge m.c u.c l.c", 6, [], ["crun: l.c: rule 7 item 0 statement 1"]).none("m.c")
+Row("a merged unit with an import of a host", "linked").module("h.wasm", TWICE).translates("h").ran(
+    "crun", "--merge m.c h.c", 0, [], []).calls("m.c", 0, ["h r"], "host env tick = i64:1", "host env tick = i64:2", "call 1 = i64:3")
+H = ["static u32 h(void) {", "return 1u;", "}"]
+Row("a function that nothing needs", "linked").text("u.c", DIVIDES[0], *H, *DIVIDES[1:]).calls(
+    "u.c", 8, ["u q 1 0"], "call 1 undefined 1 unit 0 item 1 statement 1").ran("crun", "--trim t.c u.c", 0, [], []).holds(
+    "t.c", *DIVIDES).calls("t.c", 8, ["u q 1 0"], "call 1 undefined 1 unit 0 item 0 statement 1")
+Row("functions that need each other alone", "linked").text(
+    "u.c", DIVIDES[0], "static u32 g(u32 n);", "static u32 h(u32 n) { u32 r = 0u; r = g(n); return r; }",
+    "static u32 g(u32 n) { u32 r = 0u; r = h(n); return r; }", *DIVIDES[1:]).ran("crun", "--trim t.c u.c", 0, [], []).holds("t.c", *DIVIDES)
+ELEMENT = ['#include "w2c_rt.h"', "static w2c_tab t0;", *H, "void w2cZ_aZ_i(void) {", "w2c_tab_new(& t0, 2u, 2ull);",
+           "w2c_tab_set(& t0, 1ull, (w2c_fn) h, 13ull);", "return;", "}"]
+Row("a function in a table", "linked").text("u.c", *ELEMENT).ran("crun", "--trim t.c u.c", 0, [], []).holds("t.c", *ELEMENT)
+Row("a trimmed unit that is refused", "linked").text("f.c", '#include "w2c_rt.h"', "float x;").ran(
+    "crun", "--trim t.c f.c", 6, [], ["crun: f.c: unexpected at 20: wanted item"]).ran(
+    "crun", "--trim t.c n.c", 3, [], ["crun: n.c: read fault"]).none("t.c")
+
+
+def written(row, words, file, *held):
+    """What is said where a write of the file that crun writes fails. The files that are held are watched, too."""
+    row.watch(file)
+    before = "out whole, " + "".join(f"{name} as before, " for name in held) + file
+    for kind, part in (("begin", "none"), ("put", "part"), ("finish", "whole")):
+        row.turns(kind, words, f"4 `crun: write fault` {before} {part}", f"0 `` {before} whole")
+
+
+written(linked("a merged unit is not written"), "crun " + MERGE, "m.c", *UNITS)
+written(Row("a trimmed unit is not written", "linked").text("u.c", *DIVIDES), "crun --trim t.c u.c", "t.c")
+for words in ("--merge m.c", "--merge", "--trim m.c", "--trim m.c u.c u.c", "--merge m.c u.c --state", "--merge m.c u.c --record j",
+              "--trim m.c u.c --replay j", "--trim m.c --merge m.c u.c", "--merge m.c --steps 9 --calls none u.c", "--merge m.h u.c",
+              "--merge .c u.c", "--trim t u.c", "--merge m.c --merge m.c u.c"):
+    Row(f"words `{words}`", "words", "linked").text("u.c", *DIVIDES).text("none", "").ran(
+        "crun", words, 2, [], ["crun: bad command line"]).none("m.c", "j")
+
+# ---- runs that are recorded and replayed
+
+ASKS = ["host env tick = i64:1", "host env tick = i64:2"]
+JOURNAL = ["module env", "function put_i32 i32 = none", "function put_i64 i64 = none", "function tick = i64", *ASKS]
+TRAPPED = [ASKS[0], "host env tick = trap", "call 1 trap 11 host trap"]
+
+
+def asks(title):
+    return Row(title, "linked").module("h.wasm", TWICE).translates("h").text("one", "h r")
+
+
+asks("a run is recorded and replayed").crun("one --record j h.c", 0, *ASKS, "call 1 = i64:3").holds("j", *JOURNAL).crun(
+    "one --replay j h.c", 0, *ASKS, "call 1 = i64:3").crun("one --replay j --record k h.c", 0, *ASKS, "call 1 = i64:3").holds("k", *JOURNAL)
+asks("another reply is replayed").text("j", *JOURNAL[:5], "host env tick = i64:5").crun(
+    "one --replay j h.c", 0, ASKS[0], "host env tick = i64:5", "call 1 = i64:6")
+asks("a reply is missing").text("j", *JOURNAL[:5]).crun("one --replay j --record k h.c", 1, *TRAPPED).holds("k", *JOURNAL[:5], TRAPPED[1])
+asks("a journal of no modules").text("none", "").fill("j", 0).refused("none --replay j h.c", 6, "crun: h.c: undefined w2cZ_envZ_fZ_tick")
+for number, lines in ((7, [*JOURNAL, "module env"]), (1, JOURNAL[1:]), (5, [*JOURNAL[:4], JOURNAL[3]]), (5, [*JOURNAL[:4], "host env tock = i64:1"]),
+                      (5, [*JOURNAL[:4], "host env tick = i32:1"]), (5, [*JOURNAL[:4], "host env tick 1 = i64:1"]), (5, [*JOURNAL[:4], "host env tick = i64:01"]),
+                      (4, [*JOURNAL[:3], "function tick  = i64"]), (2, [JOURNAL[0], ""])):
+    asks(f"a journal whose line {number} is refused: {lines[number - 1]}").text("j", *lines).refused(
+        "one --replay j h.c", 2, f"crun: journal line {number}").none("k")
+asks("a journal that is not there").refused("one --replay j h.c", 3, "crun: j: read fault")
+asks("a run that is refused is not recorded").text("bad", "h").refused("bad --record j h.c", 2, "crun: calls line 1").none("j")
+asks("a run that is out of steps is recorded").crun("one --record j h.c", 7, "init 1 out of steps", steps=0).holds("j", *JOURNAL[:4])
+written(asks("a journal is not written").watch("h.c"), "crun --steps 100000 --calls one --record j h.c", "j", "h.c")
+asks("a line of a recorded run is not written").watch("h.c", "j").turns(
+    "out", "crun --steps 100000 --calls one --record j h.c", "4 `crun: write fault` out part, h.c as before, j none",
+    "0 `` out whole, h.c as before, j whole")
+for words in ("--record j --record k", "--replay j --replay j", "--record", "--replay"):
+    asks(f"words `{words}`").text("j", *JOURNAL).refused(f"one h.c {words}", 2, "crun: bad command line").none("k")
+
+# ---- scripts of assertions
+
+
+def value(ty, number):
+    return {"type": ty, "value": str(number)}
+
+
+def script(row, *commands):
+    return row.text("s.json", json.dumps({"commands": commands}))
+
+
+def of_module(name, file=None):
+    return {"type": "module", "name": name, "filename": file or f"{name}.wasm"}
+
+
+def of_call(kind, module_, field, *args, **more):
+    return {"type": kind, "module": module_, "field": field, "args": list(args), **more}
+
+
+def reported(row, status, *words, steps=100000):
+    """The report has these words."""
+    out = [f"command {k} {word}" for k, word in enumerate(words, 1)] + [f"total {len(words)} ok {words.count('ok')}"]
+    return row.ran("wast_run", f"--steps {steps} s.json", status, out, [])
+
+
+ENDLESS = module(types=[func_type("", "")], funcs=[0], exports=[exported("l", 0, 0)], bodies=[body(b"\x03\x40\x0C\x00\x0B")])
+NO_ELSE = FRONT + bytes.fromhex("0a0b010900410104" "7f41050b0b")
+row = Row("an assertion on a sum", "wast").module("add.wasm", ADD)
+reported(script(row, of_module("add"), of_call(
+    "assert_return", "add", "add", value("i32", 4294967295), value("i32", 1), expected=[value("i32", 0)])), 0, "ok", "ok")
+row = Row("assertions of each kind", "wast").module("d.wasm", DIVISION).module("l.wasm", ENDLESS).module("seven.wasm", module()[:7])
+row.module("i.wasm", NO_ELSE).module("f.wasm", FLOAT)
+reported(script(
+    row, of_module("d"), of_module("l"),
+    of_call("assert_trap", "d", "div", value("i32", 2147483648), value("i32", 4294967295), text="integer overflow"),
+    {"type": "assert_malformed", "filename": "seven.wasm"}, {"type": "assert_invalid", "filename": "i.wasm"},
+    {"type": "assert_invalid", "filename": "f.wasm"}, of_call("assert_trap", "l", "l", text="unreachable")),
+    1, "ok", "ok", "ok", "ok", "ok", "failed", "out of steps", steps=1000)
+row = Row("a module that is joined too soon", "wast").module("a.wasm", A).module("b.wasm", B)
+reported(script(row, of_module("b"), of_module("a"), of_module("b"), of_call("call", "b", "again"), of_call(
+    "assert_return", "a", "peek", expected=[value("i32", 0)])), 1, "unlinked", "ok", "ok", "ok", "ok")
+row = Row("calls that are kept, and assertions that are not", "wast").module("a.wasm", A)
+counts = [of_call("assert_return", "a", "inc", expected=[value("i32", n)]) for n in (6, 6, 7, 7)]
+reported(script(row, of_module("a"), counts[0], counts[1], of_call("call", "a", "inc"), counts[2], counts[3], counts[0]),
+         1, "ok", "ok", "ok", "ok", "ok", "ok", "failed")
+row = Row("calls that do not fit", "wast").module("a.wasm", A)
+reported(script(row, of_module("a"), of_call("call", "a", "inc", value("i32", 1)), of_call("call", "a", "g"), of_call("call", "b", "inc"),
+                of_call("assert_return", "a", "none", expected=[]), of_call("assert_trap", "a", "mem", text="unreachable")),
+         1, "ok", *["no such call"] * 5)
+row = Row("values that differ", "wast").module("add.wasm", ADD)
+two = (value("i32", 1), value("i32", 1))
+reported(script(row, of_module("add"), *[of_call("assert_return", "add", "add", *two, expected=it) for it in (
+    [value("i32", 2)], [value("i32", 3)], [value("i64", 2)], [])], of_call("assert_trap", "add", "add", *two, text="unreachable")),
+    1, "ok", "ok", "failed", "failed", "failed", "failed")
+row = Row("traps that differ, and a trap in a call that is kept", "wast").module("d.wasm", DIVISION)
+zero = (value("i32", 1), value("i32", 0))
+reported(script(row, of_module("d"), of_call("assert_trap", "d", "div", *zero, text="division by zero"), of_call(
+    "assert_trap", "d", "div", *zero, text="integer overflow"), of_call("assert_return", "d", "div", *zero, expected=[]), of_call(
+    "call", "d", "div", *zero), of_call("assert_trap", "d", "div", *zero, text="division by zero"), of_call(
+    "assert_return", "d", "rem", *two, expected=[value("i32", 0)])), 1, "ok", "ok", "failed", "failed", "ok", "failed", "failed")
+row = Row("a module that traps while it starts", "wast").module("s.wasm", PAST).module("add.wasm", ADD)
+reported(script(row, of_module("add"), of_module("s"), of_call("assert_return", "add", "add", *two, expected=[value("i32", 2)]), of_call(
+    "assert_trap", "add", "add", *two, text="segment out of bounds")), 1, "ok", "ok", "failed", "failed")
+row = Row("a module that is refused, a name that is taken, and seventeen modules", "wast").module("add.wasm", ADD).module("f.wasm", FLOAT)
+row.module("i.wasm", NO_ELSE)
+reported(script(row, of_module("f"), of_module("i"), of_module("add"), of_module("add"), *[of_module(f"m{i}", "add.wasm") for i in range(16)]),
+         1, "refused", "refused", "ok", "unlinked", *["ok"] * 15, "unlinked")
+row = Row("verdicts on files", "wast").module("add.wasm", ADD).module("i.wasm", NO_ELSE).module("f.wasm", FLOAT).module("seven.wasm", module()[:7])
+reported(script(row, *[{"type": kind, "filename": file} for kind in ("assert_invalid", "assert_malformed") for file in (
+    "add.wasm", "i.wasm", "f.wasm", "seven.wasm")]), 1, "failed", "ok", "failed", "failed", "failed", "failed", "failed", "ok")
+row = Row("a file of a command that is not there", "wast").module("add.wasm", ADD)
+script(row, of_module("add"), {"type": "assert_invalid", "filename": "none.wasm"}, of_module("add")).ran(
+    "wast_run", "--steps 9 s.json", 3, ["command 1 ok"], ["wast_run: none.wasm: read fault"])
+Row("a script that is not there", "wast").ran("wast_run", "--steps 9 s.json", 3, [], ["wast_run: s.json: read fault"])
+reported(script(Row("a script without commands", "wast")), 0)
+ONE_MODULE = '{"type":"module","name":"m","filename":"m.wasm"}'
+for text, said in (("{", "script is not JSON"), ("", "script is not JSON"), ("[]", "no commands"), ("{}", "no commands"),
+                   ('{"commands":{}}', "no commands"), ('{"commands":[1]}', "no commands"), ('{"commands":[{"type":"module"}]}', "command 1"),
+                   (f'{{"commands":[{ONE_MODULE},{{"type":"assert_return"}}]}}', "command 2"),
+                   ('{"commands":[{"type":"module","name":"m","filename":1}]}', "command 1"),
+                   ('{"commands":[{"type":"call","module":"m","field":"f","args":[{"type":"i32","value":"4294967296"}]}]}', "command 1"),
+                   ('{"commands":[{"type":"call","module":"m","field":"f","args":[{"type":"f32","value":"1"}]}]}', "command 1"),
+                   ('{"commands":[{"type":"assert_trap","module":"m","field":"f","args":[],"text":"trap"}]}', "command 1"),
+                   ('{"commands":[{"type":"assert_return","module":"m","field":"f","args":[],"expected":[1]}]}', "command 1"),
+                   ('{"commands":[{"type":"other"}]}', "command 1")):
+    Row(f"script `{text}`", "wast").text("s.json", text).ran("wast_run", "--steps 9 s.json", 2, [], [f"wast_run: {said}"])
+for size in (1048576, 1048577):
+    row = Row(f"a script of {size} bytes", "wast").text("s.json", '{"commands":[]}').fill("s.json", size - 16, 32)
+    row.ran("wast_run", "--steps 9 s.json", *[0, ["total 0 ok 0"], []] if size == 1048576 else [2, [], ["wast_run: script too long"]])
+for words in ("", "s.json", "--steps 9", "--steps x s.json", "--steps 9 s.json s.json", f"--steps {2**64} s.json", "--steps 9 --steps 9 s.json"):
+    Row(f"words `{words}` of wast_run", "wast").text("s.json", '{"commands":[]}').ran("wast_run", words, 2, [], ["wast_run: bad command line"])
+row = Row("a line of a report is not written", "wast").module("add.wasm", ADD)
+script(row, of_module("add"), of_module("add")).watch("s.json").turns(
+    "out", "wast_run --steps 9 s.json", "4 `wast_run: write fault` out part, s.json as before", "1 `` out whole, s.json as before")
+row = Row("a script or a file of a command cannot be read", "wast").module("add.wasm", ADD)
+script(row, of_module("add"), of_module("add")).watch("s.json").turns(
+    "read", "wast_run --steps 9 s.json", *[f"3 `wast_run: {name}: read fault` out part, s.json as before" for name in ("s.json", "add.wasm")],
+    "1 `` out whole, s.json as before")
 
 # ---- each cut of a module and of a unit
 
