@@ -34,14 +34,6 @@ module _ (contents : Contents) (steps : ℕ) where
   lead_plain at (c ∷ front) words after (v, others, next, first, later, is) =
       (v, others, next, first.0, lead_plain next front others after later, is)
 
-  pub plain_more : (at : Setting) (front : List Command) (words : List Word) (between after : Setting) (command : Command) (w : Word)
-      → Lead contents steps at front words between → Comes contents steps between command w after
-      → Lead contents steps at (front ++ command ∷ []) (words ++ w ∷ []) after
-  plain_more at [] words between after command w lead comes =
-      (w, [], after, subst (λ s. Comes contents steps s command w after) lead.1 comes, (refl, refl), ap (λ l. l ++ w ∷ []) lead.0)
-  plain_more at (c ∷ front) words between after command w (v, others, next, first, later, is) comes =
-      (v, others ++ w ∷ [], next, first, plain_more next front others between after command w later comes, ap (λ l. l ++ w ∷ []) is)
-
   pub lead_length : (at : Setting) (front : List Command) (words : List Word) (after : Setting)
       → LeadInTime contents steps at front words after → length words ≡ length front
   lead_length at [] words after lead = ap length lead.0

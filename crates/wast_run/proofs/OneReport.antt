@@ -17,6 +17,7 @@ use Rattle.wast_run.specs.Report.{accepted_tree, command_line, holds, is_invalid
 use Rattle.wast_run.specs.Report.{AreWords, Asserts, Comes, EndsWith, IsFile, IsJudged, Joins, Keeps, Lead, Runs, Setting, TrapsIn}
 use Rattle.wast_run.specs.Report.{Where, at_first, calls_with, set_at}
 use Rattle.wast_run.specs.Parts.{lines_before, IsPart}
+use Rattle.wast_run.proofs.Leads.{lead_plain}
 use Rattle.wast_run.proofs.Written.{prefix_in_front}
 
 -- two things that are said by one choice are said in the same case of it
@@ -138,7 +139,8 @@ pub part_is_prefix : (contents : Contents) (steps : ℕ) (commands : List Comman
 part_is_prefix contents steps commands words text (after, lead) part =
     let whole = front_words contents steps part.front part.rest at_first words after
     (subst (λ l. Lead contents steps at_first l words after) part.split lead) in
-    let same = (one_lead contents steps part.front at_first part.words whole.0 part.after whole.2 part.lead whole.3).0 in
+    let same = (one_lead contents steps part.front at_first part.words whole.0 part.after whole.2
+    (lead_plain contents steps at_first part.front part.words part.after part.lead) whole.3).0 in
     subst (λ ws. IsPrefix text (report_of ws)) (sym whole.5)
     (prefix_of_report contents steps whole.2 part.rest whole.0 whole.1 after text whole.4
     (subst (λ ws. IsPrefix text (lines_before ws part.rest)) same part.prefix))

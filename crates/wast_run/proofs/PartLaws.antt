@@ -9,13 +9,13 @@ use Rattle.w2c_io.specs.Contents.{Name, Contents, Told, IsPrefix, extended}
 use Rattle.w2c_io.specs.Telling.{Tells, SaysPart}
 use Rattle.wast_script.specs.Commands.{Command}
 use Rattle.wast_run.specs.declared.word.Word.{Word}
-use Rattle.wast_run.specs.Report.{Lead, Setting, at_first, command_line, is_ok, lines_of, ok_count, total_line}
+use Rattle.wast_run.specs.Report.{LeadInTime, Setting, at_first, command_line, is_ok, lines_of, ok_count, total_line}
 use Rattle.wast_run.specs.Parts.{file_of, lines_before, HasItsFile, IsPart, IsPartOfLines}
 use Rattle.wast_run.specs.Stopping.{HasGained}
 use Rattle.wast_run.specs.Telling.{HasReported, IsBehind, TellsCommand, TellsPart}
 use Rattle.wast_run.proofs.Written.{none_written, extended_twice, prefix_behind, prefix_in_front, prefix_of_itself, whole_behind}
 use Rattle.wast_run.proofs.WordLines.{count_more, line_more, lines_in_front}
-use Rattle.wast_run.proofs.Leads.{lead_length, lead_more, lead_plain, lead_there, plain_more}
+use Rattle.wast_run.proofs.Leads.{lead_length, lead_more, lead_plain, lead_there}
 
 pub behind_none : (contents : Contents) (steps : ℕ) (old : Option (List ℕ)) → IsBehind contents steps [] at_first old old 0
 behind_none contents steps old = record { words = []; lead = (refl, refl); written = none_written old; counted = refl }
@@ -51,7 +51,8 @@ all_reported contents steps commands at old now new ok behind gained =
 
 -- all lines, and the last
 pub whole_report : (told : Told) (steps : ℕ) (commands : List Command) (old now new : Option (List ℕ)) (ok total : ℕ)
-    → total ≡ length commands → Tells told (λ m. (at : Setting) × IsBehind m steps commands at old now ok) → new ≡ extended now (total_line total ok)
+    → total ≡ length commands → Tells told (λ m. (at : Setting) × IsBehind m steps commands at old now ok)
+    → new ≡ extended now (total_line total ok)
     → Tells told (λ m. HasReported m steps commands old new (ok == total))
 whole_report told steps commands old now new ok total many behind gained m tells =
     let b = behind m tells in
@@ -59,7 +60,7 @@ whole_report told steps commands old now new ok total many behind gained m tells
     (all_reported m steps commands b.0 old now new ok b.1 (gained ∙ ap (λ n. extended now (total_line n ok)) many))
 
 module _ (contents : Contents) (steps : ℕ) (commands front rest : List Command) (split : commands ≡ front ++ rest) where
-  part_of : (words : List Word) (after : Setting) (text : List ℕ) → Lead contents steps at_first front words after
+  part_of : (words : List Word) (after : Setting) (text : List ℕ) → LeadInTime contents steps at_first front words after
       → IsPrefix text (lines_of words) → IsPart contents steps commands text
   part_of words after text lead prefix =
       let front_is = lines_in_front words rest in
@@ -79,7 +80,7 @@ module _ (contents : Contents) (steps : ℕ) (commands front rest : List Command
   gained_lines at old now ok behind =
       let words = behind.words in (
         lines_of words,
-        part_of words at (lines_of words) (lead_plain contents steps at_first front words at behind.lead)
+        part_of words at (lines_of words) behind.lead
             (prefix_of_itself (lines_of words)),
         behind.written,
       )
@@ -94,14 +95,13 @@ gained_part contents steps commands front rest command index at old now new ok s
     subst (HasGained contents steps commands old) (sym same)
     (gained_lines contents steps commands front (command ∷ rest) split at old now ok behind)
 gained_part contents steps commands front rest command index at old now new ok split many behind
-    (inr (w, after, comes, (part, prefix, gained))) =
+    (inr (w, after, comes, timely, (part, prefix, gained))) =
     let words = behind.words in
     let line_is = line_more words w index (lead_length contents steps at_first front words at behind.lead ∙ many) in (
       lines_of words ++ part,
       part_of contents steps commands (front ++ command ∷ []) rest (split ∙ sym (append_assoc front (command ∷ []) rest))
           (words ++ w ∷ []) after (lines_of words ++ part)
-          (plain_more contents steps at_first front words at after command w
-          (lead_plain contents steps at_first front words at behind.lead) comes)
+          (lead_more contents steps at_first front words at after command w behind.lead (comes, timely))
           (subst (IsPrefix (lines_of words ++ part)) (sym line_is)
           (prefix_behind (lines_of words) part (command_line (index + 1) w) prefix)),
       gained ∙ ap (λ o. extended o part) behind.written ∙ extended_twice old (lines_of words) part,
@@ -123,7 +123,7 @@ gained_total contents steps commands at old now new ok behind (part, prefix, gai
         split = sym (append-nil commands);
         words = words;
         after = at;
-        lead = lead_plain contents steps at_first commands words at behind.lead;
+        lead = behind.lead;
         prefix = subst (λ line. IsPrefix (lines_of words ++ part) (lines_of words ++ line)) line_is
             (prefix_behind (lines_of words) part (total_line (length commands) ok) prefix);
       },
@@ -155,7 +155,8 @@ pub part_before : (contents : Contents) (steps : ℕ) (before behind : List Comm
     → file_of command ≡ Some file → get contents file ≡ None
     → IsPart contents steps (before ++ command ∷ behind) text → IsPartOfLines contents steps before text
 part_before contents steps before behind command file text names missing part =
-    let there = lead_there contents steps at_first part.front part.words part.after part.lead in
+    let there = lead_there contents steps at_first part.front part.words part.after
+    (lead_plain contents steps at_first part.front part.words part.after part.lead) in
     let more = front_of (HasItsFile contents) part.front part.rest before behind command there (λ has. has file names missing) part.split in
     record {
       front = part.front;

@@ -9,7 +9,7 @@ use Rattle.wast_script.specs.Commands.{Command}
 use Rattle.wast_script.specs.Seen.{seen_command, seen_commands}
 use Rattle.wast_script.specs.Lines.{Reason, Usage, Unwritten, WantOfMemory, Refused, Unread}
 use Rattle.wast_run.specs.declared.word.Word.{Word}
-use Rattle.wast_run.specs.Report.{Comes, Setting, at_first, command_line, total_line}
+use Rattle.wast_run.specs.Report.{Comes, IsTimely, Setting, at_first, command_line, total_line}
 use Rattle.wast_run.specs.Stopping.{HasGained, StopsLine, StopsReport}
 use Rattle.wast_run.specs.Telling.{IsBehind, StopsTelling}
 use Rattle.wast_run.proofs.Leads.{lead_plain, lead_there}
@@ -18,15 +18,16 @@ use Rattle.wast_run.proofs.PartLaws.{gained_lines, gained_part, gained_total}
 -- a command has come to its word, and its line is not written
 pub line_stops : (told : Told) (steps index : ℕ) (at : Setting) (command : Command) (w : Word) (after : Setting) (reads reads' : ℕ)
     (named : Option Name) (old new : Option (List ℕ)) (faults faults' : ℕ) (why : Reason)
-    → Tells told (λ m. Comes m steps at command w after) → SaysPart old new (command_line (index + 1) w) → StopsLine faults faults' why
+    → Tells told (λ m. Comes m steps at command w after) → IsTimely steps at command w
+    → SaysPart old new (command_line (index + 1) w) → StopsLine faults faults' why
     → StopsTelling told steps index at command reads reads' named old new faults faults' why
-line_stops told steps index at command w after reads reads' named old new faults faults' Unwritten comes said rose =
-    (rose, λ m tells. inr (w, after, comes m tells, said))
-line_stops told steps index at command w after reads reads' named old new faults faults' WantOfMemory comes said stop =
-    λ m tells. inr (w, after, comes m tells, said)
-line_stops told steps index at command w after reads reads' named old new faults faults' Usage comes said stop = absurd stop
-line_stops told steps index at command w after reads reads' named old new faults faults' (Refused why) comes said stop = absurd stop
-line_stops told steps index at command w after reads reads' named old new faults faults' (Unread file) comes said stop = absurd stop
+line_stops told steps index at command w after reads reads' named old new faults faults' Unwritten comes timely said rose =
+    (rose, λ m tells. inr (w, after, comes m tells, timely, said))
+line_stops told steps index at command w after reads reads' named old new faults faults' WantOfMemory comes timely said stop =
+    λ m tells. inr (w, after, comes m tells, timely, said)
+line_stops told steps index at command w after reads reads' named old new faults faults' Usage comes timely said stop = absurd stop
+line_stops told steps index at command w after reads reads' named old new faults faults' (Refused why) comes timely said stop = absurd stop
+line_stops told steps index at command w after reads reads' named old new faults faults' (Unread file) comes timely said stop = absurd stop
 
 module _ (told : Told) (steps : ℕ) (commands : List Command) (start reads reads' : ℕ) (named : Option Name)
     (old now new : Option (List ℕ)) (first faults faults' : ℕ) (ok : ℕ) (at : Setting) (later : first ≤ faults) where

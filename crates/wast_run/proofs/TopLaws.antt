@@ -18,8 +18,8 @@ use Rattle.wast_script.specs.Lines.{Reason, Usage, Unwritten, WantOfMemory, Refu
 use Rattle.wast_run.specs.declared.word.Word.{Word}
 use Rattle.wast_run.specs.Report.{at_first, ok_count, report_of, LeadInTime, Setting}
 use Rattle.wast_run.specs.Parts.{file_of, GainsLinesBefore, HasItsFile, IsFirstMissing, IsNamed, IsPart}
-use Rattle.wast_run.specs.Jobs.{Answers, AsksFor, GainedPart, GainsPrefix, IsAnswered, IsJob, IsJobBehind, IsUnread, Refuses, Reported, ReportedPart, Reports}
-use Rattle.wast_run.specs.Jobs.{Stops}
+use Rattle.wast_run.specs.Jobs.{Answers, AsksFor, GainedPart, GainsPrefix, IsAnswered, IsJob, IsJobBehind, IsUnread, Refuses}
+use Rattle.wast_run.specs.Jobs.{Reported, ReportedPart, Reports, Stops}
 use Rattle.wast_run.specs.Stopping.{StopsWork}
 use Rattle.wast_run.proofs.JobLaws.{AreApart, IsOneScript, job_apart, one_list, one_status}
 use Rattle.wast_run.proofs.Leads.{lead_plain, lead_there, there_at}
@@ -36,7 +36,7 @@ whole_part m steps commands all after lead = record {
   split = sym (append-nil commands);
   words = all;
   after = after;
-  lead = lead_plain m steps at_first commands all after lead;
+  lead = lead;
   prefix = prefix_of_itself (report_of all);
 }
 

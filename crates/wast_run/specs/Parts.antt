@@ -6,7 +6,7 @@ use Rattle.w2c_io.specs.Contents.{Name, Contents, IsPrefix, extended}
 use Rattle.wast_script.specs.Commands as script
 use Rattle.wast_script.specs.Commands.{Command}
 use Rattle.wast_run.specs.declared.word.Word.{Word}
-use Rattle.wast_run.specs.Report.{Setting, Lead, at_first, lines_of, report_of}
+use Rattle.wast_run.specs.Report.{Setting, LeadInTime, at_first, lines_of, report_of}
 
 -- the file that a command names
 abbrev pub file_of : Command → Option Name
@@ -44,24 +44,24 @@ abbrev pub lines_before : List Word → List Command → List ℕ
 lines_before words [] = report_of words
 lines_before words (command ∷ rest) = lines_of words
 
--- The text is a part of the report on commands: a prefix of the lines of the first of them, or of all and the last line.
+-- The text is a part of the report on commands, whose words are timely: a prefix of the lines of the first of them, or of all and the last line.
 pub record IsPart (contents : Contents) (steps : ℕ) (commands : List Command) (text : List ℕ) : Type 0 where
   pub front : List Command
   pub rest : List Command
   pub split : commands ≡ front ++ rest
   pub words : List Word
   pub after : Setting
-  pub lead : Lead contents steps at_first front words after
+  pub lead : LeadInTime contents steps at_first front words after
   pub prefix : IsPrefix text (lines_before words rest)
 
--- The text is a prefix of the lines of the first of these commands, or of all of them.
+-- The text is a prefix of the lines of the first of these commands, or of all of them; their words are timely.
 pub record IsPartOfLines (contents : Contents) (steps : ℕ) (commands : List Command) (text : List ℕ) : Type 0 where
   pub front : List Command
   pub rest : List Command
   pub split : commands ≡ front ++ rest
   pub words : List Word
   pub after : Setting
-  pub lead : Lead contents steps at_first front words after
+  pub lead : LeadInTime contents steps at_first front words after
   pub prefix : IsPrefix text (lines_of words)
 
 -- a stream has gained such a part

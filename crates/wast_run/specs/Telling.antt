@@ -28,7 +28,8 @@ pub record IsBehind (contents : Contents) (steps : ℕ) (front : List Command) (
 -- nothing is written, or a part of its line
 abbrev pub TellsPart : Contents → ℕ → ℕ → Setting → Command → Option (List ℕ) → Option (List ℕ) → Type 0
 TellsPart contents steps index at command old new = (new ≡ old)
-    ⊎ ((w : Word) × (after : Setting) × Comes contents steps at command w after × SaysPart old new (command_line (index + 1) w))
+    ⊎ ((w : Word) × (after : Setting) × Comes contents steps at command w after × IsTimely steps at command w
+    × SaysPart old new (command_line (index + 1) w))
 
 abbrev pub StopsTelling : Told → ℕ → ℕ → Setting → Command → ℕ → ℕ → Option Name → Option (List ℕ) → Option (List ℕ) → ℕ → ℕ → Reason
     → Type 0

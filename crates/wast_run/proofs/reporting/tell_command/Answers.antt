@@ -13,6 +13,6 @@ returns-in-Err-put_line-clause-stop g c =
     c.in-Ok.word (setting_of c.run_command.new.stage)
     (files.read_faults c.args.files.now) (files.read_faults c.run_command.new.files) (files.fault_name c.run_command.new.files)
     (out.told c.args.out.now) (out.told c.put_line.new.out) (out.faults c.args.out.now) (out.faults c.put_line.new.out)
-    (reason_of c.in-Err-put_line.stop) c.in-Ok.ensures.comes
+    (reason_of c.in-Err-put_line.stop) c.in-Ok.ensures.comes c.in-Ok.ensures.timely
     (c.in-Err-put_line.ensures.part (command_line (c.args.index + 1) c.in-Ok.word) c.command_line.ensures)
     c.in-Err-put_line.ensures.stop
