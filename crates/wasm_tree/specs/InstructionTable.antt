@@ -1,10 +1,161 @@
--- The table of instructions but for blocks (WebAssembly Core 1.0, 5.4 and 3.3): a row has the opcode,
+-- Opcodes, and the table of instructions but for blocks (WebAssembly Core 1.0, 5.4 and 3.3): a row has the opcode,
 -- what stands behind it with the instruction that this makes, and the instruction's type.
-use Rattle.std.specs.Prelude.{ℕ, ℤ, List, [], ◌∷◌, Option, Some, None, ◌==◌, if◌then◌else◌}
+use Rattle.std.specs.Prelude.{ℕ, ℤ, List, [], ◌∷◌, ◌++◌, map, Option, Some, None, ◌==◌, if◌then◌else◌}
 use Rattle.w2c_base.specs.declared.value.ValType.{ValType}
 use Rattle.w2c_base.specs.declared.value.ValType.TheVariants as type
 use Rattle.wasm_tree.specs.declared.code.MemArg.{MemArg}
-use Rattle.wasm_tree.specs.Instructions.{Kind, Unreachable, Nop, Return, Drop, Select, MemorySize, MemoryGrow, MemoryCopy, MemoryFill, Br, BrIf, BrTable, Call, CallIndirect, LocalGet, LocalSet, LocalTee, GlobalGet, GlobalSet, Load, Store, I32Const, I64Const, Eqz, Compare, Unary, Binary, I32WrapI64, I64ExtendI32S, I64ExtendI32U, Extend, Eq, Ne, LtS, LtU, GtS, GtU, LeS, LeU, GeS, GeU, Clz, Ctz, Popcnt, Add, Sub, Mul, DivS, DivU, RemS, RemU, And, Or, Xor, Shl, ShrS, ShrU, Rotl, Rotr, I32Load, I64Load, I32Load8S, I32Load8U, I32Load16S, I32Load16U, I64Load8S, I64Load8U, I64Load16S, I64Load16U, I64Load32S, I64Load32U, I32Store, I64Store, I32Store8, I32Store16, I64Store8, I64Store16, I64Store32, I32Extend8S, I32Extend16S, I64Extend8S, I64Extend16S, I64Extend32S}
+use Rattle.wasm_tree.specs.Instructions.{Kind, Unreachable, Nop, Return, Drop, Select, MemorySize, MemoryGrow, MemoryCopy, MemoryFill, Br, BrIf, BrTable, Call, CallIndirect, LocalGet, LocalSet, LocalTee, GlobalGet, GlobalSet, Load, Store, I32Const, I64Const, Eqz, Compare, Unary, Binary, I32WrapI64, I64ExtendI32S, I64ExtendI32U, Extend, Block, Loop, If}
+use Rattle.wasm_tree.specs.declared.operators.UnaryOp.TheVariants.{Clz, Ctz, Popcnt}
+use Rattle.wasm_tree.specs.declared.operators.BinaryOp.TheVariants.{Add, Sub, Mul, DivS, DivU, RemS, RemU, And, Or, Xor, Shl, ShrS, ShrU, Rotl, Rotr}
+use Rattle.wasm_tree.specs.declared.operators.CompareOp.TheVariants.{Eq, Ne, LtS, LtU, GtS, GtU, LeS, LeU, GeS, GeU}
+use Rattle.wasm_tree.specs.declared.operators.LoadOp.TheVariants.{I32Load, I64Load, I32Load8S, I32Load8U, I32Load16S, I32Load16U, I64Load8S, I64Load8U, I64Load16S, I64Load16U, I64Load32S, I64Load32U}
+use Rattle.wasm_tree.specs.declared.operators.StoreOp.TheVariants.{I32Store, I64Store, I32Store8, I32Store16, I64Store8, I64Store16, I64Store32}
+use Rattle.wasm_tree.specs.declared.operators.ExtendOp.TheVariants.{I32Extend8S, I32Extend16S, I64Extend8S, I64Extend16S, I64Extend32S}
+use Rattle.wasm_tree.specs.declared.operators.UnaryOp.{UnaryOp}
+use Rattle.wasm_tree.specs.declared.operators.BinaryOp.{BinaryOp}
+use Rattle.wasm_tree.specs.declared.operators.CompareOp.{CompareOp}
+use Rattle.wasm_tree.specs.declared.operators.LoadOp.{LoadOp}
+use Rattle.wasm_tree.specs.declared.operators.StoreOp.{StoreOp}
+use Rattle.wasm_tree.specs.declared.operators.ExtendOp.{ExtendOp}
+use Rattle.wasm_tree.specs.Accesses.{load_access, store_access, extend_type}
+
+-- ---- opcodes
+
+-- memory instructions (5.4.4)
+abbrev pub load_opcode : LoadOp → ℕ
+load_opcode I32Load = 0x28
+load_opcode I64Load = 0x29
+load_opcode I32Load8S = 0x2C
+load_opcode I32Load8U = 0x2D
+load_opcode I32Load16S = 0x2E
+load_opcode I32Load16U = 0x2F
+load_opcode I64Load8S = 0x30
+load_opcode I64Load8U = 0x31
+load_opcode I64Load16S = 0x32
+load_opcode I64Load16U = 0x33
+load_opcode I64Load32S = 0x34
+load_opcode I64Load32U = 0x35
+
+abbrev pub store_opcode : StoreOp → ℕ
+store_opcode I32Store = 0x36
+store_opcode I64Store = 0x37
+store_opcode I32Store8 = 0x3A
+store_opcode I32Store16 = 0x3B
+store_opcode I64Store8 = 0x3C
+store_opcode I64Store16 = 0x3D
+store_opcode I64Store32 = 0x3E
+
+abbrev pub extend_opcode : ExtendOp → ℕ
+extend_opcode I32Extend8S = 0xC0
+extend_opcode I32Extend16S = 0xC1
+extend_opcode I64Extend8S = 0xC2
+extend_opcode I64Extend16S = 0xC3
+extend_opcode I64Extend32S = 0xC4
+
+-- numeric instructions (5.4.5)
+abbrev pub compare_opcode : ValType → CompareOp → ℕ
+compare_opcode type.I32 Eq = 0x46
+compare_opcode type.I32 Ne = 0x47
+compare_opcode type.I32 LtS = 0x48
+compare_opcode type.I32 LtU = 0x49
+compare_opcode type.I32 GtS = 0x4A
+compare_opcode type.I32 GtU = 0x4B
+compare_opcode type.I32 LeS = 0x4C
+compare_opcode type.I32 LeU = 0x4D
+compare_opcode type.I32 GeS = 0x4E
+compare_opcode type.I32 GeU = 0x4F
+compare_opcode type.I64 Eq = 0x51
+compare_opcode type.I64 Ne = 0x52
+compare_opcode type.I64 LtS = 0x53
+compare_opcode type.I64 LtU = 0x54
+compare_opcode type.I64 GtS = 0x55
+compare_opcode type.I64 GtU = 0x56
+compare_opcode type.I64 LeS = 0x57
+compare_opcode type.I64 LeU = 0x58
+compare_opcode type.I64 GeS = 0x59
+compare_opcode type.I64 GeU = 0x5A
+
+abbrev pub unary_opcode : ValType → UnaryOp → ℕ
+unary_opcode type.I32 Clz = 0x67
+unary_opcode type.I32 Ctz = 0x68
+unary_opcode type.I32 Popcnt = 0x69
+unary_opcode type.I64 Clz = 0x79
+unary_opcode type.I64 Ctz = 0x7A
+unary_opcode type.I64 Popcnt = 0x7B
+
+abbrev pub binary_opcode : ValType → BinaryOp → ℕ
+binary_opcode type.I32 Add = 0x6A
+binary_opcode type.I32 Sub = 0x6B
+binary_opcode type.I32 Mul = 0x6C
+binary_opcode type.I32 DivS = 0x6D
+binary_opcode type.I32 DivU = 0x6E
+binary_opcode type.I32 RemS = 0x6F
+binary_opcode type.I32 RemU = 0x70
+binary_opcode type.I32 And = 0x71
+binary_opcode type.I32 Or = 0x72
+binary_opcode type.I32 Xor = 0x73
+binary_opcode type.I32 Shl = 0x74
+binary_opcode type.I32 ShrS = 0x75
+binary_opcode type.I32 ShrU = 0x76
+binary_opcode type.I32 Rotl = 0x77
+binary_opcode type.I32 Rotr = 0x78
+binary_opcode type.I64 Add = 0x7C
+binary_opcode type.I64 Sub = 0x7D
+binary_opcode type.I64 Mul = 0x7E
+binary_opcode type.I64 DivS = 0x7F
+binary_opcode type.I64 DivU = 0x80
+binary_opcode type.I64 RemS = 0x81
+binary_opcode type.I64 RemU = 0x82
+binary_opcode type.I64 And = 0x83
+binary_opcode type.I64 Or = 0x84
+binary_opcode type.I64 Xor = 0x85
+binary_opcode type.I64 Shl = 0x86
+binary_opcode type.I64 ShrS = 0x87
+binary_opcode type.I64 ShrU = 0x88
+binary_opcode type.I64 Rotl = 0x89
+binary_opcode type.I64 Rotr = 0x8A
+
+abbrev pub eqz_opcode : ValType → ℕ
+eqz_opcode type.I32 = 0x45
+eqz_opcode type.I64 = 0x50
+
+abbrev pub opcode_of : Kind → ℕ
+opcode_of (Block result code end_place) = 0x02
+opcode_of (Loop result code end_place) = 0x03
+opcode_of (If result code otherwise end_place) = 0x04
+opcode_of Unreachable = 0x00
+opcode_of Nop = 0x01
+opcode_of (Br index) = 0x0C
+opcode_of (BrIf index) = 0x0D
+opcode_of (BrTable labels default) = 0x0E
+opcode_of Return = 0x0F
+opcode_of (Call index) = 0x10
+opcode_of (CallIndirect index) = 0x11
+opcode_of Drop = 0x1A
+opcode_of Select = 0x1B
+opcode_of (LocalGet index) = 0x20
+opcode_of (LocalSet index) = 0x21
+opcode_of (LocalTee index) = 0x22
+opcode_of (GlobalGet index) = 0x23
+opcode_of (GlobalSet index) = 0x24
+opcode_of (Load op arg) = load_opcode op
+opcode_of (Store op arg) = store_opcode op
+opcode_of MemorySize = 0x3F
+opcode_of MemoryGrow = 0x40
+opcode_of MemoryCopy = 0xFC
+opcode_of MemoryFill = 0xFC
+opcode_of (I32Const number) = 0x41
+opcode_of (I64Const number) = 0x42
+opcode_of (Eqz ty) = eqz_opcode ty
+opcode_of (Compare ty op) = compare_opcode ty op
+opcode_of (Unary ty op) = unary_opcode ty op
+opcode_of (Binary ty op) = binary_opcode ty op
+opcode_of I32WrapI64 = 0xA7
+opcode_of I64ExtendI32S = 0xAC
+opcode_of I64ExtendI32U = 0xAD
+opcode_of (Extend op) = extend_opcode op
+
+-- ---- rows
 
 -- the immediates, in order
 pub data Form : Type 0 where
@@ -35,8 +186,49 @@ pub record Row : Type 0 where
 abbrev pub row : ℕ → Form → Typing → Row
 row opcode form typing = record { opcode = opcode; form = form; typing = typing }
 
-abbrev pub rows : List Row
-rows =
+-- ---- rows of instructions with an operator, by their opcodes and types
+
+abbrev load_row : LoadOp → Row
+load_row op = row (load_opcode op) (a_mem_arg (Load op)) (of_types (type.I32 ∷ []) ((load_access op).ty ∷ []))
+
+abbrev store_row : StoreOp → Row
+store_row op = row (store_opcode op) (a_mem_arg (Store op)) (of_types (type.I32 ∷ (store_access op).ty ∷ []) [])
+
+abbrev compare_row : ValType → CompareOp → Row
+compare_row ty op = row (compare_opcode ty op) (nothing (Compare ty op)) (of_types (ty ∷ ty ∷ []) (type.I32 ∷ []))
+
+abbrev unary_row : ValType → UnaryOp → Row
+unary_row ty op = row (unary_opcode ty op) (nothing (Unary ty op)) (of_types (ty ∷ []) (ty ∷ []))
+
+abbrev binary_row : ValType → BinaryOp → Row
+binary_row ty op = row (binary_opcode ty op) (nothing (Binary ty op)) (of_types (ty ∷ ty ∷ []) (ty ∷ []))
+
+abbrev extend_row : ExtendOp → Row
+extend_row op = row (extend_opcode op) (nothing (Extend op)) (of_types (extend_type op ∷ []) (extend_type op ∷ []))
+
+abbrev access_rows : List Row
+access_rows =
+    map load_row (I32Load ∷ I64Load ∷ I32Load8S ∷ I32Load8U ∷ I32Load16S ∷ I32Load16U ∷ I64Load8S ∷ I64Load8U ∷ I64Load16S ∷ I64Load16U
+    ∷ I64Load32S ∷ I64Load32U ∷ [])
+    ++ map store_row (I32Store ∷ I64Store ∷ I32Store8 ∷ I32Store16 ∷ I64Store8 ∷ I64Store16 ∷ I64Store32 ∷ [])
+
+abbrev comparison_rows : ValType → List Row
+comparison_rows ty =
+    row (eqz_opcode ty) (nothing (Eqz ty)) (of_types (ty ∷ []) (type.I32 ∷ []))
+    ∷ map (compare_row ty) (Eq ∷ Ne ∷ LtS ∷ LtU ∷ GtS ∷ GtU ∷ LeS ∷ LeU ∷ GeS ∷ GeU ∷ [])
+
+abbrev operator_rows : ValType → List Row
+operator_rows ty =
+    map (unary_row ty) (Clz ∷ Ctz ∷ Popcnt ∷ [])
+    ++ map (binary_row ty) (Add ∷ Sub ∷ Mul ∷ DivS ∷ DivU ∷ RemS ∷ RemU ∷ And ∷ Or ∷ Xor ∷ Shl ∷ ShrS ∷ ShrU ∷ Rotl ∷ Rotr ∷ [])
+
+abbrev extension_rows : List Row
+extension_rows = map extend_row (I32Extend8S ∷ I32Extend16S ∷ I64Extend8S ∷ I64Extend16S ∷ I64Extend32S ∷ [])
+
+-- ---- the table
+
+abbrev control_rows : List Row
+control_rows =
     row 0x00 (nothing Unreachable) by_rule
     ∷ row 0x01 (nothing Nop) (of_types [] [])
     ∷ row 0x0C (an_index Br) by_rule
@@ -52,96 +244,25 @@ rows =
     ∷ row 0x22 (an_index LocalTee) by_rule
     ∷ row 0x23 (an_index GlobalGet) by_rule
     ∷ row 0x24 (an_index GlobalSet) by_rule
-    ∷ row 0x28 (a_mem_arg (Load I32Load)) (of_types (type.I32 ∷ []) (type.I32 ∷ []))
-    ∷ row 0x29 (a_mem_arg (Load I64Load)) (of_types (type.I32 ∷ []) (type.I64 ∷ []))
-    ∷ row 0x2C (a_mem_arg (Load I32Load8S)) (of_types (type.I32 ∷ []) (type.I32 ∷ []))
-    ∷ row 0x2D (a_mem_arg (Load I32Load8U)) (of_types (type.I32 ∷ []) (type.I32 ∷ []))
-    ∷ row 0x2E (a_mem_arg (Load I32Load16S)) (of_types (type.I32 ∷ []) (type.I32 ∷ []))
-    ∷ row 0x2F (a_mem_arg (Load I32Load16U)) (of_types (type.I32 ∷ []) (type.I32 ∷ []))
-    ∷ row 0x30 (a_mem_arg (Load I64Load8S)) (of_types (type.I32 ∷ []) (type.I64 ∷ []))
-    ∷ row 0x31 (a_mem_arg (Load I64Load8U)) (of_types (type.I32 ∷ []) (type.I64 ∷ []))
-    ∷ row 0x32 (a_mem_arg (Load I64Load16S)) (of_types (type.I32 ∷ []) (type.I64 ∷ []))
-    ∷ row 0x33 (a_mem_arg (Load I64Load16U)) (of_types (type.I32 ∷ []) (type.I64 ∷ []))
-    ∷ row 0x34 (a_mem_arg (Load I64Load32S)) (of_types (type.I32 ∷ []) (type.I64 ∷ []))
-    ∷ row 0x35 (a_mem_arg (Load I64Load32U)) (of_types (type.I32 ∷ []) (type.I64 ∷ []))
-    ∷ row 0x36 (a_mem_arg (Store I32Store)) (of_types (type.I32 ∷ type.I32 ∷ []) [])
-    ∷ row 0x37 (a_mem_arg (Store I64Store)) (of_types (type.I32 ∷ type.I64 ∷ []) [])
-    ∷ row 0x3A (a_mem_arg (Store I32Store8)) (of_types (type.I32 ∷ type.I32 ∷ []) [])
-    ∷ row 0x3B (a_mem_arg (Store I32Store16)) (of_types (type.I32 ∷ type.I32 ∷ []) [])
-    ∷ row 0x3C (a_mem_arg (Store I64Store8)) (of_types (type.I32 ∷ type.I64 ∷ []) [])
-    ∷ row 0x3D (a_mem_arg (Store I64Store16)) (of_types (type.I32 ∷ type.I64 ∷ []) [])
-    ∷ row 0x3E (a_mem_arg (Store I64Store32)) (of_types (type.I32 ∷ type.I64 ∷ []) [])
-    ∷ row 0x3F (a_zero MemorySize) (of_types [] (type.I32 ∷ []))
+    ∷ []
+
+abbrev pub rows : List Row
+rows =
+    control_rows
+    ++ access_rows
+    ++ row 0x3F (a_zero MemorySize) (of_types [] (type.I32 ∷ []))
     ∷ row 0x40 (a_zero MemoryGrow) (of_types (type.I32 ∷ []) (type.I32 ∷ []))
     ∷ row 0x41 (an_i32 I32Const) (of_types [] (type.I32 ∷ []))
     ∷ row 0x42 (an_i64 I64Const) (of_types [] (type.I64 ∷ []))
-    ∷ row 0x45 (nothing (Eqz type.I32)) (of_types (type.I32 ∷ []) (type.I32 ∷ []))
-    ∷ row 0x46 (nothing (Compare type.I32 Eq)) (of_types (type.I32 ∷ type.I32 ∷ []) (type.I32 ∷ []))
-    ∷ row 0x47 (nothing (Compare type.I32 Ne)) (of_types (type.I32 ∷ type.I32 ∷ []) (type.I32 ∷ []))
-    ∷ row 0x48 (nothing (Compare type.I32 LtS)) (of_types (type.I32 ∷ type.I32 ∷ []) (type.I32 ∷ []))
-    ∷ row 0x49 (nothing (Compare type.I32 LtU)) (of_types (type.I32 ∷ type.I32 ∷ []) (type.I32 ∷ []))
-    ∷ row 0x4A (nothing (Compare type.I32 GtS)) (of_types (type.I32 ∷ type.I32 ∷ []) (type.I32 ∷ []))
-    ∷ row 0x4B (nothing (Compare type.I32 GtU)) (of_types (type.I32 ∷ type.I32 ∷ []) (type.I32 ∷ []))
-    ∷ row 0x4C (nothing (Compare type.I32 LeS)) (of_types (type.I32 ∷ type.I32 ∷ []) (type.I32 ∷ []))
-    ∷ row 0x4D (nothing (Compare type.I32 LeU)) (of_types (type.I32 ∷ type.I32 ∷ []) (type.I32 ∷ []))
-    ∷ row 0x4E (nothing (Compare type.I32 GeS)) (of_types (type.I32 ∷ type.I32 ∷ []) (type.I32 ∷ []))
-    ∷ row 0x4F (nothing (Compare type.I32 GeU)) (of_types (type.I32 ∷ type.I32 ∷ []) (type.I32 ∷ []))
-    ∷ row 0x50 (nothing (Eqz type.I64)) (of_types (type.I64 ∷ []) (type.I32 ∷ []))
-    ∷ row 0x51 (nothing (Compare type.I64 Eq)) (of_types (type.I64 ∷ type.I64 ∷ []) (type.I32 ∷ []))
-    ∷ row 0x52 (nothing (Compare type.I64 Ne)) (of_types (type.I64 ∷ type.I64 ∷ []) (type.I32 ∷ []))
-    ∷ row 0x53 (nothing (Compare type.I64 LtS)) (of_types (type.I64 ∷ type.I64 ∷ []) (type.I32 ∷ []))
-    ∷ row 0x54 (nothing (Compare type.I64 LtU)) (of_types (type.I64 ∷ type.I64 ∷ []) (type.I32 ∷ []))
-    ∷ row 0x55 (nothing (Compare type.I64 GtS)) (of_types (type.I64 ∷ type.I64 ∷ []) (type.I32 ∷ []))
-    ∷ row 0x56 (nothing (Compare type.I64 GtU)) (of_types (type.I64 ∷ type.I64 ∷ []) (type.I32 ∷ []))
-    ∷ row 0x57 (nothing (Compare type.I64 LeS)) (of_types (type.I64 ∷ type.I64 ∷ []) (type.I32 ∷ []))
-    ∷ row 0x58 (nothing (Compare type.I64 LeU)) (of_types (type.I64 ∷ type.I64 ∷ []) (type.I32 ∷ []))
-    ∷ row 0x59 (nothing (Compare type.I64 GeS)) (of_types (type.I64 ∷ type.I64 ∷ []) (type.I32 ∷ []))
-    ∷ row 0x5A (nothing (Compare type.I64 GeU)) (of_types (type.I64 ∷ type.I64 ∷ []) (type.I32 ∷ []))
-    ∷ row 0x67 (nothing (Unary type.I32 Clz)) (of_types (type.I32 ∷ []) (type.I32 ∷ []))
-    ∷ row 0x68 (nothing (Unary type.I32 Ctz)) (of_types (type.I32 ∷ []) (type.I32 ∷ []))
-    ∷ row 0x69 (nothing (Unary type.I32 Popcnt)) (of_types (type.I32 ∷ []) (type.I32 ∷ []))
-    ∷ row 0x6A (nothing (Binary type.I32 Add)) (of_types (type.I32 ∷ type.I32 ∷ []) (type.I32 ∷ []))
-    ∷ row 0x6B (nothing (Binary type.I32 Sub)) (of_types (type.I32 ∷ type.I32 ∷ []) (type.I32 ∷ []))
-    ∷ row 0x6C (nothing (Binary type.I32 Mul)) (of_types (type.I32 ∷ type.I32 ∷ []) (type.I32 ∷ []))
-    ∷ row 0x6D (nothing (Binary type.I32 DivS)) (of_types (type.I32 ∷ type.I32 ∷ []) (type.I32 ∷ []))
-    ∷ row 0x6E (nothing (Binary type.I32 DivU)) (of_types (type.I32 ∷ type.I32 ∷ []) (type.I32 ∷ []))
-    ∷ row 0x6F (nothing (Binary type.I32 RemS)) (of_types (type.I32 ∷ type.I32 ∷ []) (type.I32 ∷ []))
-    ∷ row 0x70 (nothing (Binary type.I32 RemU)) (of_types (type.I32 ∷ type.I32 ∷ []) (type.I32 ∷ []))
-    ∷ row 0x71 (nothing (Binary type.I32 And)) (of_types (type.I32 ∷ type.I32 ∷ []) (type.I32 ∷ []))
-    ∷ row 0x72 (nothing (Binary type.I32 Or)) (of_types (type.I32 ∷ type.I32 ∷ []) (type.I32 ∷ []))
-    ∷ row 0x73 (nothing (Binary type.I32 Xor)) (of_types (type.I32 ∷ type.I32 ∷ []) (type.I32 ∷ []))
-    ∷ row 0x74 (nothing (Binary type.I32 Shl)) (of_types (type.I32 ∷ type.I32 ∷ []) (type.I32 ∷ []))
-    ∷ row 0x75 (nothing (Binary type.I32 ShrS)) (of_types (type.I32 ∷ type.I32 ∷ []) (type.I32 ∷ []))
-    ∷ row 0x76 (nothing (Binary type.I32 ShrU)) (of_types (type.I32 ∷ type.I32 ∷ []) (type.I32 ∷ []))
-    ∷ row 0x77 (nothing (Binary type.I32 Rotl)) (of_types (type.I32 ∷ type.I32 ∷ []) (type.I32 ∷ []))
-    ∷ row 0x78 (nothing (Binary type.I32 Rotr)) (of_types (type.I32 ∷ type.I32 ∷ []) (type.I32 ∷ []))
-    ∷ row 0x79 (nothing (Unary type.I64 Clz)) (of_types (type.I64 ∷ []) (type.I64 ∷ []))
-    ∷ row 0x7A (nothing (Unary type.I64 Ctz)) (of_types (type.I64 ∷ []) (type.I64 ∷ []))
-    ∷ row 0x7B (nothing (Unary type.I64 Popcnt)) (of_types (type.I64 ∷ []) (type.I64 ∷ []))
-    ∷ row 0x7C (nothing (Binary type.I64 Add)) (of_types (type.I64 ∷ type.I64 ∷ []) (type.I64 ∷ []))
-    ∷ row 0x7D (nothing (Binary type.I64 Sub)) (of_types (type.I64 ∷ type.I64 ∷ []) (type.I64 ∷ []))
-    ∷ row 0x7E (nothing (Binary type.I64 Mul)) (of_types (type.I64 ∷ type.I64 ∷ []) (type.I64 ∷ []))
-    ∷ row 0x7F (nothing (Binary type.I64 DivS)) (of_types (type.I64 ∷ type.I64 ∷ []) (type.I64 ∷ []))
-    ∷ row 0x80 (nothing (Binary type.I64 DivU)) (of_types (type.I64 ∷ type.I64 ∷ []) (type.I64 ∷ []))
-    ∷ row 0x81 (nothing (Binary type.I64 RemS)) (of_types (type.I64 ∷ type.I64 ∷ []) (type.I64 ∷ []))
-    ∷ row 0x82 (nothing (Binary type.I64 RemU)) (of_types (type.I64 ∷ type.I64 ∷ []) (type.I64 ∷ []))
-    ∷ row 0x83 (nothing (Binary type.I64 And)) (of_types (type.I64 ∷ type.I64 ∷ []) (type.I64 ∷ []))
-    ∷ row 0x84 (nothing (Binary type.I64 Or)) (of_types (type.I64 ∷ type.I64 ∷ []) (type.I64 ∷ []))
-    ∷ row 0x85 (nothing (Binary type.I64 Xor)) (of_types (type.I64 ∷ type.I64 ∷ []) (type.I64 ∷ []))
-    ∷ row 0x86 (nothing (Binary type.I64 Shl)) (of_types (type.I64 ∷ type.I64 ∷ []) (type.I64 ∷ []))
-    ∷ row 0x87 (nothing (Binary type.I64 ShrS)) (of_types (type.I64 ∷ type.I64 ∷ []) (type.I64 ∷ []))
-    ∷ row 0x88 (nothing (Binary type.I64 ShrU)) (of_types (type.I64 ∷ type.I64 ∷ []) (type.I64 ∷ []))
-    ∷ row 0x89 (nothing (Binary type.I64 Rotl)) (of_types (type.I64 ∷ type.I64 ∷ []) (type.I64 ∷ []))
-    ∷ row 0x8A (nothing (Binary type.I64 Rotr)) (of_types (type.I64 ∷ type.I64 ∷ []) (type.I64 ∷ []))
-    ∷ row 0xA7 (nothing I32WrapI64) (of_types (type.I64 ∷ []) (type.I32 ∷ []))
+    ∷ comparison_rows type.I32
+    ++ comparison_rows type.I64
+    ++ operator_rows type.I32
+    ++ operator_rows type.I64
+    ++ row 0xA7 (nothing I32WrapI64) (of_types (type.I64 ∷ []) (type.I32 ∷ []))
     ∷ row 0xAC (nothing I64ExtendI32S) (of_types (type.I32 ∷ []) (type.I64 ∷ []))
     ∷ row 0xAD (nothing I64ExtendI32U) (of_types (type.I32 ∷ []) (type.I64 ∷ []))
-    ∷ row 0xC0 (nothing (Extend I32Extend8S)) (of_types (type.I32 ∷ []) (type.I32 ∷ []))
-    ∷ row 0xC1 (nothing (Extend I32Extend16S)) (of_types (type.I32 ∷ []) (type.I32 ∷ []))
-    ∷ row 0xC2 (nothing (Extend I64Extend8S)) (of_types (type.I64 ∷ []) (type.I64 ∷ []))
-    ∷ row 0xC3 (nothing (Extend I64Extend16S)) (of_types (type.I64 ∷ []) (type.I64 ∷ []))
-    ∷ row 0xC4 (nothing (Extend I64Extend32S)) (of_types (type.I64 ∷ []) (type.I64 ∷ []))
-    ∷ row 0xFC a_sub_opcode (of_types (type.I32 ∷ type.I32 ∷ type.I32 ∷ []) [])
+    ∷ extension_rows
+    ++ row 0xFC a_sub_opcode (of_types (type.I32 ∷ type.I32 ∷ type.I32 ∷ []) [])
     ∷ []
 
 abbrev pub first_row : ℕ → List Row → Option Row

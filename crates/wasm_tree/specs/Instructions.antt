@@ -4,30 +4,12 @@
 use Rattle.std.specs.Prelude.{ℕ, ℤ, List, Option}
 use Rattle.w2c_base.specs.declared.value.ValType.{ValType}
 use Rattle.wasm_tree.specs.declared.code.MemArg.{MemArg}
-
--- one operand, a number of the same type
-pub data UnaryOp : Type 0 where
-  Clz Ctz Popcnt : UnaryOp
-
--- two operands, a number of the same type
-pub data BinaryOp : Type 0 where
-  Add Sub Mul DivS DivU RemS RemU And Or Xor Shl ShrS ShrU Rotl Rotr : BinaryOp
-
--- two operands, a truth value
-pub data CompareOp : Type 0 where
-  Eq Ne LtS LtU GtS GtU LeS LeU GeS GeU : CompareOp
-
-pub data LoadOp : Type 0 where
-  I32Load I64Load : LoadOp
-  I32Load8S I32Load8U I32Load16S I32Load16U : LoadOp
-  I64Load8S I64Load8U I64Load16S I64Load16U I64Load32S I64Load32U : LoadOp
-
-pub data StoreOp : Type 0 where
-  I32Store I64Store I32Store8 I32Store16 I64Store8 I64Store16 I64Store32 : StoreOp
-
--- the low bits of a number, extended by their sign
-pub data ExtendOp : Type 0 where
-  I32Extend8S I32Extend16S I64Extend8S I64Extend16S I64Extend32S : ExtendOp
+use Rattle.wasm_tree.specs.declared.operators.UnaryOp.{UnaryOp}
+use Rattle.wasm_tree.specs.declared.operators.BinaryOp.{BinaryOp}
+use Rattle.wasm_tree.specs.declared.operators.CompareOp.{CompareOp}
+use Rattle.wasm_tree.specs.declared.operators.LoadOp.{LoadOp}
+use Rattle.wasm_tree.specs.declared.operators.StoreOp.{StoreOp}
+use Rattle.wasm_tree.specs.declared.operators.ExtendOp.{ExtendOp}
 
 mutual
   -- instructions in order, each with the place of its opcode

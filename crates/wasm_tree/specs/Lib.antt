@@ -1,4 +1,4 @@
-pub mod AccessWidths
+pub mod Accesses
 pub mod Appended
 pub mod InstructionTable
 pub mod Forms
@@ -8,4 +8,4 @@ pub mod Falls
 pub mod Size
 pub mod Stored
 pub mod Views
-pub mod Opcodes
+pub mod Parts

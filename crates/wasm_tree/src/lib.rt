@@ -5,6 +5,10 @@ mod code;
 mod defined;
 mod entries;
 mod instruction_table;
+mod opcodes;
+mod operators;
+#[cfg(test)]
+mod tests;
 mod tree;
 
 pub use code::{Code, ElsePart, Indexes, Instr, Kind, MemArg};
@@ -16,4 +20,12 @@ pub use entries::{
     TypeEntries, TypeEntry,
 };
 pub use instruction_table::the_instruction_table_is_exact;
+pub use opcodes::{
+    BLOCK, BR_TABLE, CALL_INDIRECT, I32_CONST, I64_CONST, IF, LOOP, MEMORY_COPY, MEMORY_FILL,
+    MEMORY_GROW, MEMORY_SIZE, Op, PREFIX,
+};
+pub use operators::{
+    Access, AccessOp, BinaryOp, CompareOp, ExtendOp, IndexOp, LoadOp, Numeric, Parts, Simple,
+    StoreOp, UnaryOp,
+};
 pub use tree::Module;
