@@ -3,7 +3,7 @@ use Rattle.std.proofs.Common.{◌≡◌, ℕ, ◌%◌, ◌^◌, Bool, true, fals
 use Rattle.w2c_base.specs.declared.value.ValType.{ValType}
 use Rattle.w2c_base.specs.declared.value.ValType.TheVariants as type
 use Rattle.w2c_base.specs.declared.value.Value.TheVariants.{I32}
-use Rattle.wasm_tree.specs.Instructions as wasm
+use Rattle.wasm_tree.specs.declared.operators.CompareOp.TheVariants as comparison_op
 use Rattle.wasm_meaning.specs.Operators.{truth}
 use Rattle.c_meaning.specs.State.{Number, Machine, Frame}
 use Rattle.c_meaning.specs.Linking.{Program}
@@ -28,25 +28,25 @@ bit b c e = narrow b ∙ ap truth e
     narrow true = refl
     narrow false = refl
 
-pub lt_s_right : (t : ValType) → DoesOperator (number_helper (record { ty = t; form = form.LtS })) t (Compare wasm.LtS)
+pub lt_s_right : (t : ValType) → DoesOperator (number_helper (record { ty = t; form = form.LtS })) t (Compare comparison_op.LtS)
 lt_s_right type.I32 m x y p q = computed 1 (omega arith) (λ program pending unit item below. ap (given program pending m below)
     (bit _ _ (lt_s_32 x y p q)))
 lt_s_right type.I64 m x y p q = computed 1 (omega arith) (λ program pending unit item below. ap (given program pending m below)
     (bit _ _ (lt_s_64 x y p q)))
 
-pub gt_s_right : (t : ValType) → DoesOperator (number_helper (record { ty = t; form = form.GtS })) t (Compare wasm.GtS)
+pub gt_s_right : (t : ValType) → DoesOperator (number_helper (record { ty = t; form = form.GtS })) t (Compare comparison_op.GtS)
 gt_s_right type.I32 m x y p q = computed 1 (omega arith) (λ program pending unit item below. ap (given program pending m below)
     (bit _ _ (lt_s_32 y x q p)))
 gt_s_right type.I64 m x y p q = computed 1 (omega arith) (λ program pending unit item below. ap (given program pending m below)
     (bit _ _ (lt_s_64 y x q p)))
 
-pub le_s_right : (t : ValType) → DoesOperator (number_helper (record { ty = t; form = form.LeS })) t (Compare wasm.LeS)
+pub le_s_right : (t : ValType) → DoesOperator (number_helper (record { ty = t; form = form.LeS })) t (Compare comparison_op.LeS)
 le_s_right type.I32 m x y p q = computed 1 (omega arith) (λ program pending unit item below. ap (given program pending m below)
     (bit _ _ (le_s_32 x y p q)))
 le_s_right type.I64 m x y p q = computed 1 (omega arith) (λ program pending unit item below. ap (given program pending m below)
     (bit _ _ (le_s_64 x y p q)))
 
-pub ge_s_right : (t : ValType) → DoesOperator (number_helper (record { ty = t; form = form.GeS })) t (Compare wasm.GeS)
+pub ge_s_right : (t : ValType) → DoesOperator (number_helper (record { ty = t; form = form.GeS })) t (Compare comparison_op.GeS)
 ge_s_right type.I32 m x y p q = computed 1 (omega arith) (λ program pending unit item below. ap (given program pending m below)
     (bit _ _ (le_s_32 y x q p)))
 ge_s_right type.I64 m x y p q = computed 1 (omega arith) (λ program pending unit item below. ap (given program pending m below)

@@ -7,7 +7,7 @@ use Rattle.w2c_base.specs.declared.value.ValType.TheVariants as type
 use Rattle.c_meaning.specs.State.{Machine}
 use Rattle.w2c_base.specs.declared.trap.TrapKind.TheVariants.{DivByZero, IntOverflow}
 use Rattle.w2c_base.specs.Values.{bits}
-use Rattle.wasm_tree.specs.Instructions as wasm
+use Rattle.wasm_tree.specs.declared.operators.BinaryOp.TheVariants as binary_op
 use Rattle.wasm_meaning.specs.Operators.{Gives, Traps}
 use Rattle.c_prelude.specs.declared.rows.Form.TheVariants as form
 use Rattle.c_prelude.specs.Rows.{Binary}
@@ -21,7 +21,7 @@ div_u_begins : (t : ValType) (m : Machine) (x y : ℕ) → BeginsWith form.DivU 
 div_u_begins type.I32 m x y p pending unit item below = refl
 div_u_begins type.I64 m x y p pending unit item below = refl
 
-pub div_u_right : (t : ValType) → DoesOperator (number_helper (record { ty = t; form = form.DivU })) t (Binary wasm.DivU)
+pub div_u_right : (t : ValType) → DoesOperator (number_helper (record { ty = t; form = form.DivU })) t (Binary binary_op.DivU)
 div_u_right t m x y p q =
     elim (eqb_tells y 0) [
       | inl z ↦ computed_from form.DivU t m x y 2 (omega arith) (div_u_begins t m x y)
@@ -34,7 +34,7 @@ rem_u_begins : (t : ValType) (m : Machine) (x y : ℕ) → BeginsWith form.RemU 
 rem_u_begins type.I32 m x y p pending unit item below = refl
 rem_u_begins type.I64 m x y p pending unit item below = refl
 
-pub rem_u_right : (t : ValType) → DoesOperator (number_helper (record { ty = t; form = form.RemU })) t (Binary wasm.RemU)
+pub rem_u_right : (t : ValType) → DoesOperator (number_helper (record { ty = t; form = form.RemU })) t (Binary binary_op.RemU)
 rem_u_right t m x y p q =
     elim (eqb_tells y 0) [
       | inl z ↦ computed_from form.RemU t m x y 2 (omega arith) (rem_u_begins t m x y)
@@ -47,7 +47,7 @@ div_s_begins : (t : ValType) (m : Machine) (x y : ℕ) → BeginsWith form.DivS 
 div_s_begins type.I32 m x y p pending unit item below = refl
 div_s_begins type.I64 m x y p pending unit item below = refl
 
-pub div_s_right : (t : ValType) → DoesOperator (number_helper (record { ty = t; form = form.DivS })) t (Binary wasm.DivS)
+pub div_s_right : (t : ValType) → DoesOperator (number_helper (record { ty = t; form = form.DivS })) t (Binary binary_op.DivS)
 div_s_right t m x y p q =
     let N = bits t in
     let d = twice t in
@@ -116,7 +116,7 @@ rem_s_begins : (t : ValType) (m : Machine) (x y : ℕ) → BeginsWith form.RemS 
 rem_s_begins type.I32 m x y p pending unit item below = refl
 rem_s_begins type.I64 m x y p pending unit item below = refl
 
-pub rem_s_right : (t : ValType) → DoesOperator (number_helper (record { ty = t; form = form.RemS })) t (Binary wasm.RemS)
+pub rem_s_right : (t : ValType) → DoesOperator (number_helper (record { ty = t; form = form.RemS })) t (Binary binary_op.RemS)
 rem_s_right t m x y p q =
     let N = bits t in
     let d = twice t in

@@ -9,8 +9,13 @@ use Rattle.w2c_base.specs.declared.value.Value.TheVariants.{I32, I64}
 use Rattle.w2c_base.specs.declared.trap.TrapKind.TheVariants.{MemoryOut}
 use Rattle.w2c_base.specs.Values.{value, type_of, equal_type}
 use Rattle.w2c_base.specs.LittleEndian.{little_endian, low_bytes, bytes_at, with_bytes}
+use Rattle.wasm_tree.specs.declared.operators.LoadOp.{LoadOp}
+use Rattle.wasm_tree.specs.declared.operators.LoadOp.TheVariants as load
+use Rattle.wasm_tree.specs.declared.operators.StoreOp.{StoreOp}
+use Rattle.wasm_tree.specs.declared.operators.StoreOp.TheVariants as store
 use Rattle.wasm_meaning.specs.Operators.{Answer, Gives, Traps}
-use Rattle.wasm_meaning.specs.Memories.{load_access, store_access, extended}
+use Rattle.wasm_meaning.specs.Memories.{extended}
+use Rattle.wasm_tree.specs.Accesses.{load_access, store_access}
 use Rattle.c_tree.specs.declared.tree.CType.{CType}
 use Rattle.c_tree.specs.declared.tree.CType.TheVariants.{Void}
 use Rattle.c_tree.specs.declared.tree.COp.TheVariants as op
@@ -24,12 +29,7 @@ use Rattle.c_meaning.specs.Primitives.{primitive, get, put, on_memory}
 use Rattle.c_meaning.specs.Step.{evaluate_arg}
 use Rattle.c_meaning.specs.Run.{Pending, Progress, Going}
 use Rattle.c_meaning.proofs.Goes.{walk}
-use Rattle.c_prelude.specs.declared.operation.LoadOp.{LoadOp}
-use Rattle.c_prelude.specs.declared.operation.LoadOp.TheVariants as load
-use Rattle.c_prelude.specs.declared.operation.StoreOp.{StoreOp}
-use Rattle.c_prelude.specs.declared.operation.StoreOp.TheVariants as store
 use Rattle.c_prelude.specs.Pieces.{trap}
-use Rattle.c_prelude.specs.Rows.{load_of, store_of, load_row, store_row}
 use Rattle.c_prelude.specs.Helpers.{c_type, load_helper, store_helper, size_helper}
 use Rattle.c_prelude.specs.Calls.{call_begun, CallComesTo}
 use Rattle.c_prelude.specs.Operators.{number, answered, stored, DoesLoad, DoesStore, DoesSize}
@@ -217,7 +217,7 @@ by_get8 e zero turns = record {
       turns;
 }
 
-abbrev reading_of : (op : LoadOp) → Reading (load_access (load_of op)).width (load_row op).ty (extended (load_of op))
+abbrev reading_of : (op : LoadOp) → Reading (load_access op).width (load_access op).ty (extended op)
 reading_of load.I32Load = by_get4 read (N32 0) (λ p m unit at b o a n v. refl)
 reading_of load.I64Load = by_get8 widened (N64 0) (λ p m unit at b o a n v. refl)
 reading_of load.I32Load8S = by_get1 (sign_32 256 128) (N32 0) (λ p m unit at b o a n v. ap is_u32 (c_extend8_32 v))
@@ -230,6 +230,9 @@ reading_of load.I64Load16S = by_get2 (sign_64 65536 32768) (N64 0) (λ p m unit 
 reading_of load.I64Load16U = by_get2 widened (N64 0) (λ p m unit at b o a n v. refl)
 reading_of load.I64Load32S = by_get4 (sign_64 4294967296 2147483648) (N64 0) (λ p m unit at b o a n v. ap is_u64 (c_extend32_64 v))
 reading_of load.I64Load32U = by_get4 widened (N64 0) (λ p m unit at b o a n v. refl)
+
+pub load_short : (op : LoadOp) → (load_access op).width ≤ 8
+load_short op = (reading_of op).short
 
 begins_load : (op : LoadOp) → BeginsLoad (load_helper op) (reading_of op)
 begins_load load.I32Load m a b o p pending unit item below = refl
@@ -361,7 +364,7 @@ cut k name short is_put low = record {
   low = low;
 }
 
-abbrev writing_of : (op : StoreOp) → Writing (store_access (store_of op)).width (store_row op).ty
+abbrev writing_of : (op : StoreOp) → Writing (store_access op).width (store_access op).ty
 writing_of store.I32Store = whole 4 (codes "w2c_put4") type.I32 (omega arith) refl
 writing_of store.I64Store = whole 8 (codes "w2c_put8") type.I64 (omega arith) refl
 writing_of store.I32Store8 = whole 1 (codes "w2c_put1") type.I32 (omega arith) refl
@@ -369,6 +372,9 @@ writing_of store.I32Store16 = whole 2 (codes "w2c_put2") type.I32 (omega arith) 
 writing_of store.I64Store8 = cut 1 (codes "w2c_put1") (omega arith) refl low_1
 writing_of store.I64Store16 = cut 2 (codes "w2c_put2") (omega arith) refl low_2
 writing_of store.I64Store32 = cut 4 (codes "w2c_put4") (omega arith) refl low_4
+
+pub store_short : (op : StoreOp) → (store_access op).width ≤ 8
+store_short op = (writing_of op).short
 
 begins_store : (op : StoreOp) → BeginsStore (store_helper op) (writing_of op)
 begins_store store.I32Store m a b o v p pending unit item below = refl

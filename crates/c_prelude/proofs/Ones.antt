@@ -7,7 +7,7 @@ use Rattle.std.proofs.lemmas.Nat.{pow_below}
 use Rattle.w2c_base.specs.declared.value.ValType.{ValType}
 use Rattle.w2c_base.specs.declared.value.ValType.TheVariants as type
 use Rattle.w2c_base.specs.Values.{bits, value}
-use Rattle.wasm_tree.specs.Instructions as wasm
+use Rattle.wasm_tree.specs.declared.operators.UnaryOp.TheVariants as unary_op
 use Rattle.c_tree.specs.declared.tree.COp.TheVariants as op
 use Rattle.c_tree.specs.Tree as tree
 use Rattle.c_meaning.specs.State.{Number}
@@ -99,7 +99,7 @@ ones_run t call a h =
     ∙ (returns t call (sums (steps_of t) (steps_of t) a)
     ∙ ap (λ n. Some (gives t call n)) (sums-ones (steps_of t) a (rw whole_width h))))
 
-pub popcnt_right : (t : ValType) → DoesOperator (number_helper (record { ty = t; form = form.Popcnt })) t (Unary wasm.Popcnt)
+pub popcnt_right : (t : ValType) → DoesOperator (number_helper (record { ty = t; form = form.Popcnt })) t (Unary unary_op.Popcnt)
 popcnt_right type.I32 m x p = computed 6 (omega arith) (λ program pending unit item below. ones_run type.I32
     (called form.Popcnt type.I32 program pending m unit item below) x p)
 popcnt_right type.I64 m x p = computed 7 (omega arith) (λ program pending unit item below. ones_run type.I64

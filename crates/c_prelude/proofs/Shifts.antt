@@ -9,7 +9,7 @@ use Rattle.std.proofs.lemmas.Bool.Decides.{nat_tests}
 use Rattle.w2c_base.specs.declared.value.ValType.{ValType}
 use Rattle.w2c_base.specs.declared.value.ValType.TheVariants as type
 use Rattle.w2c_base.specs.Values.{bits, value}
-use Rattle.wasm_tree.specs.Instructions as wasm
+use Rattle.wasm_tree.specs.declared.operators.BinaryOp.TheVariants as binary_op
 use Rattle.wasm_meaning.specs.Operators.{Gives, shr_s}
 use Rattle.c_meaning.specs.State.{Number, Vars, Machine, Frame}
 use Rattle.c_meaning.specs.Linking.{Program}
@@ -139,7 +139,7 @@ shift_goes t p pending m unit item below x y =
       sign_test t,
     )
 
-pub shr_s_right : (t : ValType) → DoesOperator (number_helper (shift_row t)) t (Binary wasm.ShrS)
+pub shr_s_right : (t : ValType) → DoesOperator (number_helper (shift_row t)) t (Binary binary_op.ShrS)
 shr_s_right t m x y p q =
     let N = bits t in
     let d = twice t in
@@ -189,7 +189,7 @@ rotl_begins : (t : ValType) (m : Machine) (x y : ℕ) → BeginsWith form.Rotl t
 rotl_begins type.I32 m x y p pending unit item below = refl
 rotl_begins type.I64 m x y p pending unit item below = refl
 
-pub rotl_right : (t : ValType) → DoesOperator (number_helper (record { ty = t; form = form.Rotl })) t (Binary wasm.Rotl)
+pub rotl_right : (t : ValType) → DoesOperator (number_helper (record { ty = t; form = form.Rotl })) t (Binary binary_op.Rotl)
 rotl_right t m x y p q =
     let N = bits t in
     let l : y % N < N = count-lt t y in
@@ -218,7 +218,7 @@ rotr_begins : (t : ValType) (m : Machine) (x y : ℕ) → BeginsWith form.Rotr t
 rotr_begins type.I32 m x y p pending unit item below = refl
 rotr_begins type.I64 m x y p pending unit item below = refl
 
-pub rotr_right : (t : ValType) → DoesOperator (number_helper (record { ty = t; form = form.Rotr })) t (Binary wasm.Rotr)
+pub rotr_right : (t : ValType) → DoesOperator (number_helper (record { ty = t; form = form.Rotr })) t (Binary binary_op.Rotr)
 rotr_right t m x y p q =
     let N = bits t in
     let l : y % N < N = count-lt t y in

@@ -9,7 +9,7 @@ use lib.Count.{count_leading_zeros, count_trailing_zeros}
 use Rattle.w2c_base.specs.declared.value.ValType.{ValType}
 use Rattle.w2c_base.specs.declared.value.ValType.TheVariants as type
 use Rattle.w2c_base.specs.Values.{bits, value}
-use Rattle.wasm_tree.specs.Instructions as wasm
+use Rattle.wasm_tree.specs.declared.operators.UnaryOp.TheVariants as unary_op
 use Rattle.wasm_meaning.specs.Operators.{Gives, truth}
 use Rattle.c_tree.specs.declared.tree.COp.TheVariants as op
 use Rattle.c_tree.specs.Tree as tree
@@ -222,7 +222,7 @@ called form t program pending m unit item below = record {
   below = below;
 }
 
-pub clz_right : (t : ValType) → DoesOperator (number_helper (record { ty = t; form = form.Clz })) t (Unary wasm.Clz)
+pub clz_right : (t : ValType) → DoesOperator (number_helper (record { ty = t; form = form.Clz })) t (Unary unary_op.Clz)
 clz_right type.I32 m x p = computed (turns 5) (few_turns type.I32)
     (λ program pending unit item below. clz_run type.I32 (called form.Clz type.I32 program pending m unit item below) 5 x x 0 0
     (clz_begin type.I32 x p))
@@ -230,7 +230,7 @@ clz_right type.I64 m x p = computed (turns 6) (few_turns type.I64)
     (λ program pending unit item below. clz_run type.I64 (called form.Clz type.I64 program pending m unit item below) 6 x x 0 0
     (clz_begin type.I64 x p))
 
-pub ctz_right : (t : ValType) → DoesOperator (number_helper (record { ty = t; form = form.Ctz })) t (Unary wasm.Ctz)
+pub ctz_right : (t : ValType) → DoesOperator (number_helper (record { ty = t; form = form.Ctz })) t (Unary unary_op.Ctz)
 ctz_right type.I32 m x p = computed (turns 5) (few_turns type.I32)
     (λ program pending unit item below. ctz_run type.I32 (called form.Ctz type.I32 program pending m unit item below) 5 x x 0 0
     (ctz_begin type.I32 x p))

@@ -1,5 +1,6 @@
 -- What else holds of helpers: their types, and that they are formed and keep the rules of the subset.
 use Rattle.std.specs.Prelude.{◌≡◌, true, List, [], ◌∷◌, None}
+use Rattle.wasm_tree.specs.Accesses.{load_access, store_access}
 use Rattle.c_tree.specs.declared.tree.CType.{CType}
 use Rattle.c_tree.specs.declared.tree.CType.TheVariants as type
 use Rattle.c_tree.specs.Tree as tree
@@ -10,7 +11,7 @@ use Rattle.c_tree.specs.FirstBroken.{KeepsRules}
 use Rattle.c_meaning.specs.Primitives.{primitive}
 use Rattle.c_prelude.specs.declared.operation.Helper.{Helper}
 use Rattle.c_prelude.specs.declared.operation.Helper.TheVariants as helper
-use Rattle.c_prelude.specs.Rows.{Operator, Unary, Binary, Compare, ExtendI32S, Extend, operator_of, row_of, load_row, store_row}
+use Rattle.c_prelude.specs.Rows.{Operator, Unary, Binary, Compare, ExtendI32S, Extend, operator_of, row_of}
 use Rattle.c_prelude.specs.Helpers.{c_type}
 
 abbrev signature : CType → List CType → tree.FuncType
@@ -28,8 +29,8 @@ operator_type t (Extend width) = signature t (t ∷ [])
 -- number; a memory and three numbers
 abbrev pub helper_type : Helper → tree.FuncType
 helper_type (helper.Num op) = operator_type (c_type (row_of op).ty) (operator_of (row_of op).form)
-helper_type (helper.Load op) = signature (c_type (load_row op).ty) (type.PtrMem ∷ type.U32 ∷ type.U32 ∷ [])
-helper_type (helper.Store op) = signature type.Void (type.PtrMem ∷ type.U32 ∷ type.U32 ∷ c_type (store_row op).ty ∷ [])
+helper_type (helper.Load op) = signature (c_type (load_access op).ty) (type.PtrMem ∷ type.U32 ∷ type.U32 ∷ [])
+helper_type (helper.Store op) = signature type.Void (type.PtrMem ∷ type.U32 ∷ type.U32 ∷ c_type (store_access op).ty ∷ [])
 helper_type helper.Size = signature type.U32 (type.PtrMem ∷ [])
 helper_type helper.Element = signature type.FnPtr (type.PtrTab ∷ type.U32 ∷ type.U64 ∷ [])
 helper_type helper.Copy = signature type.Void (type.PtrMem ∷ type.U32 ∷ type.U32 ∷ type.U32 ∷ [])

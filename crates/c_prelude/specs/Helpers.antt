@@ -1,7 +1,11 @@
 -- The helpers as trees (C11, 6.9.1 function definitions).
-use Rattle.std.specs.Prelude.{ℕ, ◌==◌, Bool, true, if◌then◌else◌, List, [], ◌∷◌, ◌++◌, map, codes, Some}
+use Rattle.std.specs.Prelude.{ℕ, ◌*◌, ◌==◌, Bool, true, if◌then◌else◌, List, [], ◌∷◌, ◌++◌, map, codes, Some}
 use Rattle.w2c_base.specs.declared.value.ValType.{ValType}
 use Rattle.w2c_base.specs.declared.value.ValType.TheVariants.{I32, I64}
+use Rattle.wasm_tree.specs.declared.operators.Access.{Access}
+use Rattle.wasm_tree.specs.declared.operators.LoadOp.{LoadOp}
+use Rattle.wasm_tree.specs.declared.operators.StoreOp.{StoreOp}
+use Rattle.wasm_tree.specs.Accesses.{load_access, store_access}
 use Rattle.c_tree.specs.declared.tree.CType.{CType}
 use Rattle.c_tree.specs.declared.tree.CType.TheVariants as type
 use Rattle.c_tree.specs.declared.tree.Num.{Num}
@@ -9,16 +13,13 @@ use Rattle.c_tree.specs.declared.tree.Num.TheVariants.{N32, N64, Plain}
 use Rattle.c_tree.specs.Tree as tree
 use Rattle.c_prelude.specs.declared.operation.Helper.{Helper}
 use Rattle.c_prelude.specs.declared.operation.Helper.TheVariants as helper
-use Rattle.c_prelude.specs.declared.operation.LoadOp.{LoadOp}
-use Rattle.c_prelude.specs.declared.operation.StoreOp.{StoreOp}
 use Rattle.c_prelude.specs.declared.rows.Form.{Form}
 use Rattle.c_prelude.specs.declared.rows.Form.TheVariants.{DivS, DivU, RemS, RemU, ShrS, Rotl, Rotr, Clz, Ctz, Popcnt, LtS, GtS, LeS, GeS, ExtendS, Extend8S, Extend16S, Extend32S}
 use Rattle.c_prelude.specs.declared.rows.Row.{Row}
-use Rattle.c_prelude.specs.declared.rows.Access.{Access}
 use Rattle.c_prelude.specs.declared.piece.Piece.{Piece}
 use Rattle.c_prelude.specs.declared.number_tables.TheConstants.{LT_S, GT_S, LE_S, GE_S, DIV_U, REM_U, DIV_S, REM_S, SHR_S, ROTL, ROTR, CLZ_STAGE, CTZ_STAGE, COUNT_END, POPCNT_STAGE, POPCNT_END, EXTEND_S, EXTEND_LOW_S}
 use Rattle.c_prelude.specs.declared.object_tables.TheConstants.{ACCESS, LOAD, LOAD_S, STORE, SIZE, ELEMENT, COPY, FILL}
-use Rattle.c_prelude.specs.Rows.{row_of, prefix_of, form_name, load_row, store_row, load_name, store_name}
+use Rattle.c_prelude.specs.Rows.{row_of, prefix_of, form_name, load_name, store_name}
 use Rattle.c_prelude.specs.Pieces.{letter, nothing_made, all_placed, staged}
 
 -- a parameter or a local variable: its type, and its name of one letter
@@ -143,12 +144,12 @@ address_params = (type.PtrMem, 109) ∷ (type.U32, 98) ∷ (type.U32, 111) ∷ [
 abbrev pub address_locals : List Variable
 address_locals = (type.U64, 97) ∷ (type.U64, 110) ∷ []
 
--- what the runtime reads: fewer than 64 bits are a u32
+-- what the runtime reads: fewer than 8 bytes are a u32
 abbrev pub read_type : ℕ → CType
-read_type size = if size == 64 then type.U64 else type.U32
+read_type width = if width == 8 then type.U64 else type.U32
 
 abbrev pub access_stmts : Access → List Piece → List tree.Stmt
-access_stmts a pieces = (all_placed a.ty a.size (all_placed a.ty a.size nothing_made ACCESS) pieces).stmts
+access_stmts a pieces = (all_placed a.ty (8 * a.width) (all_placed a.ty (8 * a.width) nothing_made ACCESS) pieces).stmts
 
 abbrev pub load_pieces : Bool → List Piece
 load_pieces is_signed = if is_signed then LOAD_S else LOAD
@@ -156,18 +157,18 @@ load_pieces is_signed = if is_signed then LOAD_S else LOAD
 abbrev pub load_helper : LoadOp → tree.Func
 load_helper op = static_function
     (load_name op)
-    (c_type (load_row op).ty)
+    (c_type (load_access op).ty)
     address_params
-    (address_locals ++ (read_type (load_row op).size, 118) ∷ [])
-    (access_stmts (load_row op) (load_pieces (load_row op).is_signed))
+    (address_locals ++ (read_type (load_access op).width, 118) ∷ [])
+    (access_stmts (load_access op) (load_pieces (load_access op).is_signed))
 
 abbrev pub store_helper : StoreOp → tree.Func
 store_helper op = static_function
     (store_name op)
     type.Void
-    (address_params ++ (c_type (store_row op).ty, 118) ∷ [])
+    (address_params ++ (c_type (store_access op).ty, 118) ∷ [])
     address_locals
-    (access_stmts (store_row op) STORE)
+    (access_stmts (store_access op) STORE)
 
 -- ---- the size of a memory, and the element of a table with an index and a signature number
 

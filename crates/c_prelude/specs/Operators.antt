@@ -6,6 +6,9 @@ use Rattle.w2c_base.specs.declared.trap.TrapKind.TheVariants.{MemoryOut, TableOu
 use Rattle.w2c_base.specs.declared.value.ValType.{ValType}
 use Rattle.w2c_base.specs.declared.value.ValType.TheVariants as type
 use Rattle.w2c_base.specs.Values.{bits, value}
+use Rattle.wasm_tree.specs.declared.operators.LoadOp.{LoadOp}
+use Rattle.wasm_tree.specs.declared.operators.StoreOp.{StoreOp}
+use Rattle.wasm_tree.specs.Accesses.{load_access, store_access}
 use Rattle.wasm_meaning.specs.Operators.{Answer, Gives, Traps, truth, extend_s, unary, binary, compare}
 use Rattle.wasm_meaning.specs.Memories.{load_number, store_number, copy_bytes, fill_bytes}
 use Rattle.c_tree.specs.Tree as tree
@@ -14,9 +17,7 @@ use Rattle.c_meaning.specs.Machine.{memory_in, with_memory, table_in}
 use Rattle.c_meaning.specs.Primitives.{with_content}
 use Rattle.c_prelude.specs.declared.operation.Helper.{Helper}
 use Rattle.c_prelude.specs.declared.operation.Helper.TheVariants as helper
-use Rattle.c_prelude.specs.declared.operation.LoadOp.{LoadOp}
-use Rattle.c_prelude.specs.declared.operation.StoreOp.{StoreOp}
-use Rattle.c_prelude.specs.Rows.{Operator, Unary, Binary, Compare, ExtendI32S, Extend, operator_of, row_of, load_of, store_of, load_row, store_row}
+use Rattle.c_prelude.specs.Rows.{Operator, Unary, Binary, Compare, ExtendI32S, Extend, operator_of, row_of}
 use Rattle.c_prelude.specs.Calls.{CallEnd, GivesBack, TrapsWith, CallComesTo, CallComesBetween}
 
 -- a number of a type as a value of C
@@ -48,7 +49,7 @@ abbrev pub DoesLoad : tree.Func → LoadOp → Type 0
 DoesLoad f op = (m : Machine) (a : ObjectAddress) (memory : Memory) → memory_in m a ≡ Some memory
     → (base offset : ℕ) → base < 2 ^ 32 → offset < 2 ^ 32
     → CallComesTo 390 f (Pointer (Some a) ∷ number type.I32 base ∷ number type.I32 offset ∷ []) m
-    (answered m (load_row op).ty (load_number (load_of op) memory.bytes (base + offset)))
+    (answered m (load_access op).ty (load_number op memory.bytes (base + offset)))
 
 -- the memory has other bytes and nothing else is changed, or the store trapped
 abbrev pub stored : Machine → ObjectAddress → Memory → Option (List ℕ) → CallEnd
@@ -58,8 +59,8 @@ stored m a memory (Some bytes) = GivesBack (with_memory m a (with_content memory
 abbrev pub DoesStore : tree.Func → StoreOp → Type 0
 DoesStore f op = (m : Machine) (a : ObjectAddress) (memory : Memory) → memory_in m a ≡ Some memory
     → (base offset n : ℕ) → base < 2 ^ 32 → offset < 2 ^ 32
-    → CallComesTo 390 f (Pointer (Some a) ∷ number type.I32 base ∷ number type.I32 offset ∷ number (store_row op).ty n ∷ []) m
-    (stored m a memory (store_number (store_of op) memory.bytes (base + offset) n))
+    → CallComesTo 390 f (Pointer (Some a) ∷ number type.I32 base ∷ number type.I32 offset ∷ number (store_access op).ty n ∷ []) m
+    (stored m a memory (store_number op memory.bytes (base + offset) n))
 
 -- The memory has other bytes and nothing else is changed, after more statements than so many bytes and at most 20 more for
 -- each; or the call trapped.

@@ -1,20 +1,23 @@
--- The table of helpers: what each stands for, its type and its name (WebAssembly Core 1.0, 4.3.2 and
--- 4.4.4).
-use Rattle.std.specs.Prelude.{ℕ, ◌*◌, false, List, codes}
+-- The tables of helpers: what each operator on numbers stands for, at which type (WebAssembly Core 1.0, 4.3.2),
+-- and how the names of helpers are made.
+use Rattle.std.specs.Prelude.{ℕ, List, codes}
 use Rattle.w2c_base.specs.declared.value.ValType.{ValType}
 use Rattle.w2c_base.specs.declared.value.ValType.TheVariants as type
-use Rattle.wasm_tree.specs.Instructions as wasm
-use Rattle.wasm_meaning.specs.Memories.{load_access, store_access, extends_sign}
+use Rattle.wasm_tree.specs.declared.operators.UnaryOp.{UnaryOp}
+use Rattle.wasm_tree.specs.declared.operators.UnaryOp.TheVariants as unary_op
+use Rattle.wasm_tree.specs.declared.operators.BinaryOp.{BinaryOp}
+use Rattle.wasm_tree.specs.declared.operators.BinaryOp.TheVariants as binary_op
+use Rattle.wasm_tree.specs.declared.operators.CompareOp.{CompareOp}
+use Rattle.wasm_tree.specs.declared.operators.CompareOp.TheVariants as comparison_op
+use Rattle.wasm_tree.specs.declared.operators.LoadOp.{LoadOp}
+use Rattle.wasm_tree.specs.declared.operators.LoadOp.TheVariants as load
+use Rattle.wasm_tree.specs.declared.operators.StoreOp.{StoreOp}
+use Rattle.wasm_tree.specs.declared.operators.StoreOp.TheVariants as store
 use Rattle.c_prelude.specs.declared.operation.NumOp.{NumOp}
 use Rattle.c_prelude.specs.declared.operation.NumOp.TheVariants as num
-use Rattle.c_prelude.specs.declared.operation.LoadOp.{LoadOp}
-use Rattle.c_prelude.specs.declared.operation.LoadOp.TheVariants as load
-use Rattle.c_prelude.specs.declared.operation.StoreOp.{StoreOp}
-use Rattle.c_prelude.specs.declared.operation.StoreOp.TheVariants as store
 use Rattle.c_prelude.specs.declared.rows.Form.{Form}
 use Rattle.c_prelude.specs.declared.rows.Form.TheVariants.{DivS, DivU, RemS, RemU, ShrS, Rotl, Rotr, Clz, Ctz, Popcnt, LtS, GtS, LeS, GeS, ExtendS, Extend8S, Extend16S, Extend32S}
 use Rattle.c_prelude.specs.declared.rows.Row.{Row}
-use Rattle.c_prelude.specs.declared.rows.Access.{Access}
 
 abbrev row : ValType → Form → Row
 row t form = record { ty = t; form = form }
@@ -58,70 +61,31 @@ row_of num.I64Extend32S = row type.I64 Extend32S
 
 -- the operator of a form. `Extend` extends so many low bits of a number by their sign
 pub data Operator : Type 0 where
-  Unary : wasm.UnaryOp → Operator
-  Binary : wasm.BinaryOp → Operator
-  Compare : wasm.CompareOp → Operator
+  Unary : UnaryOp → Operator
+  Binary : BinaryOp → Operator
+  Compare : CompareOp → Operator
   ExtendI32S : Operator
   Extend : (width : ℕ) → Operator
 
 abbrev pub operator_of : Form → Operator
-operator_of DivS = Binary wasm.DivS
-operator_of DivU = Binary wasm.DivU
-operator_of RemS = Binary wasm.RemS
-operator_of RemU = Binary wasm.RemU
-operator_of ShrS = Binary wasm.ShrS
-operator_of Rotl = Binary wasm.Rotl
-operator_of Rotr = Binary wasm.Rotr
-operator_of Clz = Unary wasm.Clz
-operator_of Ctz = Unary wasm.Ctz
-operator_of Popcnt = Unary wasm.Popcnt
-operator_of LtS = Compare wasm.LtS
-operator_of GtS = Compare wasm.GtS
-operator_of LeS = Compare wasm.LeS
-operator_of GeS = Compare wasm.GeS
+operator_of DivS = Binary binary_op.DivS
+operator_of DivU = Binary binary_op.DivU
+operator_of RemS = Binary binary_op.RemS
+operator_of RemU = Binary binary_op.RemU
+operator_of ShrS = Binary binary_op.ShrS
+operator_of Rotl = Binary binary_op.Rotl
+operator_of Rotr = Binary binary_op.Rotr
+operator_of Clz = Unary unary_op.Clz
+operator_of Ctz = Unary unary_op.Ctz
+operator_of Popcnt = Unary unary_op.Popcnt
+operator_of LtS = Compare comparison_op.LtS
+operator_of GtS = Compare comparison_op.GtS
+operator_of LeS = Compare comparison_op.LeS
+operator_of GeS = Compare comparison_op.GeS
 operator_of ExtendS = ExtendI32S
 operator_of Extend8S = Extend 8
 operator_of Extend16S = Extend 16
 operator_of Extend32S = Extend 32
-
--- the load and the store of a name
-abbrev pub load_of : LoadOp → wasm.LoadOp
-load_of load.I32Load = wasm.I32Load
-load_of load.I64Load = wasm.I64Load
-load_of load.I32Load8S = wasm.I32Load8S
-load_of load.I32Load8U = wasm.I32Load8U
-load_of load.I32Load16S = wasm.I32Load16S
-load_of load.I32Load16U = wasm.I32Load16U
-load_of load.I64Load8S = wasm.I64Load8S
-load_of load.I64Load8U = wasm.I64Load8U
-load_of load.I64Load16S = wasm.I64Load16S
-load_of load.I64Load16U = wasm.I64Load16U
-load_of load.I64Load32S = wasm.I64Load32S
-load_of load.I64Load32U = wasm.I64Load32U
-
-abbrev pub store_of : StoreOp → wasm.StoreOp
-store_of store.I32Store = wasm.I32Store
-store_of store.I64Store = wasm.I64Store
-store_of store.I32Store8 = wasm.I32Store8
-store_of store.I32Store16 = wasm.I32Store16
-store_of store.I64Store8 = wasm.I64Store8
-store_of store.I64Store16 = wasm.I64Store16
-store_of store.I64Store32 = wasm.I64Store32
-
--- the type of a load's value, how many bits are read, and whether they are extended by their sign
-abbrev pub load_row : LoadOp → Access
-load_row op = record {
-  ty = (load_access (load_of op)).ty;
-  size = 8 * (load_access (load_of op)).width;
-  is_signed = extends_sign (load_of op);
-}
-
-abbrev pub store_row : StoreOp → Access
-store_row op = record {
-  ty = (store_access (store_of op)).ty;
-  size = 8 * (store_access (store_of op)).width;
-  is_signed = false;
-}
 
 abbrev pub prefix_of : ValType → List ℕ
 prefix_of type.I32 = codes "i32_"

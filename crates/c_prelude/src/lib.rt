@@ -22,5 +22,5 @@ pub use laws::{
     every_helper_is_listed, names_of_helpers_differ,
 };
 pub use make::{helper, helper_name};
-pub use operation::{HELPERS, Helper, LoadOp, NumOp, StoreOp};
+pub use operation::{HELPERS, Helper, NumOp};
 pub use parts::trap;

@@ -1,5 +1,5 @@
 // Helpers as functions of the C subset.
-ghost use Rattle.std.specs.Prelude.{◌≡◌, ◌++◌, ◌∷◌, [], map, true, Some, IfOk, OnOk};
+ghost use Rattle.std.specs.Prelude.{◌≡◌, ◌≤◌, ◌++◌, ◌∷◌, [], map, true, Some, IfOk, OnOk};
 ghost use Rattle.c_tree.specs.View.{func_of, stmt_of};
 ghost use Rattle.c_prelude.specs.Pieces as made;
 ghost use Rattle.c_prelude.specs.Helpers.{Variable, static_function, all_of, number_helper, number_stmts, access_stmts, load_helper, store_helper, size_helper, element_helper, copy_helper, fill_helper, helper_of};
@@ -12,15 +12,14 @@ use crate::body::{
 };
 use crate::builder::Builder;
 use crate::object_tables::{ACCESS, COPY, ELEMENT, FILL, LOAD, LOAD_S, SIZE, STORE};
-use crate::operation::{Helper, LoadOp, StoreOp};
+use crate::operation::Helper;
 use crate::parts::{letter, named};
 use crate::piece::{Piece, Setting};
-use crate::rows::{
-    Access, Row, form_name, load_name, load_row, number_row, prefix, store_name, store_row,
-};
+use crate::rows::{Row, form_name, load_name, number_row, prefix, store_name};
 use c_tree::{Body, CType, Func, Locals, Name, Num, Params, Stmts};
 use std::alloc::Global;
 use w2c_base::{Memory, ValType};
+use wasm_tree::{Access, LoadOp, StoreOp};
 
 /// The function of a helper. For an operator on numbers it takes the operands and gives the result,
 /// or traps as the operator does (WebAssembly Core 1.0, 4.3.2). A load takes a pointer to a memory,
@@ -102,23 +101,25 @@ fn number_body(alloc: Global, row: Row) -> Result<Stmts, Memory>
     Ok(builder.finish())
 }
 
+#[tactic(auto, using(crate::proofs::Memories::load_short))]
 fn load(alloc: Global, op: LoadOp) -> Result<Func, Memory>
     ensures { IfOk result (λ func. func_of func ≡ load_helper op) }
 {
-    let access = load_row(op);
+    let access = op.access();
     let name = named(alloc, load_name(op))?;
     let params = address_params(alloc)?;
     let mut locals = address_locals(alloc)?;
-    put_local(alloc, &mut locals, read_type(access.size), b'v')?;
+    put_local(alloc, &mut locals, read_type(access.width), b'v')?;
     let pieces: &[Piece] = if access.is_signed { &LOAD_S } else { &LOAD };
     let stmts = access_body(alloc, access, pieces)?;
     Ok(function(name, c_type(access.ty), params, locals, stmts))
 }
 
+#[tactic(auto, using(crate::proofs::Memories::store_short))]
 fn store(alloc: Global, op: StoreOp) -> Result<Func, Memory>
     ensures { IfOk result (λ func. func_of func ≡ store_helper op) }
 {
-    let access = store_row(op);
+    let access = op.access();
     let name = named(alloc, store_name(op))?;
     let mut params = address_params(alloc)?;
     put_param(alloc, &mut params, c_type(access.ty), b'v')?;
@@ -128,11 +129,12 @@ fn store(alloc: Global, op: StoreOp) -> Result<Func, Memory>
 }
 
 fn access_body(alloc: Global, access: Access, pieces: &[Piece]) -> Result<Stmts, Memory>
+    requires { access.width ≤ 8 }
     ensures { IfOk result (λ stmts. map stmt_of stmts ≡ access_stmts access pieces.now) }
 {
     let setting = Setting {
         ty: access.ty,
-        size: access.size,
+        size: 8 * access.width,
     };
     let mut builder = Builder::new(alloc);
     builder.place_all(setting, &ACCESS)?;
@@ -241,11 +243,11 @@ fn address_locals(alloc: Global) -> Result<Locals, Memory>
     locals_of(alloc, CType::U64, b"an")
 }
 
-// What the runtime reads: fewer than 64 bits are a u32.
-fn read_type(size: u32) -> CType
-    ensures { result ≡ of.read_type size }
+// What the runtime reads: fewer than 8 bytes are a u32.
+fn read_type(width: u32) -> CType
+    ensures { result ≡ of.read_type width }
 {
-    if size == 64 { CType::U64 } else { CType::U32 }
+    if width == 8 { CType::U64 } else { CType::U32 }
 }
 
 fn params_of(alloc: Global, ty: CType, names: &[u8]) -> Result<Params, Memory>
@@ -293,9 +295,10 @@ fn zero(ty: CType) -> Num
 
 #[cfg(test)]
 mod tests {
-    use crate::{HELPERS, Helper, LoadOp, NumOp, helper};
+    use crate::{HELPERS, Helper, NumOp, helper};
     use c_tree::{CType, Item, Unit};
     use std::test::Fail;
+    use wasm_tree::LoadOp;
 
     #[test]
     fn each_helper_is_built(rt: HostRuntime) -> Result<(), Fail> {

@@ -1,4 +1,5 @@
 // The helpers by the instructions that they stand for (WebAssembly Core 1.0, 2.4).
+use wasm_tree::{LoadOp, StoreOp};
 
 /// An instruction on numbers that has a helper.
 #[derive(Clone, Copy, Debug, PartialEq, Eq)]
@@ -37,35 +38,6 @@ pub enum NumOp {
     I64Extend8S,
     I64Extend16S,
     I64Extend32S,
-}
-
-/// A load.
-#[derive(Clone, Copy, Debug, PartialEq, Eq)]
-pub enum LoadOp {
-    I32Load,
-    I64Load,
-    I32Load8S,
-    I32Load8U,
-    I32Load16S,
-    I32Load16U,
-    I64Load8S,
-    I64Load8U,
-    I64Load16S,
-    I64Load16U,
-    I64Load32S,
-    I64Load32U,
-}
-
-/// A store.
-#[derive(Clone, Copy, Debug, PartialEq, Eq)]
-pub enum StoreOp {
-    I32Store,
-    I64Store,
-    I32Store8,
-    I32Store16,
-    I64Store8,
-    I64Store16,
-    I64Store32,
 }
 
 /// A helper. `Size` gives a memory's number of pages, `Element` the function of a table's element,

@@ -1,10 +1,11 @@
-// The table of helpers: what each stands for, its type and its name.
+// The tables of helpers: what each operator on numbers stands for, at which type, and how the names of helpers are made.
 ghost use Rattle.std.specs.Prelude.{◌≡◌};
 ghost use Rattle.c_prelude.specs.Rows.{row_of, prefix_of};
 ghost use Rattle.c_prelude.specs.Rows as rows;
 
-use crate::operation::{LoadOp, NumOp, StoreOp};
+use crate::operation::NumOp;
 use w2c_base::ValType;
+use wasm_tree::{LoadOp, StoreOp};
 
 /// An operator at any width.
 #[derive(Clone, Copy)]
@@ -34,15 +35,6 @@ pub enum Form {
 pub struct Row {
     pub ty: ValType,
     pub form: Form,
-}
-
-/// A load or a store: the type of its value, and how many bits are read or written. What is read is
-/// extended by its sign, or by zeros.
-#[derive(Clone, Copy)]
-pub struct Access {
-    pub ty: ValType,
-    pub size: u32,
-    pub is_signed: bool,
 }
 
 /// The row of an operator.
@@ -86,51 +78,6 @@ pub fn number_row(op: NumOp) -> Row
         NumOp::I64Extend32S => (ValType::I64, Form::Extend32S),
     };
     Row { ty, form }
-}
-
-/// The row of a load.
-pub fn load_row(op: LoadOp) -> Access
-    ensures { result ≡ rows.load_row op }
-{
-    let (ty, size, is_signed) = match op {
-        LoadOp::I32Load => (ValType::I32, 32, false),
-        LoadOp::I64Load => (ValType::I64, 64, false),
-        LoadOp::I32Load8S => (ValType::I32, 8, true),
-        LoadOp::I32Load8U => (ValType::I32, 8, false),
-        LoadOp::I32Load16S => (ValType::I32, 16, true),
-        LoadOp::I32Load16U => (ValType::I32, 16, false),
-        LoadOp::I64Load8S => (ValType::I64, 8, true),
-        LoadOp::I64Load8U => (ValType::I64, 8, false),
-        LoadOp::I64Load16S => (ValType::I64, 16, true),
-        LoadOp::I64Load16U => (ValType::I64, 16, false),
-        LoadOp::I64Load32S => (ValType::I64, 32, true),
-        LoadOp::I64Load32U => (ValType::I64, 32, false),
-    };
-    Access {
-        ty,
-        size,
-        is_signed,
-    }
-}
-
-/// The row of a store.
-pub fn store_row(op: StoreOp) -> Access
-    ensures { result ≡ rows.store_row op }
-{
-    let (ty, size) = match op {
-        StoreOp::I32Store => (ValType::I32, 32),
-        StoreOp::I64Store => (ValType::I64, 64),
-        StoreOp::I32Store8 => (ValType::I32, 8),
-        StoreOp::I32Store16 => (ValType::I32, 16),
-        StoreOp::I64Store8 => (ValType::I64, 8),
-        StoreOp::I64Store16 => (ValType::I64, 16),
-        StoreOp::I64Store32 => (ValType::I64, 32),
-    };
-    Access {
-        ty,
-        size,
-        is_signed: false,
-    }
 }
 
 /// How the names of a type's operators begin.

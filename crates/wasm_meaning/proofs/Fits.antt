@@ -11,9 +11,15 @@ use Rattle.w2c_base.specs.declared.trap.TrapKind.TheVariants.{DivByZero, IntOver
 use Rattle.std.specs.List.{AllByRecursion}
 use Rattle.w2c_base.specs.Values.{bits}
 use Rattle.w2c_base.specs.LittleEndian.{little_endian, bytes_at}
-use Rattle.wasm_tree.specs.Instructions.{UnaryOp, Clz, Ctz, Popcnt, BinaryOp, Add, Sub, Mul, DivS, DivU, RemS, RemU, And, Or, Xor, Shl, ShrS, ShrU, Rotl, Rotr, LoadOp, I32Load, I64Load, I32Load8S, I32Load8U, I32Load16S, I32Load16U, I64Load8S, I64Load8U, I64Load16S, I64Load16U, I64Load32S, I64Load32U, ExtendOp}
-use Rattle.wasm_tree.specs.AccessWidths.{extend_width, extend_type}
-use Rattle.wasm_meaning.specs.Memories.{load_access, load_number, extended}
+use Rattle.wasm_tree.specs.declared.operators.UnaryOp.{UnaryOp}
+use Rattle.wasm_tree.specs.declared.operators.UnaryOp.TheVariants.{Clz, Ctz, Popcnt}
+use Rattle.wasm_tree.specs.declared.operators.BinaryOp.{BinaryOp}
+use Rattle.wasm_tree.specs.declared.operators.BinaryOp.TheVariants.{Add, Sub, Mul, DivS, DivU, RemS, RemU, And, Or, Xor, Shl, ShrS, ShrU, Rotl, Rotr}
+use Rattle.wasm_tree.specs.declared.operators.LoadOp.{LoadOp}
+use Rattle.wasm_tree.specs.declared.operators.LoadOp.TheVariants.{I32Load, I64Load, I32Load8S, I32Load8U, I32Load16S, I32Load16U, I64Load8S, I64Load8U, I64Load16S, I64Load16U, I64Load32S, I64Load32U}
+use Rattle.wasm_tree.specs.declared.operators.ExtendOp.{ExtendOp}
+use Rattle.wasm_tree.specs.Accesses.{load_access, extend_width, extend_type}
+use Rattle.wasm_meaning.specs.Memories.{load_number, extended}
 use Rattle.wasm_meaning.specs.Operators.{Answer, Gives, Traps, AnswerFits, signed, pattern_of, overflows, unary, binary, extend_s}
 
 pub pattern_below : (N : ℕ) (z : ℤ) → pattern_of N z < 2 ^ N

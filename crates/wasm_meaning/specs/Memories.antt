@@ -1,33 +1,17 @@
 -- Loads and stores on the bytes of a memory (WebAssembly Core 1.0, 4.4.4), where the address is base plus offset as
 -- unbounded numbers; and bytes copied and filled (Core 2.0, 4.4.7).
-use Rattle.std.specs.Prelude.{ℕ, ◌+◌, ◌*◌, ◌%◌, Bool, true, false, ◌&&◌, if◌then◌else◌, nat_le, List, length, replicate, Option, Some, None}
-use Rattle.w2c_base.specs.declared.value.ValType.{ValType}
+use Rattle.std.specs.Prelude.{ℕ, ◌+◌, ◌*◌, ◌%◌, Bool, ◌&&◌, if◌then◌else◌, nat_le, List, length, replicate, Option, Some, None}
 use Rattle.w2c_base.specs.declared.trap.TrapKind.TheVariants.{MemoryOut}
 use Rattle.w2c_base.specs.Values.{bits}
 use Rattle.w2c_base.specs.LittleEndian.{little_endian, low_bytes, bytes_at, with_bytes}
-use Rattle.wasm_tree.specs.Instructions.{LoadOp, I32Load8S, I32Load16S, I64Load8S, I64Load16S, I64Load32S, StoreOp}
-use Rattle.wasm_tree.specs.AccessWidths.{load_width, load_type, store_width, store_type}
+use Rattle.wasm_tree.specs.declared.operators.LoadOp.{LoadOp}
+use Rattle.wasm_tree.specs.declared.operators.StoreOp.{StoreOp}
+use Rattle.wasm_tree.specs.Accesses.{load_access, store_access}
 use Rattle.wasm_meaning.specs.Operators.{Answer, Gives, Traps, extend_s}
-
--- how many bytes an access has, and the type of its value
-pub record Access : Type 0 where
-  pub width : ℕ
-  pub ty : ValType
-
-abbrev pub load_access : LoadOp → Access
-load_access op = record { width = load_width op; ty = load_type op }
-
-abbrev pub store_access : StoreOp → Access
-store_access op = record { width = store_width op; ty = store_type op }
 
 -- a loaded number is extended by its sign, else by zero
 abbrev pub extends_sign : LoadOp → Bool
-extends_sign I32Load8S = true
-extends_sign I32Load16S = true
-extends_sign I64Load8S = true
-extends_sign I64Load16S = true
-extends_sign I64Load32S = true
-extends_sign _ = false
+extends_sign op = (load_access op).is_signed
 
 abbrev pub extended : LoadOp → ℕ → ℕ
 extended op n = if extends_sign op then extend_s (8 * (load_access op).width) (bits (load_access op).ty) n else n

@@ -5,7 +5,12 @@ use Rattle.std.specs.Int.{int_rem_euclid, int_div_euclid}
 use Rattle.std.specs.Int.Count.{ones, count_leading_zeros, count_trailing_zeros}
 use Rattle.w2c_base.specs.declared.trap.TrapKind.{TrapKind}
 use Rattle.w2c_base.specs.declared.trap.TrapKind.TheVariants.{DivByZero, IntOverflow}
-use Rattle.wasm_tree.specs.Instructions.{UnaryOp, Clz, Ctz, Popcnt, BinaryOp, Add, Sub, Mul, DivS, DivU, RemS, RemU, And, Or, Xor, Shl, ShrS, ShrU, Rotl, Rotr, CompareOp, Eq, Ne, LtS, LtU, GtS, GtU, LeS, LeU, GeS, GeU}
+use Rattle.wasm_tree.specs.declared.operators.UnaryOp.{UnaryOp}
+use Rattle.wasm_tree.specs.declared.operators.UnaryOp.TheVariants.{Clz, Ctz, Popcnt}
+use Rattle.wasm_tree.specs.declared.operators.BinaryOp.{BinaryOp}
+use Rattle.wasm_tree.specs.declared.operators.BinaryOp.TheVariants.{Add, Sub, Mul, DivS, DivU, RemS, RemU, And, Or, Xor, Shl, ShrS, ShrU, Rotl, Rotr}
+use Rattle.wasm_tree.specs.declared.operators.CompareOp.{CompareOp}
+use Rattle.wasm_tree.specs.declared.operators.CompareOp.TheVariants.{Eq, Ne, LtS, LtU, GtS, GtU, LeS, LeU, GeS, GeU}
 
 -- what an operator comes to
 pub data Answer : Type 0 where

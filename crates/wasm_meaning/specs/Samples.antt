@@ -4,7 +4,8 @@ use Rattle.w2c_base.specs.declared.value.ValType.{ValType}
 use Rattle.w2c_base.specs.declared.value.ValType.TheVariants as type
 use Rattle.w2c_base.specs.declared.value.Value.{Value}
 use Rattle.w2c_base.specs.Run.{Host, Reply, Ask}
-use Rattle.wasm_tree.specs.Instructions.{Code, end_code, then_code, Kind, Add, Block, BrTable, Call, CallIndirect, MemoryGrow, LocalGet, GlobalGet, GlobalSet, I32Const, I64Const, Binary}
+use Rattle.wasm_tree.specs.Instructions.{Code, end_code, then_code, Kind, Block, BrTable, Call, CallIndirect, MemoryGrow, LocalGet, GlobalGet, GlobalSet, I32Const, I64Const, Binary}
+use Rattle.wasm_tree.specs.declared.operators.BinaryOp.TheVariants.{Add}
 use Rattle.wasm_tree.specs.declared.tree.Module.{Module}
 use Rattle.wasm_tree.specs.declared.entries.TypeEntry.{TypeEntry}
 use Rattle.wasm_tree.specs.declared.entries.Export.{Export}

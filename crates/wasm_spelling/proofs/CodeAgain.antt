@@ -5,7 +5,7 @@ use Rattle.std.proofs.lemmas.Bool.{eqb-true}
 use Rattle.w2c_base.specs.declared.value.ValType.{ValType}
 use Rattle.wasm_tree.specs.Instructions.{Code, end_code, then_code, Kind, no_else, else_code, Block, Loop, If}
 use Rattle.wasm_tree.specs.InstructionTable.{Form, row_of}
-use Rattle.wasm_tree.specs.Opcodes.{opcode_of}
+use Rattle.wasm_tree.specs.InstructionTable.{opcode_of}
 use Rattle.wasm_tree.specs.Forms.{form_of, form_in}
 use Rattle.wasm_tree.proofs.ExactTable.{has_row}
 use Rattle.wasm_spelling.specs.declared.fault.ReadFault.{ReadFault}

@@ -4,7 +4,7 @@ use Rattle.std.specs.Prelude.{nat_lt, not}
 use Rattle.std.specs.List.{AllByRecursion}
 use Rattle.std.proofs.lemmas.Bool.{ltb-true, lt-ltb, or_from}
 use Rattle.wasm_tree.specs.Instructions.{Code, end_code, then_code, Kind, no_else, else_code, Block, Loop, If, Br, BrIf, BrTable, Call, CallIndirect, LocalGet, LocalSet, LocalTee, GlobalGet, GlobalSet, Load, Store, MemorySize, MemoryGrow, MemoryCopy, MemoryFill, I32Const, I64Const}
-use Rattle.wasm_tree.specs.Opcodes.{opcode_of}
+use Rattle.wasm_tree.specs.InstructionTable.{opcode_of}
 use Rattle.wasm_spelling.specs.Fields.{Fields, byte, number, here, provided}
 use Rattle.wasm_spelling.specs.ModuleFields.{each, immediates, block_type_code, code_fields, instr_fields, end_byte}
 use Rattle.wasm_spelling.specs.Within.{has_wide, is_wide, some_in, some_inside, least_bytes, least_bytes_of, block_depth, block_depth_of}

@@ -25,7 +25,7 @@ use Rattle.wasm_tree.specs.declared.entries.Run.{Run}
 use Rattle.wasm_tree.specs.declared.entries.BodyEntry.{BodyEntry}
 use Rattle.wasm_tree.specs.declared.tree.Module.{Module}
 use Rattle.wasm_tree.specs.Instructions.{Code, end_code, then_code, Kind, no_else, else_code, Block, Loop, If, Br, BrIf, BrTable, Call, CallIndirect, LocalGet, LocalSet, LocalTee, GlobalGet, GlobalSet, Load, Store, MemorySize, MemoryGrow, MemoryCopy, MemoryFill, I32Const, I64Const}
-use Rattle.wasm_tree.specs.Opcodes.{opcode_of}
+use Rattle.wasm_tree.specs.InstructionTable.{opcode_of}
 use Rattle.wasm_spelling.specs.Limits.{most_parameters, most_results, most_name_bytes, most_functions, most_locals, most_all_locals, most_blocks, most_memory_pages, most_table_elements, most_module_bytes}
 use Rattle.wasm_spelling.specs.Fields.{Custom, Fields, finished, byte, number, signed, text, here, provided, window, either, for_some, Spelled}
 
