@@ -4,7 +4,8 @@
 use Rattle.std.specs.Prelude.{ℕ, ℤ, pos, zero, suc, ◌-◌, ◌-ℤ◌, ◌%◌, ◌^◌, ◌==◌, nat_lt, if◌then◌else◌, List, [], ◌∷◌, map, replicate, Some, None}
 use Rattle.std.specs.List.{range_with_len}
 use Rattle.w2c_base.specs.declared.value.ValType.TheVariants as type
-use Rattle.wasm_tree.specs.Instructions.{Code, end_code, then_code, Kind, LocalGet, I32Const, Call, Binary, Add, Sub, Mul, Xor}
+use Rattle.wasm_tree.specs.Instructions.{Code, end_code, then_code, Kind, LocalGet, I32Const, Call, Binary}
+use Rattle.wasm_tree.specs.declared.operators.BinaryOp.TheVariants.{Add, Sub, Mul, Xor}
 use Rattle.wasm_tree.specs.declared.entries.TypeEntry.{TypeEntry}
 use Rattle.wasm_tree.specs.declared.entries.FuncEntry.{FuncEntry}
 use Rattle.wasm_tree.specs.declared.entries.Export.{Export}

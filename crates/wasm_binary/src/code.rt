@@ -1,22 +1,25 @@
 // Instructions and expressions (WebAssembly Core 1.0, 5.4; Core 2.0, 5.4.6, for the byte FC).
 ghost use Rattle.std.specs.Prelude.{◌≡◌, ◌==◌, ◌&&◌, false, true, option_map};
+ghost use Rattle.wasm_tree.specs.Parts.{HasOp};
 ghost use Rattle.wasm_tree.specs.Instructions.{BrTable, CallIndirect, MemorySize, MemoryGrow, I32Const, I64Const};
-ghost use Rattle.wasm_tree.specs.InstructionTable.{labels, a_type, a_zero, an_i32, an_i64, a_sub_opcode};
+ghost use Rattle.wasm_tree.specs.InstructionTable.{labels, a_type, a_zero, an_i32, an_i64, a_sub_opcode, prefixed_of};
 ghost use Rattle.wasm_spelling.specs.Steps.{is_float as is_float_of, reads};
 ghost use Rattle.wasm_spelling.specs.Reading.{mem_arg_at, form_at, ender_place, block_of, if_closed, item_at, block_at, code_at, expression_at};
 ghost use Rattle.wasm_binary.specs.View.{Gives, at, seen};
-ghost use Rattle.wasm_binary.specs.Opcodes.{plain_at, fault_of, is_indexed, is_access};
+ghost use Rattle.wasm_binary.specs.Opcodes.{op_form, plain_at, fault_of, prefixed_row};
 ghost use Rattle.wasm_binary.specs.Enders.{as_kind, as_item, as_code, ender_of, head_of_opener, opener_head};
 
 use crate::fields::{byte, exactly, number, signed32, signed64, zero};
-use crate::opcodes::{access, bare, by_sub_opcode, indexed, takes_index, takes_mem_arg};
 use crate::rest::Rest;
 use crate::types::block_type;
 use crate::vectors::{Entry, times, vector};
 use std::alloc::Global;
 use w2c_base::{BLOCK_DEPTH, ValType};
 use wasm_spelling::{Cause, ReadFault, Which};
-use wasm_tree::{Code, ElsePart, Instr, Kind, MemArg};
+use wasm_tree::{
+    BLOCK, BR_TABLE, CALL_INDIRECT, Code, ElsePart, I32_CONST, I64_CONST, IF, Instr, Kind, LOOP,
+    MEMORY_COPY, MEMORY_FILL, MEMORY_GROW, MEMORY_SIZE, MemArg, Op, PREFIX,
+};
 
 /// What closes instructions, with its place.
 #[derive(Clone, Copy)]
@@ -121,6 +124,30 @@ impl Entry for ZeroByte {
     }
 }
 
+/// An instruction whose opcode is the byte FC, and how many bytes 00 stand behind its sub-opcode.
+#[derive(Drop)]
+struct Prefixed {
+    kind: Kind,
+    zeros: u32,
+}
+
+/// The instruction of a sub-opcode.
+fn by_sub_opcode(sub_opcode: u32) -> Option<Prefixed>
+    ensures { option_map (prefixed_row sub_opcode) result ≡ prefixed_of sub_opcode }
+{
+    match sub_opcode {
+        MEMORY_COPY => Some(Prefixed {
+            kind: Kind::MemoryCopy,
+            zeros: 2,
+        }),
+        MEMORY_FILL => Some(Prefixed {
+            kind: Kind::MemoryFill,
+            zeros: 1,
+        }),
+        _ => None,
+    }
+}
+
 /// The instruction behind the byte FC: a sub-opcode, and as many bytes 00 as its row says.
 #[tactic(auto, unfolding(wasm_spelling::specs::Steps::reads, wasm_spelling::specs::Steps::checked, wasm_spelling::specs::Reading::form_at))]
 fn with_sub_opcode(alloc: Global, rest: Rest) -> Result<(Kind, Rest), ReadFault>
@@ -137,27 +164,45 @@ fn with_sub_opcode(alloc: Global, rest: Rest) -> Result<(Kind, Rest), ReadFault>
     }
 }
 
-/// The instruction of an opcode that an index stands behind.
-fn with_index(place: u32, opcode: u8, rest: Rest) -> Result<(Kind, Rest), ReadFault>
-    requires { is_indexed opcode ≡ true }
-    ensures { Gives as_kind result (plain_at place opcode (at rest.entry)) }
+/// The instruction of an operator.
+#[tactic(auto, unfolding(wasm_spelling::specs::Steps::reads, wasm_spelling::specs::Reading::form_at))]
+fn with_operator(op: Op, rest: Rest) -> Result<(Kind, Rest), ReadFault>
+    ensures { Gives as_kind result (form_at (op_form op) (at rest.entry)) }
 {
-    let (index, rest) = number(rest)?;
-    match indexed(opcode, index) {
-        Some(kind) => Ok((kind, rest)),
-        None => Err(no_instruction(place, opcode)),
+    match op {
+        Op::Simple(op) => Ok((op.kind(), rest)),
+        Op::Index(op) => {
+            let (index, rest) = number(rest)?;
+            Ok((op.kind(index), rest))
+        }
+        Op::Access(op) => {
+            let (arg, rest) = mem_arg(rest)?;
+            Ok((op.kind(arg), rest))
+        }
+        Op::Numeric(op) => Ok((op.kind(), rest)),
     }
 }
 
-/// The load or store of an opcode.
-fn with_mem_arg(place: u32, opcode: u8, rest: Rest) -> Result<(Kind, Rest), ReadFault>
-    requires { is_access opcode ≡ true }
+/// The instruction of an opcode that is no operator's, which opens no block and closes none.
+#[tactic(auto, using(crate::proofs::Instructions::by_opcode, crate::proofs::Instructions::none_fails))]
+fn without_operator(
+    alloc: Global,
+    place: u32,
+    opcode: u8,
+    rest: Rest,
+) -> Result<(Kind, Rest), ReadFault>
+    requires { HasOp opcode → ⊥ }
     ensures { Gives as_kind result (plain_at place opcode (at rest.entry)) }
 {
-    let (arg, rest) = mem_arg(rest)?;
-    match access(opcode, arg) {
-        Some(kind) => Ok((kind, rest)),
-        None => Err(no_instruction(place, opcode)),
+    match opcode {
+        BR_TABLE => branch_table(alloc, rest),
+        CALL_INDIRECT => indirect_call(rest),
+        MEMORY_SIZE => memory_size(rest),
+        MEMORY_GROW => memory_grow(rest),
+        I32_CONST => constant32(rest),
+        I64_CONST => constant64(rest),
+        PREFIX => with_sub_opcode(alloc, rest),
+        _ => Err(no_instruction(place, opcode)),
     }
 }
 
@@ -165,36 +210,9 @@ fn with_mem_arg(place: u32, opcode: u8, rest: Rest) -> Result<(Kind, Rest), Read
 fn instruction(alloc: Global, place: u32, opcode: u8, rest: Rest) -> Result<(Kind, Rest), ReadFault>
     ensures { Gives as_kind result (plain_at place opcode (at rest.entry)) }
 {
-    if takes_index(opcode) {
-        return with_index(place, opcode, rest);
-    }
-    if takes_mem_arg(opcode) {
-        return with_mem_arg(place, opcode, rest);
-    }
-    if opcode == 0x0e {
-        return branch_table(alloc, rest);
-    }
-    if opcode == 0x11 {
-        return indirect_call(rest);
-    }
-    if opcode == 0x3f {
-        return memory_size(rest);
-    }
-    if opcode == 0x40 {
-        return memory_grow(rest);
-    }
-    if opcode == 0x41 {
-        return constant32(rest);
-    }
-    if opcode == 0x42 {
-        return constant64(rest);
-    }
-    if opcode == 0xfc {
-        return with_sub_opcode(alloc, rest);
-    }
-    match bare(opcode) {
-        Some(kind) => Ok((kind, rest)),
-        None => Err(no_instruction(place, opcode)),
+    match Op::of_opcode(opcode) {
+        Some(op) => with_operator(op, rest),
+        None => without_operator(alloc, place, opcode, rest),
     }
 }
 
@@ -221,9 +239,9 @@ fn opener_of(opcode: u8) -> Option<Opener>
     ensures { option_map head_of_opener result ≡ opener_head opcode }
 {
     match opcode {
-        0x02 => Some(Opener::Block),
-        0x03 => Some(Opener::Loop),
-        0x04 => Some(Opener::If),
+        BLOCK => Some(Opener::Block),
+        LOOP => Some(Opener::Loop),
+        IF => Some(Opener::If),
         _ => None,
     }
 }

@@ -8,7 +8,6 @@ mod data;
 mod entries;
 mod fields;
 mod module;
-mod opcodes;
 mod rest;
 mod sections;
 mod types;

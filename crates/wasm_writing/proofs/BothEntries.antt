@@ -15,7 +15,7 @@ use Rattle.wasm_tree.specs.declared.entries.ElementEntry.{ElementEntry}
 use Rattle.wasm_tree.specs.declared.entries.SegmentEntry.{SegmentEntry}
 use Rattle.wasm_tree.specs.declared.entries.BodyEntry.{BodyEntry}
 use Rattle.wasm_tree.specs.Instructions.{Code, end_code, then_code, Kind, no_else, else_code, Block, Loop, If}
-use Rattle.wasm_tree.specs.Opcodes.{opcode_of}
+use Rattle.wasm_tree.specs.InstructionTable.{opcode_of}
 use Rattle.wasm_spelling.specs.Fields.{Fields, finished, byte, number, text, here, window}
 use Rattle.wasm_spelling.specs.Limits.{most_blocks, most_memory_pages, most_table_elements}
 use Rattle.wasm_spelling.specs.ModuleFields.{bodies, code_fields, element_entry, end_byte, export_code, export_entry, expression, func_entry, func_ref, func_type, global_entry, immediates, import_entry, import_kind, limits, limits_from, locals_of, memory_entry, memory_type, mutability_code, name, runs, segment_entry, table_entry, table_type, type_entry, value_type, vector}

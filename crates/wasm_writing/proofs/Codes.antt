@@ -1,21 +1,25 @@
 -- Blocks, and lists of instructions.
-use Rattle.std.proofs.Common.{◌≡◌, ℕ, zero, suc, ◌+◌, ◌-◌, ◌<◌, ◌≤◌, List, [], ◌∷◌, ◌++◌, length, get_or, take, true, false, Option, refl, sym, ap, ◌∙◌, arith, nat_lt}
+use Rattle.std.proofs.Common.{◌≡◌, ℕ, zero, suc, ◌+◌, ◌-◌, ◌<◌, ◌≤◌, List, [], ◌∷◌, ◌++◌, length, get_or, take, true, false, Option, refl, sym, ap, subst, ◌∙◌, arith, nat_lt}
 use Rattle.std.proofs.lemmas.Bool.{lt-ltb}
 use Rattle.std.proofs.lemmas.List.{take_more}
 use Rattle.w2c_base.specs.declared.value.ValType.{ValType}
 use Rattle.wasm_tree.specs.declared.code.Instr.{Instr}
-use Rattle.wasm_tree.specs.declared.code.ElsePart.{ElsePart}
-use Rattle.wasm_tree.specs.declared.code.Kind.{Kind as RustKind}
-use Rattle.wasm_tree.specs.declared.code.Kind.TheVariants as kind
-use Rattle.wasm_tree.specs.Instructions.{Code}
-use Rattle.wasm_tree.specs.Opcodes.{opcode_of}
+use Rattle.wasm_tree.specs.declared.code.MemArg.{MemArg}
+use Rattle.wasm_tree.specs.declared.operators.Simple.{Simple}
+use Rattle.wasm_tree.specs.declared.operators.IndexOp.{IndexOp}
+use Rattle.wasm_tree.specs.declared.operators.AccessOp.{AccessOp}
+use Rattle.wasm_tree.specs.declared.operators.Numeric.{Numeric}
+use Rattle.wasm_tree.specs.declared.operators.Parts.{Parts}
+use Rattle.wasm_tree.specs.declared.operators.Parts.TheVariants as parts
+use Rattle.wasm_tree.specs.Instructions.{Code, Kind, Unreachable, Nop, Return, Drop, Select, Br, BrIf, Call, LocalGet, LocalSet, LocalTee, GlobalGet, GlobalSet, Load, Store, Eqz, Compare, Unary, Binary, I32WrapI64, I64ExtendI32S, I64ExtendI32U, Extend}
+use Rattle.wasm_tree.specs.Parts.{parts_of, simple_opcode, index_opcode, access_opcode, numeric_opcode}
 use Rattle.wasm_tree.specs.Views.{code_tree, kind_tree}
-use Rattle.wasm_spelling.specs.Fields.{Fields, byte, here, provided}
-use Rattle.wasm_spelling.specs.ModuleFields.{block_type_code, code_fields, end_byte, immediates, instr_fields}
+use Rattle.wasm_spelling.specs.Fields.{Fields, byte, number, here, provided}
+use Rattle.wasm_spelling.specs.ModuleFields.{block_type_code, code_fields, end_byte, instr_fields}
 use Rattle.wasm_spelling.specs.Limits.{most_module_bytes}
 use Rattle.wasm_writing.specs.declared.draft.Draft.{Draft}
 use Rattle.wasm_writing.specs.Aside.{SpelledAside, SpelledBy}
-use Rattle.wasm_writing.specs.Codes.{block_fields, if_fields}
+use Rattle.wasm_writing.specs.Codes.{mem_arg, block_fields, if_fields}
 use Rattle.wasm_writing.specs.Drafts.{Puts, Refuses}
 use Rattle.wasm_writing.proofs.Pieces.{fits_here, makes_here, puts_if, puts_none}
 use Rattle.wasm_writing.proofs.Lists.{puts_both, puts_same}
@@ -67,12 +71,64 @@ puts_branches room ty code other else_place end_place a b c d e f g n first head
     (puts_room room (λ rest. byte (block_type_code ty) (code_fields (room - 1) code (halved rest))) b g n body)
 
 -- an instruction that is no block
-pub puts_plain : (room : ℕ) (k : RustKind) (a b c : Draft) → ((r : Option ValType) (code : Code) (e : ℕ) → k ≡ kind.Block r code e → ⊥) → ((r : Option ValType) (code : Code) (e : ℕ) → k ≡ kind.Loop r code e → ⊥) → ((r : Option ValType) (code : Code) (o : Option ElsePart) (e : ℕ) → k ≡ kind.If r code o e → ⊥)
-    → Puts (byte (opcode_of (kind_tree k))) a b → Puts (immediates (kind_tree k)) b c → Puts (instr_fields room (kind_tree k)) a c
-puts_plain room (kind.Block r code e) a b c nb nl ni p q = absurd (nb r code e refl)
-puts_plain room (kind.Loop r code e) a b c nb nl ni p q = absurd (nl r code e refl)
-puts_plain room (kind.If r code o e) a b c nb nl ni p q = absurd (ni r code o e refl)
-puts_plain room k a b c nb nl ni p q = puts_both (byte (opcode_of (kind_tree k))) (immediates (kind_tree k)) a b c p q
+-- ---- instructions by their parts
+
+-- what an instruction is spelled by, as far as its parts say
+abbrev SpelledByParts : Kind → Parts → Type 0
+SpelledByParts k (parts.Simple o) = (room : ℕ) (rest : Fields) → byte (simple_opcode o) rest ≡ instr_fields room k rest
+SpelledByParts k (parts.Index o n) = (room : ℕ) (rest : Fields) → byte (index_opcode o) (number n rest) ≡ instr_fields room k rest
+SpelledByParts k (parts.Access o arg) = (room : ℕ) (rest : Fields) → byte (access_opcode o) (mem_arg arg rest) ≡ instr_fields room k rest
+SpelledByParts k (parts.Numeric o) = (room : ℕ) (rest : Fields) → byte (numeric_opcode o) rest ≡ instr_fields room k rest
+SpelledByParts k parts.Other = Unit {0}
+
+spelled_by_parts : (k : Kind) → SpelledByParts k (parts_of k)
+spelled_by_parts Unreachable = λ room rest. refl
+spelled_by_parts Nop = λ room rest. refl
+spelled_by_parts Return = λ room rest. refl
+spelled_by_parts Drop = λ room rest. refl
+spelled_by_parts Select = λ room rest. refl
+spelled_by_parts (Br n) = λ room rest. refl
+spelled_by_parts (BrIf n) = λ room rest. refl
+spelled_by_parts (Call n) = λ room rest. refl
+spelled_by_parts (LocalGet n) = λ room rest. refl
+spelled_by_parts (LocalSet n) = λ room rest. refl
+spelled_by_parts (LocalTee n) = λ room rest. refl
+spelled_by_parts (GlobalGet n) = λ room rest. refl
+spelled_by_parts (GlobalSet n) = λ room rest. refl
+spelled_by_parts (Load op arg) = λ room rest. refl
+spelled_by_parts (Store op arg) = λ room rest. refl
+spelled_by_parts (Eqz ty) = λ room rest. refl
+spelled_by_parts (Compare ty op) = λ room rest. refl
+spelled_by_parts (Unary ty op) = λ room rest. refl
+spelled_by_parts (Binary ty op) = λ room rest. refl
+spelled_by_parts I32WrapI64 = λ room rest. refl
+spelled_by_parts I64ExtendI32S = λ room rest. refl
+spelled_by_parts I64ExtendI32U = λ room rest. refl
+spelled_by_parts (Extend op) = λ room rest. refl
+spelled_by_parts k = tt
+
+spelled_as : (k : Kind) (p : Parts) → p ≡ parts_of k → SpelledByParts k p
+spelled_as k p e = subst (SpelledByParts k) (sym e) (spelled_by_parts k)
+
+pub puts_simple : (room : ℕ) (k : Kind) (o : Simple) (a b : Draft) → parts.Simple o ≡ parts_of k → Puts (byte (simple_opcode o)) a b
+    → Puts (instr_fields room k) a b
+puts_simple room k o a b e p = puts_same (byte (simple_opcode o)) (instr_fields room k) a b (spelled_as k (parts.Simple o) e room) p
+
+pub puts_numeric : (room : ℕ) (k : Kind) (o : Numeric) (a b : Draft) → parts.Numeric o ≡ parts_of k → Puts (byte (numeric_opcode o)) a b
+    → Puts (instr_fields room k) a b
+puts_numeric room k o a b e p = puts_same (byte (numeric_opcode o)) (instr_fields room k) a b (spelled_as k (parts.Numeric o) e room) p
+
+pub puts_index : (room : ℕ) (k : Kind) (o : IndexOp) (n : ℕ) (a b c : Draft) → parts.Index o n ≡ parts_of k
+    → Puts (byte (index_opcode o)) a b → Puts (number n) b c → Puts (instr_fields room k) a c
+puts_index room k o n a b c e p q =
+    puts_same (λ rest. byte (index_opcode o) (number n rest)) (instr_fields room k) a c (spelled_as k (parts.Index o n) e room)
+    (puts_both (byte (index_opcode o)) (number n) a b c p q)
+
+pub puts_access : (room : ℕ) (k : Kind) (o : AccessOp) (arg : MemArg) (a b c : Draft) → parts.Access o arg ≡ parts_of k
+    → Puts (byte (access_opcode o)) a b → Puts (mem_arg arg) b c → Puts (instr_fields room k) a c
+puts_access room k o arg a b c e p q =
+    puts_same (λ rest. byte (access_opcode o) (mem_arg arg rest)) (instr_fields room k) a c (spelled_as k (parts.Access o arg) e room)
+    (puts_both (byte (access_opcode o)) (mem_arg arg) a b c p q)
 
 -- ---- lists
 

@@ -8,7 +8,6 @@ mod draft;
 mod entries;
 mod laws;
 mod module;
-mod opcodes;
 mod sections;
 mod types;
 mod vectors;
