@@ -2,7 +2,9 @@
 use Rattle.std.proofs.Common.{ℕ, zero, suc, ◌≤◌, [], ◌∷◌, Some, None, refl, arith}
 use Rattle.std.specs.Prelude.{pos}
 use Rattle.w2c_base.specs.declared.value.ValType.TheVariants.{I32}
-use Rattle.wasm_tree.specs.Instructions.{Code, no_else, Block, Br, Drop, If, I32Const, Binary, Add, Load, I32Load}
+use Rattle.wasm_tree.specs.Instructions.{Code, no_else, Block, Br, Drop, If, I32Const, Binary, Load}
+use Rattle.wasm_tree.specs.declared.operators.BinaryOp.TheVariants.{Add}
+use Rattle.wasm_tree.specs.declared.operators.LoadOp.TheVariants.{I32Load}
 use Rattle.wasm_valid.specs.declared.fault.ValidCause.TheVariants as cause
 use Rattle.wasm_valid.specs.Typing.{Stack, HasType, BodyHasType}
 use Rattle.wasm_valid.specs.Completion.{closing, completed}

@@ -5,11 +5,10 @@ use Rattle.std.specs.List.{AllByRecursion}
 use Rattle.w2c_base.specs.declared.value.ValType.{ValType}
 use Rattle.w2c_base.specs.declared.value.ValType.TheVariants.{I32, I64}
 use Rattle.w2c_base.specs.declared.signature.FuncType.{FuncType}
-use Rattle.w2c_base.specs.Values.{equal_type, equal_results}
 use Rattle.w2c_base.proofs.Types.{equal_results-eq, results_equal_themselves}
 use Rattle.wasm_tree.specs.Instructions.{Code, end_code, then_code, Kind, Otherwise, no_else, else_code, Unreachable, Return, Drop, Select, MemorySize, MemoryGrow, MemoryCopy, MemoryFill, Block, Loop, If, Br, BrIf, BrTable, Call, CallIndirect, LocalGet, LocalSet, LocalTee, GlobalGet, GlobalSet, Load, Store}
 use Rattle.wasm_tree.specs.InstructionTable.{Typing, of_types, by_rule}
-use Rattle.wasm_tree.specs.AccessWidths.{load_width, store_width}
+use Rattle.wasm_tree.specs.Accesses.{load_width, store_width}
 use Rattle.wasm_valid.specs.declared.operand.Operand.{Operand}
 use Rattle.wasm_valid.specs.declared.operand.Operand.TheVariants.{Known, Unknown}
 use Rattle.wasm_valid.specs.Context.{Context, Labels}

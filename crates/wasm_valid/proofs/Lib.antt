@@ -14,3 +14,5 @@ pub mod ModuleRows
 pub mod Names
 pub mod Shapes
 pub mod EnteredBodies
+pub mod TableTypes
+pub mod ByParts

@@ -1,7 +1,7 @@
 -- The needs of an instruction, met and unmet; and instructions that go by their row.
-use Rattle.std.proofs.Common.{◌≡◌, ℕ, ◌^◌, ◌<◌, ◌≤◌, Bool, true, false, not, is_some, is_none, nat_le, List, [], ◌∷◌, Option, Some, None, Result, slice_get, refl, sym, ap, ◌∙◌}
-use Rattle.std.proofs.Math.Pow.{pow_mono, pow-lt}
-use Rattle.std.proofs.lemmas.Bool.{le-leb, lt-leb}
+use Rattle.std.proofs.Common.{◌≡◌, ℕ, ◌^◌, ◌<◌, ◌≤◌, Bool, true, false, not, is_some, is_none, nat_le, List, [], ◌∷◌, Option, Some, None, Result, slice_get, refl, sym, ap, ◌∙◌, arith}
+use Rattle.std.proofs.Math.Pow.{pow_mono}
+use Rattle.std.proofs.lemmas.Bool.{lt-leb}
 use Rattle.wasm_tree.specs.declared.code.Kind.{Kind as RustKind}
 use Rattle.wasm_tree.specs.declared.code.Kind.TheVariants as kind
 use Rattle.wasm_tree.specs.Views.{kind_tree}
@@ -14,6 +14,10 @@ use Rattle.wasm_valid.specs.BodyFault.{first_cause, cause_of, misaligned}
 use Rattle.wasm_valid.specs.Needs.{where_met, unmet, row_step, row_cause}
 use Rattle.wasm_valid.specs.Plain.{Plain}
 
+-- no width of 32 bits is as large
+pub too_large : (exponent width : ℕ) → 32 ≤ exponent → width < 2 ^ 32 → nat_le (2 ^ exponent) width ≡ false
+too_large exponent width many small = lt-leb (2 ^ exponent) width (omega (arith, small, pow_mono many))
+
 not_none : {A : Type 0} (o : Option A) → is_some o ≡ true → is_none o ≡ false
 not_none None e = cc
 not_none (Some a) e = refl
@@ -21,24 +25,22 @@ not_none (Some a) e = refl
 when_true : (b : Bool) (r : Option Operands) → b ≡ true → when b r ≡ r
 when_true b r e = ap (λ t. when t r) e
 
-pub fits_met : (c : Context) (align most : ℕ) → has_memory c ≡ true → align ≤ most
-    → ((r : Option Operands) → where_met c (Access align most) r ≡ r) × (first_cause (unmet c (Access align most)) ≡ cause.TypeMismatch)
-fits_met c align most there le =
-    let fits : nat_le (2 ^ align) (2 ^ most) ≡ true = le-leb (2 ^ align) (2 ^ most) (pow_mono le) in (
-      (λ r. when_true (has_memory c) (when (nat_le (2 ^ align) (2 ^ most)) r) there ∙ when_true (nat_le (2 ^ align) (2 ^ most)) r fits),
-      ap (λ b. first_cause ((b, cause.UnknownMemory) ∷ misaligned align (2 ^ most) ∷ [])) (not_none (slice_get c.memories 0) there)
-          ∙ ap (λ b. first_cause ((not b, cause.Alignment) ∷ [])) fits,
-    )
+pub aligned_met : (c : Context) (align width : ℕ) → has_memory c ≡ true → nat_le (2 ^ align) width ≡ true
+    → ((r : Option Operands) → where_met c (Access align width) r ≡ r) × (first_cause (unmet c (Access align width)) ≡ cause.TypeMismatch)
+aligned_met c align width there fits = (
+  λ r. when_true (has_memory c) (when (nat_le (2 ^ align) width) r) there ∙ when_true (nat_le (2 ^ align) width) r fits,
+  ap (λ b. first_cause ((b, cause.UnknownMemory) ∷ misaligned align width ∷ [])) (not_none (slice_get c.memories 0) there)
+      ∙ ap (λ b. first_cause ((not b, cause.Alignment) ∷ [])) fits,
+)
 
-pub misfits_unmet : (c : Context) (align most : ℕ) → has_memory c ≡ true → most < align
-    → ((r : Option Operands) → where_met c (Access align most) r ≡ None) × (cause.Alignment ≡ first_cause (unmet c (Access align most)))
-misfits_unmet c align most there less =
-    let fits : nat_le (2 ^ align) (2 ^ most) ≡ false = lt-leb (2 ^ align) (2 ^ most) (pow-lt less) in (
-      (λ r. when_true (has_memory c) (when (nat_le (2 ^ align) (2 ^ most)) r) there ∙ ap (λ t. when t r) fits),
-      sym
-          (ap (λ b. first_cause ((b, cause.UnknownMemory) ∷ misaligned align (2 ^ most) ∷ [])) (not_none (slice_get c.memories 0) there)
-          ∙ ap (λ b. first_cause ((not b, cause.Alignment) ∷ [])) fits),
-    )
+pub misaligned_unmet : (c : Context) (align width : ℕ) → has_memory c ≡ true → nat_le (2 ^ align) width ≡ false
+    → ((r : Option Operands) → where_met c (Access align width) r ≡ None) × (cause.Alignment ≡ first_cause (unmet c (Access align width)))
+misaligned_unmet c align width there fits = (
+  λ r. when_true (has_memory c) (when (nat_le (2 ^ align) width) r) there ∙ ap (λ t. when t r) fits,
+  sym
+      (ap (λ b. first_cause ((b, cause.UnknownMemory) ∷ misaligned align width ∷ [])) (not_none (slice_get c.memories 0) there)
+      ∙ ap (λ b. first_cause ((not b, cause.Alignment) ∷ [])) fits),
+)
 
 -- an instruction that is none of those with a rule of their own
 pub plain_by_row : (c : Context) (labels : Labels) (k : RustKind) (result : Result Unit Stop) (s new : Operands)

@@ -5,7 +5,7 @@ use Rattle.w2c_base.specs.declared.value.ValType.{ValType}
 use Rattle.w2c_base.specs.Lookup.{if_found}
 use Rattle.wasm_tree.specs.declared.entries.BodyEntry.{BodyEntry}
 use Rattle.wasm_tree.specs.Instructions.{Code, end_code, then_code, Kind, Otherwise, no_else, else_code, MemorySize, MemoryGrow, MemoryCopy, MemoryFill, Block, Loop, If, Br, BrIf, BrTable, Call, CallIndirect, LocalGet, LocalSet, LocalTee, GlobalGet, GlobalSet, Load, Store}
-use Rattle.wasm_tree.specs.AccessWidths.{load_width, store_width}
+use Rattle.wasm_tree.specs.Accesses.{load_width, store_width}
 use Rattle.wasm_valid.specs.declared.fault.ValidCause.{ValidCause}
 use Rattle.wasm_valid.specs.declared.fault.ValidCause.TheVariants as cause
 use Rattle.wasm_valid.specs.declared.fault.Fault.{Fault}

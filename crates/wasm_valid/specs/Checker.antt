@@ -5,7 +5,7 @@ use Rattle.w2c_base.specs.declared.value.ValType.TheVariants.{I32}
 use Rattle.w2c_base.specs.Values.{equal_type, equal_results}
 use Rattle.wasm_tree.specs.Instructions.{Code, end_code, then_code, Kind, Otherwise, no_else, else_code, Unreachable, Return, Drop, Select, MemorySize, MemoryGrow, MemoryCopy, MemoryFill, Block, Loop, If, Br, BrIf, BrTable, Call, CallIndirect, LocalGet, LocalSet, LocalTee, GlobalGet, GlobalSet, Load, Store}
 use Rattle.wasm_tree.specs.InstructionTable.{Typing, of_types, by_rule}
-use Rattle.wasm_tree.specs.AccessWidths.{load_width, store_width}
+use Rattle.wasm_tree.specs.Accesses.{load_width, store_width}
 use Rattle.wasm_valid.specs.declared.operand.Operand.{Operand}
 use Rattle.wasm_valid.specs.declared.operand.Operand.TheVariants.{Known, Unknown}
 use Rattle.wasm_valid.specs.declared.fault.Fault.{Fault}

@@ -1,7 +1,8 @@
 -- What an instruction with a row of its own needs besides its operands: a memory, and an alignment that is not larger than
--- the access (WebAssembly Core 1.0, 3.3.4). Widths are powers of two here.
-use Rattle.std.specs.Prelude.{ℕ, ◌^◌, List, [], ◌∷◌, Option, Some, None, nat_le}
-use Rattle.wasm_tree.specs.Instructions.{Kind, MemorySize, MemoryGrow, MemoryCopy, MemoryFill, Load, Store, LoadOp, I32Load, I64Load, I32Load8S, I32Load8U, I32Load16S, I32Load16U, I64Load8S, I64Load8U, I64Load16S, I64Load16U, I64Load32S, I64Load32U, StoreOp, I32Store, I64Store, I32Store8, I32Store16, I64Store8, I64Store16, I64Store32}
+-- the access (WebAssembly Core 1.0, 3.3.4).
+use Rattle.std.specs.Prelude.{◌^◌, List, [], ◌∷◌, Option, Some, None, nat_le}
+use Rattle.wasm_tree.specs.Instructions.{Kind, MemorySize, MemoryGrow, MemoryCopy, MemoryFill, Load, Store}
+use Rattle.wasm_tree.specs.Accesses.{load_width, store_width}
 use Rattle.wasm_tree.specs.InstructionTable.{Typing, of_types, by_rule}
 use Rattle.wasm_valid.specs.declared.numeric.Needs.{Needs}
 use Rattle.wasm_valid.specs.declared.numeric.Needs.TheVariants.{Nothing, Memory, Access}
@@ -12,32 +13,9 @@ use Rattle.wasm_valid.specs.Typing.{values, table_type}
 use Rattle.wasm_valid.specs.Checker.{Operands, when, has_memory, turn_tabled}
 use Rattle.wasm_valid.specs.BodyFault.{CauseRow, first_cause, no_memory, misaligned}
 
-abbrev pub load_exponent : LoadOp → ℕ
-load_exponent I32Load = 2
-load_exponent I64Load = 3
-load_exponent I32Load8S = 0
-load_exponent I32Load8U = 0
-load_exponent I32Load16S = 1
-load_exponent I32Load16U = 1
-load_exponent I64Load8S = 0
-load_exponent I64Load8U = 0
-load_exponent I64Load16S = 1
-load_exponent I64Load16U = 1
-load_exponent I64Load32S = 2
-load_exponent I64Load32U = 2
-
-abbrev pub store_exponent : StoreOp → ℕ
-store_exponent I32Store = 2
-store_exponent I64Store = 3
-store_exponent I32Store8 = 0
-store_exponent I32Store16 = 1
-store_exponent I64Store8 = 0
-store_exponent I64Store16 = 1
-store_exponent I64Store32 = 2
-
 abbrev pub needs_of : Kind → Needs
-needs_of (Load op arg) = Access arg.align (load_exponent op)
-needs_of (Store op arg) = Access arg.align (store_exponent op)
+needs_of (Load op arg) = Access arg.align (load_width op)
+needs_of (Store op arg) = Access arg.align (store_width op)
 needs_of MemorySize = Memory
 needs_of MemoryGrow = Memory
 needs_of MemoryCopy = Memory
@@ -57,12 +35,12 @@ needs_seen (Some ty) = ty.needs
 abbrev pub where_met : Context → Needs → Option Operands → Option Operands
 where_met c Nothing r = r
 where_met c Memory r = when (has_memory c) r
-where_met c (Access align most) r = when (has_memory c) (when (nat_le (2 ^ align) (2 ^ most)) r)
+where_met c (Access align width) r = when (has_memory c) (when (nat_le (2 ^ align) width) r)
 
 abbrev pub unmet : Context → Needs → List CauseRow
 unmet c Nothing = []
 unmet c Memory = no_memory c ∷ []
-unmet c (Access align most) = no_memory c ∷ misaligned align (2 ^ most) ∷ []
+unmet c (Access align width) = no_memory c ∷ misaligned align width ∷ []
 
 -- an instruction by its row alone
 abbrev pub row_step : Context → Kind → Operands → Option Operands

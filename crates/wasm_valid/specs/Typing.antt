@@ -7,8 +7,8 @@ use Rattle.w2c_base.specs.declared.value.ValType.TheVariants as type
 use Rattle.w2c_base.specs.declared.signature.FuncType.{FuncType}
 use Rattle.wasm_tree.specs.Instructions.{Code, end_code, then_code, Kind, Otherwise, no_else, else_code, Unreachable, Return, Drop, Select, MemorySize, MemoryGrow, MemoryCopy, MemoryFill, Block, Loop, If, Br, BrIf, BrTable, Call, CallIndirect, LocalGet, LocalSet, LocalTee, GlobalGet, GlobalSet, Load, Store}
 use Rattle.wasm_tree.specs.InstructionTable.{Typing, of_types, by_rule, Row, row_of}
-use Rattle.wasm_tree.specs.Opcodes.{opcode_of}
-use Rattle.wasm_tree.specs.AccessWidths.{load_width, store_width}
+use Rattle.wasm_tree.specs.InstructionTable.{opcode_of}
+use Rattle.wasm_tree.specs.Accesses.{load_width, store_width}
 use Rattle.wasm_valid.specs.Context.{Context, Labels}
 
 abbrev pub Stack : Type 0

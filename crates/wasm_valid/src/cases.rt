@@ -1,7 +1,9 @@
 // Small bodies and modules, and what the definitions say of them.
 ghost use Rattle.std.specs.Prelude.{◌≡◌, ℤ, pos, ℕ, List, [], ◌∷◌, codes, Option, Some, None};
 ghost use Rattle.w2c_base.specs.declared.value.ValType.TheVariants as ty;
-ghost use Rattle.wasm_tree.specs.Instructions.{end_code, no_else, else_code, Block, Br, Drop as Dropped, If, I32Const, I64Const, Binary, Add, LocalGet, Load, I32Load, Unreachable};
+ghost use Rattle.wasm_tree.specs.Instructions.{end_code, no_else, else_code, Block, Br, Drop as Dropped, If, I32Const, I64Const, Binary, LocalGet, Load, Unreachable};
+ghost use Rattle.wasm_tree.specs.declared.operators.BinaryOp.TheVariants.{Add};
+ghost use Rattle.wasm_tree.specs.declared.operators.LoadOp.TheVariants.{I32Load};
 ghost use Rattle.wasm_tree.specs.declared.entries.ExportKind.TheVariants as kind;
 ghost use Rattle.wasm_valid.specs.declared.fault.ValidCause.TheVariants as cause;
 ghost use Rattle.wasm_valid.specs.Typing.{BodyHasType};

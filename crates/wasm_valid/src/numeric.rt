@@ -1,15 +1,18 @@
 // The types of instructions that have the same type everywhere (WebAssembly Core 1.0, 3.3.1 and 3.3.4).
-ghost use Rattle.std.specs.Prelude.{◌≡◌};
+ghost use Rattle.std.specs.Prelude.{◌≡◌, ◌^◌, [], ◌∷◌, Some, nat_le};
+ghost use Rattle.w2c_base.specs.declared.value.ValType.TheVariants as type;
+ghost use Rattle.wasm_tree.specs.declared.operators.Parts.TheVariants.{Other};
 ghost use Rattle.wasm_tree.specs.InstructionTable.{of_types};
+ghost use Rattle.wasm_tree.specs.Parts.{access_tree, numeric_tree, parts_of, simple_tree};
 ghost use Rattle.wasm_tree.specs.Views.{kind_tree};
 ghost use Rattle.wasm_valid.specs.Typing.{table_type, values};
 ghost use Rattle.wasm_valid.specs.Needs.{needs_of, typing_seen, needs_seen};
 
 use w2c_base::ValType;
-use wasm_tree::Kind;
+use wasm_tree::{AccessOp, Kind, MemArg, Numeric, Parts, Simple};
 
 /// What an instruction needs besides its operands: a memory, and for an access an alignment, the exponent of a power of
-/// two, that is not larger than that of its width.
+/// two, that is not larger than its width in bytes.
 #[derive(Clone, Copy, Debug, PartialEq, Eq)]
 pub(crate) enum Needs {
     Nothing,
@@ -39,162 +42,131 @@ const THREE_I32: &[ValType] = &[ValType::I32, ValType::I32, ValType::I32];
 
 const I32_AND_I64: &[ValType] = &[ValType::I32, ValType::I64];
 
-fn of(operands: &'static [ValType], outcome: Option<ValType>) -> Option<InstrType>
+fn one(ty: ValType) -> &'static [ValType]
+    ensures { result.now ≡ ty ∷ [] }
+{
+    match ty {
+        ValType::I32 => ONE_I32,
+        ValType::I64 => ONE_I64,
+    }
+}
+
+fn two(ty: ValType) -> &'static [ValType]
+    ensures { result.now ≡ ty ∷ ty ∷ [] }
+{
+    match ty {
+        ValType::I32 => TWO_I32,
+        ValType::I64 => TWO_I64,
+    }
+}
+
+// An address, and a value above it.
+fn address_and(ty: ValType) -> &'static [ValType]
+    ensures { result.now ≡ type.I32 ∷ ty ∷ [] }
+{
+    match ty {
+        ValType::I32 => TWO_I32,
+        ValType::I64 => I32_AND_I64,
+    }
+}
+
+fn of(operands: &'static [ValType], outcome: Option<ValType>, needs: Needs) -> Option<InstrType>
     ensures typing { typing_seen result ≡ of_types operands.now (values outcome) }
-    ensures needs { needs_seen result ≡ Needs.Nothing }
+    ensures needed { needs_seen result ≡ needs }
 {
     Some(InstrType {
         operands,
         result: outcome,
-        needs: Needs::Nothing,
+        needs,
     })
 }
 
-// An access to memory.
-fn accessing(
-    operands: &'static [ValType],
-    outcome: Option<ValType>,
-    align: u32,
-    most: u32,
-) -> Option<InstrType>
-    ensures typing { typing_seen result ≡ of_types operands.now (values outcome) }
-    ensures needs { needs_seen result ≡ Needs.Access align most }
+/// Whether a power of two, by its exponent, is not larger than a width.
+#[tactic(auto, using(crate::proofs::Needs::too_large))]
+pub(crate) fn is_aligned(exponent: u32, width: u32) -> bool
+    ensures { result ≡ nat_le (2 ^ exponent) width }
 {
-    Some(InstrType {
-        operands,
-        result: outcome,
-        needs: Needs::Access(align, most),
-    })
+    exponent < 32 && 1u32 << exponent <= width
+}
+
+fn simple_type(op: Simple) -> Option<InstrType>
+    ensures typing { typing_seen result ≡ table_type (simple_tree op) }
+    ensures needed { needs_seen result ≡ needs_of (simple_tree op) }
+{
+    match op {
+        Simple::Nop => of(NONE, None, Needs::Nothing),
+        Simple::Unreachable | Simple::Return | Simple::Drop | Simple::Select => None,
+    }
+}
+
+fn access_type(op: AccessOp, arg: MemArg) -> Option<InstrType>
+    ensures typing { typing_seen result ≡ table_type (access_tree op arg) }
+    ensures needed { needs_seen result ≡ needs_of (access_tree op arg) }
+{
+    match op {
+        AccessOp::Load(op) => {
+            let access = op.access();
+            of(
+                ONE_I32,
+                Some(access.ty),
+                Needs::Access(arg.align, access.width),
+            )
+        }
+        AccessOp::Store(op) => {
+            let access = op.access();
+            of(
+                address_and(access.ty),
+                None,
+                Needs::Access(arg.align, access.width),
+            )
+        }
+    }
+}
+
+fn numeric_type(op: Numeric) -> Option<InstrType>
+    ensures typing { typing_seen result ≡ table_type (numeric_tree op) }
+    ensures needed { needs_seen result ≡ needs_of (numeric_tree op) }
+{
+    match op {
+        Numeric::Eqz(ty) => of(one(ty), Some(ValType::I32), Needs::Nothing),
+        Numeric::Compare(ty, _) => of(two(ty), Some(ValType::I32), Needs::Nothing),
+        Numeric::Unary(ty, _) => of(one(ty), Some(ty), Needs::Nothing),
+        Numeric::Binary(ty, _) => of(two(ty), Some(ty), Needs::Nothing),
+        Numeric::I32WrapI64 => of(ONE_I64, Some(ValType::I32), Needs::Nothing),
+        Numeric::I64ExtendI32S | Numeric::I64ExtendI32U => {
+            of(ONE_I32, Some(ValType::I64), Needs::Nothing)
+        }
+        Numeric::Extend(op) => of(one(op.ty()), Some(op.ty()), Needs::Nothing),
+    }
+}
+
+// An instruction with immediates of its own.
+fn other_type(kind: &Kind) -> Option<InstrType>
+    requires { parts_of (kind_tree kind.now) ≡ Other }
+    ensures typing { typing_seen result ≡ table_type (kind_tree kind.now) }
+    ensures needed { needs_seen result ≡ needs_of (kind_tree kind.now) }
+{
+    match kind {
+        Kind::I32Const(_) => of(NONE, Some(ValType::I32), Needs::Nothing),
+        Kind::I64Const(_) => of(NONE, Some(ValType::I64), Needs::Nothing),
+        Kind::MemorySize => of(NONE, Some(ValType::I32), Needs::Memory),
+        Kind::MemoryGrow => of(ONE_I32, Some(ValType::I32), Needs::Memory),
+        Kind::MemoryCopy | Kind::MemoryFill => of(THREE_I32, None, Needs::Memory),
+        _ => None,
+    }
 }
 
 /// The type of an instruction, None where the place of the instruction says more.
+#[tactic(auto, using(crate::proofs::ByParts::of_numeric))]
 pub(crate) fn fixed_type(kind: &Kind) -> Option<InstrType>
     ensures typing { typing_seen result ≡ table_type (kind_tree kind.now) }
     ensures needs { needs_seen result ≡ needs_of (kind_tree kind.now) }
 {
-    match kind {
-        Kind::Nop => of(NONE, None),
-        Kind::I32Const(_) => of(NONE, Some(ValType::I32)),
-        Kind::I64Const(_) => of(NONE, Some(ValType::I64)),
-        Kind::MemorySize => Some(InstrType {
-            operands: NONE,
-            result: Some(ValType::I32),
-            needs: Needs::Memory,
-        }),
-        Kind::MemoryGrow => Some(InstrType {
-            operands: ONE_I32,
-            result: Some(ValType::I32),
-            needs: Needs::Memory,
-        }),
-        Kind::MemoryCopy | Kind::MemoryFill => Some(InstrType {
-            operands: THREE_I32,
-            result: None,
-            needs: Needs::Memory,
-        }),
-        Kind::I32Load8S(arg) | Kind::I32Load8U(arg) => {
-            accessing(ONE_I32, Some(ValType::I32), arg.align, 0)
-        }
-        Kind::I32Load16S(arg) | Kind::I32Load16U(arg) => {
-            accessing(ONE_I32, Some(ValType::I32), arg.align, 1)
-        }
-        Kind::I32Load(arg) => accessing(ONE_I32, Some(ValType::I32), arg.align, 2),
-        Kind::I64Load8S(arg) | Kind::I64Load8U(arg) => {
-            accessing(ONE_I32, Some(ValType::I64), arg.align, 0)
-        }
-        Kind::I64Load16S(arg) | Kind::I64Load16U(arg) => {
-            accessing(ONE_I32, Some(ValType::I64), arg.align, 1)
-        }
-        Kind::I64Load32S(arg) | Kind::I64Load32U(arg) => {
-            accessing(ONE_I32, Some(ValType::I64), arg.align, 2)
-        }
-        Kind::I64Load(arg) => accessing(ONE_I32, Some(ValType::I64), arg.align, 3),
-        Kind::I32Store8(arg) => accessing(TWO_I32, None, arg.align, 0),
-        Kind::I32Store16(arg) => accessing(TWO_I32, None, arg.align, 1),
-        Kind::I32Store(arg) => accessing(TWO_I32, None, arg.align, 2),
-        Kind::I64Store8(arg) => accessing(I32_AND_I64, None, arg.align, 0),
-        Kind::I64Store16(arg) => accessing(I32_AND_I64, None, arg.align, 1),
-        Kind::I64Store32(arg) => accessing(I32_AND_I64, None, arg.align, 2),
-        Kind::I64Store(arg) => accessing(I32_AND_I64, None, arg.align, 3),
-        Kind::I32Eqz
-        | Kind::I32Clz
-        | Kind::I32Ctz
-        | Kind::I32Popcnt
-        | Kind::I32Extend8S
-        | Kind::I32Extend16S => of(ONE_I32, Some(ValType::I32)),
-        Kind::I64ExtendI32S | Kind::I64ExtendI32U => of(ONE_I32, Some(ValType::I64)),
-        Kind::I64Eqz | Kind::I32WrapI64 => of(ONE_I64, Some(ValType::I32)),
-        Kind::I64Clz
-        | Kind::I64Ctz
-        | Kind::I64Popcnt
-        | Kind::I64Extend8S
-        | Kind::I64Extend16S
-        | Kind::I64Extend32S => of(ONE_I64, Some(ValType::I64)),
-        Kind::I32Eq
-        | Kind::I32Ne
-        | Kind::I32LtS
-        | Kind::I32LtU
-        | Kind::I32GtS
-        | Kind::I32GtU
-        | Kind::I32LeS
-        | Kind::I32LeU
-        | Kind::I32GeS
-        | Kind::I32GeU
-        | Kind::I32Add
-        | Kind::I32Sub
-        | Kind::I32Mul
-        | Kind::I32DivS
-        | Kind::I32DivU
-        | Kind::I32RemS
-        | Kind::I32RemU
-        | Kind::I32And
-        | Kind::I32Or
-        | Kind::I32Xor
-        | Kind::I32Shl
-        | Kind::I32ShrS
-        | Kind::I32ShrU
-        | Kind::I32Rotl
-        | Kind::I32Rotr => of(TWO_I32, Some(ValType::I32)),
-        Kind::I64Eq
-        | Kind::I64Ne
-        | Kind::I64LtS
-        | Kind::I64LtU
-        | Kind::I64GtS
-        | Kind::I64GtU
-        | Kind::I64LeS
-        | Kind::I64LeU
-        | Kind::I64GeS
-        | Kind::I64GeU => of(TWO_I64, Some(ValType::I32)),
-        Kind::I64Add
-        | Kind::I64Sub
-        | Kind::I64Mul
-        | Kind::I64DivS
-        | Kind::I64DivU
-        | Kind::I64RemS
-        | Kind::I64RemU
-        | Kind::I64And
-        | Kind::I64Or
-        | Kind::I64Xor
-        | Kind::I64Shl
-        | Kind::I64ShrS
-        | Kind::I64ShrU
-        | Kind::I64Rotl
-        | Kind::I64Rotr => of(TWO_I64, Some(ValType::I64)),
-        Kind::Unreachable
-        | Kind::Br(_)
-        | Kind::BrIf(_)
-        | Kind::BrTable(_, _)
-        | Kind::Return
-        | Kind::Call(_)
-        | Kind::CallIndirect(_)
-        | Kind::Drop
-        | Kind::Select
-        | Kind::LocalGet(_)
-        | Kind::LocalSet(_)
-        | Kind::LocalTee(_)
-        | Kind::GlobalGet(_)
-        | Kind::GlobalSet(_)
-        | Kind::Block { .. }
-        | Kind::Loop { .. }
-        | Kind::If { .. } => None,
+    match kind.parts() {
+        Parts::Simple(op) => simple_type(op),
+        Parts::Index(_, _) => None,
+        Parts::Access(op, arg) => access_type(op, arg),
+        Parts::Numeric(op) => numeric_type(op),
+        Parts::Other => other_type(kind),
     }
 }

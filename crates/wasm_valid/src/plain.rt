@@ -16,7 +16,7 @@ ghost use Rattle.wasm_valid.specs.RanTo.{seen};
 
 use crate::ValidCause;
 use crate::context::Spaces;
-use crate::numeric::{Needs, fixed_type};
+use crate::numeric::{Needs, fixed_type, is_aligned};
 use crate::operands::OperandStack;
 use crate::stop::Stop;
 use w2c_base::ValType;
@@ -195,15 +195,16 @@ impl<'a> Surroundings<'a> {
     }
 
     // A memory instruction needs a memory, and an access an alignment that is not larger than itself.
+    #[tactic(auto, using(crate::proofs::Needs::aligned_met, crate::proofs::Needs::misaligned_unmet))]
     fn meet(&self, needs: Needs) -> Result<(), Stop>
         ensures { Meets result (seen self.now) needs }
     {
         match needs {
             Needs::Nothing => Ok(()),
             Needs::Memory => self.memory(),
-            Needs::Access(align, most) => {
+            Needs::Access(align, width) => {
                 self.memory()?;
-                if align <= most {
+                if is_aligned(align, width) {
                     Ok(())
                 } else {
                     Err(Stop::Cause(ValidCause::Alignment))
