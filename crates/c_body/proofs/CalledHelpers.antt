@@ -5,8 +5,7 @@ use Rattle.std.specs.List.{list_any}
 use Rattle.std.proofs.Math.Bool.{or-false, or_assoc}
 use Rattle.std.proofs.lemmas.List.{drop_all}
 use Rattle.w2c_base.specs.Lookup.{named}
-use Rattle.wasm_tree.specs.Instructions as wasm
-use Rattle.wasm_tree.specs.Instructions.{Kind, Code, then_code, end_code}
+use Rattle.wasm_tree.specs.Instructions.{Kind, Code, then_code, end_code, Nop}
 use Rattle.wasm_tree.specs.declared.code.Instr.{Instr}
 use Rattle.wasm_tree.specs.declared.entries.BodyEntry.{BodyEntry}
 use Rattle.wasm_tree.specs.declared.tree.Module.{Module}
@@ -18,8 +17,8 @@ use Rattle.c_prelude.specs.declared.operation.Helper.{Helper}
 use Rattle.c_prelude.specs.declared.operation.TheConstants.{HELPERS}
 use Rattle.c_prelude.specs.Helpers.{helper_of}
 use Rattle.c_body.specs.declared.steps.Step.{Step}
-use Rattle.c_body.specs.Plain.{Way, ByOperator, ByShift, ByHelper, helper_of_way, binary_way, compare_way, helper_for}
-use Rattle.c_body.specs.Steps.{held, way_of, step_of, step_helper, element_for}
+use Rattle.c_body.specs.Plain.{helper_for}
+use Rattle.c_body.specs.Steps.{step_of, step_helper, element_for}
 use Rattle.c_body.specs.Labels.{any_in, any_inside}
 use Rattle.c_body.specs.Stack.{ends}
 use Rattle.c_body.specs.Needs.{named_by, calls, calls_helper, helpers_of}
@@ -32,14 +31,8 @@ abbrev by_step : Option Step → Option Helper → Option Helper
 by_step None other = other
 by_step (Some s) other = step_helper s
 
-held_way : (w : Way) → helper_of_way (way_of (held w)) ≡ helper_of_way w
-held_way (ByOperator o) = refl
-held_way (ByShift o) = refl
-held_way (ByHelper which) = refl
-
 by_steps : (kind : Kind) → by_step (step_of kind) (element_for kind) ≡ helper_for kind
-by_steps (wasm.Binary t o) = held_way (binary_way t o)
-by_steps (wasm.Compare t o) = held_way (compare_way t o)
+by_steps Nop = refl
 by_steps _ = refl
 
 pub of_step : (kind : Kind) (s : Step) → step_of kind ≡ Some s → step_helper s ≡ helper_for kind

@@ -41,8 +41,7 @@ use Rattle.c_body.proofs.Own.{typed_body, few_params}
 use Rattle.c_body.proofs.Zipped.{pair_at}
 use Rattle.c_body.proofs.Bounds.{within_of}
 use Rattle.c_body.proofs.Heights.{after_typed}
-use Rattle.c_body.proofs.Numeric.{unary_typing, binary_typing, extend_typing}
-use Rattle.c_body.proofs.RulesOfKinds.{eqz_table, compare_table, load_table, store_table}
+use Rattle.wasm_valid.proofs.TableTypes.{eqz_typing, compare_typing, unary_typing, binary_typing, extend_typing, load_typing, store_typing}
 use Rattle.c_body.proofs.CodeLists.{code_more}
 use Rattle.c_body.proofs.Marked.{covered_drop}
 use Rattle.c_body.proofs.Went.{Went, Goes}
@@ -118,65 +117,23 @@ has_enough c e kind r =
     let floor : e.operands.floor ≡ length r.base = r.floor in
     omega (arith, few, all, floor)
 
+-- how many operands a step takes, where there is one
+abbrev taken_by : Option Step → ℕ → ℕ
+taken_by None n = n
+taken_by (Some s) n = taken s
+
+steps_take : (c : Context) (k : Kind) → taken_by (step_of k) (takes c k) ≡ takes c k
+steps_take c (wasm.Eqz t) = sym (ap operands_in (eqz_typing t))
+steps_take c (wasm.Compare t o) = sym (ap operands_in (compare_typing t o))
+steps_take c (wasm.Unary t o) = sym (ap operands_in (unary_typing t o))
+steps_take c (wasm.Binary t o) = sym (ap operands_in (binary_typing t o))
+steps_take c (wasm.Extend o) = sym (ap operands_in (extend_typing o))
+steps_take c (wasm.Load o arg) = sym (ap operands_in (load_typing o arg))
+steps_take c (wasm.Store o arg) = sym (ap operands_in (store_typing o arg))
+steps_take c _ = refl
+
 pub taken_as_tabled : (c : Context) (k : Kind) (s : Step) → Some s ≡ step_of k → taken s ≡ takes c k
-taken_as_tabled c wasm.Nop s e = absurd cc
-taken_as_tabled c wasm.Unreachable s e = absurd cc
-taken_as_tabled c (wasm.Br i) s e = absurd cc
-taken_as_tabled c (wasm.BrIf i) s e = absurd cc
-taken_as_tabled c (wasm.BrTable is i) s e = absurd cc
-taken_as_tabled c wasm.Return s e = absurd cc
-taken_as_tabled c (wasm.Call i) s e = absurd cc
-taken_as_tabled c (wasm.CallIndirect i) s e = absurd cc
-taken_as_tabled c wasm.Drop s e = absurd cc
-taken_as_tabled c wasm.Select s e = absurd cc
-taken_as_tabled c (wasm.LocalGet i) s e = absurd cc
-taken_as_tabled c (wasm.LocalSet i) s e = absurd cc
-taken_as_tabled c (wasm.LocalTee i) s e = absurd cc
-taken_as_tabled c (wasm.GlobalGet i) s e = absurd cc
-taken_as_tabled c (wasm.GlobalSet i) s e = absurd cc
-taken_as_tabled c (wasm.Block t code p) s e = absurd cc
-taken_as_tabled c (wasm.Loop t code p) s e = absurd cc
-taken_as_tabled c (wasm.If t code o p) s e = absurd cc
-taken_as_tabled c (wasm.I32Const z) s e = ap taken (the_step s _ e)
-  where
-    the_step : (s t : Step) → Some s ≡ Some t → s ≡ t
-    the_step s t e = cc
-taken_as_tabled c (wasm.I64Const z) s e = ap taken (the_step s _ e)
-  where
-    the_step : (s t : Step) → Some s ≡ Some t → s ≡ t
-    the_step s t e = cc
-taken_as_tabled c (wasm.Eqz t) s e = ap taken (the_step s _ e) ∙ sym (ap operands_in (eqz_table t))
-  where
-    the_step : (s t : Step) → Some s ≡ Some t → s ≡ t
-    the_step s t e = cc
-taken_as_tabled c (wasm.Compare t o) s e = ap taken (the_step s _ e) ∙ sym (ap operands_in (compare_table t o))
-  where
-    the_step : (s t : Step) → Some s ≡ Some t → s ≡ t
-    the_step s t e = cc
-taken_as_tabled c (wasm.Unary t o) s e = ap taken (the_step s _ e) ∙ sym (ap operands_in (unary_typing t o))
-  where
-    the_step : (s t : Step) → Some s ≡ Some t → s ≡ t
-    the_step s t e = cc
-taken_as_tabled c (wasm.Extend o) s e = ap taken (the_step s _ e) ∙ sym (ap operands_in (extend_typing o))
-  where
-    the_step : (s t : Step) → Some s ≡ Some t → s ≡ t
-    the_step s t e = cc
-taken_as_tabled c (wasm.Binary t o) s e = ap taken (the_step s _ e) ∙ sym (ap operands_in (binary_typing t o))
-  where
-    the_step : (s t : Step) → Some s ≡ Some t → s ≡ t
-    the_step s t e = cc
-taken_as_tabled c (wasm.Load o arg) s e = ap taken (the_step s _ e) ∙ sym (ap operands_in (load_table o arg))
-  where
-    the_step : (s t : Step) → Some s ≡ Some t → s ≡ t
-    the_step s t e = cc
-taken_as_tabled c (wasm.Store o arg) s e = ap taken (the_step s _ e) ∙ sym (ap operands_in (store_table o arg))
-  where
-    the_step : (s t : Step) → Some s ≡ Some t → s ≡ t
-    the_step s t e = cc
-taken_as_tabled c _ s e = ap taken (the_step s _ e)
-  where
-    the_step : (s t : Step) → Some s ≡ Some t → s ≡ t
-    the_step s t e = cc
+taken_as_tabled c k s e = ap (λ (o : Option Step). taken_by o (takes c k)) e ∙ steps_take c k
 
 -- ---- from place to place
 

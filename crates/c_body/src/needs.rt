@@ -16,7 +16,7 @@ use w2c_base::Memory;
 use wasm_tree::{Code, ElsePart, Kind, Module};
 
 fn by_way(way: Way) -> Option<Helper>
-    ensures { result ≡ plain.helper_of_way (steps.way_of way) }
+    ensures { result ≡ plain.helper_of_way way }
 {
     match way {
         Way::ByOperator(_) | Way::ByShift(_) => None,

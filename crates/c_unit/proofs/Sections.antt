@@ -33,10 +33,10 @@ use Rattle.c_prelude.specs.declared.operation.Helper.{Helper}
 use Rattle.c_prelude.specs.declared.operation.Helper.TheVariants as helper
 use Rattle.c_prelude.specs.declared.operation.NumOp.{NumOp}
 use Rattle.c_prelude.specs.declared.operation.NumOp.TheVariants as num
-use Rattle.c_prelude.specs.declared.operation.LoadOp.{LoadOp}
-use Rattle.c_prelude.specs.declared.operation.LoadOp.TheVariants as load
-use Rattle.c_prelude.specs.declared.operation.StoreOp.{StoreOp}
-use Rattle.c_prelude.specs.declared.operation.StoreOp.TheVariants as store
+use Rattle.wasm_tree.specs.declared.operators.LoadOp.{LoadOp}
+use Rattle.wasm_tree.specs.declared.operators.LoadOp.TheVariants as load
+use Rattle.wasm_tree.specs.declared.operators.StoreOp.{StoreOp}
+use Rattle.wasm_tree.specs.declared.operators.StoreOp.TheVariants as store
 use Rattle.c_prelude.specs.Helpers.{helper_of}
 use Rattle.alike.specs.Alike.{memory_name, table_name, func_name, global_name}
 use Rattle.c_body.specs.Names.{pointer_name}

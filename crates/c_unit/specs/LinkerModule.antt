@@ -14,15 +14,16 @@
 use Rattle.std.specs.Prelude.{pos, false, true, List, [], ◌∷◌, ◌++◌, map, codes, Some, None}
 use Rattle.w2c_base.specs.declared.value.ValType.TheVariants as type
 use Rattle.wasm_tree.specs.declared.code.MemArg.{MemArg}
-use Rattle.wasm_tree.specs.Instructions.{GlobalGet, I32Const, Binary, Sub, Mul, LocalTee, LocalGet, Store, Load, I32Store, I32Load}
+use Rattle.wasm_tree.specs.Instructions.{GlobalGet, I32Const, Binary, LocalTee, LocalGet, Store, Load}
+use Rattle.wasm_tree.specs.declared.operators.BinaryOp.TheVariants.{Sub, Mul}
+use Rattle.wasm_tree.specs.declared.operators.LoadOp.TheVariants.{I32Load}
+use Rattle.wasm_tree.specs.declared.operators.StoreOp.TheVariants.{I32Store}
 use Rattle.wasm_tree.specs.declared.entries.ExportKind.TheVariants.{Func as ExportFunc, Memory as ExportMemory}
 use Rattle.wasm_meaning.specs.LinkedSet.{NamedModule}
 use Rattle.wasm_meaning.specs.Samples.{code_of, func_type}
 use Rattle.c_tree.specs.declared.tree.CType.TheVariants as c_type
 use Rattle.c_tree.specs.declared.tree.COp.TheVariants as op
 use Rattle.c_tree.specs.Tree as tree
-use Rattle.c_prelude.specs.declared.operation.LoadOp.TheVariants.{I32Load as HelperLoad}
-use Rattle.c_prelude.specs.declared.operation.StoreOp.TheVariants.{I32Store as HelperStore}
 use Rattle.c_prelude.specs.Helpers.{load_helper, store_helper}
 use Rattle.alike.specs.Alike.{func_name, global_name}
 use Rattle.c_body.specs.Names.{local_name}
@@ -127,8 +128,8 @@ linked_items =
       params = (c_type.U32, None) ∷ [];
       body = None;
     })
-    ∷ tree.Function (load_helper HelperLoad)
-    ∷ tree.Function (store_helper HelperStore)
+    ∷ tree.Function (load_helper I32Load)
+    ∷ tree.Function (store_helper I32Store)
     ∷ tree.Function (function_f0 (slot (local_name 1) ∷ slot (i 0) ∷ slot (i 1) ∷ []) linked_stmts)
     ∷ (map tree.Function linked_exports
     ++ tree.Function (record {
