@@ -15,7 +15,7 @@ ghost use Rattle.wast_run.specs.Runs.{listed_call, listed_calls, AreNamed, Enoug
 
 use crate::session_runs::{Ran, run_linked};
 use c_check::{CheckRefusal, CheckedUnit};
-use c_hosts::{HostFunction, HostModule, HostReply};
+use c_hosts::BoxedHost;
 use c_link::{LinkRefusal, Linked, link};
 use c_tree::{Unit, well_formed_units_are_spelled};
 use c_unit::{unit, units_are_proper, units_do_what_modules_do, units_of_a_linked_set_link};
@@ -62,7 +62,7 @@ pub(crate) fn run_last(
         Ok(linked) => linked,
         Err(Memory) => return Err(Memory),
     };
-    let ran = match run_linked::<NoHost>(alloc, linked, kept, last, steps) {
+    let ran = match run_linked::<BoxedHost>(alloc, linked, kept, last, steps) {
         Ok(ran) => ran,
         Err(Memory) => return Err(Memory),
     };
@@ -187,37 +187,5 @@ fn linked_alone(alloc: Global, units: Vec<CheckedUnit>) -> Result<Linked, Memory
         Err(LinkRefusal::Undefined(_, _)) => unreachable!(),
         Err(LinkRefusal::Twice(_, _)) => unreachable!(),
         Err(LinkRefusal::TypeDiffers(_, _)) => unreachable!(),
-    }
-}
-
-// No host: there is no value of it.
-#[derive(Drop)]
-enum NoHost {}
-
-impl HostModule for NoHost {
-    ghost use Rattle.std.specs.Prelude.{[]};
-
-    ghost name_of = { λ h. [] };
-
-    ghost functions_of = { λ h. [] };
-
-    ghost state = { λ h. [] };
-
-    ghost may = { λ h before i args answer after. ⊥ };
-
-    fn name(&self) -> &[u8] {
-        match *self {}
-    }
-
-    fn count(&self) -> usize {
-        match *self {}
-    }
-
-    fn function(&self, _i: usize) -> &HostFunction {
-        match *self {}
-    }
-
-    fn call(&mut self, _i: usize, _args: &[Value]) -> HostReply {
-        match *self {}
     }
 }
