@@ -1,7 +1,16 @@
--- Every operator stands in the list of all of them, and is found there by its opcode.
-use Rattle.std.proofs.Common.{◌≡◌, ℕ, zero, suc, Bool, true, false, ◌==◌, if◌then◌else◌, List, [], ◌∷◌, slice_get, Option, Some, None, IfNone, IfSome, refl, sym, subst, ap, ◌∙◌}
-use Rattle.std.specs.List.{find}
-use Rattle.std.proofs.lemmas.Bool.{eq-eqb, eqb-true}
+-- Every operator stands in the list of all of them, where opcodes rise, and is found there by its opcode.
+use Rattle.std.proofs.Common.{◌≡◌, ◌≢◌, ℕ, zero, suc, ◌+◌, ◌<◌, ◌≤◌, Bool, true, ◌&&◌, List, [], ◌∷◌, All, length, get_or, slice_get, Option, Some, None, IfNone, Err, Equal, refl, sym, subst, inl, inr, arith}
+use Rattle.std.specs.List.{HoldsAt}
+use Rattle.std.specs.List.Sorted.{IsBinarySearchResult, IsNonDecreasingBy}
+use Rattle.std.specs.Ordering.{nat_cmp, ordering_index}
+use Rattle.std.proofs.Math.Dec.{leb}
+use Rattle.std.proofs.lemmas.Bool.{cases_lt, leb-true}
+use Rattle.std.proofs.lemmas.Bool.Decides.{nat_tests}
+use Rattle.std.proofs.lemmas.Cmp.{ranked}
+use Rattle.std.proofs.lemmas.List.Elements.{All-from_get_or, All-get_or}
+use Rattle.std.proofs.lemmas.List.Sorted.{IsNonDecreasingBy-from_all_adjacent}
+use Rattle.std.proofs.lemmas.Option.{get_or_from_slice_get, slice_get_within}
+use Rattle.w2c_base.proofs.Conjunctions.{left_holds, right_holds}
 use Rattle.w2c_base.specs.declared.value.ValType.TheVariants as type
 use Rattle.wasm_tree.specs.declared.operators.UnaryOp.TheVariants as unary
 use Rattle.wasm_tree.specs.declared.operators.BinaryOp.TheVariants as binary
@@ -17,26 +26,6 @@ use Rattle.wasm_tree.specs.declared.opcodes.Op.{Op}
 use Rattle.wasm_tree.specs.declared.opcodes.Op.TheVariants as op
 use Rattle.wasm_tree.specs.declared.opcodes.TheConstants.{OPS}
 use Rattle.wasm_tree.specs.Parts.{op_opcode, HasOp}
-
--- what is found passes
-pub found_passes : (p : Op → Bool) (ops : List Op) (o : Op) → find p ops ≡ Some o → p o ≡ true
-found_passes p [] o e = absurd cc
-found_passes p (x ∷ xs) o e = by (p x) refl e (found_passes p xs o)
-  where
-    by : (b : Bool) → p x ≡ b → (if b then Some x else find p xs) ≡ Some o → (find p xs ≡ Some o → p o ≡ true) → p o ≡ true
-    by true is same later = subst (λ (y : Op). p y ≡ true) (cc) is
-    by false is same later = later same
-
--- where nothing is found, nothing in the list passes
-pub none_passes : (p : Op → Bool) (ops : List Op) → find p ops ≡ None → (i : ℕ) (o : Op) → slice_get ops i ≡ Some o → p o ≡ false
-none_passes p [] e i o at = absurd cc
-none_passes p (x ∷ xs) e i o at = by (p x) refl e i at (none_passes p xs)
-  where
-    by : (b : Bool) → p x ≡ b → (if b then Some x else find p xs) ≡ None → (i : ℕ) → slice_get (x ∷ xs) i ≡ Some o
-        → (find p xs ≡ None → (i : ℕ) (o : Op) → slice_get xs i ≡ Some o → p o ≡ false) → p o ≡ false
-    by true is same i at later = absurd cc
-    by false is same zero at later = subst (λ (y : Op). p y ≡ false) (cc) is
-    by false is same (suc i) at later = later same i o at
 
 -- the place of an operator in the list
 pub listed : (o : Op) → (i : ℕ) × (slice_get OPS i ≡ Some o)
@@ -139,17 +128,57 @@ listed (op.Numeric (numeric.Extend extension.I64Extend8S)) = (95, refl)
 listed (op.Numeric (numeric.Extend extension.I64Extend16S)) = (96, refl)
 listed (op.Numeric (numeric.Extend extension.I64Extend32S)) = (97, refl)
 
-abbrev pub has_opcode : ℕ → Op → Bool
-has_opcode opcode o = op_opcode o == opcode
+-- ---- found by halves, as opcodes rise along the list
 
-pub found : (opcode : ℕ) (r : Option Op) → r ≡ find (has_opcode opcode) OPS → IfSome r (λ o. op_opcode o ≡ opcode)
-found opcode None e = tt
-found opcode (Some o) e = eqb-true (op_opcode o) opcode (found_passes (has_opcode opcode) OPS o (sym e))
+rises : List Op → Bool
+rises [] = true
+rises (o ∷ []) = true
+rises (o ∷ p ∷ ops) = leb (op_opcode o) (op_opcode p) && rises (p ∷ ops)
 
-pub not_found : (opcode : ℕ) (r : Option Op) → r ≡ find (has_opcode opcode) OPS → IfNone r (HasOp opcode → ⊥)
-not_found opcode (Some o) e = tt
-not_found opcode None e = λ has.
+no_lower : (ops : List Op) → rises ops ≡ true → (d : Op) (k j : ℕ) → j ≡ k + 1 → j < length ops
+    → op_opcode (get_or ops k d) ≤ op_opcode (get_or ops j d)
+unfolding rises
+no_lower [] e d k j next below = absurd (omega (arith, below))
+no_lower (o ∷ ops) e d k zero next below = absurd (omega (arith, next))
+no_lower (o ∷ []) e d k (suc j) next below = absurd (omega (arith, below))
+no_lower (o ∷ p ∷ ops) e d zero (suc zero) next below =
+    leb-true (op_opcode o) (op_opcode p) (left_holds (leb (op_opcode o) (op_opcode p)) (rises (p ∷ ops)) e)
+no_lower (o ∷ p ∷ ops) e d zero (suc (suc j)) next below = absurd (omega (arith, next))
+no_lower (o ∷ p ∷ ops) e d (suc k) (suc j) next below =
+    no_lower (p ∷ ops) (right_holds (leb (op_opcode o) (op_opcode p)) (rises (p ∷ ops)) e) d k j (omega (arith, next)) (omega (arith, below))
+
+pub opcodes_rise : IsNonDecreasingBy op_opcode OPS
+unfolding rises
+opcodes_rise = IsNonDecreasingBy-from_all_adjacent op_opcode OPS (λ k d below. no_lower OPS refl d k (k + 1) refl below)
+
+comparisons_rise : (n : ℕ) (ops : List Op) → IsNonDecreasingBy op_opcode ops → IsNonDecreasingBy (λ o. ordering_index (nat_cmp (op_opcode o) n)) ops
+comparisons_rise n ops rise i j d le in_range = grind (arith, nat_tests, rise i j d le in_range)
+
+pub has_it : (opcode : ℕ) (ops : List Op) (i : ℕ) → HoldsAt (λ o. nat_cmp (op_opcode o) opcode ≡ Equal) ops i → (d : Op)
+    → op_opcode (get_or ops i d) ≡ opcode
+has_it opcode ops i equal d = ranked _ opcode _ (sym (equal d))
+
+pub has_none : (opcode : ℕ) (ops : List Op) (i : ℕ) → IsNonDecreasingBy op_opcode ops
+    → IsBinarySearchResult (λ o. nat_cmp (op_opcode o) opcode) ops (Err i) → All (λ o. op_opcode o ≢ opcode) ops
+has_none opcode ops i rise parted = All-from_get_or (λ (o : Op). op_opcode o ≢ opcode) ops other differs
+  where
+    other : Op
+    other = op.Simple simple.Nop
+
+    differs : (k : ℕ) → k < length ops → op_opcode (get_or ops k other) ≢ opcode
+    differs k below same = elim (cases_lt k i) [
+      | inl before ↦
+          let less = ranked _ opcode _ (sym ((parted (comparisons_rise opcode ops rise)).0 k other (omega arith) before)) in
+          absurd (omega (arith, less, same))
+      | inr from ↦
+          let greater = ranked _ opcode _ (sym ((parted (comparisons_rise opcode ops rise)).1 k other from below)) in
+          absurd (omega (arith, greater, same))
+    ]
+
+pub not_found : (opcode : ℕ) (r : Option Op) → IfNone r (All (λ o. op_opcode o ≢ opcode) OPS) → IfNone r (HasOp opcode → ⊥)
+not_found opcode (Some o) none = tt
+not_found opcode None none = λ has.
     let place = listed has.0 in
-    let differs : (op_opcode has.0 == opcode) ≡ false = none_passes (has_opcode opcode) OPS (sym e) place.0 has.0 place.1 in
-    let same : (op_opcode has.0 == opcode) ≡ true = eq-eqb (op_opcode has.0) opcode has.1 in
-    absurd cc
+    let it : get_or OPS place.0 has.0 ≡ has.0 = get_or_from_slice_get OPS place.0 has.0 has.0 place.1 in
+    subst (λ (o : Op). op_opcode o ≢ opcode) it
+    (All-get_or (λ (o : Op). op_opcode o ≢ opcode) OPS place.0 has.0 (slice_get_within OPS place.0 has.0 place.1) none) has.1

@@ -158,7 +158,8 @@ all_make =
     (refl, refl) & (refl, refl) & (refl, refl) & (refl, refl) & (refl, refl) & (refl, refl) & (refl, refl) & (refl, refl) &
     (refl, refl) & (refl, refl) & ((refl, refl) & (refl, refl) & tt) & tt
 
-chosen_row : (opcode : ℕ) (first r : Row) (more : Option Row) (b : Bool) → eqb first.opcode opcode ≡ b → RowMakes first → (more ≡ Some r → Makes opcode r.form) → cond b (Some first) more ≡ Some r → Makes opcode r.form
+chosen_row : (opcode : ℕ) (first r : Row) (more : Option Row) (b : Bool) → eqb first.opcode opcode ≡ b → RowMakes first
+    → (more ≡ Some r → Makes opcode r.form) → cond b (Some first) more ≡ Some r → Makes opcode r.form
 chosen_row opcode first r more true e m later is =
     let same : first ≡ r = cc in
     subst (λ n. Makes n r.form) (eqb-true first.opcode opcode e) (subst (λ x. Makes first.opcode x.form) same m)
@@ -169,7 +170,8 @@ no_row A r e = absurd cc
 
 makes_of : (opcode : ℕ) (rs : List Row) (r : Row) → AllByRecursion RowMakes rs → first_row opcode rs ≡ Some r → Makes opcode r.form
 makes_of opcode [] r all is = no_row _ r is
-makes_of opcode (first ∷ rs) r all is = chosen_row opcode first r (first_row opcode rs) (eqb first.opcode opcode) refl all.0 (makes_of opcode rs r all.1) is
+makes_of opcode (first ∷ rs) r all is =
+    chosen_row opcode first r (first_row opcode rs) (eqb first.opcode opcode) refl all.0 (makes_of opcode rs r all.1) is
 
 pub row_makes : (opcode : ℕ) (r : Row) → row_of opcode ≡ Some r → Makes opcode r.form
 row_makes opcode r is = makes_of opcode rows r all_make is

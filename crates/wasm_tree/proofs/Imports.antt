@@ -7,7 +7,8 @@ use Rattle.std.proofs.lemmas.Option.{slice_get-map}
 use Rattle.wasm_tree.specs.declared.entries.Import.{Import}
 
 -- where all imports are passed, an index is one of what the module defines
-pub behind_imports : {A B : Type 0} (f : Import → List A) (g : B → A) (imports : List Import) (items others : List B) (i n : ℕ) (found : Option B) (whole : Option A)
+pub behind_imports : {A B : Type 0} (f : Import → List A) (g : B → A) (imports : List Import) (items others : List B) (i n : ℕ)
+    (found : Option B) (whole : Option A)
     → items ≡ others → slice_get items n ≡ found
     → length imports ≤ i → slice_get (flat_map f (drop i imports) ++ map g others) n ≡ whole → option_map g found ≡ whole
 behind_imports f g imports items others i n found whole same e past so_far =

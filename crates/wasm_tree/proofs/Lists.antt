@@ -13,7 +13,8 @@ pub code_tree-length : (instrs : List Instr) → code_length (code_tree instrs) 
 code_tree-length [] = refl
 code_tree-length (i ∷ instrs) = ap suc (code_tree-length instrs)
 
-pub code_tree-at : (instrs : List Instr) (i : ℕ) (other : Instr) → i < length instrs → instr_at i (code_tree instrs) ≡ Some (instr_tree (get_or instrs i other))
+pub code_tree-at : (instrs : List Instr) (i : ℕ) (other : Instr) → i < length instrs
+    → instr_at i (code_tree instrs) ≡ Some (instr_tree (get_or instrs i other))
 code_tree-at [] i other less = absurd (omega (arith, less))
 code_tree-at (instr ∷ instrs) zero other less = refl
 code_tree-at (instr ∷ instrs) (suc i) other less = code_tree-at instrs i other (omega (arith, less))

@@ -46,7 +46,8 @@ abbrev pub Makes : ℕ → Form → Type 0
 Makes opcode (nothing kind) = (opcode_of kind ≡ opcode) × (form_of kind ≡ Some (nothing kind))
 Makes opcode (an_index make) = (n : ℕ) → (opcode_of (make n) ≡ opcode) × (form_of (make n) ≡ Some (an_index make))
 Makes opcode (a_mem_arg make) = (arg : MemArg) → (opcode_of (make arg) ≡ opcode) × (form_of (make arg) ≡ Some (a_mem_arg make))
-Makes opcode (labels make) = (ls : List ℕ) (default : ℕ) → (opcode_of (make ls default) ≡ opcode) × (form_of (make ls default) ≡ Some (labels make))
+Makes opcode (labels make) =
+    (ls : List ℕ) (default : ℕ) → (opcode_of (make ls default) ≡ opcode) × (form_of (make ls default) ≡ Some (labels make))
 Makes opcode (a_type make) = (n : ℕ) → (opcode_of (make n) ≡ opcode) × (form_of (make n) ≡ Some (a_type make))
 Makes opcode (a_zero kind) = (opcode_of kind ≡ opcode) × (form_of kind ≡ Some (a_zero kind))
 Makes opcode (an_i32 make) = (n : ℤ) → (opcode_of (make n) ≡ opcode) × (form_of (make n) ≡ Some (an_i32 make))

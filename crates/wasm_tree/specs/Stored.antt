@@ -168,11 +168,15 @@ unmark-marks (then_code p tree.I32WrapI64 c) s = then_one (marks c) _ c s (unmar
 unmark-marks (then_code p tree.I64ExtendI32S c) s = then_one (marks c) _ c s (unmark-marks c s)
 unmark-marks (then_code p tree.I64ExtendI32U c) s = then_one (marks c) _ c s (unmark-marks c s)
 unmark-marks (then_code p (tree.Extend op) c) s = then_one (marks c) _ c s (unmark-marks c s)
-unmark-marks (then_code p (tree.Block r b e) c) s = then_one (marks c) _ c s (unmark-marks c s) ∙ then_one (marks b) _ b (c ∷ s) (unmark-marks b (c ∷ s))
-unmark-marks (then_code p (tree.Loop r b e) c) s = then_one (marks c) _ c s (unmark-marks c s) ∙ then_one (marks b) _ b (c ∷ s) (unmark-marks b (c ∷ s))
-unmark-marks (then_code p (tree.If r b no_else e) c) s = then_one (marks c) _ c s (unmark-marks c s) ∙ then_one (marks b) _ b (c ∷ s) (unmark-marks b (c ∷ s))
+unmark-marks (then_code p (tree.Block r b e) c) s =
+    then_one (marks c) _ c s (unmark-marks c s) ∙ then_one (marks b) _ b (c ∷ s) (unmark-marks b (c ∷ s))
+unmark-marks (then_code p (tree.Loop r b e) c) s =
+    then_one (marks c) _ c s (unmark-marks c s) ∙ then_one (marks b) _ b (c ∷ s) (unmark-marks b (c ∷ s))
+unmark-marks (then_code p (tree.If r b no_else e) c) s =
+    then_one (marks c) _ c s (unmark-marks c s) ∙ then_one (marks b) _ b (c ∷ s) (unmark-marks b (c ∷ s))
 unmark-marks (then_code p (tree.If r b (else_code q d) e) c) s =
-    then_one (marks c) _ c s (unmark-marks c s) ∙ (then_one (marks b) _ b (c ∷ s) (unmark-marks b (c ∷ s)) ∙ then_one (marks d) _ d (b ∷ c ∷ s) (unmark-marks d (b ∷ c ∷ s)))
+    then_one (marks c) _ c s (unmark-marks c s)
+    ∙ (then_one (marks b) _ b (c ∷ s) (unmark-marks b (c ∷ s)) ∙ then_one (marks d) _ d (b ∷ c ∷ s) (unmark-marks d (b ∷ c ∷ s)))
 
 pub comes_back : (c : Code) → newest (unmark (marks c) []) ≡ c
 comes_back c = ap newest (unmark-marks c [])

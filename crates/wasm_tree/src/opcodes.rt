@@ -1,6 +1,6 @@
 // The table of opcodes (WebAssembly Core 1.0, 5.4; Core 2.0, 5.4.6 and 5.4.7). Instructions are read and written by it.
-ghost use Rattle.std.specs.Prelude.{◌≡◌, ◌==◌, IfNone, IfSome};
-ghost use Rattle.std.specs.List.{find};
+ghost use Rattle.std.specs.Prelude.{◌≡◌, ◌≢◌, All, IfNone, IfSome};
+ghost use Rattle.std.specs.List.Sorted.{IsNonDecreasingBy};
 ghost use Rattle.wasm_tree.specs.Parts.{access_opcode, index_opcode, numeric_opcode, op_opcode, simple_opcode, HasOp};
 
 use crate::operators::{
@@ -176,7 +176,7 @@ impl Numeric {
     }
 }
 
-/// Every operator, once.
+/// Every operator, once, by rising opcodes.
 pub const OPS: [Op; 98] = [
     Op::Simple(Simple::Unreachable),
     Op::Simple(Simple::Nop),
@@ -300,14 +300,14 @@ impl Op {
     }
 }
 
-// The first of these that has an opcode.
+// One of these, whose opcodes rise, that has an opcode.
 fn op_among(ops: &[Op], opcode: u8) -> Option<Op>
-    ensures { result ≡ find (λ op. op_opcode op == opcode) ops.now }
+    requires { IsNonDecreasingBy op_opcode ops.now }
+    ensures some { IfSome result (λ op. op_opcode op ≡ opcode) }
+    ensures none { IfNone result (All (λ op. op_opcode op ≢ opcode) ops.now) }
 {
-    for op in ops {
-        if op.opcode() == opcode {
-            return Some(*op);
-        }
+    match ops.binary_search_by_key(&opcode, |op| op.opcode()) {
+        Ok(at) => Some(ops[at]),
+        Err(_) => None,
     }
-    None
 }
