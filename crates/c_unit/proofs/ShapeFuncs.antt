@@ -23,7 +23,7 @@ use Rattle.c_unit.specs.Exports.{export_func}
 use Rattle.c_unit.specs.Init.{init_func}
 use Rattle.c_unit.specs.Items.{items}
 use Rattle.c_unit.specs.Sets.{IsAccepted}
-use Rattle.c_unit.specs.Shape.{DefinesExternal}
+use Rattle.c_unit.specs.Shape.{DefinesExternal, IsDefinedAs}
 use Rattle.c_unit.proofs.BodiesAt.{BodyAt}
 use Rattle.c_unit.proofs.Defined.{FirstExport, head, symbol_is, export_external, export_defined, init_defined, body_defined}
 use Rattle.c_unit.proofs.ExportFacts.{symbols_differ}
@@ -96,8 +96,18 @@ module _ (m : NamedModule) (a : IsAccepted m) where
           ∙ get_mapped (λ (f : FuncEntry). f.type_index) t.funcs (index - imported_funcs t) b.func b.func_is))
           ∙ b.type_is
 
-  pub exports_stand : AllByRecursion (λ e. DefinesExternal (items m) (export_symbol m e) (export_type t e)) t.exports
-  exports_stand = all_indexed (λ e. DefinesExternal (items m) (export_symbol m e) (export_type t e)) t.exports one
+  one_export : (i : ℕ) (e : Export) → slice_get t.exports i ≡ Some e → IsDefinedAs (items m) (export_symbol m e) (export_func m e)
+  one_export i e at =
+      let first : FirstExport m (export_symbol m e) e = (
+        i,
+        at,
+        refl,
+        λ j b less is. differ b e (pair_at_places
+            (λ (x y : Export). bytes_eq (export_symbol m x) (export_symbol m y) ≡ false) t.exports j i b e
+            (symbols_differ m a) less is at),
+      ) in
+      let found = (export_defined m (export_symbol m e) e (ap head (symbol_is m e)) first).1 in
+      (record { item = found.0; func = export_func m e; body = (export_external m e).body }, found.1, refl)
     where
       differ : (b e : Export) → bytes_eq (export_symbol m b) (export_symbol m e) ≡ false → export_symbol m b ≢ export_symbol m e
       differ b e f g =
@@ -105,23 +115,16 @@ module _ (m : NamedModule) (a : IsAccepted m) where
           ∙ bytes_equal (export_symbol m b) in
           absurd (let wrong : true ≡ false = sym same ∙ f in cc)
 
+  pub accessors_stand : AllByRecursion (λ e. IsDefinedAs (items m) (export_symbol m e) (export_func m e)) t.exports
+  accessors_stand = all_indexed (λ e. IsDefinedAs (items m) (export_symbol m e) (export_func m e)) t.exports one_export
+
+  pub exports_stand : AllByRecursion (λ e. DefinesExternal (items m) (export_symbol m e) (export_type t e)) t.exports
+  exports_stand = all_indexed (λ e. DefinesExternal (items m) (export_symbol m e) (export_type t e)) t.exports one
+    where
       one : (i : ℕ) (e : Export) → slice_get t.exports i ≡ Some e → DefinesExternal (items m) (export_symbol m e) (export_type t e)
       one i e at =
-          let first : FirstExport m (export_symbol m e) e = (
-            i,
-            at,
-            refl,
-            λ j b less is. differ b e (pair_at_places
-                (λ (x y : Export). bytes_eq (export_symbol m x) (export_symbol m y) ≡ false) t.exports j i b e
-                (symbols_differ m a) less is at),
-          ) in
-          let found = (export_defined m (export_symbol m e) e (ap head (symbol_is m e)) first).1 in
-          record {
-            definition = record { item = found.0; func = export_func m e; body = (export_external m e).body };
-            there =
-                found.1;
-            typed = (export_shape m e).1;
-          }
+          let found = one_export i e at in
+          record { definition = found.0; there = found.1; typed = ap func_type_of found.2 ∙ (export_shape m e).1 }
 
   pub init_stands : DefinesExternal (items m) (init_symbol_of m.name) (record { params = type.Void ∷ []; result = type.Void })
   init_stands =

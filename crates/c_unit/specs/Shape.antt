@@ -18,6 +18,7 @@ use Rattle.alike.specs.Alike.{memory_name, table_name, func_name, global_name}
 use Rattle.w2c_base.specs.Lookup.{numbered}
 use Rattle.c_body.specs.Symbols.{c_func_type_if, import_symbol, symbol_type, export_symbol, export_type}
 use Rattle.c_body.specs.Agree.{IsDefined}
+use Rattle.c_unit.specs.Exports.{export_func}
 use Rattle.c_unit.specs.Items.{items_of}
 use Rattle.c_unit.specs.Sets.{IsAccepted}
 
@@ -59,6 +60,10 @@ pub record DefinesExternal (unit : List tree.Item) (name : Name) (ty : tree.Func
   pub there : defined_for_all unit name ≡ Some definition
   pub typed : func_type_of definition.func ≡ ty
 
+-- the symbol is defined by this function
+abbrev pub IsDefinedAs : List tree.Item → Name → tree.Func → Type 0
+IsDefinedAs unit name func = (d : Definition) × (defined_for_all unit name ≡ Some d) × (d.func ≡ func)
+
 pub record IsShape (m : NamedModule) (unit : List tree.Item) : Type 0 where
   -- the external functions that it defines are the init function and one for each export
   pub defines : HaveSame (defined_names unit) (own_symbols m)
@@ -76,6 +81,9 @@ pub record IsShape (m : NamedModule) (unit : List tree.Item) : Type 0 where
   pub objects : HaveSame (unit_objects unit) (module_objects m.tree)
   -- an exported function has its type, and what gives a pointer to another export the pointer's
   pub exports : AllByRecursion (λ e. DefinesExternal unit (export_symbol m e) (export_type m.tree e)) m.tree.exports
+  -- what it does: it passes a call on to the function; it returns `&m0`, `&t0` or `&g<k>`, the module's own object; and for an
+  -- object that was imported it returns what the import's symbol gives, the pointer to the object of the module that defines it
+  pub accessors : AllByRecursion (λ e. IsDefinedAs unit (export_symbol m e) (export_func m e)) m.tree.exports
   pub init : DefinesExternal unit (init_symbol_of m.name) (record { params = type.Void ∷ []; result = type.Void })
 
 -- what is proved of each unit by itself

@@ -251,7 +251,7 @@ impl<'a> UnitItems<'a> {
 
     /// The next item, None exactly where all were given. Where memory was wanting, it can be asked for again.
     #[tactic(auto, using(crate::proofs::Countable::next_number, crate::proofs::Standing::gives_next, crate::proofs::Wholes::gives_none))]
-    pub fn next(&mut self) -> Result<Option<Item>, Memory>
+    pub fn next(&mut self, _alloc: Global) -> Result<Option<Item>, Memory>
         ensures given { IfOk result (λ item. tail.Given (option_map item_of item) (tail.left_of self.old) (tail.left_of self.new)) }
         ensures module { module_of self.new.source ≡ module_of self.old.source }
         ensures err { OnErr result (tail.left_of self.new ≡ tail.left_of self.old) }

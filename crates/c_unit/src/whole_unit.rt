@@ -18,7 +18,7 @@ pub fn unit(alloc: Global, m: &ValidModule, name: &[u8]) -> Result<(Unit, Header
     let mut items = UnitItems::new(alloc, m, name)?;
     let header = items.header()?;
     let mut unit = Unit::new(alloc);
-    'more: while let Some(item) = items.next()? {
+    'more: while let Some(item) = items.next(alloc)? {
         unit.push(item)?;
     }
     Ok((unit, header))

@@ -44,7 +44,7 @@ pub fn write_unit<F: Files>(
     let _ = m.module();
     let mut items = UnitItems::new(alloc, m, name)?;
     files.put(Tok::Include.text())?;
-    'more: while let Some(item) = items.next()? {
+    'more: while let Some(item) = items.next(alloc)? {
         write_item(alloc, item, files)?;
     }
     Ok(())
