@@ -45,6 +45,15 @@ impl Journal {
         }
     }
 
+    /// Adds an ask behind the others. Memory leaves it unchanged.
+    pub fn push(&mut self, ask: Asked) -> Result<(), Memory>
+        ensures ok { OnOk result (self.new ≡ self.old ++ ask ∷ []) }
+        ensures err { OnErr result (self.new ≡ self.old) }
+    {
+        self.asks.push(ask)?;
+        Ok(())
+    }
+
     /// The number of asks.
     pub fn len(&self) -> usize
         ensures { result ≡ length self.now }

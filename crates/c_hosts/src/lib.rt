@@ -10,6 +10,7 @@ mod running;
 mod tests;
 
 pub use asking::Hosts;
+pub use c_thread::HostCall;
 pub use host::{BoxedHost, HostFunction, HostModule, HostReply};
 pub use journal::{Asked, Journal};
 pub use running::{Ending, run};

@@ -1,10 +1,10 @@
-// A host that counts, alone and in a box.
-use crate::{BoxedHost, HostFunction, HostModule, HostReply, Hosts, Journal};
+// A host that counts, alone and in a box, and a journal.
+use crate::{Asked, BoxedHost, HostFunction, HostModule, HostReply, Hosts, Journal};
 use c_thread::HostCall;
 use std::alloc::Global;
 use std::boxed::Box;
 use std::test::Fail;
-use w2c_base::{Bytes, FuncType, Types, ValType, Value};
+use w2c_base::{Bytes, FuncType, Types, ValType, Value, Values};
 
 // A host `count` with a function `tick` of type [i32] -> [i64], which counts its calls.
 #[derive(Drop)]
@@ -96,5 +96,20 @@ fn a_host_is_asked(rt: HostRuntime) -> Result<(), Fail> {
         assert_eq!(rt; ask.args.as_slice(), [Value::I32(5)].as_slice());
         assert_eq!(rt; ask.reply, HostReply::Value(Some(Value::I64(1))));
     }
+    Ok(())
+}
+
+#[test]
+fn an_ask_is_added(rt: HostRuntime) -> Result<(), Fail> {
+    let alloc = rt.alloc();
+    let mut journal = Journal::new(alloc);
+    journal.push(Asked {
+        host: 0,
+        function: 1,
+        args: Values::from_vec(Vec::new(alloc)),
+        reply: HostReply::Trap,
+    })?;
+    assert_eq!(rt; journal.len(), 1);
+    assert_eq!(rt; journal.at(0).function, 1);
     Ok(())
 }

@@ -24,3 +24,4 @@ pub use laws::{
 pub use make::{helper, helper_name};
 pub use operation::{HELPERS, Helper, NumOp};
 pub use parts::trap;
+pub use wasm_tree::{LoadOp, StoreOp};

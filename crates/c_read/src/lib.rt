@@ -11,6 +11,7 @@ mod laws;
 mod statement;
 mod unit;
 
+pub use c_tree::{CReadFault, Part, Tok, Wanted};
 pub use laws::{faults_are_of_tokens, one_fault, unit_or_fault};
 pub use unit::read_unit;
 

@@ -23,6 +23,7 @@ mod symbols;
 mod tests;
 mod types;
 
+pub use c_hosts::{Asked, BoxedHost, HostFunction, HostModule, HostReply, Journal};
 pub use hosts::{HostsRefusal, host_symbols};
 pub use outcome::{Kept, Outcome, Phase, Standing, Stop, UndefinedAt};
 pub use session::Session;

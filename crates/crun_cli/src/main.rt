@@ -2,6 +2,7 @@
 #![tactic(auto)]
 
 mod env;
+mod law;
 mod merging;
 mod names;
 mod naming;
@@ -25,6 +26,7 @@ mod writing_tests;
 
 use c_hosts::BoxedHost;
 use env::Env;
+pub use law::one_job;
 use std::boxed::Box;
 use std::io::ErrorKind;
 use std::process::ExitCode;

@@ -1,7 +1,6 @@
 // Each public function on its happy path, and lines that are refused.
 use crate::{JournalFault, JournalFile, ReplayHost, read_journal, replay_hosts};
-use c_hosts::{HostModule, HostReply, Hosts, Journal};
-use c_thread::HostCall;
+use c_hosts::{HostCall, HostModule, HostReply, Hosts, Journal};
 use std::alloc::Global;
 use std::test::Fail;
 use w2c_base::Value;

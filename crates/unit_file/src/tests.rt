@@ -4,7 +4,6 @@ use c_check::CheckedUnit;
 use c_tree::{Arg, Body, CType, Expr, Func, Item, Locals, Name, Num, Params, Stmt, Stmts, Unit};
 use std::alloc::{AllocError, Global};
 use std::test::Fail;
-use w2c_base::Memory;
 use w2c_io::{FileCall, Files, MemFiles, WriteAnswer};
 
 const TEXT: &str =
@@ -17,7 +16,7 @@ fn name(alloc: Global, text: &str) -> Result<Name, AllocError> {
 }
 
 // u32 w2cZ_uZ_fZ_g(void) { return g0; }
-fn reader(alloc: Global) -> Result<Item, Memory> {
+fn reader(alloc: Global) -> Result<Item, Fail> {
     let mut params = Params::new(alloc);
     params.push((CType::Void, None))?;
     let mut stmts = Stmts::new(alloc);
@@ -34,7 +33,7 @@ fn reader(alloc: Global) -> Result<Item, Memory> {
     }))
 }
 
-fn unit(alloc: Global) -> Result<Unit, Memory> {
+fn unit(alloc: Global) -> Result<Unit, Fail> {
     let mut unit = Unit::new(alloc);
     let variable = name(alloc, "g0")?;
     unit.push(Item::Var(CType::U32, variable, Some(Num::N32(5))))?;
