@@ -71,6 +71,11 @@ def limits_of_bytes():
         pathlib.Path("blank.c").write_text(INCLUDE + "\n" * (size - len(INCLUDE)))
         holds(f"a unit of {size} bytes", CRUN, ["--steps", "9", "--calls", "none", "blank.c"],
               *[0] if size == UNIT else [6, "crun: blank.c: unit too long"])
+    pathlib.Path("u.c").write_text(INCLUDE)
+    for size in (UNIT, UNIT + 1):
+        pathlib.Path("j").write_bytes(b"\n" * size)
+        holds(f"a journal of {size} bytes", CRUN, ["--steps", "9", "--calls", "none", "--replay", "j", "u.c"], 2,
+              "crun: journal line 1" if size == UNIT else "crun: journal too long")
 
 
 def nested(size, opener, close):

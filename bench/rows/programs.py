@@ -1,7 +1,8 @@
 # programs.py stdin|stdout FEATURE...: rows of command lines of wasm2c, crun and wast_run, and what must be said of each, for
 # crates/program_rows. A row stands where the features that it needs are named: `linked` (crun runs units of any module, one
-# or several), `state`, `words` (options in any order), `set` (--dir), `gen`, `wast` (scripts of assertions). What must be said is written here by hand, or computed as the
-# standard has it; the programs have no part in it.
+# or several), `state`, `words` (options in any order), `set` (--dir), `gen`, `wast` (scripts of assertions). What must be said
+# is written here by hand, or computed as the standard has it. The programs have no part in it, but for the texts of two units, which
+# are those that crates/translation_rows has.
 import json
 import subprocess
 import sys
@@ -107,11 +108,27 @@ TWO = bytes.fromhex("0061736d010000000105016000017f030201000705010166" "00000a09
 FRONT = TWO[:26]
 ADD_H = ["/* made by wasm2c; int has 32 bits and every character of a name counts */", "#ifndef W2CZ_addZ_H", "#define W2CZ_addZ_H",
          '#include "w2c_rt.h"', "void w2cZ_addZ_i(void);", "u32 w2cZ_addZ_fZ_add(u32, u32);", "#endif"]
+TRANSLATED = (HERE.parents[1] / "crates/translation_rows/stdout").read_text().splitlines()
+
+
+def translated(name):
+    """The lines of a unit and of its header, as crates/translation_rows has them from `translate` itself."""
+    at = TRANSLATED.index(f"{name}: ") + 1
+    end = TRANSLATED.index(ADD_H[0], at)
+    return TRANSLATED[at:end], TRANSLATED[end:TRANSLATED.index("#endif", end) + 1]
+
+
 
 Row("add two numbers").module("add.wasm", ADD).translates("add").holds("add.h", *ADD_H)
 Row("add two numbers, run", "linked").module("add.wasm", ADD).translates("add").calls("add.c", 0, ["add add 4294967295 1"], "call 1 = i32:0")
+BY_HAND = ['#include "w2c_rt.h"', "static u32 f0(u32, u32);", "void w2cZ_addZ_i(void) {", ";", "return;", "}",
+           "u32 w2cZ_addZ_fZ_add(u32 a, u32 b) {", "u32 r = 0u;", "r = f0(a, b);", "return r;", "}",
+           "static u32 f0(u32 l0, u32 l1) {", "u32 i0 = 0u;", "u32 i1 = 0u;", "if (w2c_depth >= 1024u) goto L1;",
+           "w2c_depth = (w2c_depth + 1u);", "i0 = l0;", "i1 = l1;", "i0 = (i0 + i1);", "w2c_depth = (w2c_depth - 1u);", "return i0;",
+           "L1: w2c_trap(8u);", "}"]
+Row("add two numbers by another unit", "linked").text("add.c", *BY_HAND).calls("add.c", 0, ["add add 4294967295 1"], "call 1 = i32:0")
 Row("empty module").module("e.wasm", module()).translates("e")
-Row("empty module, run", "linked").module("e.wasm", module()).translates("e").calls("e.c", 0, [""])
+Row("empty module, run", "linked").module("e.wasm", module()).translates("e").fill("none", 0).crun("none e.c", 0)
 Row("seven bytes end early").module("seven.wasm", module()[:7]).wasm2c(
     "seven.wasm -o seven.c", 1, "wasm2c: seven.wasm: malformed at 7: unexpected end").none("seven.c", "seven.h")
 UNUSED = FRONT + bytes.fromhex("0a0a010800418080808008" "0b")
@@ -119,6 +136,11 @@ Row("unused bits of a constant").module("u.wasm", UNUSED).wasm2c("u.wasm -o u.c"
 Row("a constant in five bytes").module("u.wasm", UNUSED[:-2] + b"\x78\x0b").translates("u")
 Row("a constant in five bytes, run", "linked").module("u.wasm", UNUSED[:-2] + b"\x78\x0b").translates("u").calls(
     "u.c", 0, ["u f"], "call 1 = i32:2147483648")
+Row("a negative constant, run", "linked").module("n.wasm", FRONT + bytes.fromhex("0a0601040041" "7f0b")).translates("n").calls(
+    "n.c", 0, ["n f"], "call 1 = i32:4294967295")
+for title, code, place in (("a sum of one operand", "0a0701050041286a0b", 33), ("two operands are left", "0a080106004128" "41020b", 35)):
+    Row(title).module("s.wasm", FRONT + bytes.fromhex(code)).wasm2c(
+        "s.wasm -o s.c", 1, f"wasm2c: s.wasm: invalid at {place}: type mismatch").none("s.c", "s.h")
 Row("padded count").module("p.wasm", bytes.fromhex("0061736d0100000001058080808000")).translates("p")
 DIVISION = module(types=[func_type("ii", "i")], funcs=[0, 0], exports=[exported("div", 0, 0), exported("rem", 0, 1)],
                   bodies=[body(local(0), local(1), b"\x6D"), body(local(0), local(1), b"\x6F")])
@@ -157,7 +179,8 @@ Row("float type").module("f.wasm", FLOAT).wasm2c("f.wasm -o f.c", 1, "wasm2c: f.
 ninth = Row("float type in the ninth file", "set")
 for i in range(1, 17):
     ninth.module(f"m{i}.wasm", FLOAT if i == 9 else ADD)
-ninth.wasm2c("--dir out " + " ".join(f"m{i}.wasm" for i in range(1, 17)), 1, "wasm2c: m9.wasm: float at 14").none("out/m1.c", "out/m9.c")
+ninth.wasm2c("--dir out " + " ".join(f"m{i}.wasm" for i in range(1, 17)), 1, "wasm2c: m9.wasm: float at 14").none(
+    *[f"out/m{i}.{kind}" for i in range(1, 17) for kind in "ch"])
 A = module(types=[func_type("", "i")], funcs=[0, 0], memories=[limits(1)], globals_=[global_type("i", 1) + i32(5) + b"\x0B"],
            exports=[exported("mem", 2, 0), exported("g", 3, 0), exported("inc", 0, 0), exported("peek", 0, 1)],
            bodies=[body(b"\x23\x00", i32(1), b"\x6A\x24\x00\x23\x00"), body(i32(0), b"\x28\x02\x00")])
@@ -171,6 +194,9 @@ Row("two linked modules, translated apart", "linked").module("a.wasm", A).module
     "a.c b.c", 0, ["b run", "a peek", "b again"], "call 1 = i32:11", "call 2 = i32:5", "call 3 = i32:7")
 Row("unresolved import", "linked").module("b.wasm", B).translates("b").text("none", "").refused(
     "none b.c", 6, "crun: b.c: undefined w2cZ_aZ_mZ_mem")
+LARGER = module(imports=[imported("a", "mem", 2, limits(2))])
+Row("a memory that is too small for an import", "linked").module("a.wasm", A).module("b.wasm", LARGER).translates("a").translates("b").calls(
+    "a.c b.c", 1, ["a peek"], "init 2 trap 9 import limits")
 PAST = module(memories=[limits(1)], data=[segment(0, b"A"), segment(65536, b"\0")])
 Row("segment past the end", "linked").module("s.wasm", PAST).translates("s").calls("s.c", 1, [""], "init 1 trap 10 segment out of bounds")
 Row("segment past the end, its state", "linked", "state").module("s.wasm", PAST).translates("s").text("none", "").crun(
@@ -207,6 +233,18 @@ for at, size, ends in [(65536, 0, True), (65537, 0, False), (65535, 2, False), (
         row.text(file, f"b {name} {args}").crun(f"{file} --state b.c", 0 if ends else 1, line, *STATE)
 row = Row("bytes filled at the end, its state", "linked", "state").module("b.wasm", BYTES).translates("b")
 row.text("one", "b fill 65535 255 1").crun("one --state b.c", 0, "call 1 = i32:67305985", *STATE, "state 0 m0 at 65520 000000000000000000000000000000ff")
+FILL = module(types=[func_type("iii", "")], funcs=[0], memories=[limits(1)], exports=[exported("fill", 0, 0)],
+              bodies=[body(local(0), local(1), local(2), b"\xFC\x0B\0")])
+row = Row("a memory of zeros filled past the end, its state", "linked", "state").module("f.wasm", FILL).translates("f")
+for at, size, ends in ((65536, 0, True), (65537, 0, False), (65535, 2, False)):
+    row.text(f"at{at}", f"f fill {at} 255 {size}").crun(
+        f"at{at} --state f.c", 0 if ends else 1, "call 1 = none" if ends else "call 1 trap 2 memory out of bounds", "state 0 m0 pages 1")
+Row("unreachable", "linked").module("t.wasm", one("", "", b"\0")).translates("t").calls("t.c", 1, ["t f"], "call 1 trap 1 unreachable")
+NAMES = module(types=[func_type("", "")], funcs=[0], exports=[exported("a b", 0, 0), exported("aZ20b", 0, 0)], bodies=[body()])
+Row("escaped names", "linked").module("n.wasm", NAMES).translates("n").holds(
+    "n.h", ADD_H[0], "#ifndef W2CZ_nZ_H", "#define W2CZ_nZ_H", '#include "w2c_rt.h"', "void w2cZ_nZ_i(void);",
+    "void w2cZ_nZ_fZ_aZ20b(void);", "void w2cZ_nZ_fZ_aZ5A20b(void);", "#endif").calls(
+    "n.c", 0, ["n aZ20b", "n aZ5A20b"], "call 1 = none", "call 2 = none").text("bad", "n aZ2").refused("bad n.c", 2, "crun: calls line 1")
 Row("endless loop", "linked").module("l.wasm", one("", "", b"\x03\x40\x0C\x00\x0B")).translates("l").calls(
     "l.c", 7, ["l f"], "call 1 out of steps", steps=1000)
 DIVIDES = ['#include "w2c_rt.h"', "u32 w2cZ_uZ_fZ_q(u32 x, u32 y) {", "u32 z = 0u;", "z = (x / y);", "return z;", "}"]
@@ -218,7 +256,8 @@ Row("second file of a set fails", "set").module("a.wasm", A).module("b.wasm", B)
     "--dir out a.wasm b.wasm", 4, "wasm2c: out/a.h: write fault").none("out/a.h", "out/b.c", "out/b.h")
 REAL = bytes.fromhex("0061736d0100000001060160017f017f03020100040501700101010503010002" "0608017f01418088040b070e02066d656d6f727902000166"
                      "00000a1a011801017f230041106b220120003602" "0c2001280" "20c20006c0b000b046e616d650104010001" "66")
-Row("linker module").module("real.wasm", REAL).translates("real")
+real_c, real_h = [[line.replace("linkedZ", "realZ") for line in lines] for lines in translated("linked")]
+Row("linker module").module("real.wasm", REAL).translates("real").holds("real.c", *real_c).holds("real.h", *real_h)
 Row("linker module, run", "linked").module("real.wasm", REAL).translates("real").calls("real.c", 0, ["real f 5"], "call 1 = i32:25")
 Row("linker module, its state", "linked", "state").module("real.wasm", REAL).translates("real").text("five", "real f 5").crun(
     "five --state real.c", 0, "call 1 = i32:25", "state 0 g0 u32:66560", "state 0 m0 pages 2",
@@ -237,21 +276,34 @@ for n in (1, 2, 1001, 20000):
         f"--gen {n} -o g.c", 0, f"wasm2c: gen {n}: {size} bytes, {n} functions").calls(
         "g.c", 0, ["gen run 0"], f"call 1 = i32:{generated('--run', n, 0)}")
 Row("generated module of another name", "gen").wasm2c("--gen 1 -o g.c -n one", 0, "wasm2c: gen 1: 44 bytes, 1 functions")
-for words in ("--gen 0 -o g.c", "--gen 1 a.wasm -o g.c", "--gen 20001 -o g.c", "--gen 1x -o g.c", "--gen 000001 -o g.c", "--gen 1 -o g.h"):
+for words in ("--gen 0 -o g.c", "--gen 1 a.wasm -o g.c", "--gen 20001 -o g.c", "--gen 1x -o g.c", "--gen +1 -o g.c", "--gen 000001 -o g.c",
+              "--gen 1 -o g.h"):
     Row(f"words `{words}`", "words").module("a.wasm", A).wasm2c(words, 2, "wasm2c: bad command line").none("g.c", "g.h")
 for words in ("-o add.c add.wasm", "--gen 00001 -o add.c", "-o add.c -- add.wasm"):
     said = ["wasm2c: gen 1: 44 bytes, 1 functions"] if "gen" in words else []
     Row(f"words `{words}`", "words", "gen").module("add.wasm", ADD).wasm2c(words, 0, *said)
-for words in ("a.wasm", "", "a.wasm -o a.c -n", "a.wasm -o .c", "a.wasm -o a.h", "-o a.c", "--runtime"):
+for words in ("a.wasm", "", "a.wasm -o a.c -n", "a.wasm -o a.c -o a.c", "a.wasm -o .c", "a.wasm -o a.h", "-o a.c", "x/ -o a.c", "--runtime",
+              "--help"):
     Row(f"words `{words}`").module("a.wasm", A).wasm2c(words, 2, "wasm2c: bad command line").none("a.c", "a.h")
 Row("two modules of one name", "set").module("x/a.wasm", A).module("y/a.wasm", A).wasm2c(
     "--dir out x/a.wasm y/a.wasm", 2, "wasm2c: bad command line").none("out/a.c")
 Row("a file that is not there").wasm2c("a.wasm -o a.c", 3, "wasm2c: a.wasm: read fault").none("a.c", "a.h")
 Row("the name of a module").module("x.y/add.two.wasm", ADD).wasm2c("x.y/add.two.wasm -o add.c", 0).holds(
     "add.h", *[line.replace("addZ", "addZ2EtwoZ", 1) for line in ADD_H])
+two_c, two_h = translated("two")
+Row("a given name").module("in/1.wasm", TWO).wasm2c("in/1.wasm -o out/1.c -n two", 0).holds("out/1.c", *two_c).holds("out/1.h", *two_h)
+row = Row("the runtime").wasm2c("--runtime out", 0)
+for name in ("w2c_rt.h", "w2c_rt.c"):
+    row.holds(f"out/{name}", *(HERE.parents[1] / "examples" / name).read_text().splitlines())
 Row("float in C").text("f.c", '#include "w2c_rt.h"', "float x;").text("none", "").refused("none f.c", 6, "crun: f.c: unexpected at 20: wanted item")
 LABEL = ['#include "w2c_rt.h"', "u32 w2cZ_uZ_fZ_q(u32 x) {", "goto L9;", "}"]
 Row("missing label").text("u.c", *LABEL).text("none", "").refused("none u.c", 6, "crun: u.c: rule 7 item 0 statement 1")
+Row("a function of another type", "linked").text("u.c", *DIVIDES).text("v.c", DIVIDES[0], "u32 w2cZ_uZ_fZ_q(u32 x, u64 y);").text(
+    "none", "").refused("none u.c v.c", 6, "crun: v.c: type differs w2cZ_uZ_fZ_q")
+for title, lines, said in (("breaks a rule", LABEL, "rule 7 item 0 statement 1"),
+                           ("does not link", [DIVIDES[0], "u32 w2cZ_g(u32 x);"], "undefined w2cZ_g")):
+    Row(f"a unit that {title}, and a line that names no call", "linked").text("u.c", *lines).text("bad", "x").refused(
+        "bad u.c", 6, f"crun: u.c: {said}")
 Row("500 nested blocks").module("n.wasm", one("", "", b"\x02\x40" * 500 + b"\x0B" * 500)).translates("n")
 DEEP = one("", "", b"\x02\x40" * 501 + b"\x0B" * 501)
 Row("501 nested blocks").module("n.wasm", DEEP).wasm2c(
@@ -260,12 +312,51 @@ Row("two constants").module("two.wasm", TWO).translates("two")
 Row("two constants, run", "linked").module("two.wasm", TWO).translates("two").calls("two.c", 0, ["two f"], "call 1 = i32:42")
 Row("bad calls line", "linked").module("add.wasm", ADD).translates("add").text("calls", "add add 1").refused(
     "calls add.c", 2, "crun: calls line 1")
+for lines, number in ((["", "u q 7"], 2), (["u r 7 2"], 1), (["u q 7 2", "u q 7 4294967296"], 2)):
+    Row(f"calls `{lines[-1]}`", "linked").text("u.c", *DIVIDES).text("calls", *lines).refused("calls u.c", 2, f"crun: calls line {number}")
+# A line of another form, though the function is there.
+for text in ("u", "u ", " q 7 2", "u  q 7 2", "u q 7 2 ", " u q 7 2", "Z q 7 2", "u q 7\t2", "u q 7 -2", "u q 7 " + "0" * 20 + "2",
+             f"u q 7 {2**64}"):
+    Row(f"calls `{text}`", "linked").text("u.c", *DIVIDES).module("calls", text.encode() + b"\n").refused("calls u.c", 2, "crun: calls line 1")
+Row("calls whose last line has no end", "linked").text("u.c", *DIVIDES).module("calls", b"\n\nu q 7 00000000000000000002").crun(
+    "calls u.c", 0, "call 1 = i32:3")
 S2 = ['#include "w2c_rt.h"', "static u32 f0(void);", "void w2cZ_twoZ_i(void) { ; return; }",
       "u32 w2cZ_twoZ_fZ_f(void) { u32 r = 0u; r = f0(); return r; }",
       "static u32 f0(void) { u32 i0 = 0u; u32 i1 = 0u; i0 = 40u; i1 = 2u; i0 = (i0 + i1); return i0; }"]
 Row("a unit by hand").text("s2.c", *S2).calls("s2.c", 0, ["two f"], "call 1 = i32:42", steps=8).calls(
     "s2.c", 7, ["two f"], "call 1 out of steps", steps=7).calls("s2.c", 7, ["two f"], "call 1 out of steps", steps=2).calls(
     "s2.c", 7, ["two f"], "init 1 out of steps", steps=1).text("g", "two g").refused("g s2.c", 2, "crun: calls line 1")
+
+# A unit with a variable, a memory, a table and a host's function, and one that calls it.
+OBJECTS = ['#include "w2c_rt.h"', "u64 w2cZ_envZ_fZ_tick(void);", "static u32 g0 = 7u;", "static w2c_mem m0;", "static w2c_tab t0;",
+           "static u32 f0(u32 x);", "u32 w2cZ_aZ_fZ_half(u32 x) { u32 r = 0u; r = f0(x); return r; }",
+           "u64 w2cZ_aZ_fZ_tick(void) { u64 r = 0ull; r = w2cZ_envZ_fZ_tick(); return r; }",
+           "void w2cZ_aZ_i(void) {", "w2c_mem_new(&m0, 1u, 1ull);", "w2c_put4(&m0, 32ull, 5u);", "w2c_tab_new(&t0, 2u, 2ull);",
+           "w2c_tab_set(&t0, 1ull, (w2c_fn)f0, 13ull);", "g0 = 9u;", "return;", "}",
+           "static u32 f0(u32 x) { u32 r = 0u; r = (x / 2u); return r; }"]
+HALVES = ['#include "w2c_rt.h"', "u32 w2cZ_aZ_fZ_half(u32 x);",
+          "u32 w2cZ_bZ_fZ_over(u32 x, u32 y) { u32 r = 0u; r = w2cZ_aZ_fZ_half(x); r = (r / y); return r; }"]
+TICK = "host env tick = i64:1"
+
+
+def objects(title, *needs):
+    return Row(title, "linked", *needs).text("a.c", *OBJECTS).text("b.c", *HALVES)
+
+
+objects("a unit of objects, its state", "state", "words").text("none", "").ran("crun", "--state --steps=100 --calls=none a.c", 0, [
+    "state 0 g0 u32:9", "state 0 m0 pages 1", "state 0 m0 at 32 05000000000000000000000000000000", "state 0 t0 length 2",
+    "state 0 t0 at 1 unit 0 f0 13"], [])
+objects("two units and a host").calls(
+    "a.c b.c", 0, ["a tick", "", "a tick", "b over 9 2"],
+    TICK, "call 1 = i64:1", "host env tick = i64:2", "call 2 = i64:2", "call 3 = i32:2").calls(
+    "a.c b.c", 8, ["b over 9 0", "a tick"], "call 1 undefined 1 unit 1 item 1 statement 2")
+row = objects("a run of two units and a host stops where its steps are spent")
+for steps, said in ((5, ["init 1 out of steps"]), (6, ["call 1 out of steps"]), (7, [TICK, "call 1 out of steps"])):
+    row.calls("a.c b.c", 7, ["a tick"], *said, steps=steps)
+objects("a unit or calls that are not there").refused("none a.c c.c", 3, "crun: c.c: read fault").refused(
+    "none a.c", 3, "crun: none: read fault")
+for words in ("a.c", "--steps 9 --calls none", "--steps x --calls none a.c", "--calls none a.c", "--steps 9 a.c", "--help"):
+    objects(f"words `{words}` of crun", "words").text("none", "").ran("crun", words, 2, [], ["crun: bad command line"])
 
 # ---- faults of the outside: a call fails, the first of its kind, then the second and so on, to a run in which nothing fails
 
@@ -312,6 +403,8 @@ Row("a put of a generated module fails", "gen").watch(*ONE).turns(
     line(0, SUMMED, ONE, 2))
 Row("a generated module is not summed up", "gen").watch(*ONE).turns(
     "err", "wasm2c --gen 3 -o g.c", line(0, "part", ONE, 2), line(0, SUMMED, ONE, 2))
+MOST = "wasm2c: gen 20000: " + generated(20000).split(":")[1].strip() + " bytes, 20000 functions"
+Row("a generated module of 20000, twice", "gen").watch(*ONE).turns("read", "wasm2c --gen 20000 -o g.c", line(0, MOST, ONE, 2))
 TEXTS = ["out/w2c_rt.h", "out/w2c_rt.c"]
 for kind, part in [("begin", []), ("put", ["part"]), ("finish", ["whole"])]:
     Row(f"a {kind} of the runtime fails").watch(*TEXTS).turns(kind, "wasm2c --runtime out", *writes(TEXTS, part))
@@ -362,6 +455,10 @@ TICKS = dict(types=[func_type("", "I"), func_type("", "i")], imports=[imported("
 TWICE = module(funcs=[0], exports=[exported("r", 0, 1)], bodies=[body(call(0), call(0), b"\x7C")], **TICKS)
 Row("a host is asked twice", "linked").module("h.wasm", TWICE).translates("h").calls(
     "h.c", 0, ["h r"], "host env tick = i64:1", "host env tick = i64:2", "call 1 = i64:3")
+PUTS = module(types=[func_type("i", ""), func_type("", "")], imports=[imported("env", "put_i32", 0, unsigned(0))], funcs=[1],
+              exports=[exported("r", 0, 1)], bodies=[body(i32(5), call(0))])
+Row("a host is given a number", "linked").module("h.wasm", PUTS).translates("h").calls(
+    "h.c", 0, ["h r"], "host env put_i32 i32:5 = none", "call 1 = none")
 Row("a host that traps second", "linked").module("h.wasm", TWICE).translates("h").text("one", "h r").trapping(
     "one h.c", 1, "host env tick = i64:1", "host env tick = trap", "call 1 trap 11 host trap")
 Row("a host traps in the second call, and no call comes behind it", "linked").module(
@@ -413,18 +510,26 @@ Row("a unit merged with itself", "linked").text("u.c", *DIVIDES).ran(
     "crun", "--merge m.c u.c u.c", 6, [], ["crun: u.c: twice w2cZ_uZ_fZ_q"]).none("m.c")
 Row("a merged unit that breaks a rule", "linked").text("u.c", *DIVIDES).text("l.c", *LABEL).ran(
     "crun", "--merge m.c u.c l.c", 6, [], ["crun: l.c: rule 7 item 0 statement 1"]).none("m.c")
+Row("a merged unit that is not there", "linked").text("u.c", *DIVIDES).ran(
+    "crun", "--merge m.c u.c n.c", 3, [], ["crun: n.c: read fault"]).none("m.c")
 Row("a merged unit with an import of a host", "linked").module("h.wasm", TWICE).translates("h").ran(
     "crun", "--merge m.c h.c", 0, [], []).calls("m.c", 0, ["h r"], "host env tick = i64:1", "host env tick = i64:2", "call 1 = i64:3")
-H = ["static u32 h(void) {", "return 1u;", "}"]
-Row("a function that nothing needs", "linked").text("u.c", DIVIDES[0], *H, *DIVIDES[1:]).calls(
+Row("a function that nothing needs", "linked").text("u.c", DIVIDES[0], "static u32 h(u32 a) { return a; }", *DIVIDES[1:]).calls(
     "u.c", 8, ["u q 1 0"], "call 1 undefined 1 unit 0 item 1 statement 1").ran("crun", "--trim t.c u.c", 0, [], []).holds(
     "t.c", *DIVIDES).calls("t.c", 8, ["u q 1 0"], "call 1 undefined 1 unit 0 item 0 statement 1")
 Row("functions that need each other alone", "linked").text(
-    "u.c", DIVIDES[0], "static u32 g(u32 n);", "static u32 h(u32 n) { u32 r = 0u; r = g(n); return r; }",
+    "u.c", DIVIDES[0], "static u32 g(u32 n);", "static u32 h(u32 n);", "static u32 h(u32 n) { u32 r = 0u; r = g(n); return r; }",
     "static u32 g(u32 n) { u32 r = 0u; r = h(n); return r; }", *DIVIDES[1:]).ran("crun", "--trim t.c u.c", 0, [], []).holds("t.c", *DIVIDES)
-ELEMENT = ['#include "w2c_rt.h"', "static w2c_tab t0;", *H, "void w2cZ_aZ_i(void) {", "w2c_tab_new(& t0, 2u, 2ull);",
-           "w2c_tab_set(& t0, 1ull, (w2c_fn) h, 13ull);", "return;", "}"]
+ELEMENT = ['#include "w2c_rt.h"', "static w2c_tab t0;", "static u32 h(void) {", "return 1u;", "}", "void w2cZ_aZ_i(void) {",
+           "w2c_tab_new(& t0, 2u, 2ull);", "w2c_tab_set(& t0, 1ull, (w2c_fn) h, 4ull);", "return;", "}"]
 Row("a function in a table", "linked").text("u.c", *ELEMENT).ran("crun", "--trim t.c u.c", 0, [], []).holds("t.c", *ELEMENT)
+# Its table holds two functions; each function of the unit is needed.
+row = Row("indirect calls of a trimmed unit", "linked").module(
+    "c.wasm", module(bodies=[body(i32(4)), body(local(0)), body(local(0), b"\x11\x00\x00")], **INDIRECT)).translates("c")
+row.watch("c.c").turns("err", "crun --trim c.c c.c", "0 `` out whole, c.c as before")
+row.ran("crun", "--trim t.c c.c", 0, [], []).calls("t.c", 0, ["c c 0"], "call 1 = i32:4")
+for place, said in ((1, "6 empty element"), (2, "7 signature differs"), (3, "5 table out of bounds")):
+    row.calls("t.c", 1, [f"c c {place}"], f"call 1 trap {said}")
 Row("a trimmed unit that is refused", "linked").text("f.c", '#include "w2c_rt.h"', "float x;").ran(
     "crun", "--trim t.c f.c", 6, [], ["crun: f.c: unexpected at 20: wanted item"]).ran(
     "crun", "--trim t.c n.c", 3, [], ["crun: n.c: read fault"]).none("t.c")
@@ -527,6 +632,12 @@ row = Row("calls that do not fit", "wast").module("a.wasm", A)
 reported(script(row, of_module("a"), of_call("call", "a", "inc", value("i32", 1)), of_call("call", "a", "g"), of_call("call", "b", "inc"),
                 of_call("assert_return", "a", "none", expected=[]), of_call("assert_trap", "a", "mem", text="unreachable")),
          1, "ok", *["no such call"] * 5)
+row = Row("arguments of another type, and too few", "wast").module("add.wasm", ADD)
+reported(script(row, of_module("add"), of_call("call", "add", "add", value("i64", 1), value("i32", 1)), of_call(
+    "call", "add", "add", value("i32", 1))), 1, "ok", "no such call", "no such call")
+RETYPES = module(types=[func_type("", "")], imports=[imported("a", "inc", 0, unsigned(0))], exports=[exported("inc", 0, 0)])
+row = Row("an import of the module itself, and one of another type", "wast").module("a.wasm", A).module("r.wasm", RETYPES)
+reported(script(row, of_module("a", "r.wasm"), of_module("a"), of_module("b", "r.wasm")), 1, "unlinked", "ok", "unlinked")
 row = Row("values that differ", "wast").module("add.wasm", ADD)
 two = (value("i32", 1), value("i32", 1))
 reported(script(row, of_module("add"), *[of_call("assert_return", "add", "add", *two, expected=it) for it in (
@@ -538,6 +649,17 @@ reported(script(row, of_module("d"), of_call("assert_trap", "d", "div", *zero, t
     "assert_trap", "d", "div", *zero, text="integer overflow"), of_call("assert_return", "d", "div", *zero, expected=[]), of_call(
     "call", "d", "div", *zero), of_call("assert_trap", "d", "div", *zero, text="division by zero"), of_call(
     "assert_return", "d", "rem", *two, expected=[value("i32", 0)])), 1, "ok", "ok", "failed", "failed", "ok", "failed", "failed")
+NUMBERS = module(types=[func_type("ii", "i")], funcs=[0, 0], exports=[exported("add", 0, 0), exported("div", 0, 1)],
+                 bodies=[body(local(0), local(1), b"\x6A"), body(local(0), local(1), b"\x6E")])
+most, seven = (value("i32", 2**32 - 1), value("i32", 2)), (value("i32", 7), value("i32", 2))
+nothing = (value("i32", 7), value("i32", 0))
+is_1 = of_call("assert_return", "n", "add", *most, expected=[value("i32", 1)])
+row = Row("sums and quotients behind each other", "wast").module("n.wasm", NUMBERS)
+reported(script(row, of_module("n"), of_call("call", "n", "div", *seven), is_1, of_call("call", "n", "add", *most), of_call(
+    "assert_return", "n", "div", *seven, expected=[value("i32", 3)]), of_call("assert_trap", "n", "div", *nothing, text="division by zero"),
+    of_call("call", "n", "div", *nothing), is_1), 1, *["ok"] * 7, "failed", steps=1000)
+row = Row("an assertion that is out of steps behind a call that is kept", "wast").module("n.wasm", NUMBERS)
+reported(script(row, of_module("n"), of_call("call", "n", "add", *most), is_1), 1, "ok", "ok", "out of steps", steps=1)
 row = Row("a module that traps while it starts", "wast").module("s.wasm", PAST).module("add.wasm", ADD)
 reported(script(row, of_module("add"), of_module("s"), of_call("assert_return", "add", "add", *two, expected=[value("i32", 2)]), of_call(
     "assert_trap", "add", "add", *two, text="segment out of bounds")), 1, "ok", "ok", "failed", "failed")
@@ -555,7 +677,7 @@ Row("a script that is not there", "wast").ran("wast_run", "--steps 9 s.json", 3,
 reported(script(Row("a script without commands", "wast")), 0)
 ONE_MODULE = '{"type":"module","name":"m","filename":"m.wasm"}'
 for text, said in (("{", "script is not JSON"), ("", "script is not JSON"), ("[]", "no commands"), ("{}", "no commands"),
-                   ('{"commands":{}}', "no commands"), ('{"commands":[1]}', "no commands"), ('{"commands":[{"type":"module"}]}', "command 1"),
+                   ('{"commands":{}}', "no commands"), ('{"commands":[3]}', "no commands"), ('{"commands":[{"type":"module"}]}', "command 1"),
                    (f'{{"commands":[{ONE_MODULE},{{"type":"assert_return"}}]}}', "command 2"),
                    ('{"commands":[{"type":"module","name":"m","filename":1}]}', "command 1"),
                    ('{"commands":[{"type":"call","module":"m","field":"f","args":[{"type":"i32","value":"4294967296"}]}]}', "command 1"),
@@ -567,6 +689,19 @@ for text, said in (("{", "script is not JSON"), ("", "script is not JSON"), ("[]
 for size in (1048576, 1048577):
     row = Row(f"a script of {size} bytes", "wast").text("s.json", '{"commands":[]}').fill("s.json", size - 16, 32)
     row.ran("wast_run", "--steps 9 s.json", *[0, ["total 0 ok 0"], []] if size == 1048576 else [2, [], ["wast_run: script too long"]])
+for count in (10000, 10001):
+    row = script(Row(f"a script of {count} commands", "wast"), *[{"type": "assert_malformed", "filename": "f"}] * count).module("f", b"")
+    if count == 10000:
+        reported(row, 0, *["ok"] * count)
+    else:
+        row.ran("wast_run", "--steps 9 s.json", 2, [], ["wast_run: no commands"])
+for size in (0, 1024, 1025):
+    row = script(Row(f"a module's name of {size} bytes in a script", "wast"), of_module("n" * size, "add.wasm")).module("add.wasm", ADD)
+    reported(row, 0, "ok") if size == 1024 else row.ran("wast_run", "--steps 9 s.json", 2, [], ["wast_run: command 1"])
+for digits in ("", "0" * 19 + "1", "0" * 20 + "1"):
+    row = script(Row(f"a value of {len(digits)} digits", "wast"), of_module("add"), of_call(
+        "assert_return", "add", "add", value("i32", digits), value("i32", 1), expected=[value("i32", 2)])).module("add.wasm", ADD)
+    reported(row, 0, "ok", "ok") if len(digits) == 20 else row.ran("wast_run", "--steps 9 s.json", 2, [], ["wast_run: command 2"])
 for words in ("", "s.json", "--steps 9", "--steps x s.json", "--steps 9 s.json s.json", f"--steps {2**64} s.json", "--steps 9 --steps 9 s.json"):
     Row(f"words `{words}` of wast_run", "wast").text("s.json", '{"commands":[]}').ran("wast_run", words, 2, [], ["wast_run: bad command line"])
 row = Row("a line of a report is not written", "wast").module("add.wasm", ADD)
@@ -628,6 +763,10 @@ for count in (16, 17):
         row.crun("none " + " ".join(units_), 0)
     else:
         row.refused("none " + " ".join(units_), 2, "crun: bad command line")
+    row = Row(f"{count} units merged", "words", "linked")
+    for file in units_:
+        row.text(file, '#include "w2c_rt.h"')
+    row.ran("crun", "--merge=o.c " + " ".join(units_), *[0, [], []] if count == 16 else [2, [], ["crun: bad command line"]])
 for count in (1024, 1025):
     row = Row(f"a module's name of {count} bytes", "words").module("a.wasm", ADD)
     row.wasm2c("a.wasm -o a.c -n " + "n" * count, *[0] if count == 1024 else [2, "wasm2c: bad command line"])
@@ -649,6 +788,13 @@ for arg, fine in ((str(2**32 - 1), True), (str(2**32), False), ("0" * 10 + str(2
         row.crun("one u.c", 0, f"call 1 = i32:{int(arg)}")
     else:
         row.refused("one u.c", 2, "crun: calls line 1")
+for count in (99, 100):
+    row = Row(f"x inside {count} parentheses", "linked").text("none", "").text(
+        "u.c", *DIVIDES[:3], "z = " + "(" * count + "x" + " + x)" * count + ";", *DIVIDES[4:])
+    if count == 99:
+        row.crun("none u.c", 0)
+    else:
+        row.refused("none u.c", 6, "crun: u.c: too deep at 169")
 SIXTY = module(types=[func_type("i" * 60, "i")], funcs=[0], exports=[exported("f", 0, 0)], bodies=[body(local(59))])
 Row("a call with 60 arguments", "linked").module("p.wasm", SIXTY).translates("p").calls(
     "p.c", 0, ["p f " + " ".join(str(i) for i in range(60))], "call 1 = i32:59")

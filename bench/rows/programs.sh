@@ -8,6 +8,7 @@ here=$(cd "$(dirname "$0")" && pwd)
 top=$(cd "$here/../.." && pwd)
 work=$(mktemp -d)
 trap 'rm -rf "$work"' EXIT
+trap 'exit 130' INT TERM
 sh "$here/../copy_crates.sh" "$work" $(sed -n 's/^\([a-z0-9_]*\):.*/\1/p' "$top/crates.txt" | grep -v '_rows$')
 for program in wasm2c_cli crun_cli wast_run; do
     src=$work/crates/$program/src
@@ -25,4 +26,4 @@ python3 "$here/programs.py" stdout "$@" >"$work/wanted"
 cd "$work/crates/program_rows"
 rt try --steps 100000000000 --seconds 3000 <"$work/rows" >"$work/said"
 diff "$work/said" "$work/wanted"
-echo "$(grep -c '^row' "$work/rows") rows are as programs.py says"
+echo "$(grep -c '^row' "$work/rows") as programs.py says"

@@ -1,5 +1,5 @@
-// The program over files in memory: a run with a host and the state, units that call each other, journals, units that are written,
-// and faults of the outside.
+// The program over files in memory: a run of two units with a host, a journal, units that are written, and faults of the outside.
+// Rows say what other command lines come to (bench/rows).
 use crate::env::Env;
 use crate::top::crun_top;
 use c_hosts::{BoxedHost, HostFunction, HostModule, HostReply};
@@ -40,13 +40,6 @@ u32 w2cZ_bZ_fZ_over(u32 x, u32 y) { u32 r = 0u; r = w2cZ_aZ_fZ_half(x); r = (r /
 // A module `d`, which traps.
 const D_C: &str = "#include \"w2c_rt.h\"
 void w2cZ_dZ_fZ_stop(void) { w2c_trap(1u); return; }
-";
-
-const STATE: &str = "state 0 g0 u32:9
-state 0 m0 pages 1
-state 0 m0 at 32 05000000000000000000000000000000
-state 0 t0 length 2
-state 0 t0 at 1 unit 0 f0 13
 ";
 
 fn text_of(alloc: Global, texts: &[&str]) -> Result<Vec<String>, Fail> {
@@ -95,51 +88,18 @@ fn status_over(
 }
 
 #[test]
-fn runs(rt: HostRuntime) -> Result<(), Fail> {
-    let alloc = rt.alloc();
-    let rows = [
-        (
-            "1000",
-            "a tick\n\na tick\nb over 9 2\n",
-            0,
-            "host env tick = i64:1\ncall 1 = i64:1\nhost env tick = i64:2\ncall 2 = i64:2\ncall 3 = i32:2\n",
-        ),
-        (
-            "1000",
-            "b over 9 0\na tick\n",
-            8,
-            "call 1 undefined 1 unit 1 item 1 statement 2\n",
-        ),
-        ("5", "a tick\n", 7, "init 1 out of steps\n"),
-        ("6", "a tick\n", 7, "call 1 out of steps\n"),
-        (
-            "7",
-            "a tick\n",
-            7,
-            "host env tick = i64:1\ncall 1 out of steps\n",
-        ),
-    ];
-    for (steps, calls, status, lines) in rows {
-        let mut out = MemSink::new(alloc);
-        let mut err = MemSink::new(alloc);
-        let words = ["--steps", steps, "--calls", "calls", "a.c", "b.c"];
-        let came = status_of(alloc, &words, calls, &mut out, &mut err)?;
-        assert_eq!(rt; out.bytes(), lines.as_bytes());
-        assert!(rt; came == status, "{calls}");
-        assert_eq!(rt; err.bytes(), b"".as_slice());
-    }
-    Ok(())
-}
-
-#[test]
-fn the_state(rt: HostRuntime) -> Result<(), Fail> {
+fn a_run(rt: HostRuntime) -> Result<(), Fail> {
     let alloc = rt.alloc();
     let mut out = MemSink::new(alloc);
     let mut err = MemSink::new(alloc);
-    let words = ["--state", "--steps=100", "--calls=calls", "a.c"];
-    let status = status_of(alloc, &words, "", &mut out, &mut err)?;
+    let words = ["--steps", "1000", "--calls", "calls", "a.c", "b.c"];
+    let status = status_of(alloc, &words, "a tick\n\nb over 9 2\n", &mut out, &mut err)?;
     assert!(rt; status == 0);
-    assert_eq!(rt; out.bytes(), STATE.as_bytes());
+    assert_eq!(rt;
+        out.bytes(),
+        b"host env tick = i64:1\ncall 1 = i64:1\ncall 2 = i32:2\n".as_slice()
+    );
+    assert_eq!(rt; err.bytes(), b"".as_slice());
     Ok(())
 }
 
@@ -155,41 +115,6 @@ fn a_line_that_is_not_written(rt: HostRuntime) -> Result<(), Fail> {
     assert!(rt; status == 4);
     assert_eq!(rt; out.bytes(), b"call 1 = i32:4\ncall 2 ".as_slice());
     assert_eq!(rt; err.bytes(), b"crun: wri".as_slice());
-    Ok(())
-}
-
-#[test]
-fn refusals(rt: HostRuntime) -> Result<(), Fail> {
-    let alloc = rt.alloc();
-    let rows: [(&[&str], &str, u8, &str); 4] = [
-        (&["a.c"], "", 2, "crun: bad command line\n"),
-        (
-            &["--steps", "9", "--calls", "calls", "c.c"],
-            "",
-            3,
-            "crun: c.c: read fault\n",
-        ),
-        (
-            &["--steps", "9", "--calls", "calls", "b.c"],
-            "",
-            6,
-            "crun: b.c: undefined w2cZ_aZ_fZ_half\n",
-        ),
-        (
-            &["--steps", "9", "--calls", "calls", "a.c"],
-            "a half\n",
-            2,
-            "crun: calls line 1\n",
-        ),
-    ];
-    for (words, calls, status, line) in rows {
-        let mut out = MemSink::new(alloc);
-        let mut err = MemSink::new(alloc);
-        let came = status_of(alloc, words, calls, &mut out, &mut err)?;
-        assert!(rt; came == status, "{line}");
-        assert_eq!(rt; err.bytes(), line.as_bytes());
-        assert_eq!(rt; out.bytes(), b"".as_slice());
-    }
     Ok(())
 }
 
@@ -230,40 +155,6 @@ fn a_recorded_run_is_replayed(rt: HostRuntime) -> Result<(), Fail> {
     assert!(rt; replayed == 0);
     assert_eq!(rt; again.bytes(), TICKS.as_bytes());
     assert!(rt; files.get("k").is_some());
-    Ok(())
-}
-
-#[test]
-fn other_journals(rt: HostRuntime) -> Result<(), Fail> {
-    let alloc = rt.alloc();
-    let head = "module env\nfunction tick = i64\nhost env tick = i64:1\n";
-    let rows = [
-        (
-            "host env tick = i64:5\n",
-            0,
-            "host env tick = i64:1\ncall 1 = i64:1\nhost env tick = i64:5\ncall 2 = i64:5\n",
-            "",
-        ),
-        (
-            "",
-            1,
-            "host env tick = i64:1\ncall 1 = i64:1\nhost env tick = trap\ncall 2 trap 11 host trap\n",
-            "",
-        ),
-        ("module env\n", 2, "", "crun: journal line 4\n"),
-    ];
-    for (last, status, lines, line) in rows {
-        let mut files = files_of(alloc, "a tick\na tick\n")?;
-        let mut journal = String::from_str(alloc, head)?;
-        journal.push_str(last)?;
-        files.add("j", journal.as_bytes())?;
-        let mut out = MemSink::new(alloc);
-        let mut err = MemSink::new(alloc);
-        let came = status_over(alloc, REPLAYS, &mut files, &mut out, &mut err)?;
-        assert!(rt; came == status, "{line}");
-        assert_eq!(rt; out.bytes(), lines.as_bytes());
-        assert_eq!(rt; err.bytes(), line.as_bytes());
-    }
     Ok(())
 }
 

@@ -108,18 +108,6 @@ fn a_function_that_nothing_needs_is_left_out(rt: HostRuntime) -> Result<(), Fail
 }
 
 #[test]
-fn a_unit_that_is_not_there(rt: HostRuntime) -> Result<(), Fail> {
-    let alloc = rt.alloc();
-    let mut files = files_of(alloc)?;
-    let answer = merge(alloc, "a.c", "c.c", &mut files)?;
-    assert!(rt; matches!(&answer, Err(Stop::Unread(_))));
-    assert!(rt; files.get("one.c").is_none());
-    let answer = trim(alloc, "c.c", &mut files);
-    assert!(rt; matches!(&answer, Err(Stop::Unread(_))));
-    Ok(())
-}
-
-#[test]
 fn a_file_that_is_not_written(rt: HostRuntime) -> Result<(), Fail> {
     let alloc = rt.alloc();
     let mut files = files_of(alloc)?;

@@ -119,29 +119,3 @@ fn a_task(rt: HostRuntime) -> Result<(), Fail> {
     assert_eq!(rt; task.linked.unit_count(), 1);
     Ok(())
 }
-
-#[test]
-fn first_refusals(rt: HostRuntime) -> Result<(), Fail> {
-    let alloc = rt.alloc();
-    let rows = [
-        (
-            "#include \"w2c_rt.h\"\nfloat x;",
-            "",
-            6,
-            "crun: u.c: unexpected at 20: wanted item\n",
-        ),
-        (BREAKS_C, "x", 6, "crun: u.c: rule 7 item 0 statement 1\n"),
-        (ASKS_C, "x", 6, "crun: u.c: undefined w2cZ_g\n"),
-        (ADDS_C, "\nu q 7\n", 2, "crun: calls line 2\n"),
-        (ADDS_C, "u r 7 2", 2, "crun: calls line 1\n"),
-        (ADDS_C, "u q 7 4294967296", 2, "crun: calls line 1\n"),
-    ];
-    for (unit, calls, status, line) in rows {
-        let stop = prepared(alloc, unit, calls)?.err().ok_or("it is refused")?;
-        let mut err = MemSink::new(alloc);
-        let came = report(alloc, &stop, &mut err);
-        assert!(rt; came == status, "{line}");
-        assert_eq!(rt; err.bytes(), line.as_bytes());
-    }
-    Ok(())
-}

@@ -1,4 +1,4 @@
-// Each public function on its happy path, words and lines that are refused, and each stop of reading.
+// Each public function on its happy path, and each stop of reading. Rows say which words and lines are refused (bench/rows).
 use crate::{
     InputStop, Line, NoLine, arguments, call_line, call_lines, number, read_inputs,
     read_journal_file, read_units, read_words, refusal, word_option,
@@ -16,11 +16,6 @@ fn words(alloc: Global, texts: &[&str]) -> Result<Vec<String>, Fail> {
         words.push(String::from_str(alloc, text)?)?;
     }
     Ok(words)
-}
-
-fn is_usage(alloc: Global, texts: &[&str]) -> Result<bool, Fail> {
-    let words = words(alloc, texts)?;
-    Ok(matches!(read_words(alloc, words.as_slice()), Err(NoLine::Usage)))
 }
 
 #[test]
@@ -82,57 +77,6 @@ fn a_merge_and_a_trim(rt: HostRuntime) -> Result<(), Fail> {
         return Err(Fail::from("a trim"));
     };
     assert!(rt; line.output == "out.c" && line.unit == "a.c");
-    Ok(())
-}
-
-#[test]
-fn bad_command_lines(rt: HostRuntime) -> Result<(), Fail> {
-    let alloc = rt.alloc();
-    assert!(rt; is_usage(alloc, &["--steps", "1", "--calls", "c"])?);
-    assert!(rt; is_usage(alloc, &["--steps", "x", "--calls", "c", "u.c"])?);
-    assert!(rt; is_usage(alloc, &["--calls", "c", "u.c"])?);
-    assert!(rt; is_usage(alloc, &["--steps", "1", "u.c"])?);
-    assert!(rt; is_usage(alloc, &["--help"])?);
-    assert!(rt; is_usage(alloc, &["--merge", "o.c", "u.c", "--state"])?);
-    assert!(rt; is_usage(alloc, &["--merge", "o.c", "--trim", "p.c", "u.c"])?);
-    assert!(rt; is_usage(alloc, &["--merge", "o.h", "u.c"])?);
-    assert!(rt; is_usage(alloc, &["--trim", "o.c", "u.c", "v.c"])?);
-    assert!(rt; is_usage(alloc, &["--trim", "o.c"])?);
-    let many = [
-        "--steps", "1", "--calls", "c", "1", "2", "3", "4", "5", "6", "7", "8", "9", "10", "11",
-        "12", "13", "14", "15", "16", "17",
-    ];
-    assert!(rt; is_usage(alloc, &many)?);
-    assert!(rt; !is_usage(alloc, &many[..20])?);
-    Ok(())
-}
-
-#[test]
-fn a_merge_of_many(rt: HostRuntime) -> Result<(), Fail> {
-    let alloc = rt.alloc();
-    let many = [
-        "--merge=o.c",
-        "1",
-        "2",
-        "3",
-        "4",
-        "5",
-        "6",
-        "7",
-        "8",
-        "9",
-        "10",
-        "11",
-        "12",
-        "13",
-        "14",
-        "15",
-        "16",
-        "17",
-    ];
-    assert!(rt; is_usage(alloc, &many)?);
-    assert!(rt; is_usage(alloc, &many[..1])?);
-    assert!(rt; !is_usage(alloc, &many[..17])?);
     Ok(())
 }
 
@@ -274,29 +218,6 @@ fn a_line_says_a_call(rt: HostRuntime) -> Result<(), Fail> {
     )?;
     assert!(rt; call.symbol.as_slice() == b"w2cZ_aZ2DbZ_fZ_".as_slice());
     assert!(rt; call.numbers.as_slice() == [7, 18_446_744_073_709_551_615].as_slice());
-    Ok(())
-}
-
-#[test]
-fn lines_that_say_none(rt: HostRuntime) -> Result<(), Fail> {
-    let alloc = rt.alloc();
-    let rows: [&[u8]; 12] = [
-        b"",
-        b"m",
-        b" x",
-        b"m ",
-        b"m  x",
-        b"m x ",
-        b" m x",
-        b"Z x",
-        b"m x 1 ",
-        b"m x 000000000000000000000",
-        b"m x 18446744073709551616",
-        b"m x -1",
-    ];
-    for row in rows {
-        assert!(rt; call_line(alloc, row)?.is_none());
-    }
     Ok(())
 }
 

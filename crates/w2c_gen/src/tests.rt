@@ -24,10 +24,3 @@ fn two_functions(rt: HostRuntime) -> Result<(), Fail> {
     assert_eq!(rt; generate(rt.alloc(), 2)?.as_slice(), file.as_slice());
     Ok(())
 }
-
-#[test]
-fn sizes(rt: HostRuntime) -> Result<(), Fail> {
-    assert_eq!(rt; generate(rt.alloc(), 1_001)?.len(), 15_839);
-    assert_eq!(rt; generate(rt.alloc(), 20_000)?.len(), 322_195);
-    Ok(())
-}

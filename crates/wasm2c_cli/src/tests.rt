@@ -84,49 +84,6 @@ fn two_constants(rt: HostRuntime) -> Result<(), Fail> {
     Ok(())
 }
 
-#[test]
-fn a_given_name(rt: HostRuntime) -> Result<(), Fail> {
-    let alloc = rt.alloc();
-    let words = words(alloc, &["in/1.wasm", "-o", "out/1.c", "-n", "two"])?;
-    let mut files = SureFiles::new(alloc);
-    let mut err = SureSink::new(alloc);
-    files.add("in/1.wasm", &TWO)?;
-    assert_eq!(rt; sure_top(alloc, words.as_slice(), &mut files, &mut err), 0);
-    assert!(rt;
-        files
-            .get("out/1.c")
-            .is_some_and(|text| text == TWO_C.as_bytes())
-    );
-    assert!(rt;
-        files
-            .get("out/1.h")
-            .is_some_and(|text| text == TWO_H.as_bytes())
-    );
-    Ok(())
-}
-
-#[test]
-fn the_runtime(rt: HostRuntime) -> Result<(), Fail> {
-    let alloc = rt.alloc();
-    let words = words(alloc, &["--runtime", "out"])?;
-    let mut files = SureFiles::new(alloc);
-    let mut err = SureSink::new(alloc);
-    assert_eq!(rt; sure_top(alloc, words.as_slice(), &mut files, &mut err), 0);
-    let header = b"#ifndef W2C_RT_H\n".as_slice();
-    let source = b"#include <stdio.h>\n".as_slice();
-    assert!(rt;
-        files
-            .get("out/w2c_rt.h")
-            .is_some_and(|text| text.len() == 969 && text.starts_with(header))
-    );
-    assert!(rt;
-        files
-            .get("out/w2c_rt.c")
-            .is_some_and(|text| text.len() == 2030 && text.starts_with(source))
-    );
-    Ok(())
-}
-
 const ADD: &[u8] =
     b"\0asm\x01\0\0\0\x01\x07\x01\x60\x02\x7F\x7F\x01\x7F\x03\x02\x01\0\x07\x07\x01\x03add\0\0\x0A\x09\x01\x07\0\x20\0\x20\x01\x6A\x0B";
 
@@ -195,40 +152,16 @@ fn reasons_of_refused_files(rt: HostRuntime) -> Result<(), Fail> {
 }
 
 #[test]
-fn bad_command_lines(rt: HostRuntime) -> Result<(), Fail> {
+fn an_empty_name(rt: HostRuntime) -> Result<(), Fail> {
     let alloc = rt.alloc();
+    let words = words(alloc, &["a.wasm", "-o", "a.c", "-n", ""])?;
     let mut files = MemFiles::new(alloc);
     let mut err = MemSink::new(alloc);
-    let one = words(alloc, &["a.wasm"])?;
-    let other_end = words(alloc, &["a.wasm", "-o", "a.h"])?;
-    let no_name = words(alloc, &["in/", "-o", "a.c"])?;
-    let empty_name = words(alloc, &["a.wasm", "-o", "a.c", "-n", ""])?;
-    let twice = words(alloc, &["a.wasm", "-o", "a.c", "-o", "a.c"])?;
-    assert_eq!(rt; wasm2c_top(alloc, one.as_slice(), &mut files, &mut err), 2);
+    assert_eq!(rt;
+        wasm2c_top(alloc, words.as_slice(), &mut files, &mut err),
+        2
+    );
     assert_eq!(rt; err.bytes(), b"wasm2c: bad command line\n".as_slice());
-    assert_eq!(rt;
-        wasm2c_top(alloc, other_end.as_slice(), &mut files, &mut err),
-        2
-    );
-    assert_eq!(rt;
-        wasm2c_top(alloc, no_name.as_slice(), &mut files, &mut err),
-        2
-    );
-    assert_eq!(rt;
-        wasm2c_top(alloc, empty_name.as_slice(), &mut files, &mut err),
-        2
-    );
-    assert_eq!(rt;
-        wasm2c_top(alloc, twice.as_slice(), &mut files, &mut err),
-        2
-    );
-    let mut absent = MemSink::new(alloc);
-    let line = words(alloc, &["a.wasm", "-o", "a.c"])?;
-    assert_eq!(rt;
-        wasm2c_top(alloc, line.as_slice(), &mut files, &mut absent),
-        3
-    );
-    assert_eq!(rt; absent.bytes(), b"wasm2c: a.wasm: read fault\n".as_slice());
     Ok(())
 }
 
@@ -363,24 +296,6 @@ fn too_many_bytes_together(rt: HostRuntime) -> Result<(), Fail> {
     assert_eq!(rt;
         err.bytes(),
         b"wasm2c: two.wasm: limit at 0: set bytes\n".as_slice()
-    );
-    Ok(())
-}
-
-#[test]
-fn a_generated_module(rt: HostRuntime) -> Result<(), Fail> {
-    let alloc = rt.alloc();
-    let words = words(alloc, &["--gen", "1", "-o", "g.c"])?;
-    let mut files = MemFiles::new(alloc);
-    let mut err = MemSink::new(alloc);
-    assert_eq!(rt;
-        wasm2c_top(alloc, words.as_slice(), &mut files, &mut err),
-        0
-    );
-    assert!(rt; files.get("g.c").is_some());
-    assert_eq!(rt;
-        err.bytes(),
-        b"wasm2c: gen 1: 44 bytes, 1 functions\n".as_slice()
     );
     Ok(())
 }

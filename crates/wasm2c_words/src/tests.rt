@@ -1,5 +1,5 @@
-// Each form and refusal by `read_words`, and the names of files.
-use crate::{Line, NoLine, c_file_in, header_in, header_name, module_name, read_words};
+// Each form by `read_words`, and the names of files. Rows say which words are refused (bench/rows).
+use crate::{Line, c_file_in, header_in, header_name, module_name, read_words};
 use std::alloc::Global;
 use std::test::Fail;
 
@@ -9,14 +9,6 @@ fn words(alloc: Global, texts: &[&str]) -> Result<Vec<String>, Fail> {
         words.push(String::from_str(alloc, text)?)?;
     }
     Ok(words)
-}
-
-fn is_usage(alloc: Global, texts: &[&str]) -> Result<bool, Fail> {
-    let words = words(alloc, texts)?;
-    match read_words(alloc, words.as_slice()) {
-        Err(NoLine::Usage) => Ok(true),
-        _ => Ok(false),
-    }
 }
 
 #[test]
@@ -57,23 +49,6 @@ fn a_generation_and_the_runtime(rt: HostRuntime) -> Result<(), Fail> {
         return Err(Fail::from("the runtime"));
     };
     assert!(rt; dir == ".");
-    Ok(())
-}
-
-#[test]
-fn bad_command_lines(rt: HostRuntime) -> Result<(), Fail> {
-    let alloc = rt.alloc();
-    assert!(rt; is_usage(alloc, &["a.wasm"])?);
-    assert!(rt; is_usage(alloc, &["--dir", "out", "x/a.wasm", "y/a.wasm"])?);
-    assert!(rt; is_usage(alloc, &["--gen", "20001", "-o", "g.c"])?);
-    assert!(rt; is_usage(alloc, &["--gen", "+1", "-o", "g.c"])?);
-    assert!(rt; is_usage(alloc, &["--help"])?);
-    let many = [
-        "--dir", "out", "1", "2", "3", "4", "5", "6", "7", "8", "9", "10", "11", "12", "13", "14",
-        "15", "16", "17",
-    ];
-    assert!(rt; is_usage(alloc, &many)?);
-    assert!(rt; !is_usage(alloc, &many[..18])?);
     Ok(())
 }
 

@@ -10,8 +10,6 @@ mod runs;
 #[cfg(test)]
 mod runs_tests;
 mod session_runs;
-#[cfg(test)]
-mod set_tests;
 mod stage;
 #[cfg(test)]
 mod tests;

@@ -1,4 +1,4 @@
-// Each public function on its happy path, and faults of scripts.
+// Each public function on its happy path. Rows say what is refused (bench/rows).
 use crate::{Command, ScriptFault, Stop, read_script, read_words, report};
 use crun_words::NoLine;
 use std::alloc::Global;
@@ -27,30 +27,6 @@ fn a_script(rt: HostRuntime) -> Result<(), Fail> {
     let wanted = [Value::I32(4_294_967_295), Value::I32(1)];
     assert_eq!(rt; call.args.as_slice(), wanted.as_slice());
     assert_eq!(rt; *expected, Some(Value::I32(0)));
-    Ok(())
-}
-
-fn fault(alloc: Global, text: &str) -> Option<ScriptFault> {
-    read_script(alloc, text.as_bytes()).err()
-}
-
-#[test]
-fn faults(rt: HostRuntime) -> Result<(), Fail> {
-    let alloc = rt.alloc();
-    assert_eq!(rt;
-        fault(alloc, "{\"commands\":[{\"type\":\"module\"}]}"),
-        Some(ScriptFault::Command(1))
-    );
-    assert_eq!(rt; fault(alloc, "{"), Some(ScriptFault::NotJson));
-    assert_eq!(rt;
-        fault(alloc, "{\"commands\":[3]}"),
-        Some(ScriptFault::NoCommands)
-    );
-    let long = vec![in alloc; b' '; 1_048_577]?;
-    assert_eq!(rt;
-        read_script(alloc, long.as_slice()).err(),
-        Some(ScriptFault::TooLong)
-    );
     Ok(())
 }
 
