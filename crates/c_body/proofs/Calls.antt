@@ -105,9 +105,11 @@ resumes g set None None whole locals machine m rest vars typed declared agree =
 resumes g set None (Some v) whole locals machine m rest vars typed declared agree = absurd cc
 resumes g set (Some t) None whole locals machine m rest vars typed declared agree = absurd cc
 resumes g set (Some type.I32) (Some (I32 n)) whole locals machine m rest vars typed declared agree =
-    resumes_with g set (I32 n) whole locals machine m rest vars (declared type.I32 refl) (result_is_number (Some type.I32) (I32 n) typed) agree
+    resumes_with g set (I32 n) whole locals machine m rest vars (declared type.I32 refl)
+    (result_is_number (Some type.I32) (I32 n) typed) agree
 resumes g set (Some type.I64) (Some (I64 n)) whole locals machine m rest vars typed declared agree =
-    resumes_with g set (I64 n) whole locals machine m rest vars (declared type.I64 refl) (result_is_number (Some type.I64) (I64 n) typed) agree
+    resumes_with g set (I64 n) whole locals machine m rest vars (declared type.I64 refl)
+    (result_is_number (Some type.I64) (I64 n) typed) agree
 resumes g set (Some type.I32) (Some (I64 n)) whole locals machine m rest vars typed declared agree = absurd cc
 resumes g set (Some type.I64) (Some (I32 n)) whole locals machine m rest vars typed declared agree = absurd cc
 

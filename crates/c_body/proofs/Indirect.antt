@@ -313,7 +313,8 @@ element_follows law g room calls site targets exit base stack left rest outs mor
         } in
         let result = through_follows g room calls site targets exit base stack left rest outs more ty now m new f e.func
         (agree.same.ty_is ∙ ap Some same) (callable f refl) agree.stands fit outs_are slots after
-        (named-with_named element_name v vars (ap is_some (stood.variables.element there).1)) from came.statements way (omega (arith, came.few)) in
+        (named-with_named element_name v vars (ap is_some (stood.variables.element there).1)) from came.statements way
+        (omega (arith, came.few)) in
         subst (λ b. Follows g 0 targets exit base rest outs from (suc left)
         (if b then exec.invoke calls f own.params left stack now else exec.Stops (exec.Trapped trap.Signature) now)) (sym (decided ∙ is))
         (subst (λ (t : FuncType). Follows g 0 targets exit base rest outs from (suc left) (exec.invoke calls f t.params left stack now))

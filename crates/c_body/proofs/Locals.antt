@@ -160,7 +160,8 @@ sets_local g room calls site whole now m vars agree index t h n k is fits old re
       stands = record {
         together = agree.together;
         variables = set_local g.slots g.has_element whole now.locals vars index (value t n) (value t k)
-            (few_locals g room calls site now.locals agree.local_types) old (type_of-value t n ∙ sym (type_of-value t k)) (value_number t n fits)
+            (few_locals g room calls site now.locals agree.local_types) old (type_of-value t n ∙ sym (type_of-value t k))
+            (value_number t n fits)
             agree.variables;
         local_types = types_set now.locals index (value t n) (value t k) old (type_of-value t n ∙ sym (type_of-value t k))
             ∙ agree.local_types;

@@ -29,13 +29,15 @@ at_index_map {A} {B} f xs i = ap (λ found. if_found found (λ entry. entry)) (s
     by_case (Some x) = refl
 
 -- an imported function is reached by what stands in the list of symbols, an own one by its name
-pub callee_imported : (m : NamedModule) (names : List (Option Name)) (index : ℕ) (name : Option Name) → names ≡ map (usable_symbol m) (func_imports m.tree)
+pub callee_imported : (m : NamedModule) (names : List (Option Name)) (index : ℕ) (name : Option Name)
+    → names ≡ map (usable_symbol m) (func_imports m.tree)
     → slice_get names index ≡ Some name → callee m index ≡ name
 callee_imported m names index name is found = by_case (slice_get (func_imports m.tree) index)
     (sym (slice_get-map (usable_symbol m) (func_imports m.tree) index) ∙ ap (λ (ns : List (Option Name)). slice_get ns index) (sym is)
     ∙ found)
   where
-    by_case : (o : Option Import) → option_map (usable_symbol m) o ≡ Some name → (elim o [ None ↦ Some (func_name index) | Some i ↦ usable_symbol m i ]) ≡ name
+    by_case : (o : Option Import) → option_map (usable_symbol m) o ≡ Some name
+        → (elim o [ None ↦ Some (func_name index) | Some i ↦ usable_symbol m i ]) ≡ name
     by_case None h = cc
     by_case (Some i) h = cc
 
@@ -53,5 +55,6 @@ callee_own m names index is found = by_case (slice_get (func_imports m.tree) ind
 pub type_found : (entries : List TypeEntry) (i : ℕ) → slice_get (map (λ t. t.ty) entries) i ≡ option_map (λ t. t.ty) (slice_get entries i)
 type_found entries i = slice_get-map (λ t. t.ty) entries i
 
-pub as_many : (m : NamedModule) (names : List (Option Name)) → names ≡ map (usable_symbol m) (func_imports m.tree) → length names ≡ imported_funcs m.tree
+pub as_many : (m : NamedModule) (names : List (Option Name)) → names ≡ map (usable_symbol m) (func_imports m.tree)
+    → length names ≡ imported_funcs m.tree
 as_many m names e = ap (λ (ns : List (Option Name)). length ns) e ∙ length-map (func_imports m.tree) (usable_symbol m)

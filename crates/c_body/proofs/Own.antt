@@ -89,7 +89,8 @@ body_found m index body has = of_entry (defined_at m.tree index) refl has
     of_entry None at has = absurd cc
     of_entry (Some d) at has = of_type d (type_in m.tree d.0.type_index) at refl has
 
-pub typed_body : (m : Module) (bodies : List (FuncEntry × BodyEntry)) (j : ℕ) (d : FuncEntry × BodyEntry) (ty : FuncType) → AreTyped m bodies
+pub typed_body : (m : Module) (bodies : List (FuncEntry × BodyEntry)) (j : ℕ) (d : FuncEntry × BodyEntry) (ty : FuncType)
+    → AreTyped m bodies
     → slice_get bodies j ≡ Some d
     → type_in m d.0.type_index ≡ Some ty → BodyHasType (context_of m ty d.1) d.1.code
 typed_body m [] j d ty all at is = absurd cc

@@ -88,20 +88,25 @@ another_number t held new takes holds = go takes.0 new refl (same_Some takes.0 (
         let typed : of_one_type (state.Number holds.0) (state.Number w) ≡ true = ap (λ x. of_one_type x (state.Number w)) (sym same) ∙ e in
         (w, ap Some (sym is), sym (equal_type-eq (type_of holds.0) (type_of w) typed) ∙ holds.2)
     go old (state.Pointer to) is same e =
-        absurd (let wrong : of_one_type (state.Number holds.0) (state.Pointer to) ≡ true = ap (λ x. of_one_type x (state.Pointer to)) (sym same) ∙ e in cc)
+        absurd (let wrong : of_one_type (state.Number holds.0) (state.Pointer to)
+        ≡ true = ap (λ x. of_one_type x (state.Pointer to)) (sym same) ∙ e in cc)
     go old (state.FuncPointer to) is same e =
-        absurd (let wrong : of_one_type (state.Number holds.0) (state.FuncPointer to) ≡ true = ap (λ x. of_one_type x (state.FuncPointer to)) (sym same) ∙ e in cc)
+        absurd (let wrong : of_one_type (state.Number holds.0) (state.FuncPointer to)
+        ≡ true = ap (λ x. of_one_type x (state.FuncPointer to)) (sym same) ∙ e in cc)
 
 another_function : (held : Option state.CValue) (new : state.CValue) → Takes held new → HoldsFunction held → HoldsFunction (Some new)
 another_function held new takes holds =
     go takes.0 new refl (same_Some takes.0 (state.FuncPointer holds.0) (sym takes.1 ∙ holds.1)) takes.2
   where
-    go : (old after : state.CValue) → after ≡ new → old ≡ state.FuncPointer holds.0 → of_one_type old after ≡ true → HoldsFunction (Some new)
+    go : (old after : state.CValue) → after ≡ new → old ≡ state.FuncPointer holds.0 → of_one_type old after ≡ true
+        → HoldsFunction (Some new)
     go old (state.FuncPointer to) is same e = (to, ap Some (sym is))
     go old (state.Number w) is same e =
-        absurd (let wrong : of_one_type (state.FuncPointer holds.0) (state.Number w) ≡ true = ap (λ x. of_one_type x (state.Number w)) (sym same) ∙ e in cc)
+        absurd (let wrong : of_one_type (state.FuncPointer holds.0) (state.Number w)
+        ≡ true = ap (λ x. of_one_type x (state.Number w)) (sym same) ∙ e in cc)
     go old (state.Pointer to) is same e =
-        absurd (let wrong : of_one_type (state.FuncPointer holds.0) (state.Pointer to) ≡ true = ap (λ x. of_one_type x (state.Pointer to)) (sym same) ∙ e in cc)
+        absurd (let wrong : of_one_type (state.FuncPointer holds.0) (state.Pointer to)
+        ≡ true = ap (λ x. of_one_type x (state.Pointer to)) (sym same) ∙ e in cc)
 
 -- what a name holds behind an assignment that keeps types
 still_holds : (Holds : Option state.CValue → Type 0) (n name : List ℕ) (new : state.CValue) (vars : state.Vars)
@@ -198,7 +203,8 @@ push slots has_element stack locals vars v small there fits a =
 -- the element that is about to be called
 pub set_element : (slots : ValType → ℕ → Bool) (has_element : Bool) (stack locals : List Value) (vars : state.Vars)
     (to : Option state.FuncAddress)
-    → IsTrue has_element → VarsAgree slots has_element stack locals vars → VarsAgree slots has_element stack locals (with_named element_name (state.FuncPointer to) vars)
+    → IsTrue has_element → VarsAgree slots has_element stack locals vars
+    → VarsAgree slots has_element stack locals (with_named element_name (state.FuncPointer to) vars)
 set_element slots has_element stack locals vars to there a =
     let new : state.CValue = state.FuncPointer to in
     let left : Left slots has_element (with_named element_name new vars) =

@@ -24,7 +24,8 @@ none_right (x ∷ xs) [] i e = refl
 none_right (x ∷ xs) (y ∷ ys) zero e = cc
 none_right (x ∷ xs) (y ∷ ys) (suc i) e = none_right xs ys i e
 
-both : {A B : Type 0} (xs : List A) (ys : List B) (i : ℕ) (a : A) (b : B) → slice_get xs i ≡ Some a → slice_get ys i ≡ Some b → slice_get (zip xs ys) i ≡ Some (a, b)
+both : {A B : Type 0} (xs : List A) (ys : List B) (i : ℕ) (a : A) (b : B) → slice_get xs i ≡ Some a → slice_get ys i ≡ Some b
+    → slice_get (zip xs ys) i ≡ Some (a, b)
 both [] ys i a b e f = cc
 both (x ∷ xs) [] i a b e f = cc
 both (x ∷ xs) (y ∷ ys) zero a b e f = cc
@@ -92,10 +93,12 @@ by_its_type m name index func body found e f g =
 abbrev type_of_entry : Module → Option (FuncEntry × BodyEntry) → Option FuncType
 type_of_entry m d = if_found d (λ e. type_in m e.0.type_index)
 
-pub no_func_type : (m : Module) (index : ℕ) → None ≡ at_defined m m.funcs index → None ≡ type_of_entry m (at_defined m (zip m.funcs m.bodies) index)
+pub no_func_type : (m : Module) (index : ℕ) → None ≡ at_defined m m.funcs index
+    → None ≡ type_of_entry m (at_defined m (zip m.funcs m.bodies) index)
 no_func_type m index e = ap (type_of_entry m) (sym (no_pair_left m m.funcs m.bodies index (sym e)))
 
-pub no_body_type : (m : Module) (index : ℕ) → None ≡ at_defined m m.bodies index → None ≡ type_of_entry m (at_defined m (zip m.funcs m.bodies) index)
+pub no_body_type : (m : Module) (index : ℕ) → None ≡ at_defined m m.bodies index
+    → None ≡ type_of_entry m (at_defined m (zip m.funcs m.bodies) index)
 no_body_type m index e = ap (type_of_entry m) (sym (no_pair_right m m.funcs m.bodies index (sym e)))
 
 pub type_of_both : (m : Module) (index : ℕ) (func : FuncEntry) (body : BodyEntry) (found : Option FuncType)

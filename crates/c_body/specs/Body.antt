@@ -140,5 +140,6 @@ no_func = record { is_static = true; result = c_type.Void; name = []; params = [
 abbrev pub body_of : Module → List ℕ → ℕ → tree.Func
 body_of m name index =
     unwrap_or
-    (if_found (defined_at m index) (λ d. option_map (λ ty. func_of (record { name = name; tree = m }) index ty d.1) (type_in m d.0.type_index)))
+    (if_found (defined_at m index) (λ d. option_map (λ ty. func_of (record { name = name; tree = m }) index ty d.1)
+    (type_in m d.0.type_index)))
     no_func

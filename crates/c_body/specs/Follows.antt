@@ -33,7 +33,8 @@ pub record Paid (spare n left statements : ℕ) : Type 0 where
 
 -- ---- both runs at one place: what is shared agrees, and so many modules are ready
 
-pub record Together (p : Program) (s : link.LinkedSet) (count depth : ℕ) (m : state.Machine) (made : store.Store) (trail : Trail) : Type 0 where
+pub record Together (p : Program) (s : link.LinkedSet) (count depth : ℕ) (m : state.Machine) (made : store.Store)
+    (trail : Trail) : Type 0 where
   pub agrees : Agrees p s m made trail
   pub ready : AreReady s count m made
   pub depth_is : m.depth ≡ depth
@@ -83,7 +84,8 @@ pub record ComesBack (p : Program) (s : link.LinkedSet) (count depth : ℕ) (pen
 abbrev pub CallFollows : Program → link.LinkedSet → ℕ → ℕ → Pending → List state.Frame → FuncType → Progress → ℕ → exec.Called → Type 0
 CallFollows p s count depth pending below ty from n (exec.Back left value made trail) =
     ComesBack p s count depth pending below ty from n left value made trail
-CallFollows p s count depth pending below ty from n (exec.CallStops why made trail) = StopsAlike p s pending call_spare from n why made trail
+CallFollows p s count depth pending below ty from n (exec.CallStops why made trail) =
+    StopsAlike p s pending call_spare from n why made trail
 
 -- Every call is followed, of any function of the first modules or of a host, through any function of C
 -- that stands for it, from any machine that agrees, while so many more functions may become active.
@@ -146,7 +148,8 @@ pub record StandsAt (g : Site) (stack : List Value) (now : store.State) (m : sta
   pub local_types : types_of now.locals ≡ g.setting.context.locals
 
 -- the run comes to `rest`
-pub record Arrives (g : Site) (spare : ℕ) (rest : List tree.Stmt) (from : Progress) (n left : ℕ) (stack : List Value) (now : store.State) : Type 0 where
+pub record Arrives (g : Site) (spare : ℕ) (rest : List tree.Stmt) (from : Progress) (n left : ℕ) (stack : List Value)
+    (now : store.State) : Type 0 where
   pub machine : state.Machine
   pub vars : state.Vars
   pub stands : StandsAt g stack now machine vars
@@ -155,7 +158,8 @@ pub record Arrives (g : Site) (spare : ℕ) (rest : List tree.Stmt) (from : Prog
   pub paid : Paid spare n left statements
 
 -- the run comes to a label, with the label's value on the operands under its block
-pub record Branches (g : Site) (spare : ℕ) (t : Target) (from : Progress) (n left : ℕ) (stack : List Value) (now : store.State) : Type 0 where
+pub record Branches (g : Site) (spare : ℕ) (t : Target) (from : Progress) (n left : ℕ) (stack : List Value)
+    (now : store.State) : Type 0 where
   pub kept : List Value
   pub kept_is : exec.top t.aim.value stack ≡ Some kept
   pub typed : types_of kept ≡ values t.aim.value
@@ -177,7 +181,8 @@ labelled (name ∷ names) rest = tree.Label name ∷ labelled names rest
 abbrev pub Follows : Site → ℕ → List Target → Target → List Value → List tree.Stmt → Stack → Progress → ℕ → exec.Result → Type 0
 Follows g spare targets exit base rest outs from n (exec.Normal left stack now) =
     (types_of stack ≡ outs) × (names : List state.Name) × Arrives g spare (labelled names rest) from n left (stack ++ base) now
-Follows g spare targets exit base rest outs from n (exec.Branch label left stack now) = BranchesTo g spare targets label from n left stack now
+Follows g spare targets exit base rest outs from n (exec.Branch label left stack now) =
+    BranchesTo g spare targets label from n left stack now
 Follows g spare targets exit base rest outs from n (exec.Returned left stack now) = Branches g spare exit from n left stack now
 Follows g spare targets exit base rest outs from n (exec.Stops why now) =
     StopsAlike g.program g.linked g.pending spare from n why now.store now.trail

@@ -16,7 +16,8 @@ pub none_clash_next : (xs : List Item) (i : ℕ) (x : Item) → i < length xs �
     → none_clash (take i (map item_of xs)) ≡ true → none_clash (take (i + 1) (map item_of xs)) ≡ true
 none_clash_next xs i x lt is e kept =
     ap none_clash (take_next item_of xs i x lt is)
-    ∙ none_clash_more (item_of x) (take i (map item_of xs)) kept (declared_once (record { unit = map item_of xs; number = i; item = item_of x }) e)
+    ∙ none_clash_more (item_of x) (take i (map item_of xs)) kept
+    (declared_once (record { unit = map item_of xs; number = i; item = item_of x }) e)
 
 -- what the items of a scope break is what those of the unit do
 pub breaks_there : (xs ys : List Item) (i n : ℕ) (x : Item) (r o : Option ℕ) → ys ≡ xs → n ≡ i

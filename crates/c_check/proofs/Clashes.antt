@@ -6,6 +6,7 @@ use Rattle.std.specs.List.{list_all, list_any}
 use Rattle.std.proofs.Common.{arith}
 use Rattle.std.proofs.lemmas.Bool.Decides.{nat_tests}
 use Rattle.std.proofs.lemmas.Slice.Eq.{bytes_eq-Decides}
+use Rattle.w2c_base.proofs.Conjunctions.{left_holds, right_holds}
 use Rattle.w2c_base.specs.Lookup.{named}
 use Rattle.c_tree.specs.declared.tree.CType.{CType}
 use Rattle.c_tree.specs.Tree as tree
@@ -16,14 +17,6 @@ use Rattle.c_check.specs.UnitNames.{by_names, defined_of, stands_behind, none_cl
 use Rattle.c_check.proofs.Sets.{defined_front}
 
 -- ---- of truth values
-
-both_left : (a b : Bool) → (a && b) ≡ true → a ≡ true
-both_left true b e = refl
-both_left false b e = cc
-
-both_right : (a b : Bool) → (a && b) ≡ true → b ≡ true
-both_right true b e = e
-both_right false b e = cc
 
 both : (a b : Bool) → a ≡ true → b ≡ true → (a && b) ≡ true
 both true b e f = f
@@ -40,7 +33,8 @@ same_through t u v e f = same_number _ _ _ e f
 types_through : (ts us vs : List CType) → same_types ts us ≡ true → same_types ts vs ≡ true → same_types us vs ≡ true
 types_through [] [] [] e f = refl
 types_through (t ∷ ts) (u ∷ us) (v ∷ vs) e f =
-    both (same_type u v) (same_types us vs) (same_through t u v (both_left _ _ e) (both_left _ _ f)) (types_through ts us vs (both_right _ _ e) (both_right _ _ f))
+    both (same_type u v) (same_types us vs) (same_through t u v (left_holds _ _ e) (left_holds _ _ f))
+    (types_through ts us vs (right_holds _ _ e) (right_holds _ _ f))
 types_through [] [] (v ∷ vs) e f = cc
 types_through [] (u ∷ us) vs e f = cc
 types_through (t ∷ ts) [] vs e f = cc
@@ -60,13 +54,16 @@ same_linkage false true c e k = cc
 
 alike_through : (x y z : tree.Item) → are_alike x y ≡ true → are_alike x z ≡ true → are_alike y z ≡ true
 alike_through (tree.Function f) (tree.Function g) (tree.Function h) e k =
-    let first = both_right (agree f.is_static g.is_static) (same_func_type (func_type_of f) (func_type_of g)) e in
-    let second = both_right (agree f.is_static h.is_static) (same_func_type (func_type_of f) (func_type_of h)) k in
+    let first = right_holds (agree f.is_static g.is_static) (same_func_type (func_type_of f) (func_type_of g)) e in
+    let second = right_holds (agree f.is_static h.is_static) (same_func_type (func_type_of f) (func_type_of h)) k in
     both (agree g.is_static h.is_static) (same_func_type (func_type_of g) (func_type_of h))
-    (same_linkage f.is_static g.is_static h.is_static (both_left _ (same_func_type (func_type_of f) (func_type_of g)) e) (both_left _ (same_func_type (func_type_of f) (func_type_of h)) k))
+    (same_linkage f.is_static g.is_static h.is_static (left_holds _ (same_func_type (func_type_of f) (func_type_of g)) e)
+    (left_holds _ (same_func_type (func_type_of f) (func_type_of h)) k))
     (both (same_types (func_type_of g).params (func_type_of h).params) (same_type g.result h.result)
-    (types_through (func_type_of f).params (func_type_of g).params (func_type_of h).params (both_left _ (same_type f.result g.result) first) (both_left _ (same_type f.result h.result) second))
-    (same_through f.result g.result h.result (both_right (same_types (func_type_of f).params (func_type_of g).params) _ first) (both_right (same_types (func_type_of f).params (func_type_of h).params) _ second)))
+    (types_through (func_type_of f).params (func_type_of g).params (func_type_of h).params (left_holds _ (same_type f.result g.result) first)
+    (left_holds _ (same_type f.result h.result) second))
+    (same_through f.result g.result h.result (right_holds (same_types (func_type_of f).params (func_type_of g).params) _ first)
+    (right_holds (same_types (func_type_of f).params (func_type_of h).params) _ second)))
 alike_through (tree.Function f) (tree.Function g) (tree.Array n m bs) e k = cc
 alike_through (tree.Function f) (tree.Function g) (tree.Var t n v) e k = cc
 alike_through (tree.Function f) (tree.Array n m bs) z e k = cc
@@ -98,20 +95,24 @@ module _ (item : tree.Item) where
 
   pub none_named : (items : List tree.Item) → named (name_of item) (by_names items) ≡ None → list_all stands items ≡ true
   none_named [] e = refl
-  none_named (x ∷ items) e = go (bytes_eq (name_of x) (name_of item)) (named (name_of item) (by_names items)) (list_all stands items) e (none_named items)
+  none_named (x ∷ items) e =
+      go (bytes_eq (name_of x) (name_of item)) (named (name_of item) (by_names items)) (list_all stands items) e (none_named items)
     where
-      go : (b : Bool) (found : Option tree.Item) (tail : Bool) → (if b then Some x else found) ≡ None → (found ≡ None → tail ≡ true) → ((not b || may_both_stand x item) && tail) ≡ true
+      go : (b : Bool) (found : Option tree.Item) (tail : Bool) → (if b then Some x else found) ≡ None → (found ≡ None → tail ≡ true)
+          → ((not b || may_both_stand x item) && tail) ≡ true
       go true found tail e t = cc
       go false found tail e t = t e
 
   -- behind an item that is alike, and of the same name
-  behind_alike : (first : tree.Item) (items : List tree.Item) → name_of first ≡ name_of item → are_alike first item ≡ true → list_all (stands_behind first) items ≡ true
+  behind_alike : (first : tree.Item) (items : List tree.Item) → name_of first ≡ name_of item → are_alike first item ≡ true
+      → list_all (stands_behind first) items ≡ true
       → list_all stands items ≡ not (list_any (bytes_eq (name_of item)) (defined_of items) && has_body item)
   behind_alike first [] name alike e = refl
   behind_alike first (x ∷ items) name alike e =
-      joined (bytes_eq (name_of x) (name_of item)) (are_alike x item) (has_body x) (has_body item) (list_any (bytes_eq (name_of item)) (defined_of items)) (list_all stands items)
+      joined (bytes_eq (name_of x) (name_of item)) (are_alike x item) (has_body x) (has_body item)
+      (list_any (bytes_eq (name_of item)) (defined_of items)) (list_all stands items)
       (λ same. alike_through first x item (first_alike same) alike)
-      (behind_alike first items name alike (both_right (stands_behind first x) _ e))
+      (behind_alike first items name alike (right_holds (stands_behind first x) _ e))
       ∙ sym (ap (λ b. not (b && has_body item)) (defined_front (name_of item) x items))
     where
       said : (b : Bool) (m n : Bool) → b ≡ true → (not b || (m && n)) ≡ true → m ≡ true
@@ -122,40 +123,54 @@ module _ (item : tree.Item) where
       first_alike : bytes_eq (name_of x) (name_of item) ≡ true → are_alike first x ≡ true
       first_alike same =
           let names : name_of first ≡ name_of x = name ∙ sym ((bytes_eq-Decides (name_of x) (name_of item)).0 same) in
-          said (bytes_eq (name_of first) (name_of x)) (are_alike first x) (not (has_body first && has_body x)) ((bytes_eq-Decides (name_of first) (name_of x)).1 names) (both_left (stands_behind first x) _ e)
+          said (bytes_eq (name_of first) (name_of x)) (are_alike first x) (not (has_body first && has_body x))
+          ((bytes_eq-Decides (name_of first) (name_of x)).1 names) (left_holds (stands_behind first x) _ e)
 
-  pub first_named : (items : List tree.Item) (first : tree.Item) → none_clash items ≡ true → named (name_of item) (by_names items) ≡ Some first
+  pub first_named : (items : List tree.Item) (first : tree.Item) → none_clash items ≡ true
+      → named (name_of item) (by_names items) ≡ Some first
       → list_all stands items ≡ (are_alike first item && not (list_any (bytes_eq (name_of item)) (defined_of items) && has_body item))
   first_named [] first kept e = cc
   first_named (x ∷ items) first kept e =
-      go (bytes_eq (name_of x) (name_of item)) (first_named items first (both_right (list_all (stands_behind x) items) (none_clash items) kept)) refl e
+      go (bytes_eq (name_of x) (name_of item))
+      (first_named items first (right_holds (list_all (stands_behind x) items) (none_clash items) kept)) refl e
       ∙ sym (ap (λ b. are_alike first item && not (b && has_body item)) (defined_front (name_of item) x items))
     where
       alike_or_not : (a : Bool) → are_alike x item ≡ a → bytes_eq (name_of x) (name_of item) ≡ true
-          → ((are_alike x item && not (has_body x && has_body item)) && list_all stands items) ≡ (are_alike x item && not ((has_body x || list_any (bytes_eq (name_of item)) (defined_of items)) && has_body item))
+          → ((are_alike x item && not (has_body x && has_body item)) && list_all stands items)
+          ≡ (are_alike x item && not ((has_body x || list_any (bytes_eq (name_of item)) (defined_of items)) && has_body item))
       alike_or_not true a same =
-          joined true (are_alike x item) (has_body x) (has_body item) (list_any (bytes_eq (name_of item)) (defined_of items)) (list_all stands items) (λ _. a)
-          (behind_alike x items ((bytes_eq-Decides (name_of x) (name_of item)).0 same) a (both_left _ (none_clash items) kept))
+          joined true (are_alike x item) (has_body x) (has_body item) (list_any (bytes_eq (name_of item)) (defined_of items))
+          (list_all stands items) (λ _. a)
+          (behind_alike x items ((bytes_eq-Decides (name_of x) (name_of item)).0 same) a (left_holds _ (none_clash items) kept))
           ∙ ap (λ b. b && not ((has_body x || list_any (bytes_eq (name_of item)) (defined_of items)) && has_body item)) (sym a)
       alike_or_not false a same =
-          ap (λ b. (b && not (has_body x && has_body item)) && list_all stands items) a ∙ ap (λ b. b && not ((has_body x || list_any (bytes_eq (name_of item)) (defined_of items)) && has_body item)) (sym a)
+          ap (λ b. (b && not (has_body x && has_body item)) && list_all stands items) a
+          ∙ ap (λ b. b && not ((has_body x || list_any (bytes_eq (name_of item)) (defined_of items)) && has_body item)) (sym a)
 
-      go : (b : Bool) → (named (name_of item) (by_names items) ≡ Some first → list_all stands items ≡ (are_alike first item && not (list_any (bytes_eq (name_of item)) (defined_of items) && has_body item))) → bytes_eq (name_of x) (name_of item) ≡ b → (if b then Some x else named (name_of item) (by_names items)) ≡ Some first
-          → ((not b || may_both_stand x item) && list_all stands items) ≡ (are_alike first item && not (((b && has_body x) || list_any (bytes_eq (name_of item)) (defined_of items)) && has_body item))
-      go true rest same e = alike_or_not (are_alike x item) refl same ∙ ap (λ y. are_alike y item && not ((has_body x || list_any (bytes_eq (name_of item)) (defined_of items)) && has_body item)) (is_it e)
+      go : (b : Bool) → (named (name_of item) (by_names items) ≡ Some first
+          → list_all stands items ≡ (are_alike first item && not (list_any (bytes_eq (name_of item)) (defined_of items) && has_body item)))
+          → bytes_eq (name_of x) (name_of item) ≡ b → (if b then Some x else named (name_of item) (by_names items)) ≡ Some first
+          → ((not b || may_both_stand x item) && list_all stands items)
+          ≡ (are_alike first item && not (((b && has_body x) || list_any (bytes_eq (name_of item)) (defined_of items))
+          && has_body item))
+      go true rest same e =
+          alike_or_not (are_alike x item) refl same
+          ∙ ap (λ y. are_alike y item && not ((has_body x || list_any (bytes_eq (name_of item)) (defined_of items)) && has_body item))
+          (is_it e)
         where
           is_it : ◌≡◌ {A = Option tree.Item} (Some x) (Some first) → x ≡ first
           is_it e = cc
       go false rest same e = rest e
 
   -- one more item that stands
-  pub none_clash_more : (items : List tree.Item) → none_clash items ≡ true → list_all stands items ≡ true → none_clash (items ++ item ∷ []) ≡ true
+  pub none_clash_more : (items : List tree.Item) → none_clash items ≡ true → list_all stands items ≡ true
+      → none_clash (items ++ item ∷ []) ≡ true
   none_clash_more [] kept e = refl
   none_clash_more (x ∷ items) kept e =
       both (list_all (stands_behind x) (items ++ item ∷ [])) (none_clash (items ++ item ∷ []))
-      (all_push (stands_behind x) items (both_left _ (none_clash items) kept) (both_left (stands x) _ e))
-      (none_clash_more items (both_right _ (none_clash items) kept) (both_right (stands x) _ e))
+      (all_push (stands_behind x) items (left_holds _ (none_clash items) kept) (left_holds (stands x) _ e))
+      (none_clash_more items (right_holds _ (none_clash items) kept) (right_holds (stands x) _ e))
     where
       all_push : (p : tree.Item → Bool) (ys : List tree.Item) → list_all p ys ≡ true → p item ≡ true → list_all p (ys ++ item ∷ []) ≡ true
       all_push p [] h k = both (p item) true k refl
-      all_push p (y ∷ ys) h k = both (p y) _ (both_left (p y) _ h) (all_push p ys (both_right (p y) _ h) k)
+      all_push p (y ∷ ys) h k = both (p y) _ (left_holds (p y) _ h) (all_push p ys (right_holds (p y) _ h) k)

@@ -25,11 +25,15 @@ module _ (numbers : List ℕ) (i j : ℕ) (n : ℕ) (at : slice_get numbers j �
   front : drop j numbers ≡ n ∷ drop i numbers
   front = drop_front numbers j n at ∙ ap (λ k. n ∷ drop k numbers) (sym next)
 
-  pub distinct_more : false ≡ contains nat_cmp set n → are_distinct_numbers (drop i numbers) ≡ true → are_distinct_numbers (drop j numbers) ≡ true
-  distinct_more fresh so_far = ap are_distinct_numbers front ∙ ap (λ b. not b && are_distinct_numbers (drop i numbers)) (sym (fresh ∙ known n)) ∙ so_far
+  pub distinct_more : false ≡ contains nat_cmp set n → are_distinct_numbers (drop i numbers) ≡ true
+      → are_distinct_numbers (drop j numbers) ≡ true
+  distinct_more fresh so_far =
+      ap are_distinct_numbers front ∙ ap (λ b. not b && are_distinct_numbers (drop i numbers)) (sym (fresh ∙ known n)) ∙ so_far
 
   pub distinct_stops : true ≡ contains nat_cmp set n → false ≡ are_distinct_numbers numbers
-  distinct_stops twice = sym (distinct_end numbers j (ap are_distinct_numbers front ∙ ap (λ b. not b && are_distinct_numbers (drop i numbers)) (sym (twice ∙ known n))))
+  distinct_stops twice =
+      sym (distinct_end numbers j (ap are_distinct_numbers front
+      ∙ ap (λ b. not b && are_distinct_numbers (drop i numbers)) (sym (twice ∙ known n))))
 
   with_number : (b c : Bool) → cond b true c ≡ (b || c)
   with_number true c = refl

@@ -33,7 +33,8 @@ first_right (y ∷ xs) ys e = cc
 
 -- numbered items from one on
 pub numbered_front : {A B : Type 0} (view : A → B) (k : ℕ) (xs : List A) (i : ℕ) (x : A) → i < length xs → x ≡ get_or xs i x
-    → drop i (zip (range_with_len k (length (map view xs))) (map view xs)) ≡ (k + i, view x) ∷ drop (i + 1) (zip (range_with_len k (length (map view xs))) (map view xs))
+    → drop i (zip (range_with_len k (length (map view xs))) (map view xs))
+    ≡ (k + i, view x) ∷ drop (i + 1) (zip (range_with_len k (length (map view xs))) (map view xs))
 numbered_front view k [] i x lt is = absurd (omega arith)
 numbered_front view k (y ∷ xs) zero x lt is =
     let e : k ≡ k + 0 = omega arith in
@@ -53,18 +54,21 @@ numbered_past k (y ∷ ys) zero le = absurd (omega arith)
 numbered_past k (y ∷ ys) (suc i) le = numbered_past (k + 1) ys i (omega arith)
 
 module _ {A B C : Type 0} (view : A → B) (gives : ℕ × B → List C) (xs : List A) (i : ℕ) where
-  pub first_end : (whole : Option C) → length (map view xs) ≤ i → slice_get (flat_map gives (drop i (numbered (map view xs)))) 0 ≡ whole → None ≡ whole
+  pub first_end : (whole : Option C) → length (map view xs) ≤ i → slice_get (flat_map gives (drop i (numbered (map view xs)))) 0 ≡ whole
+      → None ≡ whole
   first_end whole past so_far = sym (ap (λ es. slice_get (flat_map gives es) 0) (numbered_past 0 (map view xs) i past)) ∙ so_far
 
   module _ (x : A) (lt : i < length xs) (is : x ≡ get_or xs i x) (whole : Option C) where
     front : flat_map gives (drop i (numbered (map view xs))) ≡ gives (i, view x) ++ flat_map gives (drop (i + 1) (numbered (map view xs)))
     front =
         let e : 0 + i ≡ i = omega arith in
-        ap (flat_map gives) (numbered_front view 0 xs i x lt is) ∙ ap (λ n. gives (n, view x) ++ flat_map gives (drop (i + 1) (numbered (map view xs)))) e
+        ap (flat_map gives) (numbered_front view 0 xs i x lt is)
+        ∙ ap (λ n. gives (n, view x) ++ flat_map gives (drop (i + 1) (numbered (map view xs)))) e
 
     pub first_more : slice_get (gives (i, view x)) 0 ≡ None → slice_get (flat_map gives (drop i (numbered (map view xs)))) 0 ≡ whole
         → slice_get (flat_map gives (drop (i + 1) (numbered (map view xs)))) 0 ≡ whole
     first_more none so_far = sym (ap (λ ys. slice_get ys 0) front ∙ first_right (gives (i, view x)) _ none) ∙ so_far
 
-    pub first_stops : (c : C) → slice_get (gives (i, view x)) 0 ≡ Some c → slice_get (flat_map gives (drop i (numbered (map view xs)))) 0 ≡ whole → Some c ≡ whole
+    pub first_stops : (c : C) → slice_get (gives (i, view x)) 0 ≡ Some c
+        → slice_get (flat_map gives (drop i (numbered (map view xs)))) 0 ≡ whole → Some c ≡ whole
     first_stops c some so_far = sym (ap (λ ys. slice_get ys 0) front ∙ first_left (gives (i, view x)) _ c some) ∙ so_far

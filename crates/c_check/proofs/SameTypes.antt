@@ -24,20 +24,26 @@ module _ {T : Type 0} (type_in : T → CType) (types others : List T) where
       sym (same_many (map type_in types) (map type_in others) (λ e. n (sym t ∙ e ∙ a)))
 
   module _ (i : ℕ) where
-    pub same_end : (whole : Bool) → length types ≡ length others → length types ≤ i → same_types (map type_in (drop i types)) (map type_in (drop i others)) ≡ whole → true ≡ whole
+    pub same_end : (whole : Bool) → length types ≡ length others → length types ≤ i
+        → same_types (map type_in (drop i types)) (map type_in (drop i others)) ≡ whole → true ≡ whole
     same_end whole same past so_far =
         sym (ap (λ ts. same_types (map type_in ts) (map type_in (drop i others))) (drop_all i types past)
         ∙ ap (λ ys. same_types [] (map type_in ys)) (drop_all i others (omega arith))) ∙ so_far
 
-    module _ (t a : T) (lt : i < length types) (is : t ≡ get_or types i t) (lt2 : i < length others) (is2 : a ≡ get_or others i a) (whole : Bool) where
+    module _ (t a : T) (lt : i < length types) (is : t ≡ get_or types i t) (lt2 : i < length others) (is2 : a ≡ get_or others i a)
+        (whole : Bool) where
       front : same_types (map type_in (drop i types)) (map type_in (drop i others))
           ≡ (same_type (type_in t) (type_in a) && same_types (map type_in (drop (i + 1) types)) (map type_in (drop (i + 1) others)))
       front = ap (λ ts. same_types (map type_in ts) (map type_in (drop i others))) (at_front types i t lt is)
           ∙ ap (λ ys. same_types (map type_in (t ∷ drop (i + 1) types)) (map type_in ys)) (at_front others i a lt2 is2)
 
-      pub same_more : same_type (type_in t) (type_in a) ≡ true → same_types (map type_in (drop i types)) (map type_in (drop i others)) ≡ whole
+      pub same_more : same_type (type_in t) (type_in a) ≡ true
+          → same_types (map type_in (drop i types)) (map type_in (drop i others)) ≡ whole
           → same_types (map type_in (drop (i + 1) types)) (map type_in (drop (i + 1) others)) ≡ whole
-      same_more same so_far = sym (front ∙ ap (λ b. b && same_types (map type_in (drop (i + 1) types)) (map type_in (drop (i + 1) others))) same) ∙ so_far
+      same_more same so_far =
+          sym (front ∙ ap (λ b. b && same_types (map type_in (drop (i + 1) types)) (map type_in (drop (i + 1) others))) same) ∙ so_far
 
-      pub same_stops : same_type (type_in t) (type_in a) ≡ false → same_types (map type_in (drop i types)) (map type_in (drop i others)) ≡ whole → false ≡ whole
-      same_stops fails so_far = sym (front ∙ ap (λ b. b && same_types (map type_in (drop (i + 1) types)) (map type_in (drop (i + 1) others))) fails) ∙ so_far
+      pub same_stops : same_type (type_in t) (type_in a) ≡ false
+          → same_types (map type_in (drop i types)) (map type_in (drop i others)) ≡ whole → false ≡ whole
+      same_stops fails so_far =
+          sym (front ∙ ap (λ b. b && same_types (map type_in (drop (i + 1) types)) (map type_in (drop (i + 1) others))) fails) ∙ so_far

@@ -25,7 +25,8 @@ all_mapped p view (x ∷ xs) = ap (λ b. p (view x) && b) (all_mapped p view xs)
 -- a set behind one more item that may name something, and behind all
 pub knows_put : {A B C : Type 0} (view : A → B) (of : B → Option (List ℕ)) (xs : List A) (i : ℕ) (x : A) → i < length xs
     → x ≡ get_or xs i x → (before after : List (List ℕ × C)) (o : Option (List ℕ)) → o ≡ of (view x)
-    → ((q : List ℕ) → is_some (named q after) ≡ (is_some (named q before) || list_any (bytes_eq q) (filter_map (λ (m : Option (List ℕ)). m) (o ∷ []))))
+    → ((q : List ℕ) → is_some (named q after)
+    ≡ (is_some (named q before) || list_any (bytes_eq q) (filter_map (λ (m : Option (List ℕ)). m) (o ∷ []))))
     → ((q : List ℕ) → is_some (named q before) ≡ list_any (bytes_eq q) (filter_map of (take i (map view xs))))
     → (q : List ℕ) → is_some (named q after) ≡ list_any (bytes_eq q) (filter_map of (take (i + 1) (map view xs)))
 knows_put view of xs i x lt is before after o e grown so_far =
@@ -84,9 +85,11 @@ names_listed (x ∷ items) = ap (λ zs. name_of x ∷ zs) (names_listed items)
 -- names that are in no set of a unit's names hide none of it
 pub hides : {C : Type 0} (set : List (List ℕ × C)) (unit : List tree.Item) (own : List Variable) (names : List (List ℕ))
     → ((q : List ℕ) → is_some (named q set) ≡ list_any (bytes_eq q) (names_of unit))
-    → map (λ (v : Variable). v.name.now) own ≡ names → list_all (λ (v : Variable). not (is_some (named v.name.now set))) own ≡ hides_none unit names
+    → map (λ (v : Variable). v.name.now) own ≡ names
+    → list_all (λ (v : Variable). not (is_some (named v.name.now set))) own ≡ hides_none unit names
 hides set unit own names knows same =
-    all_same (λ (v : Variable). not (is_some (named v.name.now set))) (λ (v : Variable). not (list_any (bytes_eq v.name.now) (map name_of unit))) own
+    all_same (λ (v : Variable). not (is_some (named v.name.now set)))
+    (λ (v : Variable). not (list_any (bytes_eq v.name.now) (map name_of unit))) own
     (λ v. ap not (knows v.name.now ∙ ap (list_any (bytes_eq v.name.now)) (names_listed unit)))
     ∙ sym (all_mapped (λ n. not (list_any (bytes_eq n) (map name_of unit))) (λ (v : Variable). v.name.now) own)
     ∙ ap (hides_none unit) same
@@ -95,7 +98,8 @@ pub all_push : {A : Type 0} (p : A → Bool) (xs ys : List A) → list_all p (xs
 all_push p [] ys = refl
 all_push p (x ∷ xs) ys = go (p x) (all_push p xs ys)
   where
-    go : (b : Bool) → list_all p (xs ++ ys) ≡ (list_all p xs && list_all p ys) → (b && list_all p (xs ++ ys)) ≡ ((b && list_all p xs) && list_all p ys)
+    go : (b : Bool) → list_all p (xs ++ ys) ≡ (list_all p xs && list_all p ys)
+        → (b && list_all p (xs ++ ys)) ≡ ((b && list_all p xs) && list_all p ys)
     go true behind = behind
     go false behind = refl
 

@@ -23,7 +23,12 @@ abbrev pub alone : Item → Place
 alone item = record { unit = []; number = 0; item = item_of item }
 
 abbrev nowhere : place.Scope
-nowhere = record { declared = []; func = record { is_static = false; result = type.Void; name = []; params = []; body = None }; body = record { locals = []; stmts = [] } }
+nowhere =
+    record {
+      declared = [];
+      func = record { is_static = false; result = type.Void; name = []; params = []; body = None };
+      body = record { locals = []; stmts = [] };
+    }
 
 -- a statement where its function does not matter
 abbrev pub stmt_alone : Stmt → StmtPlace

@@ -1,5 +1,6 @@
 -- Values of the types of parameters, one for each.
 use Rattle.std.proofs.Common.{◌≡◌, ℕ, suc, ◌&&◌, length, drop, Bool, true, false, List, [], ◌∷◌, refl, ap, ap₂}
+use Rattle.w2c_base.proofs.Conjunctions.{both_hold}
 use Rattle.w2c_base.specs.declared.value.Value.{Value}
 use Rattle.w2c_base.specs.declared.value.ValType.{ValType}
 use Rattle.w2c_base.specs.declared.value.ValType.TheVariants.{I32, I64}
@@ -9,7 +10,8 @@ use Rattle.w2c_base.specs.Values.{equal_type, equal_types, type_of, types_of}
 abbrev pub Agree : ℕ → List ValType → List Value → Type 0
 Agree i types values = equal_types (drop i types) (types_of (drop i values)) ≡ equal_types types (types_of values)
 
-pub unequal : (types : List ValType) (values : List Value) → (length types ≡ length values → ⊥) → false ≡ equal_types types (types_of values)
+pub unequal : (types : List ValType) (values : List Value) → (length types ≡ length values → ⊥)
+    → false ≡ equal_types types (types_of values)
 unequal [] [] not = absurd (not refl)
 unequal [] (v ∷ values) not = refl
 unequal (t ∷ types) [] not = refl
@@ -26,14 +28,10 @@ type_tells I32 I64 e = absurd cc
 type_tells I64 I32 e = absurd cc
 type_tells I64 I64 e = refl
 
-both : (b c : Bool) → (b && c) ≡ true → (b ≡ true) × (c ≡ true)
-both true c e = (refl, e)
-both false c e = absurd cc
-
 pub types_tell : (types others : List ValType) → equal_types types others ≡ true → types ≡ others
 types_tell [] [] e = refl
 types_tell [] (u ∷ others) e = absurd cc
 types_tell (t ∷ types) [] e = absurd cc
 types_tell (t ∷ types) (u ∷ others) e =
-    let h = both (equal_type t u) (equal_types types others) e in
+    let h = both_hold (equal_type t u) (equal_types types others) e in
     ap₂ (λ x xs. x ∷ xs) (type_tells t u h.0) (types_tell types others h.1)

@@ -28,7 +28,8 @@ module _ {H : Type 0} (m : HostModule H) where
       → host_type p call.host call.function ≡ option_map own_type (offered m hosts call)
   type_of_offered p hosts call are =
       ap (λ hs. if_found (slice_get hs call.host) (λ host. option_map type_in (slice_get host.functions call.function))) are
-      ∙ ap (λ o. if_found o (λ host. option_map type_in (slice_get host.functions call.function))) (slice_get-map (host_of m) hosts call.host)
+      ∙ ap (λ o. if_found o (λ host. option_map type_in (slice_get host.functions call.function)))
+      (slice_get-map (host_of m) hosts call.host)
       ∙ go (slice_get hosts call.host)
     where
       of_one : (o : Option HostFunction) → option_map type_in (option_map function_of o) ≡ option_map own_type o
@@ -54,7 +55,8 @@ module _ {H : Type 0} (m : HostModule H) where
       same new = ap (λ (n : List ℕ). record { name = n; functions = map function_of (m.functions_of x.new) }) x.keeps.name
           ∙ ap (λ fs. record { name = m.name_of x.old; functions = map function_of fs }) x.keeps.functions
 
-  pub answered_keep : (before : List H) (asks : List Asked) (after : List H) → Answered m before asks after → hosts_of m after ≡ hosts_of m before
+  pub answered_keep : (before : List H) (asks : List Asked) (after : List H) → Answered m before asks after
+      → hosts_of m after ≡ hosts_of m before
   answered_keep before [] after x = ap (hosts_of m) x
   answered_keep before (a ∷ asks) after (middle, one, more) = answered_keep middle asks after more ∙ answers_keep before a middle one
 
@@ -68,8 +70,10 @@ module _ {H : Type 0} (m : HostModule H) where
   answered_on before (a ∷ asks) middle more after (next, one, rest) y = (next, one, answered_on next asks middle more after rest y)
 
   -- asks behind asks
-  pub asks_on : (before : List H) (journal first : List Asked) (middle : List H) (journal' more : List Asked) (after : List H) (journal'' : List Asked)
-      → Asks m before journal first middle journal' → Asks m middle journal' more after journal'' → Asks m before journal (first ++ more) after journal''
+  pub asks_on : (before : List H) (journal first : List Asked) (middle : List H) (journal' more : List Asked) (after : List H)
+      (journal'' : List Asked)
+      → Asks m before journal first middle journal' → Asks m middle journal' more after journal''
+      → Asks m before journal (first ++ more) after journal''
   asks_on before journal first middle journal' more after journal'' x y = record {
     written = y.written ∙ ap (λ j. j ++ more) x.written ∙ append_assoc journal first more;
     answered = answered_on before first middle more after x.answered y.answered;

@@ -68,7 +68,8 @@ give_goes_on m value (f ∷ below) = go f.target value
     go (Some name) (Some v) = assign_goes_on m f.running name v below
 
 -- with a value of the function's type
-pub value_goes_on : (ty : FuncType) (value : Option Value) (later : List Reply) (told : List Event) (a : Ask) (m : Machine) (below : List Waiting)
+pub value_goes_on : (ty : FuncType) (value : Option Value) (later : List Reply) (told : List Event) (a : Ask) (m : Machine)
+    (below : List Waiting)
     → is_result ty.result value ≡ true → GoesOn (replied ty (Gave value ∷ later) told a m below)
 value_goes_on ty value later told a m below fits =
     subst GoesOn (sym (given fits)) (give_goes_on (with_trail m (asked told a (Some (Gave value)) later)) (option_map Number value) below)
@@ -122,7 +123,8 @@ asking names p told a r later call t o = elim o [
       else Stops (machine_in names (asked told a r later) t) Stuck
 ]
 
-no_second : (names : Naming) (p : Program) (told : List Event) (a : Ask) (r : Option Reply) (later : List Reply) (call : HostCall) (t : LinkedThread)
+no_second : (names : Naming) (p : Program) (told : List Event) (a : Ask) (r : Option Reply) (later : List Reply) (call : HostCall)
+    (t : LinkedThread)
     (o : Option FuncType) → GoesOn (asking names p told a r [] call t o)
     → Stops (machine_in names (asked told a r later) t) Stuck ≡ asking names p told a r later call t o
 no_second names p told a r later call t None on = refl
@@ -142,7 +144,8 @@ no_second names p told a r later call t (Some ty) on = go (equal_types ty.params
     go false on = refl
 
 -- a statement that goes on whatever is replied later asks no host a second time
-pub settles : (names : Naming) (p : Program) (told : List Event) (a : Ask) (r : Option Reply) (later : List Reply) (o : LinkedStep) (t : LinkedThread)
+pub settles : (names : Naming) (p : Program) (told : List Event) (a : Ask) (r : Option Reply) (later : List Reply) (o : LinkedStep)
+    (t : LinkedThread)
     → ((replies : List Reply) → GoesOn (step_in names p (asked told a r replies) o t))
     → settled_in names p (asked told a r later) o t ≡ step_in names p (asked told a r later) o t
 settles names p told a r later step.Next t on = refl

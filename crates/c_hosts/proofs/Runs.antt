@@ -38,7 +38,8 @@ pub behind_none : (later : List Reply) (told : List Event) → trail_behind [] l
 behind_none later told = ap (λ (es : List Event). record { replies = later; events = es }) (append-nil told)
 
 -- one statement more
-pub statement_more : (p : Program) (pending : Pending) (first left : ℕ) (start : Progress) (s : State) (o : Step) → left < first + 1 → 0 < left
+pub statement_more : (p : Program) (pending : Pending) (first left : ℕ) (start : Progress) (s : State) (o : Step) → left < first + 1
+    → 0 < left
     → after p (first - left) start ≡ Going pending s → c_step p s ≡ o → after p (first - (left - 1)) start ≡ go_on p pending o
 statement_more p pending first left start s o within some so_far is =
     let count : first - (left - 1) ≡ (first - left) + 1 = omega (arith, some, within) in
@@ -48,7 +49,8 @@ module _ {H : Type 0} (m : HostModule H) (units : List LinkedUnit) (types : Func
     (first left : ℕ) (asks : List Asked) (now : LinkedThread) (runs : Runs m units types hosts before (first - left) asks None now)
     (within : left ≤ first) where
   -- what one statement more comes to
-  pub runs_more : (hosts' : List H) (more : List Asked) (e : Option Ending) (new : LinkedThread) → 0 < left → hosts_of m hosts' ≡ hosts_of m hosts
+  pub runs_more : (hosts' : List H) (more : List Asked) (e : Option Ending) (new : LinkedThread) → 0 < left
+      → hosts_of m hosts' ≡ hosts_of m hosts
       → ((names : Naming) → AreStored names before.store.units.items → AreStored names now.store.units.items)
       → ((names : Naming) (p : Program) (later : List Reply) (told : List Event) → IsThread m names p units types hosts' now
       → c_step p (state_in names p (trail_before more later told) now) ≡ step_at names p (trail_behind more later told) e new)
@@ -70,5 +72,10 @@ module _ {H : Type 0} (m : HostModule H) (units : List LinkedUnit) (types : Func
 
   -- and where it wants memory
   pub runs_part : RunsPart m units types hosts before first asks
-  runs_part names p pending later told thread =
-      (first - left, omega (arith, within), state_in names p (trail_behind asks later told) now, runs names p pending later told thread, refl)
+  runs_part names p pending later told thread = (
+    first - left,
+    omega (arith, within),
+    state_in names p (trail_behind asks later told) now,
+    runs names p pending later told thread,
+    refl,
+  )

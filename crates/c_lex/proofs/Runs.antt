@@ -6,14 +6,16 @@ use Rattle.std.specs.List.{list_all}
 use Rattle.c_tree.specs.Text.{run, past, are_digits, is_digit, comment_end, is_comment_byte, sign_front, one_sign, two_sign, longer, comment_front, Begins, is_word_byte, is_blank, is_letter, word_token, run_token, front}
 use Rattle.c_tree.specs.Tokens.{Token}
 
-pub run_more : (p : ℕ → Bool) (xs : List ℕ) (i : ℕ) → i < length xs → p (get_or xs i 0) ≡ true → take i xs ++ run p (drop i xs) ≡ run p xs → take (i + 1) xs ++ run p (drop (i + 1) xs) ≡ run p xs
+pub run_more : (p : ℕ → Bool) (xs : List ℕ) (i : ℕ) → i < length xs → p (get_or xs i 0) ≡ true → take i xs ++ run p (drop i xs) ≡ run p xs
+    → take (i + 1) xs ++ run p (drop (i + 1) xs) ≡ run p xs
 run_more p xs i lt passes so_far =
     let d : drop i xs ≡ get_or xs i 0 ∷ drop (i + 1) xs = rw add-one (drop-cons xs i 0 lt) in
     let r : run p (drop i xs) ≡ get_or xs i 0 ∷ run p (drop (i + 1) xs) = rw (d, passes) refl in
     let t : take (i + 1) xs ≡ take i xs ++ get_or xs i 0 ∷ [] = take_more xs i 0 lt in
     rw t (append_assoc (take i xs) (get_or xs i 0 ∷ []) (run p (drop (i + 1) xs))) ∙ ap (λ ys. take i xs ++ ys) (sym r) ∙ so_far
 
-pub run_stops : (p : ℕ → Bool) (xs : List ℕ) (i : ℕ) → i < length xs → p (get_or xs i 0) ≡ false → take i xs ++ run p (drop i xs) ≡ run p xs → take i xs ≡ run p xs
+pub run_stops : (p : ℕ → Bool) (xs : List ℕ) (i : ℕ) → i < length xs → p (get_or xs i 0) ≡ false → take i xs ++ run p (drop i xs) ≡ run p xs
+    → take i xs ≡ run p xs
 run_stops p xs i lt off so_far =
     let d : drop i xs ≡ get_or xs i 0 ∷ drop (i + 1) xs = rw add-one (drop-cons xs i 0 lt) in
     let r : run p (drop i xs) ≡ [] = rw (d, off) refl in
@@ -33,7 +35,8 @@ one_digit [] e = absurd (omega arith)
 one_digit (d ∷ []) e = refl
 one_digit (d ∷ x ∷ ds) e = absurd (omega arith)
 
-pub more_digits : (ds : List ℕ) → 2 ≤ length ds → are_digits ds ≡ ((is_digit (slice_index ds 0) && not (slice_index ds 0 == 48)) && list_all is_digit (drop 1 ds))
+pub more_digits : (ds : List ℕ) → 2 ≤ length ds
+    → are_digits ds ≡ ((is_digit (slice_index ds 0) && not (slice_index ds 0 == 48)) && list_all is_digit (drop 1 ds))
 more_digits [] e = absurd (omega arith)
 more_digits (d ∷ []) e = absurd (omega arith)
 more_digits (d ∷ x ∷ ds) e = refl
@@ -68,12 +71,14 @@ drop_two xs i lt =
     let b : drop (i + 1) xs ≡ get_or xs (i + 1) 0 ∷ drop (i + 1 + 1) xs = rw (add-one (i + 1)) (drop-cons xs (i + 1) 0 lt) in
     a ∙ ap (λ ys. get_or xs i 0 ∷ ys) b
 
-pub comment_closed : (xs : List ℕ) (i : ℕ) → i + 1 < length xs → comment_end xs ≡ shifted i (comment_end (drop i xs)) → ((get_or xs i 0 == 42) && (get_or xs (i + 1) 0 == 47)) ≡ true → comment_end xs ≡ Some (i + 2)
+pub comment_closed : (xs : List ℕ) (i : ℕ) → i + 1 < length xs → comment_end xs ≡ shifted i (comment_end (drop i xs))
+    → ((get_or xs i 0 == 42) && (get_or xs (i + 1) 0 == 47)) ≡ true → comment_end xs ≡ Some (i + 2)
 comment_closed xs i lt so_far e =
     let s : comment_end (drop i xs) ≡ Some 2 = rw (drop_two xs i lt, e) refl in
     so_far ∙ ap (shifted i) s
 
-pub comment_bad : (xs : List ℕ) (i : ℕ) → i + 1 < length xs → comment_end xs ≡ shifted i (comment_end (drop i xs)) → ((get_or xs i 0 == 42) && (get_or xs (i + 1) 0 == 47)) ≡ false → is_comment_byte (get_or xs i 0) ≡ false → comment_end xs ≡ None
+pub comment_bad : (xs : List ℕ) (i : ℕ) → i + 1 < length xs → comment_end xs ≡ shifted i (comment_end (drop i xs))
+    → ((get_or xs i 0 == 42) && (get_or xs (i + 1) 0 == 47)) ≡ false → is_comment_byte (get_or xs i 0) ≡ false → comment_end xs ≡ None
 comment_bad xs i lt so_far e bad =
     let s : comment_end (drop i xs) ≡ None = rw (drop_two xs i lt, e, bad) refl in
     so_far ∙ ap (shifted i) s
@@ -82,17 +87,22 @@ shifted_more : (i : ℕ) (o : Option ℕ) → shifted i (option_map suc o) ≡ s
 shifted_more i None = refl
 shifted_more i (Some n) = ap Some (omega arith)
 
-pub comment_more : (xs : List ℕ) (i : ℕ) → i + 1 < length xs → comment_end xs ≡ shifted i (comment_end (drop i xs)) → ((get_or xs i 0 == 42) && (get_or xs (i + 1) 0 == 47)) ≡ false → is_comment_byte (get_or xs i 0) ≡ true → comment_end xs ≡ shifted (i + 1) (comment_end (drop (i + 1) xs))
+pub comment_more : (xs : List ℕ) (i : ℕ) → i + 1 < length xs → comment_end xs ≡ shifted i (comment_end (drop i xs))
+    → ((get_or xs i 0 == 42) && (get_or xs (i + 1) 0 == 47)) ≡ false → is_comment_byte (get_or xs i 0) ≡ true
+    → comment_end xs ≡ shifted (i + 1) (comment_end (drop (i + 1) xs))
 comment_more xs i lt so_far e good =
     let b : drop (i + 1) xs ≡ get_or xs (i + 1) 0 ∷ drop (i + 1 + 1) xs = rw (add-one (i + 1)) (drop-cons xs (i + 1) 0 lt) in
-    let s : comment_end (drop i xs) ≡ option_map suc (comment_end (drop (i + 1) xs)) = rw (drop_two xs i lt, e, good) (ap (λ ys. option_map suc (comment_end ys)) (sym b)) in
+    let s : comment_end (drop i xs) ≡ option_map suc (comment_end (drop (i + 1) xs)) =
+    rw (drop_two xs i lt, e, good) (ap (λ ys. option_map suc (comment_end ys)) (sym b)) in
     so_far ∙ ap (shifted i) s ∙ shifted_more i (comment_end (drop (i + 1) xs))
 
 pub sign_last : (b : ℕ) (rest : List ℕ) → length rest ≡ 0 → sign_front b rest ≡ Begins (one_sign b) 0
 sign_last b [] e = refl
 sign_last b (c ∷ rest) e = absurd (omega arith)
 
-pub sign_more : (b : ℕ) (rest : List ℕ) → 0 < length rest → sign_front b rest ≡ cond ((b == 47) && (slice_index rest 0 == 42)) (comment_front (comment_end (drop 1 rest))) (longer (two_sign b (slice_index rest 0)) (one_sign b))
+pub sign_more : (b : ℕ) (rest : List ℕ) → 0 < length rest
+    → sign_front b rest ≡ cond ((b == 47) && (slice_index rest 0 == 42)) (comment_front (comment_end (drop 1 rest)))
+    (longer (two_sign b (slice_index rest 0)) (one_sign b))
 sign_more b [] some = absurd (omega arith)
 sign_more b (c ∷ rest) some = refl
 
@@ -101,20 +111,30 @@ pub front_cons : (xs : List ℕ) → 0 < length xs → xs ≡ slice_index xs 0 �
 front_cons [] some = absurd (omega arith)
 front_cons (x ∷ xs) some = refl
 
-run_cons : (p : ℕ → Bool) (xs : List ℕ) (n : ℕ) → 0 < length xs → n ≤ length (drop 1 xs) → take n (drop 1 xs) ≡ run p (drop 1 xs) → (take (n + 1) xs ≡ slice_index xs 0 ∷ run p (drop 1 xs)) × (length (run p (drop 1 xs)) ≡ n)
+run_cons : (p : ℕ → Bool) (xs : List ℕ) (n : ℕ) → 0 < length xs → n ≤ length (drop 1 xs) → take n (drop 1 xs) ≡ run p (drop 1 xs)
+    → (take (n + 1) xs ≡ slice_index xs 0 ∷ run p (drop 1 xs)) × (length (run p (drop 1 xs)) ≡ n)
 run_cons p [] n some le is = absurd (omega arith)
 run_cons p (x ∷ xs) n some le is = (rw add-one (ap (λ ys. x ∷ ys) is), sym (ap length is) ∙ length-take-le n xs le)
 
-pub word_front : (xs rest : List ℕ) (n : ℕ) (t : Token) → 0 < length xs → rest ≡ drop 1 xs → n ≤ length rest → take n rest ≡ run is_word_byte rest → t ≡ word_token (take (n + 1) xs)
+pub word_front : (xs rest : List ℕ) (n : ℕ) (t : Token) → 0 < length xs → rest ≡ drop 1 xs → n ≤ length rest
+    → take n rest ≡ run is_word_byte rest → t ≡ word_token (take (n + 1) xs)
     → is_blank (slice_index xs 0) ≡ false → is_letter (slice_index xs 0) ≡ true → Begins t n ≡ front (slice_index xs 0) (drop 1 xs)
 word_front xs rest n t some behind le is same blank letter =
     let w = run_cons is_word_byte xs n some (rw behind at le) (rw behind at is) in
-    let f : front (slice_index xs 0) (drop 1 xs) ≡ Begins (word_token (slice_index xs 0 ∷ run is_word_byte (drop 1 xs))) (length (run is_word_byte (drop 1 xs))) = rw (blank, letter) refl in
-    ap (λ u. Begins u n) (same ∙ ap word_token w.0) ∙ ap (λ k. Begins (word_token (slice_index xs 0 ∷ run is_word_byte (drop 1 xs))) k) (sym w.1) ∙ sym f
+    let f : front (slice_index xs 0) (drop 1 xs)
+    ≡ Begins (word_token (slice_index xs 0 ∷ run is_word_byte (drop 1 xs))) (length (run is_word_byte (drop 1 xs))) =
+    rw (blank, letter) refl in
+    ap (λ u. Begins u n) (same ∙ ap word_token w.0)
+    ∙ ap (λ k. Begins (word_token (slice_index xs 0 ∷ run is_word_byte (drop 1 xs))) k) (sym w.1) ∙ sym f
 
-pub number_front : (xs rest : List ℕ) (n : ℕ) (t : Token) → 0 < length xs → rest ≡ drop 1 xs → n ≤ length rest → take n rest ≡ run is_word_byte rest → t ≡ run_token (take (n + 1) xs)
-    → is_blank (slice_index xs 0) ≡ false → is_letter (slice_index xs 0) ≡ false → is_digit (slice_index xs 0) ≡ true → Begins t n ≡ front (slice_index xs 0) (drop 1 xs)
+pub number_front : (xs rest : List ℕ) (n : ℕ) (t : Token) → 0 < length xs → rest ≡ drop 1 xs → n ≤ length rest
+    → take n rest ≡ run is_word_byte rest → t ≡ run_token (take (n + 1) xs)
+    → is_blank (slice_index xs 0) ≡ false → is_letter (slice_index xs 0) ≡ false → is_digit (slice_index xs 0) ≡ true
+    → Begins t n ≡ front (slice_index xs 0) (drop 1 xs)
 number_front xs rest n t some behind le is same blank letter digit =
     let w = run_cons is_word_byte xs n some (rw behind at le) (rw behind at is) in
-    let f : front (slice_index xs 0) (drop 1 xs) ≡ Begins (run_token (slice_index xs 0 ∷ run is_word_byte (drop 1 xs))) (length (run is_word_byte (drop 1 xs))) = rw (blank, letter, digit) refl in
-    ap (λ u. Begins u n) (same ∙ ap run_token w.0) ∙ ap (λ k. Begins (run_token (slice_index xs 0 ∷ run is_word_byte (drop 1 xs))) k) (sym w.1) ∙ sym f
+    let f : front (slice_index xs 0) (drop 1 xs)
+    ≡ Begins (run_token (slice_index xs 0 ∷ run is_word_byte (drop 1 xs))) (length (run is_word_byte (drop 1 xs))) =
+    rw (blank, letter, digit) refl in
+    ap (λ u. Begins u n) (same ∙ ap run_token w.0)
+    ∙ ap (λ k. Begins (run_token (slice_index xs 0 ∷ run is_word_byte (drop 1 xs))) k) (sym w.1) ∙ sym f

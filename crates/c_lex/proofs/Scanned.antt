@@ -15,7 +15,8 @@ pass zero place xs le = ap (λ p. lexemes 0 p xs) (omega arith)
 pass (suc n) place [] le = absurd (omega arith)
 pass (suc n) place (x ∷ xs) le = pass n (place + 1) xs (omega arith) ∙ ap (λ p. lexemes 0 p (drop n xs)) (omega arith)
 
-pub behind_gap : (text : List ℕ) (place n : ℕ) → n < length text → Gap n ≡ front (slice_index text 0) (drop 1 text) → lexemes 0 place text ≡ lexemes 0 (place + n + 1) (drop (n + 1) text)
+pub behind_gap : (text : List ℕ) (place n : ℕ) → n < length text → Gap n ≡ front (slice_index text 0) (drop 1 text)
+    → lexemes 0 place text ≡ lexemes 0 (place + n + 1) (drop (n + 1) text)
 behind_gap [] place n lt is = absurd (omega arith)
 behind_gap (b ∷ text) place n lt is =
     let e : lexemes 0 place (b ∷ text) ≡ lexemes n (place + 1) text = rw (← is) refl in
@@ -23,15 +24,18 @@ behind_gap (b ∷ text) place n lt is =
     let d : drop n text ≡ drop (n + 1) (b ∷ text) = rw add-one refl in
     e ∙ pass n (place + 1) text (omega arith) ∙ ap (λ p. lexemes 0 p (drop n text)) q ∙ ap (lexemes 0 (place + n + 1)) d
 
-pub at_token : (text : List ℕ) (place n : ℕ) (t : Token) → n < length text → Begins t n ≡ front (slice_index text 0) (drop 1 text) → lexemes 0 place text ≡ seen place t (lexemes 0 (place + n + 1) (drop (n + 1) text))
+pub at_token : (text : List ℕ) (place n : ℕ) (t : Token) → n < length text → Begins t n ≡ front (slice_index text 0) (drop 1 text)
+    → lexemes 0 place text ≡ seen place t (lexemes 0 (place + n + 1) (drop (n + 1) text))
 at_token [] place n t lt is = absurd (omega arith)
 at_token (b ∷ text) place n t lt is =
     let q : place + 1 + n ≡ place + n + 1 = omega arith in
     let d : drop n text ≡ drop (n + 1) (b ∷ text) = rw add-one refl in
-    let behind : lexemes n (place + 1) text ≡ lexemes 0 (place + n + 1) (drop (n + 1) (b ∷ text)) = pass n (place + 1) text (omega arith) ∙ ap (λ p. lexemes 0 p (drop n text)) q ∙ ap (lexemes 0 (place + n + 1)) d in
+    let behind : lexemes n (place + 1) text ≡ lexemes 0 (place + n + 1) (drop (n + 1) (b ∷ text)) =
+    pass n (place + 1) text (omega arith) ∙ ap (λ p. lexemes 0 p (drop n text)) q ∙ ap (lexemes 0 (place + n + 1)) d in
     rw (← is) (by t behind)
   where
-    by : (u : Token) → lexemes n (place + 1) text ≡ lexemes 0 (place + n + 1) (drop (n + 1) (b ∷ text)) → and_then (Begins u n) place (λ k. lexemes k (place + 1) text) ≡ seen place u (lexemes 0 (place + n + 1) (drop (n + 1) (b ∷ text)))
+    by : (u : Token) → lexemes n (place + 1) text ≡ lexemes 0 (place + n + 1) (drop (n + 1) (b ∷ text))
+        → and_then (Begins u n) place (λ k. lexemes k (place + 1) text) ≡ seen place u (lexemes 0 (place + n + 1) (drop (n + 1) (b ∷ text)))
     by Wrong e = refl
     by (Named x) e = ap (λ ls. lexeme place (Named x) ∷ ls) e
     by (Number s ds) e = ap (λ ls. lexeme place (Number s ds) ∷ ls) e

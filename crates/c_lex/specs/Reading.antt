@@ -75,7 +75,9 @@ num_of Of32 n = N32 n
 num_of Of64 n = N64 n
 
 abbrev pub number_at : Token → Parser Num
-number_at (Number s digits) = λ ls. if nat_lt (value_of 0 digits) (limit s) then Ok (num_of s (value_of 0 digits), others ls) else Err (NumberTooLarge (first ls).place)
+number_at (Number s digits) =
+    λ ls. if nat_lt (value_of 0 digits) (limit s) then Ok (num_of s (value_of 0 digits), others ls)
+    else Err (NumberTooLarge (first ls).place)
 number_at _ = refuse part.InNumber
 
 -- a number of any suffix
@@ -83,7 +85,8 @@ unfoldable pub number : Parser Num
 number = λ ls. number_at (first ls).token ls
 
 abbrev pub plain_at : ℕ → Token → Parser ℕ
-plain_at above (Number OfPlain digits) = λ ls. if nat_lt (value_of 0 digits) above then Ok (value_of 0 digits, others ls) else Err (NumberTooLarge (first ls).place)
+plain_at above (Number OfPlain digits) =
+    λ ls. if nat_lt (value_of 0 digits) above then Ok (value_of 0 digits, others ls) else Err (NumberTooLarge (first ls).place)
 plain_at above _ = λ ls. Err (unexpected (wanted.Token tok.Plain) ls)
 
 -- a number without a suffix, below another one

@@ -4,6 +4,7 @@ use Rattle.std.specs.Prelude.{slice_get, not, zip}
 use Rattle.std.specs.List.{list_all, range_with_len}
 use Rattle.std.proofs.lemmas.List.{map-append, take_all}
 use Rattle.std.proofs.lemmas.Slice.Eq.{bytes_eq-Decides}
+use Rattle.w2c_base.proofs.Conjunctions.{left_holds, right_holds}
 use Rattle.w2c_base.specs.Lookup.{if_found, named, numbered}
 use Rattle.c_tree.specs.declared.tree.CType.{CType}
 use Rattle.c_tree.specs.Tree as tree
@@ -20,7 +21,7 @@ use Rattle.c_link.specs.Refusals.{first_of, first_refusal, first_twice, found_be
 use Rattle.c_link.specs.Programs.{AllChecked}
 use Rattle.c_link.specs.Resolved.{AreDefinedOnce, AreResolved, IsResolved, symbol_names}
 use Rattle.c_link.proofs.Apart.{both_none, offer_of, says_from, unit_apart}
-use Rattle.c_link.proofs.Rules.{both_left, both_right, clash_none, none_under}
+use Rattle.c_link.proofs.Rules.{clash_none, none_under}
 use Rattle.c_link.proofs.Tables.{unit_added}
 use Rattle.c_link.proofs.Walks.{numbered_at}
 
@@ -60,8 +61,8 @@ distinct_append [] ys e f apart = f
 distinct_append (x ∷ xs) ys e f apart =
     both (not (is_among x (xs ++ ys))) (are_distinct (xs ++ ys))
     (ap not (among-append x xs ys ∙ or_false (is_among x xs) (is_among x ys)
-    (not_true (is_among x xs) (both_left (not (is_among x xs)) _ e)) (apart x (ap (λ b. b || is_among x xs) (same_self x)))))
-    (distinct_append xs ys (both_right (not (is_among x xs)) _ e) f (λ q there. apart q (among_behind q there)))
+    (not_true (is_among x xs) (left_holds (not (is_among x xs)) _ e)) (apart x (ap (λ b. b || is_among x xs) (same_self x)))))
+    (distinct_append xs ys (right_holds (not (is_among x xs)) _ e) f (λ q there. apart q (among_behind q there)))
   where
     among_behind : (q : Name) → is_among q xs ≡ true → (bytes_eq q x || is_among q xs) ≡ true
     among_behind q there = go (bytes_eq q x) (is_among q xs) there
@@ -95,13 +96,13 @@ function_once u k items false result name params (Some body) all e =
 unit_once : (u : ℕ) (items : List tree.Item) → none_clash items ≡ true → are_distinct (names (unit_offers (u, items))) ≡ true
 unit_once u [] kept = refl
 unit_once u (tree.Array name count bytes ∷ items) kept =
-    unit_once u items (both_right (list_all (stands_behind (tree.Array name count bytes)) items) (none_clash items) kept)
+    unit_once u items (right_holds (list_all (stands_behind (tree.Array name count bytes)) items) (none_clash items) kept)
 unit_once u (tree.Var ty name number ∷ items) kept =
-    unit_once u items (both_right (list_all (stands_behind (tree.Var ty name number)) items) (none_clash items) kept)
+    unit_once u items (right_holds (list_all (stands_behind (tree.Var ty name number)) items) (none_clash items) kept)
 unit_once u (tree.Function f ∷ items) kept =
     function_once u 0 items f.is_static f.result f.name f.params f.body
-    (both_left (list_all (stands_behind (tree.Function f)) items) (none_clash items) kept)
-    (unit_once u items (both_right (list_all (stands_behind (tree.Function f)) items) (none_clash items) kept))
+    (left_holds (list_all (stands_behind (tree.Function f)) items) (none_clash items) kept)
+    (unit_once u items (right_holds (list_all (stands_behind (tree.Function f)) items) (none_clash items) kept))
 
 -- ---- hosts, and one unit after the other
 

@@ -4,6 +4,7 @@ use Rattle.std.specs.Prelude.{slice_get, not, filter, flat_map}
 use Rattle.std.specs.List.{list_all}
 use Rattle.std.proofs.lemmas.List.{take_all}
 use Rattle.std.proofs.lemmas.Slice.Eq.{bytes_eq-Decides}
+use Rattle.w2c_base.proofs.Conjunctions.{left_holds, right_holds}
 use Rattle.w2c_base.specs.Lookup.{numbered}
 use Rattle.c_tree.specs.declared.tree.CType.{CType}
 use Rattle.c_tree.specs.Tree as tree
@@ -77,14 +78,6 @@ clash_none items keeps =
 
 -- ---- so no two functions of a name have bodies
 
-pub both_left : (a b : Bool) → (a && b) ≡ true → a ≡ true
-both_left true b e = refl
-both_left false b e = cc
-
-pub both_right : (a b : Bool) → (a && b) ≡ true → b ≡ true
-both_right true b e = e
-both_right false b e = cc
-
 -- behind a definition no other of its name stands
 module _ (q : Name) (f : tree.Func) (body : tree.Body) (is : f.body ≡ Some body) (named_so : f.name ≡ q) where
   never : (g : tree.Func) → is_some g.body ≡ true → bytes_eq g.name q ≡ true → stands_behind (tree.Function f) (tree.Function g) ≡ true
@@ -124,13 +117,13 @@ module _ (q : Name) (f : tree.Func) (body : tree.Body) (is : f.body ≡ Some bod
       ≡ None
   none_under k [] e = refl
   none_under k (tree.Array name count bytes ∷ items) e =
-      none_under (k + 1) items (both_right (stands_behind (tree.Function f) (tree.Array name count bytes)) _ e)
+      none_under (k + 1) items (right_holds (stands_behind (tree.Function f) (tree.Array name count bytes)) _ e)
   none_under k (tree.Var ty name number ∷ items) e =
-      none_under (k + 1) items (both_right (stands_behind (tree.Function f) (tree.Var ty name number)) _ e)
+      none_under (k + 1) items (right_holds (stands_behind (tree.Function f) (tree.Var ty name number)) _ e)
   none_under k (tree.Function g ∷ items) e =
       function_none k items g.is_static g.result g.name g.params g.body
-      (both_left (stands_behind (tree.Function f) (tree.Function g)) _ e)
-      (none_under (k + 1) items (both_right (stands_behind (tree.Function f) (tree.Function g)) _ e))
+      (left_holds (stands_behind (tree.Function f) (tree.Function g)) _ e)
+      (none_under (k + 1) items (right_holds (stands_behind (tree.Function f) (tree.Function g)) _ e))
 
 abbrev pub first_defined : ℕ → Name → List tree.Item → Option Definition
 first_defined k q items = slice_get (filter (λ (d : Definition). bytes_eq d.func.name q) (definitions_from k items)) 0

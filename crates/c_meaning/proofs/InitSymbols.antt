@@ -5,6 +5,7 @@ use Rattle.std.proofs.lemmas.List.{take_at, length-append}
 use Rattle.std.proofs.lemmas.List.Elements.{All-head, All-tail, All-cons, All-nil}
 use Rattle.std.proofs.lemmas.Slice.Eq.{bytes_eq-Decides}
 use Rattle.std.specs.List.{list_all}
+use Rattle.w2c_base.proofs.Conjunctions.{both_hold}
 use Rattle.w2c_mangle.specs.Escaping.{stays, hexadecimal_digit, escaped_byte, escaped}
 use Rattle.w2c_mangle.specs.Symbols.{init_symbol_of}
 use Rattle.c_meaning.specs.Linking.{unescaped, hexadecimal_value, is_module_name, is_init_symbol}
@@ -68,10 +69,6 @@ small_all (b ∷ n) h = go (nat_lt b 256) refl h (small_all n)
     go true is rest others = All-cons (λ b. b < 256) b n (grind (arith, nat_tests)) (others rest)
     go false is rest others = absurd (grind arith)
 
-both : (a b : Bool) → (a && b) ≡ true → (a ≡ true) × (b ≡ true)
-both true b h = (refl, h)
-both false b h = absurd (grind arith)
-
 module_name : (n : List ℕ) → 1 ≤ length n → length n ≤ 1024 → All (λ b. b < 256) n → is_module_name n ≡ true
 module_name n some few small =
     let low : nat_le 1 (length n) ≡ true = grind (arith, nat_tests) in
@@ -80,8 +77,8 @@ module_name n some few small =
 
 is_named : (n : List ℕ) → is_module_name n ≡ true → (1 ≤ length n) × (length n ≤ 1024) × All (λ b. b < 256) n
 is_named n h =
-    let first = both (nat_le 1 (length n) && nat_le (length n) 1024) (list_all (λ b. nat_lt b 256) n) h in
-    let second = both (nat_le 1 (length n)) (nat_le (length n) 1024) first.0 in
+    let first = both_hold (nat_le 1 (length n) && nat_le (length n) 1024) (list_all (λ b. nat_lt b 256) n) h in
+    let second = both_hold (nat_le 1 (length n)) (nat_le (length n) 1024) first.0 in
     let some : nat_le 1 (length n) ≡ true = second.0 in
     let few : nat_le (length n) 1024 ≡ true = second.1 in
     (grind (arith, nat_tests), grind (arith, nat_tests), small_all n first.1)
@@ -99,6 +96,6 @@ pub found_are_init_symbols : (symbol : List ℕ) → is_init_symbol symbol ≡ t
     → (n : List ℕ) × (symbol ≡ init_symbol_of n) × (1 ≤ length n) × (length n ≤ 1024) × All (λ b. b < 256) n
 found_are_init_symbols symbol h =
     let n = name_in symbol in
-    let parts = both (bytes_eq symbol (init_symbol_of n)) (is_module_name n) h in
+    let parts = both_hold (bytes_eq symbol (init_symbol_of n)) (is_module_name n) h in
     let named = is_named n parts.1 in
     (n, (bytes_eq-Decides symbol (init_symbol_of n)).0 parts.0, named.0, named.1, named.2)

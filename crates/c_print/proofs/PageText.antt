@@ -11,7 +11,8 @@ use Rattle.c_print.specs.declared.page.Page.{Page}
 use Rattle.c_print.specs.Print.{gap, gap_between, print_item_of}
 use Rattle.c_print.specs.Page.{printed, printed_onto, ended, items_onto}
 
-pub onto_text : (page : Page) (t : Token) (ts : List Token) → page.last ≡ kind_of t → (printed_onto page ts).text ≡ page.text ++ laid gap_between t ts
+pub onto_text : (page : Page) (t : Token) (ts : List Token) → page.last ≡ kind_of t
+    → (printed_onto page ts).text ≡ page.text ++ laid gap_between t ts
 unfolding printed
 onto_text page t [] e = sym (append-nil page.text)
 onto_text page t (u ∷ us) e =
@@ -20,7 +21,8 @@ onto_text page t (u ∷ us) e =
     ∙ append_assoc page.text (gap page.last (kind_of u)) (token_text u ++ laid gap_between u us)
     ∙ ap (λ last. page.text ++ (gap last (kind_of u) ++ (token_text u ++ laid gap_between u us))) e
 
-pub items_text : (page : Page) (items : List Item) → page.last ≡ kind.Fixed tok.Include → (items_onto page items).text ≡ page.text ++ each print_item_of items
+pub items_text : (page : Page) (items : List Item) → page.last ≡ kind.Fixed tok.Include
+    → (items_onto page items).text ≡ page.text ++ each print_item_of items
 unfolding ended
 items_text page [] e = sym (append-nil page.text)
 items_text page (i ∷ is) e =
@@ -31,6 +33,9 @@ items_text page (i ∷ is) e =
     ∙ append_assoc page.text (line ++ 10 ∷ []) (each print_item_of is)
 
 -- the text of one item on a page of its own
-pub item_text : (item : Item) → (ended (printed_onto (record { text = []; last = kind.Fixed tok.Include }) (item_tokens item))).text ≡ print_item_of item
+pub item_text : (item : Item) → (ended (printed_onto (record { text = []; last = kind.Fixed tok.Include }) (item_tokens item))).text
+    ≡ print_item_of item
 unfolding ended
-item_text item = ap (λ text. text ++ 10 ∷ []) (onto_text (record { text = []; last = kind.Fixed tok.Include }) (Fixed tok.Include) (item_tokens item) refl)
+item_text item =
+    ap (λ text. text ++ 10 ∷ []) (onto_text (record { text = []; last = kind.Fixed tok.Include }) (Fixed tok.Include)
+    (item_tokens item) refl)

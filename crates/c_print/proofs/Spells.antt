@@ -21,7 +21,9 @@ use Rattle.c_print.specs.Print.{opens, ends_line, closes, ends_block, is_named, 
 
 -- this gap between a token and the text of the next one
 abbrev IsApart : Token → Token → List ℕ → Type 0
-IsApart t u space = (rest : List ℕ) (place : ℕ) → (q : ℕ) × (lexemes 0 place (token_text t ++ (space ++ (token_text u ++ rest))) ≡ lexeme place t ∷ lexemes 0 q (token_text u ++ rest))
+IsApart t u space =
+    (rest : List ℕ) (place : ℕ) → (q : ℕ)
+    × (lexemes 0 place (token_text t ++ (space ++ (token_text u ++ rest))) ≡ lexeme place t ∷ lexemes 0 q (token_text u ++ rest))
 
 choose : (t u : Token) (b : Bool) (x y : List ℕ) → (b ≡ true → IsApart t u x) → (b ≡ false → IsApart t u y) → IsApart t u (cond b x y)
 choose t u true x y f g = f refl
@@ -69,12 +71,14 @@ gap_apart t u is next =
     choose t u (ends_block (kind_of t) (kind_of u)) _ _ (λ _. line_apart t u is) (λ _.
     choose t u (closes (kind_of u)) _ _ (λ e rest place. reads t is (token_text u ++ rest) place (closes_ends u rest e)) (λ _.
     choose t u (is_named (kind_of t) && begins_list (kind_of u)) _ _
-    (λ e rest place. reads t is (token_text u ++ rest) place (begins_ends u rest (both_true (is_named (kind_of t)) (begins_list (kind_of u)) e).1)) (λ _. space_apart t u is)))))
+    (λ e rest place. reads t is (token_text u ++ rest) place
+    (begins_ends u rest (both_true (is_named (kind_of t)) (begins_list (kind_of u)) e).1)) (λ _. space_apart t u is)))))
 
 -- ---- the tokens of the text are those of the unit
 
 -- of an item, in front of others
-item_read : (ts : List Token) → AllProper ts → (rest : List ℕ) (place : ℕ) → (q : ℕ) × (tokens_from 0 place ((laid gap_between (Fixed tok.Include) ts ++ 10 ∷ []) ++ rest) ≡ ts ++ tokens_from 0 q rest)
+item_read : (ts : List Token) → AllProper ts → (rest : List ℕ) (place : ℕ)
+    → (q : ℕ) × (tokens_from 0 place ((laid gap_between (Fixed tok.Include) ts ++ 10 ∷ []) ++ rest) ≡ ts ++ tokens_from 0 q rest)
 item_read [] all rest place = (place + 1, refl)
 item_read (t ∷ ts) all rest place =
     let h = laid_tokens gap_between gap_apart t ts all.0 all.1 (10 ∷ rest) refl place in
@@ -82,11 +86,13 @@ item_read (t ∷ ts) all rest place =
     append_assoc (token_text t ++ laid gap_between t ts) (10 ∷ []) rest ∙ append_assoc (token_text t) (laid gap_between t ts) (10 ∷ rest) in
     (h.0 + 1, ap (tokens_from 0 place) same ∙ h.1)
 
-items_read : (u : List Item) → AllByRecursion (λ i. AllProper (item_tokens i)) u → (place : ℕ) → tokens_from 0 place (each print_item_of u) ≡ each item_tokens u ++ Fixed tok.End ∷ []
+items_read : (u : List Item) → AllByRecursion (λ i. AllProper (item_tokens i)) u → (place : ℕ)
+    → tokens_from 0 place (each print_item_of u) ≡ each item_tokens u ++ Fixed tok.End ∷ []
 items_read [] all place = refl
 items_read (i ∷ is) all place =
     let h = item_read (item_tokens i) all.0 (each print_item_of is) place in
-    h.1 ∙ ap (λ ts. item_tokens i ++ ts) (items_read is all.1 h.0) ∙ sym (append_assoc (item_tokens i) (each item_tokens is) (Fixed tok.End ∷ []))
+    h.1 ∙ ap (λ ts. item_tokens i ++ ts) (items_read is all.1 h.0)
+    ∙ sym (append_assoc (item_tokens i) (each item_tokens is) (Fixed tok.End ∷ []))
 
 items_proper : (u : List Item) → Formed u → AllByRecursion (λ i. AllProper (item_tokens i)) u
 items_proper u formed =

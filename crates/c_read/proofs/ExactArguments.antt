@@ -45,7 +45,8 @@ argument_level d ls proper = by (kind_of (first ls).token) refl
     by : (k : Kind) → kind_of (first ls).token ≡ k → Exact [] arg_tokens (Of part.InArgument (suc d) ∷ []) ls (argument_by d k ls)
     by (kind.Fixed tok.Amp) e = open_part (rw e refl) (text refl proper (λ l1 p1. named p1 (λ n l2 p2. done refl)))
     by (kind.Fixed tok.LeftParen) e = open_part (rw e refl) (text refl proper (λ l1 p1. agroup_exact part.InAgroup d l1 refl p1))
-    by kind.Name e = open_part (rw e refl) (named proper (λ n l1 p1. mapped tree.Value (λ x. refl) (index_exact d (expr d) n l1 (expr_exact d) p1)))
+    by kind.Name e =
+        open_part (rw e refl) (named proper (λ n l1 p1. mapped tree.Value (λ x. refl) (index_exact d (expr d) n l1 (expr_exact d) p1)))
     by (kind.Number s) e = open_part (rw e refl) (next proper (number_exact d ls proper) (λ v l1 p1. done refl))
     by _ e = no_part (rw e refl)
 
@@ -72,11 +73,14 @@ arguments_tail d = record { more = λ l e. rw e refl; ends = by }
     by l (kind.Fixed tok.Comma) e off = absurd cc
     by l _ e off = rw e refl
 
-some_arguments : (d : ℕ) (ls : List Lexeme) → Proper ls → Exact [] (separated arg_tokens) (Of part.InArgument d ∷ Of part.InAtail d ∷ []) ls (and_then (argument d ls) (λ x m. more_arguments d x m))
+some_arguments : (d : ℕ) (ls : List Lexeme) → Proper ls
+    → Exact [] (separated arg_tokens) (Of part.InArgument d ∷ Of part.InAtail d ∷ []) ls
+    (and_then (argument d ls) (λ x m. more_arguments d x m))
 unfolding more_arguments next_argument
 some_arguments d ls proper = next proper (argument_exact d ls proper) (λ x l1 p1. tail (arguments_tail d) (argument_exact d) p1)
 
-pub arguments_exact : (d : ℕ) (ls : List Lexeme) → Proper ls → Exact [] (separated arg_tokens) (Of part.InArguments d ∷ []) ls (arguments d ls)
+pub arguments_exact : (d : ℕ) (ls : List Lexeme) → Proper ls
+    → Exact [] (separated arg_tokens) (Of part.InArguments d ∷ []) ls (arguments d ls)
 unfolding arguments next_kind
 arguments_exact d ls proper = by (kind_of (first ls).token) refl
   where
@@ -88,13 +92,18 @@ arguments_exact d ls proper = by (kind_of (first ls).token) refl
 
 -- ( type ( * ) ( types ) )
 abbrev pub pointer_tokens : tree.FuncType → List Token
-pointer_tokens t = Fixed tok.LeftParen ∷ (type_tokens t.result ++ (Fixed tok.LeftParen ∷ Fixed tok.Star ∷ Fixed tok.RightParen ∷ Fixed tok.LeftParen ∷ (separated type_tokens t.params ++ Fixed tok.RightParen ∷ Fixed tok.RightParen ∷ [])))
+pointer_tokens t =
+    Fixed tok.LeftParen
+    ∷ (type_tokens t.result ++ (Fixed tok.LeftParen ∷ Fixed tok.Star ∷ Fixed tok.RightParen ∷ Fixed tok.LeftParen
+    ∷ (separated type_tokens t.params ++ Fixed tok.RightParen ∷ Fixed tok.RightParen ∷ [])))
 
 abbrev pub called_tokens : Called → List Token
 called_tokens c = callee_tokens c.callee ++ (Fixed tok.LeftParen ∷ (separated arg_tokens c.args ++ Fixed tok.RightParen ∷ []))
 
 abbrev pointer_symbols : ℕ → List Symbol
-pointer_symbols d = One tok.LeftParen ∷ Of part.InType d ∷ One tok.LeftParen ∷ One tok.Star ∷ One tok.RightParen ∷ One tok.LeftParen ∷ Of part.InTypes d ∷ One tok.RightParen ∷ One tok.RightParen ∷ []
+pointer_symbols d =
+    One tok.LeftParen ∷ Of part.InType d ∷ One tok.LeftParen ∷ One tok.Star ∷ One tok.RightParen ∷ One tok.LeftParen ∷ Of part.InTypes d
+    ∷ One tok.RightParen ∷ One tok.RightParen ∷ []
 
 abbrev argument_symbols : ℕ → List Symbol
 argument_symbols d = One tok.Name ∷ One tok.RightParen ∷ One tok.LeftParen ∷ Of part.InArguments d ∷ One tok.RightParen ∷ []
@@ -102,15 +111,19 @@ argument_symbols d = One tok.Name ∷ One tok.RightParen ∷ One tok.LeftParen �
 pointer_exact : (d : ℕ) (ls : List Lexeme) → Proper ls → Exact [] pointer_tokens (pointer_symbols d) ls (pointer_type ls)
 unfolding pointer_type
 pointer_exact d ls proper =
-    text refl proper (λ l1 p1. next p1 (ctype_exact d l1 p1) (λ t l2 p2. text refl p2 (λ l3 p3. text refl p3 (λ l4 p4. text refl p4 (λ l5 p5. text refl p5 (λ l6 p6.
+    text refl proper (λ l1 p1. next p1 (ctype_exact d l1 p1)
+    (λ t l2 p2. text refl p2 (λ l3 p3. text refl p3 (λ l4 p4. text refl p4 (λ l5 p5. text refl p5 (λ l6 p6.
     next p6 (types_exact d l6 p6) (λ ts l7 p7. text refl p7 (λ l8 p8. text refl p8 (λ l9 p9. done (simp append_assoc))))))))))
 
 -- behind a parenthesis and a star
-pub through_exact : (d : ℕ) (ls : List Lexeme) → Proper ls → Exact (Fixed tok.LeftParen ∷ Fixed tok.Star ∷ []) called_tokens (Of part.InThrough d ∷ []) ls (through d ls)
+pub through_exact : (d : ℕ) (ls : List Lexeme) → Proper ls
+    → Exact (Fixed tok.LeftParen ∷ Fixed tok.Star ∷ []) called_tokens (Of part.InThrough d ∷ []) ls (through d ls)
 unfolding through
 through_exact d ls proper =
     open_part refl (then_all (pointer_symbols d) (argument_symbols d) proper (pointer_exact d ls proper) (λ t l1 p1.
-    named p1 (λ n l2 p2. text refl p2 (λ l3 p3. text refl p3 (λ l4 p4. next p4 (arguments_exact d l4 p4) (λ xs l5 p5. text refl p5 (λ l6 p6. done (simp append_assoc))))))))
+    named p1
+    (λ n l2 p2. text refl p2 (λ l3 p3. text refl p3
+    (λ l4 p4. next p4 (arguments_exact d l4 p4) (λ xs l5 p5. text refl p5 (λ l6 p6. done (simp append_assoc))))))))
 
 -- ---- right sides
 
@@ -118,29 +131,37 @@ abbrev pub right_tokens : Right → List Token
 right_tokens (Gives a) = arg_tokens a
 right_tokens (Calls c) = called_tokens c
 
-rname_exact : (d : ℕ) (f : List ℕ) (ls : List Lexeme) → Proper ls → Exact (Named f ∷ []) right_tokens (Of part.InRname d ∷ []) ls (rname d f ls)
+rname_exact : (d : ℕ) (f : List ℕ) (ls : List Lexeme) → Proper ls
+    → Exact (Named f ∷ []) right_tokens (Of part.InRname d ∷ []) ls (rname d f ls)
 unfolding rname next_kind
 rname_exact d f ls proper = by (kind_of (first ls).token) refl
   where
     by : (k : Kind) → kind_of (first ls).token ≡ k → Exact (Named f ∷ []) right_tokens (Of part.InRname d ∷ []) ls (rname_by d f k ls)
-    by (kind.Fixed tok.LeftBracket) e = open_part (rw e refl) (text refl proper (λ l1 p1. next p1 (expr_exact d l1 p1) (λ i l2 p2. text refl p2 (λ l3 p3. done refl))))
-    by (kind.Fixed tok.LeftParen) e = open_part (rw e refl) (text refl proper (λ l1 p1. next p1 (arguments_exact d l1 p1) (λ xs l2 p2. text refl p2 (λ l3 p3. done refl))))
+    by (kind.Fixed tok.LeftBracket) e =
+        open_part (rw e refl) (text refl proper (λ l1 p1. next p1 (expr_exact d l1 p1) (λ i l2 p2. text refl p2 (λ l3 p3. done refl))))
+    by (kind.Fixed tok.LeftParen) e =
+        open_part (rw e refl)
+        (text refl proper (λ l1 p1. next p1 (arguments_exact d l1 p1) (λ xs l2 p2. text refl p2 (λ l3 p3. done refl))))
     by _ e = open_part (rw e refl) (done refl)
 
-rstar_exact : (d : ℕ) (ls : List Lexeme) → Proper ls → Exact (Fixed tok.LeftParen ∷ Fixed tok.Star ∷ []) right_tokens (Of part.InRstar d ∷ []) ls (rstar d ls)
+rstar_exact : (d : ℕ) (ls : List Lexeme) → Proper ls
+    → Exact (Fixed tok.LeftParen ∷ Fixed tok.Star ∷ []) right_tokens (Of part.InRstar d ∷ []) ls (rstar d ls)
 unfolding rstar next_kind unexpected
 rstar_exact d ls proper = by (kind_of (first ls).token) refl
   where
-    by : (k : Kind) → kind_of (first ls).token ≡ k → Exact (Fixed tok.LeftParen ∷ Fixed tok.Star ∷ []) right_tokens (Of part.InRstar d ∷ []) ls (rstar_by d k ls)
+    by : (k : Kind) → kind_of (first ls).token ≡ k
+        → Exact (Fixed tok.LeftParen ∷ Fixed tok.Star ∷ []) right_tokens (Of part.InRstar d ∷ []) ls (rstar_by d k ls)
     by kind.Name e = open_part (rw e refl) (named proper (λ n l1 p1. text refl p1 (λ l2 p2. done refl)))
     by (kind.Fixed tok.LeftParen) e = open_part (rw e refl) (mapped Calls (λ x. refl) (through_exact d ls proper))
     by _ e = no_part (rw e refl)
 
-rgroup_exact : (d : ℕ) (ls : List Lexeme) → Proper ls → Exact (Fixed tok.LeftParen ∷ []) right_tokens (Of part.InRgroup d ∷ []) ls (rgroup d ls)
+rgroup_exact : (d : ℕ) (ls : List Lexeme) → Proper ls
+    → Exact (Fixed tok.LeftParen ∷ []) right_tokens (Of part.InRgroup d ∷ []) ls (rgroup d ls)
 unfolding rgroup next_kind
 rgroup_exact d ls proper = by (kind_of (first ls).token) refl
   where
-    by : (k : Kind) → kind_of (first ls).token ≡ k → Exact (Fixed tok.LeftParen ∷ []) right_tokens (Of part.InRgroup d ∷ []) ls (rgroup_by d k ls)
+    by : (k : Kind) → kind_of (first ls).token ≡ k
+        → Exact (Fixed tok.LeftParen ∷ []) right_tokens (Of part.InRgroup d ∷ []) ls (rgroup_by d k ls)
     by (kind.Fixed tok.Star) e = open_part (rw e refl) (text refl proper (λ l1 p1. rstar_exact d l1 p1))
     by _ e = mapped Gives (λ x. refl) (agroup_exact part.InRgroup d ls (rw e refl) proper)
 

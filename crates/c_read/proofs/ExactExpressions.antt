@@ -24,7 +24,8 @@ use Rattle.c_read.proofs.ExactLists.{Tail, tail}
 
 -- ---- operators
 
-op_exact : (d : ℕ) (t : Tok) (ls : List Lexeme) → kind_of (first ls).token ≡ kind.Fixed t → Proper ls → Exact [] (λ o. op_token o ∷ []) (Of part.InOperator d ∷ []) ls (taken_op t (op_of t) ls)
+op_exact : (d : ℕ) (t : Tok) (ls : List Lexeme) → kind_of (first ls).token ≡ kind.Fixed t → Proper ls
+    → Exact [] (λ o. op_token o ∷ []) (Of part.InOperator d ∷ []) ls (taken_op t (op_of t) ls)
 unfolding unexpected
 op_exact d tok.Plus ls e proper = open_part (rw e refl) (text refl proper (λ l1 p1. done refl))
 op_exact d tok.Minus ls e proper = open_part (rw e refl) (text refl proper (λ l1 p1. done refl))
@@ -54,12 +55,14 @@ operator_exact d ls proper = by (kind_of (first ls).token) refl
 
 -- ---- types
 
-star_exact : (d : ℕ) (itself pointer : CType) (t : Tok) (ls : List Lexeme) → type_tokens itself ≡ Fixed t ∷ [] → type_tokens pointer ≡ Fixed t ∷ Fixed tok.Star ∷ [] → Proper ls
+star_exact : (d : ℕ) (itself pointer : CType) (t : Tok) (ls : List Lexeme) → type_tokens itself ≡ Fixed t ∷ []
+    → type_tokens pointer ≡ Fixed t ∷ Fixed tok.Star ∷ [] → Proper ls
     → Exact (Fixed t ∷ []) type_tokens (Of part.InStar d ∷ []) ls (star itself pointer ls)
 unfolding star next_kind
 star_exact d itself pointer t ls one two proper = by (kind_of (first ls).token) refl
   where
-    by : (k : Kind) → kind_of (first ls).token ≡ k → Exact (Fixed t ∷ []) type_tokens (Of part.InStar d ∷ []) ls (star_by itself pointer k ls)
+    by : (k : Kind) → kind_of (first ls).token ≡ k
+        → Exact (Fixed t ∷ []) type_tokens (Of part.InStar d ∷ []) ls (star_by itself pointer k ls)
     by (kind.Fixed tok.Star) e = open_part (rw e refl) (text refl proper (λ l1 p1. done two))
     by _ e = open_part (rw e refl) (done one)
 
@@ -69,10 +72,14 @@ ctype_exact d ls proper = by (kind_of (first ls).token) refl
   where
     by : (k : Kind) → kind_of (first ls).token ≡ k → Exact [] type_tokens (Of part.InType d ∷ []) ls (ctype_by k ls)
     by (kind.Fixed tok.WordVoid) e = open_part (rw e refl) (text refl proper (λ l1 p1. done refl))
-    by (kind.Fixed tok.WordU32) e = open_part (rw e refl) (text refl proper (λ l1 p1. star_exact d type.U32 type.PtrU32 tok.WordU32 l1 refl refl p1))
-    by (kind.Fixed tok.WordU64) e = open_part (rw e refl) (text refl proper (λ l1 p1. star_exact d type.U64 type.PtrU64 tok.WordU64 l1 refl refl p1))
-    by (kind.Fixed tok.WordW2cMem) e = open_part (rw e refl) (text refl proper (λ l1 p1. star_exact d type.Mem type.PtrMem tok.WordW2cMem l1 refl refl p1))
-    by (kind.Fixed tok.WordW2cTab) e = open_part (rw e refl) (text refl proper (λ l1 p1. star_exact d type.Tab type.PtrTab tok.WordW2cTab l1 refl refl p1))
+    by (kind.Fixed tok.WordU32) e =
+        open_part (rw e refl) (text refl proper (λ l1 p1. star_exact d type.U32 type.PtrU32 tok.WordU32 l1 refl refl p1))
+    by (kind.Fixed tok.WordU64) e =
+        open_part (rw e refl) (text refl proper (λ l1 p1. star_exact d type.U64 type.PtrU64 tok.WordU64 l1 refl refl p1))
+    by (kind.Fixed tok.WordW2cMem) e =
+        open_part (rw e refl) (text refl proper (λ l1 p1. star_exact d type.Mem type.PtrMem tok.WordW2cMem l1 refl refl p1))
+    by (kind.Fixed tok.WordW2cTab) e =
+        open_part (rw e refl) (text refl proper (λ l1 p1. star_exact d type.Tab type.PtrTab tok.WordW2cTab l1 refl refl p1))
     by (kind.Fixed tok.WordW2cFn) e = open_part (rw e refl) (text refl proper (λ l1 p1. done refl))
     by _ e = no_part (rw e refl)
 
@@ -92,7 +99,8 @@ types_exact d ls proper = open_part refl (next proper (ctype_exact d ls proper) 
 abbrev pub ExprExact : ℕ → Parser tree.Expr → Type 0
 ExprExact d inner = (ls : List Lexeme) → Proper ls → Exact [] expr_tokens (Of part.InExpr d ∷ []) ls (inner ls)
 
-pub index_exact : (d : ℕ) (inner : Parser tree.Expr) (n : List ℕ) (ls : List Lexeme) → ExprExact d inner → Proper ls → Exact (Named n ∷ []) expr_tokens (Of part.InIndex d ∷ []) ls (index inner n ls)
+pub index_exact : (d : ℕ) (inner : Parser tree.Expr) (n : List ℕ) (ls : List Lexeme) → ExprExact d inner → Proper ls
+    → Exact (Named n ∷ []) expr_tokens (Of part.InIndex d ∷ []) ls (index inner n ls)
 unfolding index next_kind
 index_exact d inner n ls within proper = by (kind_of (first ls).token) refl
   where
@@ -132,7 +140,8 @@ group_exact p d inner ls has within proper = by (kind_of (first ls).token) refl
     by (kind.Fixed tok.LeftParen) e = open_part (at _ e) (operation_exact d inner ls within proper)
     by _ e = no_part (at _ e)
 
-level_exact : (d : ℕ) (inner : Parser tree.Expr) (ls : List Lexeme) → ExprExact d inner → Proper ls → Exact [] expr_tokens (Of part.InExpr (suc d) ∷ []) ls (expr_of_parts inner ls)
+level_exact : (d : ℕ) (inner : Parser tree.Expr) (ls : List Lexeme) → ExprExact d inner → Proper ls
+    → Exact [] expr_tokens (Of part.InExpr (suc d) ∷ []) ls (expr_of_parts inner ls)
 unfolding expr_of_parts next_kind unexpected
 level_exact d inner ls within proper = by (kind_of (first ls).token) refl
   where

@@ -29,16 +29,23 @@ bytes_tail d = record { more = λ l e. rw e refl; ends = by }
     by l (kind.Fixed tok.Comma) e off = absurd cc
     by l _ e off = rw e refl
 
-bytes_exact : (d : ℕ) (ls : List Lexeme) → Proper ls → Exact [] (separated plain_tokens) (OneByte ∷ Of part.InMore d ∷ []) ls (array_bytes ls)
+bytes_exact : (d : ℕ) (ls : List Lexeme) → Proper ls
+    → Exact [] (separated plain_tokens) (OneByte ∷ Of part.InMore d ∷ []) ls (array_bytes ls)
 unfolding array_bytes more_bytes next_byte byte
 bytes_exact d ls proper = next proper (byte_exact ls proper) (λ b l1 p1. tail (bytes_tail d) byte_exact p1)
 
 array_exact : (d : ℕ) (ls : List Lexeme) → Proper ls
-    → Exact (Fixed tok.WordStatic ∷ []) item_tokens (One tok.WordConst ∷ One tok.WordU8 ∷ One tok.Name ∷ One tok.LeftBracket ∷ One tok.Plain ∷ One tok.RightBracket ∷ One tok.Assign ∷ One tok.LeftBrace ∷ OneByte ∷ Of part.InMore d ∷ One tok.RightBrace ∷ One tok.Semicolon ∷ []) ls (array ls)
+    → Exact (Fixed tok.WordStatic ∷ []) item_tokens
+    (One tok.WordConst ∷ One tok.WordU8 ∷ One tok.Name ∷ One tok.LeftBracket ∷ One tok.Plain ∷ One tok.RightBracket ∷ One tok.Assign
+    ∷ One tok.LeftBrace ∷ OneByte ∷ Of part.InMore d ∷ One tok.RightBrace ∷ One tok.Semicolon ∷ []) ls (array ls)
 unfolding array
 array_exact d ls proper =
-    text refl proper (λ l1 p1. text refl p1 (λ l2 p2. named p2 (λ n l3 p3. text refl p3 (λ l4 p4. next p4 (count_exact l4 p4) (λ count l5 p5. text refl p5 (λ l6 p6. text refl p6 (λ l7 p7. text refl p7 (λ l8 p8.
-    then_all (OneByte ∷ Of part.InMore d ∷ []) (One tok.RightBrace ∷ One tok.Semicolon ∷ []) p8 (bytes_exact d l8 p8) (λ bs l9 p9. text refl p9 (λ l10 p10. text refl p10 (λ l11 p11. done (simp append_assoc))))))))))))
+    text refl proper
+    (λ l1 p1. text refl p1
+    (λ l2 p2. named p2 (λ n l3 p3. text refl p3
+    (λ l4 p4. next p4 (count_exact l4 p4) (λ count l5 p5. text refl p5 (λ l6 p6. text refl p6 (λ l7 p7. text refl p7 (λ l8 p8.
+    then_all (OneByte ∷ Of part.InMore d ∷ []) (One tok.RightBrace ∷ One tok.Semicolon ∷ []) p8 (bytes_exact d l8 p8)
+    (λ bs l9 p9. text refl p9 (λ l10 p10. text refl p10 (λ l11 p11. done (simp append_assoc))))))))))))
 
 -- ---- parameters
 
@@ -64,14 +71,17 @@ params_tail d = record { more = λ l e. rw e refl; ends = by }
 params_exact : (d : ℕ) (ls : List Lexeme) → Proper ls → Exact [] (separated param_tokens) (Of part.InParameters d ∷ []) ls (params ls)
 unfolding params more_params next_param
 params_exact d ls proper =
-    open_part refl (then_all (Of part.InType d ∷ Of part.InPname d ∷ []) (Of part.InPtail d ∷ []) proper (param_exact d ls proper) (λ p l1 p1. tail (params_tail d) (param_exact d) p1))
+    open_part refl (then_all (Of part.InType d ∷ Of part.InPname d ∷ []) (Of part.InPtail d ∷ []) proper (param_exact d ls proper)
+    (λ p l1 p1. tail (params_tail d) (param_exact d) p1))
 
 -- ---- bodies
 
 declaration_exact : (d : ℕ) (ls : List Lexeme) → Proper ls → Exact [] local_tokens (Of part.InDeclaration d ∷ []) ls (declaration ls)
 unfolding declaration
 declaration_exact d ls proper =
-    open_part refl (next proper (ctype_exact d ls proper) (λ t l1 p1. named p1 (λ n l2 p2. text refl p2 (λ l3 p3. next p3 (number_exact d l3 p3) (λ v l4 p4. text refl p4 (λ l5 p5. done (simp append_assoc)))))))
+    open_part refl (next proper (ctype_exact d ls proper)
+    (λ t l1 p1. named p1 (λ n l2 p2. text refl p2
+    (λ l3 p3. next p3 (number_exact d l3 p3) (λ v l4 p4. text refl p4 (λ l5 p5. done (simp append_assoc)))))))
 
 -- a type has a first token, also with tokens behind it
 some_type : (t : CType) (more : List Token) → (u : Token) × (ts : List Token) × (type_tokens t ++ more ≡ u ∷ ts)
@@ -94,7 +104,8 @@ declarations_list = record {
   some = λ x. some_type x.0 _;
 }
 
-body_exact : (ls : List Lexeme) → Proper ls → Exact [] (λ b. each local_tokens b.locals ++ each stmt_tokens b.stmts) (Of part.InBody 100 ∷ []) ls (body ls)
+body_exact : (ls : List Lexeme) → Proper ls
+    → Exact [] (λ b. each local_tokens b.locals ++ each stmt_tokens b.stmts) (Of part.InBody 100 ∷ []) ls (body ls)
 unfolding body declarations
 body_exact ls proper =
     pieces declarations_list proper (λ xs m pm off. open_part (rw off refl) (next pm (statements_exact m pm) (λ ss l1 p1. done refl)))
@@ -105,7 +116,9 @@ close_exact ls proper = by (kind_of (first ls).token) refl
   where
     by : (k : Kind) → kind_of (first ls).token ≡ k → Exact [] close_tokens (Of part.InClose 100 ∷ []) ls (close_by k ls)
     by (kind.Fixed tok.Semicolon) e = open_part (rw e refl) (text refl proper (λ l1 p1. done refl))
-    by (kind.Fixed tok.LeftBrace) e = open_part (rw e refl) (text refl proper (λ l1 p1. next p1 (body_exact l1 p1) (λ b l2 p2. text refl p2 (λ l3 p3. done (simp append_assoc)))))
+    by (kind.Fixed tok.LeftBrace) e =
+        open_part (rw e refl)
+        (text refl proper (λ l1 p1. next p1 (body_exact l1 p1) (λ b l2 p2. text refl p2 (λ l3 p3. done (simp append_assoc)))))
     by _ e = no_part (rw e refl)
 
 -- ---- functions
@@ -113,32 +126,44 @@ close_exact ls proper = by (kind_of (first ls).token) refl
 abbrev func_before : Bool → CType → List ℕ → List Token
 func_before is_static t n = static_tokens is_static ++ (type_tokens t ++ (Named n ∷ Fixed tok.LeftParen ∷ []))
 
-function_exact : (s : Bool) (t : CType) (n : List ℕ) (ls : List Lexeme) → Proper ls → Exact (func_before s t n) item_tokens (Of part.InFunction 100 ∷ []) ls (function s t n ls)
+function_exact : (s : Bool) (t : CType) (n : List ℕ) (ls : List Lexeme) → Proper ls
+    → Exact (func_before s t n) item_tokens (Of part.InFunction 100 ∷ []) ls (function s t n ls)
 unfolding function
 function_exact s t n ls proper =
-    open_part refl (next proper (params_exact 100 ls proper) (λ ps l1 p1. text refl p1 (λ l2 p2. next p2 (close_exact l2 p2) (λ b l3 p3. done (simp append_assoc)))))
+    open_part refl (next proper (params_exact 100 ls proper)
+    (λ ps l1 p1. text refl p1 (λ l2 p2. next p2 (close_exact l2 p2) (λ b l3 p3. done (simp append_assoc)))))
 
 -- ---- items
 
 -- behind a type and a name
-rest_exact : (t : CType) (n : List ℕ) (ls : List Lexeme) → Proper ls → Exact (Fixed tok.WordStatic ∷ (type_tokens t ++ Named n ∷ [])) item_tokens (Of part.InRest 100 ∷ []) ls (rest t n ls)
+rest_exact : (t : CType) (n : List ℕ) (ls : List Lexeme) → Proper ls
+    → Exact (Fixed tok.WordStatic ∷ (type_tokens t ++ Named n ∷ [])) item_tokens (Of part.InRest 100 ∷ []) ls (rest t n ls)
 unfolding rest next_kind unexpected
 rest_exact t n ls proper = by (kind_of (first ls).token) refl
   where
-    function_behind : (m : List Lexeme) → Proper m → Exact ((Fixed tok.WordStatic ∷ (type_tokens t ++ Named n ∷ [])) ++ Fixed tok.LeftParen ∷ []) item_tokens (Of part.InFunction 100 ∷ []) m (function true t n m)
-    function_behind m pm = subst (λ before. Exact before item_tokens (Of part.InFunction 100 ∷ []) m (function true t n m)) (simp append_assoc) (function_exact true t n m pm)
+    function_behind : (m : List Lexeme) → Proper m
+        → Exact ((Fixed tok.WordStatic ∷ (type_tokens t ++ Named n ∷ [])) ++ Fixed tok.LeftParen ∷ []) item_tokens
+        (Of part.InFunction 100 ∷ []) m (function true t n m)
+    function_behind m pm =
+        subst (λ before. Exact before item_tokens (Of part.InFunction 100 ∷ []) m (function true t n m)) (simp append_assoc)
+        (function_exact true t n m pm)
 
-    by : (k : Kind) → kind_of (first ls).token ≡ k → Exact (Fixed tok.WordStatic ∷ (type_tokens t ++ Named n ∷ [])) item_tokens (Of part.InRest 100 ∷ []) ls (rest_by t n k ls)
+    by : (k : Kind) → kind_of (first ls).token ≡ k
+        → Exact (Fixed tok.WordStatic ∷ (type_tokens t ++ Named n ∷ [])) item_tokens (Of part.InRest 100 ∷ []) ls (rest_by t n k ls)
     by (kind.Fixed tok.Semicolon) e = open_part (rw e refl) (text refl proper (λ l1 p1. done (simp append_assoc)))
-    by (kind.Fixed tok.Assign) e = open_part (rw e refl) (text refl proper (λ l1 p1. next p1 (number_exact 100 l1 p1) (λ v l2 p2. text refl p2 (λ l3 p3. done (simp append_assoc)))))
+    by (kind.Fixed tok.Assign) e =
+        open_part (rw e refl)
+        (text refl proper (λ l1 p1. next p1 (number_exact 100 l1 p1) (λ v l2 p2. text refl p2 (λ l3 p3. done (simp append_assoc)))))
     by (kind.Fixed tok.LeftParen) e = open_part (rw e refl) (text refl proper (λ l1 p1. function_behind l1 p1))
     by _ e = no_part (rw e refl)
 
-static_exact : (ls : List Lexeme) → Proper ls → Exact (Fixed tok.WordStatic ∷ []) item_tokens (Of part.InType 100 ∷ One tok.Name ∷ Of part.InRest 100 ∷ []) ls (static_rest ls)
+static_exact : (ls : List Lexeme) → Proper ls
+    → Exact (Fixed tok.WordStatic ∷ []) item_tokens (Of part.InType 100 ∷ One tok.Name ∷ Of part.InRest 100 ∷ []) ls (static_rest ls)
 unfolding static_rest
 static_exact ls proper = next proper (ctype_exact 100 ls proper) (λ t l1 p1. named p1 (λ n l2 p2. rest_exact t n l2 p2))
 
-inner_row : (d : ℕ) (k : Kind) → begins_type k ≡ true → expansion part.InInner d k ≡ Some (Of part.InType d ∷ One tok.Name ∷ Of part.InRest d ∷ [])
+inner_row : (d : ℕ) (k : Kind) → begins_type k ≡ true
+    → expansion part.InInner d k ≡ Some (Of part.InType d ∷ One tok.Name ∷ Of part.InRest d ∷ [])
 inner_row d (kind.Fixed tok.WordVoid) on = refl
 inner_row d (kind.Fixed tok.WordU32) on = refl
 inner_row d (kind.Fixed tok.WordU64) on = refl
@@ -151,7 +176,8 @@ inner_exact : (ls : List Lexeme) → Proper ls → Exact (Fixed tok.WordStatic �
 unfolding inner next_kind unexpected
 inner_exact ls proper = by (begins_type (kind_of (first ls).token)) refl
   where
-    other : (k : Kind) → kind_of (first ls).token ≡ k → begins_type k ≡ false → Exact (Fixed tok.WordStatic ∷ []) item_tokens (Of part.InInner 100 ∷ []) ls (inner_by k ls)
+    other : (k : Kind) → kind_of (first ls).token ≡ k → begins_type k ≡ false
+        → Exact (Fixed tok.WordStatic ∷ []) item_tokens (Of part.InInner 100 ∷ []) ls (inner_by k ls)
     other (kind.Fixed tok.WordConst) e off = open_part (rw e refl) (array_exact 100 ls proper)
     other (kind.Fixed tok.WordVoid) e off = absurd cc
     other (kind.Fixed tok.WordU32) e off = absurd cc
@@ -161,19 +187,27 @@ inner_exact ls proper = by (begins_type (kind_of (first ls).token)) refl
     other (kind.Fixed tok.WordW2cFn) e off = absurd cc
     other _ e off = no_part (rw e refl)
 
-    by : (b : Bool) → begins_type (kind_of (first ls).token) ≡ b → Exact (Fixed tok.WordStatic ∷ []) item_tokens (Of part.InInner 100 ∷ []) ls (cond b (static_rest ls) (inner_by (kind_of (first ls).token) ls))
+    by : (b : Bool) → begins_type (kind_of (first ls).token) ≡ b
+        → Exact (Fixed tok.WordStatic ∷ []) item_tokens (Of part.InInner 100 ∷ []) ls
+        (cond b (static_rest ls) (inner_by (kind_of (first ls).token) ls))
     by true on = open_part (rw (inner_row 100 (kind_of (first ls).token) on) refl) (static_exact ls proper)
     by false off = other (kind_of (first ls).token) refl off
 
-external_exact : (ls : List Lexeme) → Proper ls → Exact [] item_tokens (Of part.InType 100 ∷ One tok.Name ∷ One tok.LeftParen ∷ Of part.InFunction 100 ∷ []) ls (external ls)
+external_exact : (ls : List Lexeme) → Proper ls
+    → Exact [] item_tokens (Of part.InType 100 ∷ One tok.Name ∷ One tok.LeftParen ∷ Of part.InFunction 100 ∷ []) ls (external ls)
 unfolding external
 external_exact ls proper =
     next proper (ctype_exact 100 ls proper) (λ t l1 p1. named p1 (λ n l2 p2. text refl p2 (λ l3 p3. function_behind t n l3 p3)))
   where
-    function_behind : (t : CType) (n : List ℕ) (m : List Lexeme) → Proper m → Exact ((type_tokens t ++ Named n ∷ []) ++ Fixed tok.LeftParen ∷ []) item_tokens (Of part.InFunction 100 ∷ []) m (function false t n m)
-    function_behind t n m pm = subst (λ before. Exact before item_tokens (Of part.InFunction 100 ∷ []) m (function false t n m)) (simp append_assoc) (function_exact false t n m pm)
+    function_behind : (t : CType) (n : List ℕ) (m : List Lexeme) → Proper m
+        → Exact ((type_tokens t ++ Named n ∷ []) ++ Fixed tok.LeftParen ∷ []) item_tokens (Of part.InFunction 100 ∷ []) m
+        (function false t n m)
+    function_behind t n m pm =
+        subst (λ before. Exact before item_tokens (Of part.InFunction 100 ∷ []) m (function false t n m)) (simp append_assoc)
+        (function_exact false t n m pm)
 
-item_row : (d : ℕ) (k : Kind) → begins_type k ≡ true → expansion part.InItem d k ≡ Some (Of part.InType d ∷ One tok.Name ∷ One tok.LeftParen ∷ Of part.InFunction d ∷ [])
+item_row : (d : ℕ) (k : Kind) → begins_type k ≡ true
+    → expansion part.InItem d k ≡ Some (Of part.InType d ∷ One tok.Name ∷ One tok.LeftParen ∷ Of part.InFunction d ∷ [])
 item_row d (kind.Fixed tok.WordVoid) on = refl
 item_row d (kind.Fixed tok.WordU32) on = refl
 item_row d (kind.Fixed tok.WordU64) on = refl
@@ -186,7 +220,8 @@ item_exact : (ls : List Lexeme) → Proper ls → Exact [] item_tokens (Of part.
 unfolding item next_kind unexpected
 item_exact ls proper = by (begins_type (kind_of (first ls).token)) refl
   where
-    other : (k : Kind) → kind_of (first ls).token ≡ k → begins_type k ≡ false → Exact [] item_tokens (Of part.InItem 100 ∷ []) ls (item_by k ls)
+    other : (k : Kind) → kind_of (first ls).token ≡ k → begins_type k ≡ false
+        → Exact [] item_tokens (Of part.InItem 100 ∷ []) ls (item_by k ls)
     other (kind.Fixed tok.WordStatic) e off = open_part (rw e refl) (text refl proper (λ l1 p1. inner_exact l1 p1))
     other (kind.Fixed tok.WordVoid) e off = absurd cc
     other (kind.Fixed tok.WordU32) e off = absurd cc
@@ -196,7 +231,8 @@ item_exact ls proper = by (begins_type (kind_of (first ls).token)) refl
     other (kind.Fixed tok.WordW2cFn) e off = absurd cc
     other _ e off = no_part (rw e refl)
 
-    by : (b : Bool) → begins_type (kind_of (first ls).token) ≡ b → Exact [] item_tokens (Of part.InItem 100 ∷ []) ls (cond b (external ls) (item_by (kind_of (first ls).token) ls))
+    by : (b : Bool) → begins_type (kind_of (first ls).token) ≡ b
+        → Exact [] item_tokens (Of part.InItem 100 ∷ []) ls (cond b (external ls) (item_by (kind_of (first ls).token) ls))
     by true on = open_part (rw (item_row 100 (kind_of (first ls).token) on) refl) (external_exact ls proper)
     by false off = other (kind_of (first ls).token) refl off
 
@@ -206,7 +242,10 @@ some_item (tree.Array n count bytes) = (_, _, refl)
 some_item (tree.Var t n v) = (_, _, refl)
 some_item (tree.Function f) = by f.is_static
   where
-    by : (b : Bool) → (t : Token) × (ts : List Token) × (static_tokens b ++ (type_tokens f.result ++ (Named f.name ∷ Fixed tok.LeftParen ∷ (separated param_tokens f.params ++ (Fixed tok.RightParen ∷ close_tokens f.body)))) ≡ t ∷ ts)
+    by : (b : Bool) → (t : Token) × (ts : List Token)
+        × (static_tokens b ++ (type_tokens f.result
+        ++ (Named f.name ∷ Fixed tok.LeftParen ∷ (separated param_tokens f.params ++ (Fixed tok.RightParen ∷ close_tokens f.body))))
+        ≡ t ∷ ts)
     by true = (_, _, refl)
     by false = some_type f.result _
 
@@ -218,7 +257,8 @@ items_list = record {
   some = some_item;
 }
   where
-    by : (l : Lexeme) (k : Kind) → kind_of l.token ≡ k → not_end k ≡ true → move (Of part.InItems 100) l ≡ Becomes (Of part.InItem 100 ∷ Of part.InItems 100 ∷ [])
+    by : (l : Lexeme) (k : Kind) → kind_of l.token ≡ k → not_end k ≡ true
+        → move (Of part.InItems 100) l ≡ Becomes (Of part.InItem 100 ∷ Of part.InItems 100 ∷ [])
     by l (kind.Fixed tok.End) e on = absurd cc
     by l _ e on = rw e refl
 
@@ -235,7 +275,8 @@ pub unit_exact : (ls : List Lexeme) → Proper ls → Exact [] unit_tokens (One 
 unfolding unit
 unit_exact ls proper = text refl proper (λ l1 p1. last (λ xs. refl) (items_exact l1 p1))
 
-ends_behind : (o : Outcome (Unit {0})) (ls : List Lexeme) → ExactAt [] (λ u. Fixed tok.Include ∷ []) (One tok.Include ∷ []) ls o → Proper ls → EndsAt not_end (and_then o (λ u. items))
+ends_behind : (o : Outcome (Unit {0})) (ls : List Lexeme) → ExactAt [] (λ u. Fixed tok.Include ∷ []) (One tok.Include ∷ []) ls o → Proper ls
+    → EndsAt not_end (and_then o (λ u. items))
 unfolding items
 ends_behind (Ok p) ls one proper = pieces_end items_list p.1 (proper_behind ls one.1 p.1 one.2 proper)
 ends_behind (Err f) ls one proper = tt

@@ -27,7 +27,8 @@ jump_exact ls proper = text refl proper (λ l1 p1. named p1 (λ n l2 p2. text re
 
 -- ---- behind a name
 
-after_done : (n : List ℕ) (r : Right) → stmt_tokens (assigned n r) ≡ ((Named n ∷ Fixed tok.Assign ∷ []) ++ right_tokens r) ++ Fixed tok.Semicolon ∷ []
+after_done : (n : List ℕ) (r : Right)
+    → stmt_tokens (assigned n r) ≡ ((Named n ∷ Fixed tok.Assign ∷ []) ++ right_tokens r) ++ Fixed tok.Semicolon ∷ []
 after_done n (Gives a) = refl
 after_done n (Calls c) = simp append_assoc
 
@@ -37,8 +38,13 @@ after_exact n ls proper = by (kind_of (first ls).token) refl
   where
     by : (k : Kind) → kind_of (first ls).token ≡ k → Exact (Named n ∷ []) stmt_tokens (Of part.InAfter 100 ∷ []) ls (after_by n k ls)
     by (kind.Fixed tok.Colon) e = open_part (rw e refl) (text refl proper (λ l1 p1. done refl))
-    by (kind.Fixed tok.Assign) e = open_part (rw e refl) (text refl proper (λ l1 p1. next p1 (right_exact 99 l1 p1) (λ r l2 p2. text refl p2 (λ l3 p3. done (after_done n r)))))
-    by (kind.Fixed tok.LeftParen) e = open_part (rw e refl) (text refl proper (λ l1 p1. next p1 (arguments_exact 100 l1 p1) (λ xs l2 p2. text refl p2 (λ l3 p3. text refl p3 (λ l4 p4. done (simp append_assoc))))))
+    by (kind.Fixed tok.Assign) e =
+        open_part (rw e refl)
+        (text refl proper (λ l1 p1. next p1 (right_exact 99 l1 p1) (λ r l2 p2. text refl p2 (λ l3 p3. done (after_done n r)))))
+    by (kind.Fixed tok.LeftParen) e =
+        open_part (rw e refl)
+        (text refl proper (λ l1 p1. next p1 (arguments_exact 100 l1 p1)
+        (λ xs l2 p2. text refl p2 (λ l3 p3. text refl p3 (λ l4 p4. done (simp append_assoc))))))
     by _ e = no_part (rw e refl)
 
 -- ---- returns
@@ -55,16 +61,19 @@ returned_exact ls proper = by (kind_of (first ls).token) refl
     by (kind.Fixed tok.Semicolon) e = open_part (rw e refl) (done refl)
     by _ e = open_part (rw e refl) (mapped Some (λ x. refl) (argument_exact 100 ls proper))
 
-return_done : (r : Option tree.Arg) → stmt_tokens (return_of r) ≡ ((Fixed tok.WordReturn ∷ []) ++ returned_tokens r) ++ Fixed tok.Semicolon ∷ []
+return_done : (r : Option tree.Arg)
+    → stmt_tokens (return_of r) ≡ ((Fixed tok.WordReturn ∷ []) ++ returned_tokens r) ++ Fixed tok.Semicolon ∷ []
 return_done None = refl
 return_done (Some a) = refl
 
 -- ---- switches
 
-case_exact : (d : ℕ) (ls : List Lexeme) → Proper ls → Exact [] case_tokens (One tok.WordCase ∷ Of part.InNumber d ∷ One tok.Colon ∷ goto_symbols) ls (one_case ls)
+case_exact : (d : ℕ) (ls : List Lexeme) → Proper ls
+    → Exact [] case_tokens (One tok.WordCase ∷ Of part.InNumber d ∷ One tok.Colon ∷ goto_symbols) ls (one_case ls)
 unfolding one_case
 case_exact d ls proper =
-    text refl proper (λ l1 p1. next p1 (number_exact d l1 p1) (λ v l2 p2. text refl p2 (λ l3 p3. then_all goto_symbols [] p3 (jump_exact l3 p3) (λ n l4 p4. done refl))))
+    text refl proper (λ l1 p1. next p1 (number_exact d l1 p1)
+    (λ v l2 p2. text refl p2 (λ l3 p3. then_all goto_symbols [] p3 (jump_exact l3 p3) (λ n l4 p4. done refl))))
 
 cases_list : Lists (Of part.InCases 100) is_case one_case case_tokens
 cases_list = record {
@@ -74,42 +83,60 @@ cases_list = record {
   some = λ c. (_, _, refl);
 }
   where
-    by : (l : Lexeme) (k : Kind) → kind_of l.token ≡ k → is_case k ≡ true → move (Of part.InCases 100) l ≡ Becomes (One tok.WordCase ∷ Of part.InNumber 100 ∷ One tok.Colon ∷ One tok.WordGoto ∷ One tok.Name ∷ One tok.Semicolon ∷ Of part.InCases 100 ∷ [])
+    by : (l : Lexeme) (k : Kind) → kind_of l.token ≡ k → is_case k ≡ true
+        → move (Of part.InCases 100) l ≡ Becomes (One tok.WordCase ∷ Of part.InNumber 100 ∷ One tok.Colon ∷ One tok.WordGoto ∷ One tok.Name
+        ∷ One tok.Semicolon ∷ Of part.InCases 100 ∷ [])
     by l (kind.Fixed tok.WordCase) e on = rw e refl
     by l _ e on = absurd cc
 
-default_exact : (ls : List Lexeme) → is_case (kind_of (first ls).token) ≡ false → Proper ls → Exact [] (λ n. Fixed tok.WordDefault ∷ Fixed tok.Colon ∷ goto_tokens n) (Of part.InCases 100 ∷ []) ls (default ls)
+default_exact : (ls : List Lexeme) → is_case (kind_of (first ls).token) ≡ false → Proper ls
+    → Exact [] (λ n. Fixed tok.WordDefault ∷ Fixed tok.Colon ∷ goto_tokens n) (Of part.InCases 100 ∷ []) ls (default ls)
 unfolding default next_kind unexpected
 default_exact ls off proper = by (kind_of (first ls).token) refl off
   where
-    by : (k : Kind) → kind_of (first ls).token ≡ k → is_case k ≡ false → Exact [] (λ n. Fixed tok.WordDefault ∷ Fixed tok.Colon ∷ goto_tokens n) (Of part.InCases 100 ∷ []) ls (default_by k ls)
-    by (kind.Fixed tok.WordDefault) e g = open_part (rw e refl) (text refl proper (λ l1 p1. text refl p1 (λ l2 p2. last (λ n. refl) (jump_exact l2 p2))))
+    by : (k : Kind) → kind_of (first ls).token ≡ k → is_case k ≡ false
+        → Exact [] (λ n. Fixed tok.WordDefault ∷ Fixed tok.Colon ∷ goto_tokens n) (Of part.InCases 100 ∷ []) ls (default_by k ls)
+    by (kind.Fixed tok.WordDefault) e g =
+        open_part (rw e refl) (text refl proper (λ l1 p1. text refl p1 (λ l2 p2. last (λ n. refl) (jump_exact l2 p2))))
     by (kind.Fixed tok.WordCase) e g = absurd cc
     by _ e g = no_part (rw e refl)
 
-switch_exact : (ls : List Lexeme) → Proper ls → Exact (Fixed tok.WordSwitch ∷ []) stmt_tokens (One tok.LeftParen ∷ Of part.InExpr 100 ∷ One tok.RightParen ∷ One tok.LeftBrace ∷ Of part.InCases 100 ∷ One tok.RightBrace ∷ []) ls (switch ls)
+switch_exact : (ls : List Lexeme) → Proper ls
+    → Exact (Fixed tok.WordSwitch ∷ []) stmt_tokens
+    (One tok.LeftParen ∷ Of part.InExpr 100 ∷ One tok.RightParen ∷ One tok.LeftBrace ∷ Of part.InCases 100 ∷ One tok.RightBrace ∷ []) ls
+    (switch ls)
 unfolding switch cases depth
 switch_exact ls proper =
     text refl proper (λ l1 p1. next p1 (expr_exact 100 l1 p1) (λ e l2 p2. text refl p2 (λ l3 p3. text refl p3 (λ l4 p4.
-    pieces cases_list p4 (λ cs l5 p5 off. next p5 (default_exact l5 off p5) (λ n l6 p6. text refl p6 (λ l7 p7. done (simp append_assoc))))))))
+    pieces cases_list p4 (λ cs l5 p5 off. next p5 (default_exact l5 off p5)
+    (λ n l6 p6. text refl p6 (λ l7 p7. done (simp append_assoc))))))))
 
 -- ---- conditions, assignments and calls through a name
 
-condition_exact : (ls : List Lexeme) → Proper ls → Exact (Fixed tok.WordIf ∷ []) stmt_tokens (One tok.LeftParen ∷ Of part.InExpr 100 ∷ Of part.InOperator 100 ∷ Of part.InExpr 100 ∷ One tok.RightParen ∷ goto_symbols) ls (condition ls)
+condition_exact : (ls : List Lexeme) → Proper ls
+    → Exact (Fixed tok.WordIf ∷ []) stmt_tokens
+    (One tok.LeftParen ∷ Of part.InExpr 100 ∷ Of part.InOperator 100 ∷ Of part.InExpr 100 ∷ One tok.RightParen ∷ goto_symbols) ls
+    (condition ls)
 unfolding condition depth
 condition_exact ls proper =
-    text refl proper (λ l1 p1. next p1 (expr_exact 100 l1 p1) (λ a l2 p2. next p2 (operator_exact 100 l2 p2) (λ o l3 p3. next p3 (expr_exact 100 l3 p3) (λ b l4 p4.
+    text refl proper (λ l1 p1. next p1 (expr_exact 100 l1 p1)
+    (λ a l2 p2. next p2 (operator_exact 100 l2 p2) (λ o l3 p3. next p3 (expr_exact 100 l3 p3) (λ b l4 p4.
     text refl p4 (λ l5 p5. then_all goto_symbols [] p5 (jump_exact l5 p5) (λ n l6 p6. done (simp append_assoc)))))))
 
-set_star_exact : (ls : List Lexeme) → Proper ls → Exact (Fixed tok.Star ∷ []) stmt_tokens (One tok.Name ∷ One tok.Assign ∷ Of part.InExpr 100 ∷ One tok.Semicolon ∷ []) ls (set_star ls)
+set_star_exact : (ls : List Lexeme) → Proper ls
+    → Exact (Fixed tok.Star ∷ []) stmt_tokens (One tok.Name ∷ One tok.Assign ∷ Of part.InExpr 100 ∷ One tok.Semicolon ∷ []) ls (set_star ls)
 unfolding set_star depth
-set_star_exact ls proper = named proper (λ n l1 p1. text refl p1 (λ l2 p2. next p2 (expr_exact 100 l2 p2) (λ e l3 p3. text refl p3 (λ l4 p4. done refl))))
+set_star_exact ls proper =
+    named proper (λ n l1 p1. text refl p1 (λ l2 p2. next p2 (expr_exact 100 l2 p2) (λ e l3 p3. text refl p3 (λ l4 p4. done refl))))
 
 -- behind a parenthesis and a star a call through a name, and a semicolon
-through_then : (ls : List Lexeme) → Proper ls → Exact (Fixed tok.LeftParen ∷ Fixed tok.Star ∷ []) stmt_tokens (Of part.InThrough 100 ∷ One tok.Semicolon ∷ []) ls (and_then (through 100 ls) (λ c m. and_then (expect tok.Semicolon m) (λ u q. Ok (tree.Call None c.callee c.args, q))))
+through_then : (ls : List Lexeme) → Proper ls
+    → Exact (Fixed tok.LeftParen ∷ Fixed tok.Star ∷ []) stmt_tokens (Of part.InThrough 100 ∷ One tok.Semicolon ∷ []) ls
+    (and_then (through 100 ls) (λ c m. and_then (expect tok.Semicolon m) (λ u q. Ok (tree.Call None c.callee c.args, q))))
 through_then ls proper = behind proper (through_exact 100 ls proper) (λ c l1 p1. text refl p1 (λ l2 p2. done (simp append_assoc)))
 
-call_through_exact : (ls : List Lexeme) → Proper ls → Exact (Fixed tok.LeftParen ∷ []) stmt_tokens (One tok.Star ∷ Of part.InThrough 100 ∷ One tok.Semicolon ∷ []) ls (call_through ls)
+call_through_exact : (ls : List Lexeme) → Proper ls
+    → Exact (Fixed tok.LeftParen ∷ []) stmt_tokens (One tok.Star ∷ Of part.InThrough 100 ∷ One tok.Semicolon ∷ []) ls (call_through ls)
 unfolding call_through depth
 call_through_exact ls proper = text refl proper (λ l1 p1. through_then l1 p1)
 
@@ -127,7 +154,9 @@ statement_exact ls proper = by (kind_of (first ls).token) refl
     by (kind.Fixed tok.WordGoto) e = open_part (rw e refl) (mapped tree.Goto (λ n. refl) (jump_exact ls proper))
     by (kind.Fixed tok.WordIf) e = open_part (rw e refl) (text refl proper (λ l1 p1. condition_exact l1 p1))
     by (kind.Fixed tok.WordSwitch) e = open_part (rw e refl) (text refl proper (λ l1 p1. switch_exact l1 p1))
-    by (kind.Fixed tok.WordReturn) e = open_part (rw e refl) (text refl proper (λ l1 p1. next p1 (returned_exact l1 p1) (λ r l2 p2. text refl p2 (λ l3 p3. done (return_done r)))))
+    by (kind.Fixed tok.WordReturn) e =
+        open_part (rw e refl)
+        (text refl proper (λ l1 p1. next p1 (returned_exact l1 p1) (λ r l2 p2. text refl p2 (λ l3 p3. done (return_done r)))))
     by _ e = no_part (rw e refl)
 
 some_token : (s : tree.Stmt) → (t : Token) × (ts : List Token) × (stmt_tokens s ≡ t ∷ ts)
@@ -152,7 +181,8 @@ statements_list = record {
   some = some_token;
 }
   where
-    by : (l : Lexeme) (k : Kind) → kind_of l.token ≡ k → not_brace k ≡ true → move (Of part.InStatements 100) l ≡ Becomes (Of part.InStatement 100 ∷ Of part.InStatements 100 ∷ [])
+    by : (l : Lexeme) (k : Kind) → kind_of l.token ≡ k → not_brace k ≡ true
+        → move (Of part.InStatements 100) l ≡ Becomes (Of part.InStatement 100 ∷ Of part.InStatements 100 ∷ [])
     by l (kind.Fixed tok.RightBrace) e on = absurd cc
     by l _ e on = rw e refl
 

@@ -70,15 +70,19 @@ pub expect_exact : (t : Tok) (ls : List Lexeme) → is_text t ≡ true → Exact
 unfolding expect next_kind unexpected
 expect_exact t ls e = by (is_fixed t (kind_of (first ls).token)) refl
   where
-    by : (b : Bool) → is_fixed t (kind_of (first ls).token) ≡ b → Exact [] (λ _. Fixed t ∷ []) (One t ∷ []) ls (cond b (Ok (tt {0}, others ls)) (Err (Unexpected (first ls).place (wanted.Token t))))
+    by : (b : Bool) → is_fixed t (kind_of (first ls).token) ≡ b
+        → Exact [] (λ _. Fixed t ∷ []) (One t ∷ []) ls
+        (cond b (Ok (tt {0}, others ls)) (Err (Unexpected (first ls).place (wanted.Token t))))
     by true fixed =
         let is = is_token t (first ls).token fixed in
         record { is = (takes_one (One t) ls (moves_text t (first ls) e is fixed), Fixed t ∷ [], has_first t ls e is, refl) }
     by false fixed = no_part (rw (fits_text t (kind_of (first ls).token) e, fixed) refl)
 
 -- a fixed text, and what stands behind it
-pub text : {B : Type 0} {before : List Token} {tb : B → List Token} {t : Tok} {more : List Symbol} {ls : List Lexeme} {k : Parser B} → is_text t ≡ true → Proper ls
-    → ((l1 : List Lexeme) → Proper l1 → Exact (before ++ Fixed t ∷ []) tb more l1 (k l1)) → Exact before tb (One t ∷ more) ls (and_then (expect t ls) (λ _. k))
+pub text : {B : Type 0} {before : List Token} {tb : B → List Token} {t : Tok} {more : List Symbol} {ls : List Lexeme} {k : Parser B}
+    → is_text t ≡ true → Proper ls
+    → ((l1 : List Lexeme) → Proper l1 → Exact (before ++ Fixed t ∷ []) tb more l1 (k l1))
+    → Exact before tb (One t ∷ more) ls (and_then (expect t ls) (λ _. k))
 text {t = t} {ls = ls} is proper behind = next proper (expect_exact t ls is) (λ u l1 p1. behind l1 p1)
 
 -- ---- names
@@ -95,8 +99,10 @@ name_exact (l ∷ ls) = by l.token refl
     by Wrong is = no_part (rw is refl)
 
 -- a name, and what stands behind it
-pub named : {B : Type 0} {before : List Token} {tb : B → List Token} {more : List Symbol} {ls : List Lexeme} {k : List ℕ → Parser B} → Proper ls
-    → ((n : List ℕ) (l1 : List Lexeme) → Proper l1 → Exact (before ++ Named n ∷ []) tb more l1 (k n l1)) → Exact before tb (One tok.Name ∷ more) ls (and_then (name ls) k)
+pub named : {B : Type 0} {before : List Token} {tb : B → List Token} {more : List Symbol} {ls : List Lexeme} {k : List ℕ → Parser B}
+    → Proper ls
+    → ((n : List ℕ) (l1 : List Lexeme) → Proper l1 → Exact (before ++ Named n ∷ []) tb more l1 (k n l1))
+    → Exact before tb (One tok.Name ∷ more) ls (and_then (name ls) k)
 named {ls = ls} proper behind = next proper (name_exact ls) behind
 
 -- ---- numbers
@@ -140,7 +146,15 @@ number_exact d (l ∷ ls) proper = by l.token refl
     in_range s ds is true small =
         let m : move OneNumber l ≡ Takes = rw (is, small) refl in
         let digits : are_digits ds ≡ true = subst HasDigits is proper.0 in
-        open_part (number_is d l s ds is) (record { is = (takes_one OneNumber (l ∷ ls) m, Number s ds ∷ [], (is, refl, refl), ap (λ t. t ∷ []) (num_again s ds digits (ltb-true _ _ small))) })
+        open_part (number_is d l s ds is)
+        (record {
+          is = (
+            takes_one OneNumber (l ∷ ls) m,
+            Number s ds ∷ [],
+            (is, refl, refl),
+            ap (λ t. t ∷ []) (num_again s ds digits (ltb-true _ _ small)),
+          );
+        })
     in_range s ds is false large =
         let m : move OneNumber l ≡ Faulty (NumberTooLarge l.place) = rw (is, large) refl in
         open_part (number_is d l s ds is) (no_part m)
@@ -163,8 +177,10 @@ PlainExact s ls o = Exact [] plain_tokens (s ∷ []) ls o
 record TakesPlain (s : Symbol) (above : ℕ) : Type 0 where
   within : above ≤ 2 ^ 64
   small : (l : Lexeme) (ds : List ℕ) → l.token ≡ Number OfPlain ds → nat_lt (value_of 0 ds) above ≡ true → move s l ≡ Takes
-  large : (l : Lexeme) (ds : List ℕ) → l.token ≡ Number OfPlain ds → nat_lt (value_of 0 ds) above ≡ false → move s l ≡ Faulty (NumberTooLarge l.place)
-  other : (l : Lexeme) (t : Token) → l.token ≡ t → ((ds : List ℕ) → t ≡ Number OfPlain ds → ⊥) → move s l ≡ Faulty (Unexpected l.place (wanted.Token tok.Plain))
+  large : (l : Lexeme) (ds : List ℕ) → l.token ≡ Number OfPlain ds → nat_lt (value_of 0 ds) above ≡ false
+      → move s l ≡ Faulty (NumberTooLarge l.place)
+  other : (l : Lexeme) (t : Token) → l.token ≡ t → ((ds : List ℕ) → t ≡ Number OfPlain ds → ⊥)
+      → move s l ≡ Faulty (Unexpected l.place (wanted.Token tok.Plain))
 
 plain_exact : (s : Symbol) (above : ℕ) (ls : List Lexeme) → TakesPlain s above → Proper ls → PlainExact s ls (plain above ls)
 unfolding plain unexpected
@@ -176,7 +192,14 @@ plain_exact s above (l ∷ ls) row proper = by l.token refl
     in_range ds is true small =
         let digits : are_digits ds ≡ true = subst HasDigits is proper.0 in
         let lt : value_of 0 ds < 2 ^ 64 = omega (arith, ltb-true _ _ small, row.within) in
-        record { is = (takes_one s (l ∷ ls) (row.small l ds is small), Number OfPlain ds ∷ [], (is, refl, refl), ap (λ x. Number OfPlain x ∷ []) (digits_again ds digits lt)) }
+        record {
+          is = (
+            takes_one s (l ∷ ls) (row.small l ds is small),
+            Number OfPlain ds ∷ [],
+            (is, refl, refl),
+            ap (λ x. Number OfPlain x ∷ []) (digits_again ds digits lt),
+          );
+        }
     in_range ds is false large = no_part (row.large l ds is large)
 
     by : (x : Token) → l.token ≡ x → PlainExact s (l ∷ ls) (plain_at above x (l ∷ ls))
@@ -188,9 +211,16 @@ plain_exact s above (l ∷ ls) row proper = by l.token refl
     by Wrong is = no_part (row.other l Wrong is (λ es e. cc))
 
 byte_row : TakesPlain OneByte 256
-byte_row = record { within = omega arith; small = λ l ds is e. rw (is, e) refl; large = λ l ds is e. rw (is, e) refl; other = λ l t is differs. by l t is differs }
+byte_row =
+    record {
+      within = omega arith;
+      small = λ l ds is e. rw (is, e) refl;
+      large = λ l ds is e. rw (is, e) refl;
+      other = λ l t is differs. by l t is differs;
+    }
   where
-    by : (l : Lexeme) (t : Token) → l.token ≡ t → ((ds : List ℕ) → t ≡ Number OfPlain ds → ⊥) → move OneByte l ≡ Faulty (Unexpected l.place (wanted.Token tok.Plain))
+    by : (l : Lexeme) (t : Token) → l.token ≡ t → ((ds : List ℕ) → t ≡ Number OfPlain ds → ⊥)
+        → move OneByte l ≡ Faulty (Unexpected l.place (wanted.Token tok.Plain))
     by l (Number OfPlain ds) is differs = absurd (differs ds refl)
     by l (Number Of32 ds) is differs = rw is refl
     by l (Number Of64 ds) is differs = rw is refl
@@ -199,9 +229,16 @@ byte_row = record { within = omega arith; small = λ l ds is e. rw (is, e) refl;
     by l Wrong is differs = rw is refl
 
 count_row : TakesPlain (One tok.Plain) (2 ^ 32)
-count_row = record { within = omega arith; small = λ l ds is e. rw (is, e) refl; large = λ l ds is e. rw (is, e) refl; other = λ l t is differs. by l t is differs }
+count_row =
+    record {
+      within = omega arith;
+      small = λ l ds is e. rw (is, e) refl;
+      large = λ l ds is e. rw (is, e) refl;
+      other = λ l t is differs. by l t is differs;
+    }
   where
-    by : (l : Lexeme) (t : Token) → l.token ≡ t → ((ds : List ℕ) → t ≡ Number OfPlain ds → ⊥) → move (One tok.Plain) l ≡ Faulty (Unexpected l.place (wanted.Token tok.Plain))
+    by : (l : Lexeme) (t : Token) → l.token ≡ t → ((ds : List ℕ) → t ≡ Number OfPlain ds → ⊥)
+        → move (One tok.Plain) l ≡ Faulty (Unexpected l.place (wanted.Token tok.Plain))
     by l (Number OfPlain ds) is differs = absurd (differs ds refl)
     by l (Number Of32 ds) is differs = rw is refl
     by l (Number Of64 ds) is differs = rw is refl

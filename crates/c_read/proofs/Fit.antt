@@ -42,11 +42,13 @@ gives h = record { is = h }
 fails : {A : Type 0} {fit : A → Type 0} {f : CReadFault} → Fit fit (Err f)
 fails = record { is = tt }
 
-next_at : {A B : Type 0} (fa : A → Type 0) (fb : B → Type 0) (o : Outcome A) (k : A → Parser B) → FitAt fa o → ((a : A) (m : List Lexeme) → fa a → Fit fb (k a m)) → FitAt fb (and_then o k)
+next_at : {A B : Type 0} (fa : A → Type 0) (fb : B → Type 0) (o : Outcome A) (k : A → Parser B) → FitAt fa o
+    → ((a : A) (m : List Lexeme) → fa a → Fit fb (k a m)) → FitAt fb (and_then o k)
 next_at fa fb (Ok p) k h next = (next p.0 p.1 h).is
 next_at fa fb (Err f) k h next = tt
 
-next : {A B : Type 0} {fa : A → Type 0} {fb : B → Type 0} {o : Outcome A} {k : A → Parser B} → Fit fa o → ((a : A) (m : List Lexeme) → fa a → Fit fb (k a m)) → Fit fb (and_then o k)
+next : {A B : Type 0} {fa : A → Type 0} {fb : B → Type 0} {o : Outcome A} {k : A → Parser B} → Fit fa o
+    → ((a : A) (m : List Lexeme) → fa a → Fit fb (k a m)) → Fit fb (and_then o k)
 next {fa = fa} {fb = fb} {o = o} {k = k} h go = record { is = next_at fa fb o k h.is go }
 
 free_at : {A : Type 0} (o : Outcome A) → FitAt (λ _. Unit {0}) o
@@ -57,30 +59,37 @@ free_at (Err f) = tt
 free : {A : Type 0} (o : Outcome A) → Fit (λ _. Unit {0}) o
 free o = record { is = free_at o }
 
-text : {B : Type 0} {fb : B → Type 0} (t : Tok) (ls : List Lexeme) {k : Parser B} → ((m : List Lexeme) → Fit fb (k m)) → Fit fb (and_then (expect t ls) (λ _. k))
+text : {B : Type 0} {fb : B → Type 0} (t : Tok) (ls : List Lexeme) {k : Parser B} → ((m : List Lexeme) → Fit fb (k m))
+    → Fit fb (and_then (expect t ls) (λ _. k))
 text t ls go = next (free (expect t ls)) (λ u m h. go m)
 
-named : {B : Type 0} {fb : B → Type 0} (ls : List Lexeme) {k : List ℕ → Parser B} → ((n : List ℕ) (m : List Lexeme) → Fit fb (k n m)) → Fit fb (and_then (name ls) k)
+named : {B : Type 0} {fb : B → Type 0} (ls : List Lexeme) {k : List ℕ → Parser B} → ((n : List ℕ) (m : List Lexeme) → Fit fb (k n m))
+    → Fit fb (and_then (name ls) k)
 named ls go = next (free (name ls)) (λ n m h. go n m)
 
-many_fit : {A : Type 0} {fit : A → Type 0} (goes : Kind → Bool) (one : Parser A) (n : ℕ) (ls : List Lexeme) → ((m : List Lexeme) → Fit fit (one m)) → Fit (AllByRecursion fit) (many goes one n ls)
+many_fit : {A : Type 0} {fit : A → Type 0} (goes : Kind → Bool) (one : Parser A) (n : ℕ) (ls : List Lexeme)
+    → ((m : List Lexeme) → Fit fit (one m)) → Fit (AllByRecursion fit) (many goes one n ls)
 unfolding many next_kind
 many_fit goes one zero ls each_fit = gives tt
 many_fit {fit = fit} goes one (suc n) ls each_fit = by (goes (kind_of (first ls).token)) (λ m. many_fit goes one n m each_fit)
   where
-    by : (b : Bool) → ((m : List Lexeme) → Fit (AllByRecursion fit) (many goes one n m)) → Fit (AllByRecursion fit) (cond b (and_then (one ls) (λ x m. and_then (many goes one n m) (λ xs q. Ok (x ∷ xs, q)))) (Ok ([], ls)))
+    by : (b : Bool) → ((m : List Lexeme) → Fit (AllByRecursion fit) (many goes one n m))
+        → Fit (AllByRecursion fit) (cond b (and_then (one ls) (λ x m. and_then (many goes one n m) (λ xs q. Ok (x ∷ xs, q)))) (Ok ([], ls)))
     by true rest = next (each_fit ls) (λ x m h. next (rest m) (λ xs q hs. gives (h, hs)))
     by false rest = gives tt
 
-all_fit : {A : Type 0} {fit : A → Type 0} (goes : Kind → Bool) (one : Parser A) (ls : List Lexeme) → ((m : List Lexeme) → Fit fit (one m)) → Fit (AllByRecursion fit) (all goes one ls)
+all_fit : {A : Type 0} {fit : A → Type 0} (goes : Kind → Bool) (one : Parser A) (ls : List Lexeme) → ((m : List Lexeme) → Fit fit (one m))
+    → Fit (AllByRecursion fit) (all goes one ls)
 all_fit goes one ls each_fit = many_fit goes one (suc (length ls)) ls each_fit
 
 -- a list with commas that has a piece
 abbrev SomeFit : {A : Type 0} → (A → Type 0) → List A → Type 0
 SomeFit fit xs = (0 < length xs) × AllByRecursion fit xs
 
-more_fit : {A : Type 0} {fit : A → Type 0} (one : Parser A) (x : A) (ls : List Lexeme) → ((m : List Lexeme) → Fit fit (one m)) → fit x → Fit (SomeFit fit) (and_more (behind_comma one) x ls)
-more_fit one x ls each_fit h = next (all_fit is_comma (behind_comma one) ls (λ m. text tok.Comma m (λ q. each_fit q))) (λ xs m hs. gives (omega arith, (h, hs)))
+more_fit : {A : Type 0} {fit : A → Type 0} (one : Parser A) (x : A) (ls : List Lexeme) → ((m : List Lexeme) → Fit fit (one m)) → fit x
+    → Fit (SomeFit fit) (and_more (behind_comma one) x ls)
+more_fit one x ls each_fit h =
+    next (all_fit is_comma (behind_comma one) ls (λ m. text tok.Comma m (λ q. each_fit q))) (λ xs m hs. gives (omega arith, (h, hs)))
 
 -- ---- numbers
 
@@ -89,7 +98,8 @@ num_fits OfPlain n lt = lt
 num_fits Of32 n lt = lt
 num_fits Of64 n lt = lt
 
-in_range : (s : Suffix) (n : ℕ) (ls : List Lexeme) (f : CReadFault) (b : Bool) → nat_lt n (limit s) ≡ b → Fit FitsNum (cond b (Ok (num_of s n, ls)) (Err f))
+in_range : (s : Suffix) (n : ℕ) (ls : List Lexeme) (f : CReadFault) (b : Bool) → nat_lt n (limit s) ≡ b
+    → Fit FitsNum (cond b (Ok (num_of s n, ls)) (Err f))
 in_range s n ls f true e = gives (num_fits s n (ltb-true _ _ e))
 in_range s n ls f false e = fails
 
@@ -103,7 +113,8 @@ number_fit ls = by (first ls).token
     by (Named n) = fails
     by Wrong = fails
 
-below : (above n : ℕ) (ls : List Lexeme) (f : CReadFault) (b : Bool) → nat_lt n above ≡ b → Fit (λ v. v < above) (cond b (Ok (n, ls)) (Err f))
+below : (above n : ℕ) (ls : List Lexeme) (f : CReadFault) (b : Bool) → nat_lt n above ≡ b
+    → Fit (λ v. v < above) (cond b (Ok (n, ls)) (Err f))
 below above n ls f true e = gives (ltb-true _ _ e)
 below above n ls f false e = fails
 
@@ -124,7 +135,8 @@ plain_fit above ls = by (first ls).token
 abbrev ExprFit : ℕ → Parser tree.Expr → Type 0
 ExprFit d inside = (ls : List Lexeme) → Fit (FitsExpr d) (inside ls)
 
-index_fit : (d : ℕ) (inside : Parser tree.Expr) (n : List ℕ) (ls : List Lexeme) → ExprFit d inside → Fit (FitsExpr (suc d)) (index inside n ls)
+index_fit : (d : ℕ) (inside : Parser tree.Expr) (n : List ℕ) (ls : List Lexeme) → ExprFit d inside
+    → Fit (FitsExpr (suc d)) (index inside n ls)
 unfolding index next_kind
 index_fit d inside n ls within = by (kind_of (first ls).token)
   where
@@ -217,18 +229,26 @@ arguments_fit d ls = by (kind_of (first ls).token)
 
 types_fit : (ls : List Lexeme) → Fit (λ (ts : List CType). 0 < length ts) (types ls)
 unfolding types more_types next_type
-types_fit ls = next (free (ctype ls)) (λ t m h. weaker (λ ts some. some.0) (more_fit {fit = λ _. Unit {0}} ctype t m (λ r. free (ctype r)) tt))
+types_fit ls =
+    next (free (ctype ls)) (λ t m h. weaker (λ ts some. some.0) (more_fit {fit = λ _. Unit {0}} ctype t m (λ r. free (ctype r)) tt))
 
 pointer_fit : (ls : List Lexeme) → Fit (λ (t : tree.FuncType). 0 < length t.params) (pointer_type ls)
 unfolding pointer_type
-pointer_fit ls = text tok.LeftParen ls (λ m. next (free (ctype m)) (λ t m1 h. text tok.LeftParen m1 (λ m2. text tok.Star m2 (λ m3. text tok.RightParen m3 (λ m4. text tok.LeftParen m4 (λ m5. next (types_fit m5) (λ ts m6 some. text tok.RightParen m6 (λ m7. text tok.RightParen m7 (λ m8. gives some)))))))))
+pointer_fit ls =
+    text tok.LeftParen ls (λ m. next (free (ctype m))
+    (λ t m1 h. text tok.LeftParen m1 (λ m2. text tok.Star m2
+    (λ m3. text tok.RightParen m3 (λ m4. text tok.LeftParen m4
+    (λ m5. next (types_fit m5) (λ ts m6 some. text tok.RightParen m6 (λ m7. text tok.RightParen m7 (λ m8. gives some)))))))))
 
 abbrev FitsCalled : ℕ → Called → Type 0
 FitsCalled d c = FitsCallee c.callee × AllByRecursion (FitsArg d) c.args
 
 through_fit : (d : ℕ) (ls : List Lexeme) → Fit (FitsCalled d) (through d ls)
 unfolding through
-through_fit d ls = next (pointer_fit ls) (λ t m some. named m (λ n m1. text tok.RightParen m1 (λ m2. text tok.LeftParen m2 (λ m3. next (arguments_fit d m3) (λ xs m4 h. text tok.RightParen m4 (λ m5. gives (some, h)))))))
+through_fit d ls =
+    next (pointer_fit ls)
+    (λ t m some. named m (λ n m1. text tok.RightParen m1
+    (λ m2. text tok.LeftParen m2 (λ m3. next (arguments_fit d m3) (λ xs m4 h. text tok.RightParen m4 (λ m5. gives (some, h)))))))
 
 abbrev FitsRight : ℕ → Right → Type 0
 FitsRight d (Gives a) = FitsArg (suc d) a
@@ -240,7 +260,8 @@ rname_fit d f ls = by (kind_of (first ls).token)
   where
     by : (k : Kind) → Fit (FitsRight d) (rname_by d f k ls)
     by (kind.Fixed tok.LeftBracket) = text tok.LeftBracket ls (λ m. next (expr_fit d m) (λ i r h. text tok.RightBracket r (λ q. gives h)))
-    by (kind.Fixed tok.LeftParen) = text tok.LeftParen ls (λ m. next (arguments_fit d m) (λ xs r h. text tok.RightParen r (λ q. gives (tt, h))))
+    by (kind.Fixed tok.LeftParen) =
+        text tok.LeftParen ls (λ m. next (arguments_fit d m) (λ xs r h. text tok.RightParen r (λ q. gives (tt, h))))
     by _ = gives tt
 
 rstar_fit : (d : ℕ) (ls : List Lexeme) → Fit (FitsRight d) (rstar d ls)
@@ -283,8 +304,11 @@ after_fit n ls = by (kind_of (first ls).token)
   where
     by : (k : Kind) → Fit (FitsStmt 100) (after_by n k ls)
     by (kind.Fixed tok.Colon) = text tok.Colon ls (λ m. gives tt)
-    by (kind.Fixed tok.Assign) = text tok.Assign ls (λ m. next (right_fit 99 m) (λ r q h. text tok.Semicolon q (λ z. gives (assigned_fits n r h))))
-    by (kind.Fixed tok.LeftParen) = text tok.LeftParen ls (λ m. next (arguments_fit 100 m) (λ xs q h. text tok.RightParen q (λ z. text tok.Semicolon z (λ y. gives (tt, h)))))
+    by (kind.Fixed tok.Assign) =
+        text tok.Assign ls (λ m. next (right_fit 99 m) (λ r q h. text tok.Semicolon q (λ z. gives (assigned_fits n r h))))
+    by (kind.Fixed tok.LeftParen) =
+        text tok.LeftParen ls (λ m. next (arguments_fit 100 m)
+        (λ xs q h. text tok.RightParen q (λ z. text tok.Semicolon z (λ y. gives (tt, h)))))
     by _ = fails
 
 abbrev FitsReturned : Option tree.Arg → Type 0
@@ -305,15 +329,23 @@ return_fits (Some a) h = h
 
 case_fit : (ls : List Lexeme) → Fit (λ (c : tree.Case). FitsNum c.0) (one_case ls)
 unfolding one_case
-case_fit ls = text tok.WordCase ls (λ m. next (number_fit m) (λ v m1 h. text tok.Colon m1 (λ m2. next (free (jump m2)) (λ n m3 hf. gives h))))
+case_fit ls =
+    text tok.WordCase ls (λ m. next (number_fit m) (λ v m1 h. text tok.Colon m1 (λ m2. next (free (jump m2)) (λ n m3 hf. gives h))))
 
 switch_fit : (ls : List Lexeme) → Fit (FitsStmt 100) (switch ls)
 unfolding switch cases depth
-switch_fit ls = text tok.LeftParen ls (λ m. next (expr_fit 100 m) (λ e m1 h. text tok.RightParen m1 (λ m2. text tok.LeftBrace m2 (λ m3. next (all_fit is_case one_case m3 case_fit) (λ cs m4 hs. next (free (default m4)) (λ n m5 hf. text tok.RightBrace m5 (λ m6. gives (h, hs))))))))
+switch_fit ls =
+    text tok.LeftParen ls (λ m. next (expr_fit 100 m)
+    (λ e m1 h. text tok.RightParen m1
+    (λ m2. text tok.LeftBrace m2 (λ m3. next (all_fit is_case one_case m3 case_fit)
+    (λ cs m4 hs. next (free (default m4)) (λ n m5 hf. text tok.RightBrace m5 (λ m6. gives (h, hs))))))))
 
 condition_fit : (ls : List Lexeme) → Fit (FitsStmt 100) (condition ls)
 unfolding condition depth
-condition_fit ls = text tok.LeftParen ls (λ m. next (expr_fit 100 m) (λ a m1 ha. next (free (operator m1)) (λ o m2 hf. next (expr_fit 100 m2) (λ b m3 hb. text tok.RightParen m3 (λ m4. next (free (jump m4)) (λ n m5 hg. gives (ha, hb)))))))
+condition_fit ls =
+    text tok.LeftParen ls (λ m. next (expr_fit 100 m)
+    (λ a m1 ha. next (free (operator m1))
+    (λ o m2 hf. next (expr_fit 100 m2) (λ b m3 hb. text tok.RightParen m3 (λ m4. next (free (jump m4)) (λ n m5 hg. gives (ha, hb)))))))
 
 set_star_fit : (ls : List Lexeme) → Fit (FitsStmt 100) (set_star ls)
 unfolding set_star depth
@@ -335,7 +367,8 @@ statement_fit ls = by (kind_of (first ls).token)
     by (kind.Fixed tok.WordGoto) = next (free (jump ls)) (λ n m h. gives tt)
     by (kind.Fixed tok.WordIf) = text tok.WordIf ls (λ m. condition_fit m)
     by (kind.Fixed tok.WordSwitch) = text tok.WordSwitch ls (λ m. switch_fit m)
-    by (kind.Fixed tok.WordReturn) = text tok.WordReturn ls (λ m. next (returned_fit m) (λ r q h. text tok.Semicolon q (λ z. gives (return_fits r h))))
+    by (kind.Fixed tok.WordReturn) =
+        text tok.WordReturn ls (λ m. next (returned_fit m) (λ r q h. text tok.Semicolon q (λ z. gives (return_fits r h))))
     by _ = fails
 
 -- ---- items
@@ -346,19 +379,30 @@ bytes_fit ls = next (plain_fit 256 ls) (λ b m h. more_fit (plain 256) b m (plai
 
 array_fit : (ls : List Lexeme) → Fit (FitsItem 100) (array ls)
 unfolding array
-array_fit ls = text tok.WordConst ls (λ m. text tok.WordU8 m (λ m1. named m1 (λ n m2. text tok.LeftBracket m2 (λ m3. next (plain_fit (2 ^ 32) m3) (λ count m4 h. text tok.RightBracket m4 (λ m5. text tok.Assign m5 (λ m6. text tok.LeftBrace m6 (λ m7. next (bytes_fit m7) (λ bs m8 hs. text tok.RightBrace m8 (λ m9. text tok.Semicolon m9 (λ m10. gives (h, hs.0, hs.1))))))))))))
+array_fit ls =
+    text tok.WordConst ls (λ m. text tok.WordU8 m
+    (λ m1. named m1 (λ n m2. text tok.LeftBracket m2
+    (λ m3. next (plain_fit (2 ^ 32) m3)
+    (λ count m4 h. text tok.RightBracket m4
+    (λ m5. text tok.Assign m5 (λ m6. text tok.LeftBrace m6
+    (λ m7. next (bytes_fit m7) (λ bs m8 hs. text tok.RightBrace m8 (λ m9. text tok.Semicolon m9 (λ m10. gives (h, hs.0, hs.1))))))))))))
 
 params_fit : (ls : List Lexeme) → Fit (λ (ps : List tree.Param). 0 < length ps) (params ls)
 unfolding params more_params next_param
-params_fit ls = next (free (param ls)) (λ p m h. weaker (λ ps some. some.0) (more_fit {fit = λ _. Unit {0}} param p m (λ r. free (param r)) tt))
+params_fit ls =
+    next (free (param ls)) (λ p m h. weaker (λ ps some. some.0) (more_fit {fit = λ _. Unit {0}} param p m (λ r. free (param r)) tt))
 
 declaration_fit : (ls : List Lexeme) → Fit (λ (l : tree.Local). FitsNum l.2) (declaration ls)
 unfolding declaration
-declaration_fit ls = next (free (ctype ls)) (λ t m hf. named m (λ n m1. text tok.Assign m1 (λ m2. next (number_fit m2) (λ v m3 h. text tok.Semicolon m3 (λ m4. gives h)))))
+declaration_fit ls =
+    next (free (ctype ls))
+    (λ t m hf. named m (λ n m1. text tok.Assign m1 (λ m2. next (number_fit m2) (λ v m3 h. text tok.Semicolon m3 (λ m4. gives h)))))
 
 body_fit : (ls : List Lexeme) → Fit (λ b. FitsBody 100 (Some b)) (body ls)
 unfolding body declarations statements
-body_fit ls = next (all_fit begins_type declaration ls declaration_fit) (λ locals m h. next (all_fit not_brace statement m statement_fit) (λ ss m1 hs. gives (h, hs)))
+body_fit ls =
+    next (all_fit begins_type declaration ls declaration_fit)
+    (λ locals m h. next (all_fit not_brace statement m statement_fit) (λ ss m1 hs. gives (h, hs)))
 
 close_fit : (ls : List Lexeme) → Fit (FitsBody 100) (close ls)
 unfolding close next_kind
@@ -391,7 +435,8 @@ inner_fit ls = by (begins_type (kind_of (first ls).token))
     other (kind.Fixed tok.WordConst) = array_fit ls
     other _ = fails
 
-    by : (b : Bool) → Fit (FitsItem 100) (cond b (and_then (ctype ls) (λ t m. and_then (name m) (λ n. rest t n))) (inner_by (kind_of (first ls).token) ls))
+    by : (b : Bool) → Fit (FitsItem 100)
+        (cond b (and_then (ctype ls) (λ t m. and_then (name m) (λ n. rest t n))) (inner_by (kind_of (first ls).token) ls))
     by true = next (free (ctype ls)) (λ t m h. named m (λ n m1. rest_fit t n m1))
     by false = other (kind_of (first ls).token)
 

@@ -7,7 +7,8 @@ use Rattle.c_tree.specs.Tokens.{kind_of}
 use Rattle.c_tree.specs.Text.{Lexeme}
 use Rattle.c_tree.specs.Grammar.{Symbol, One, OneByte, OneNumber, Of, Stops, here, taken, opened, Move, Takes, Becomes, Faulty, move, first, others, fits, taking, is_large, is_plain, is_byte, is_number, counts, counted, too_deep, becoming, expansion}
 
-taken_back : (s : Symbol) (ss : List Symbol) (ls : List Lexeme) (f : CReadFault) → move s (first ls) ≡ Takes → Stops (s ∷ ss) ls f → Stops ss (others ls) f
+taken_back : (s : Symbol) (ss : List Symbol) (ls : List Lexeme) (f : CReadFault) → move s (first ls) ≡ Takes → Stops (s ∷ ss) ls f
+    → Stops ss (others ls) f
 taken_back s ss ls f e (here is) = absurd cc
 taken_back s ss ls f e (taken is rest) = rest
 taken_back s ss ls f e (opened is rest) = absurd cc
@@ -15,7 +16,8 @@ taken_back s ss ls f e (opened is rest) = absurd cc
 becomes_same : (xs ys : List Symbol) → Becomes xs ≡ Becomes ys → xs ≡ ys
 becomes_same xs ys e = cc
 
-opened_back : (s : Symbol) (ss new : List Symbol) (ls : List Lexeme) (f : CReadFault) → move s (first ls) ≡ Becomes new → Stops (s ∷ ss) ls f → Stops (new ++ ss) ls f
+opened_back : (s : Symbol) (ss new : List Symbol) (ls : List Lexeme) (f : CReadFault) → move s (first ls) ≡ Becomes new
+    → Stops (s ∷ ss) ls f → Stops (new ++ ss) ls f
 opened_back s ss new ls f e (here is) = absurd cc
 opened_back s ss new ls f e (taken is rest) = absurd cc
 opened_back s ss new ls f e (opened {new = other} is rest) = subst (λ t. Stops (t ++ ss) ls f) (becomes_same other new (sym is ∙ e)) rest
@@ -23,7 +25,8 @@ opened_back s ss new ls f e (opened {new = other} is rest) = subst (λ t. Stops 
 faulty_same : (f g : CReadFault) → Faulty f ≡ Faulty g → f ≡ g
 faulty_same f g e = cc
 
-here_back : (s : Symbol) (ss : List Symbol) (ls : List Lexeme) (f g : CReadFault) → move s (first ls) ≡ Faulty f → Stops (s ∷ ss) ls g → f ≡ g
+here_back : (s : Symbol) (ss : List Symbol) (ls : List Lexeme) (f g : CReadFault) → move s (first ls) ≡ Faulty f → Stops (s ∷ ss) ls g
+    → f ≡ g
 here_back s ss ls f g e (here is) = faulty_same f g (sym e ∙ is)
 here_back s ss ls f g e (taken is rest) = absurd cc
 here_back s ss ls f g e (opened is rest) = absurd cc
@@ -67,7 +70,8 @@ move_fault : (s : Symbol) (l : Lexeme) → MoveFault (move s l)
 move_fault (One t) l = choose (fits t (kind_of l.token)) (taking l) _ (taking_fault l) tt
 move_fault OneByte l = choose (is_plain l.token) _ _ (choose (is_byte l.token) Takes _ tt tt) tt
 move_fault OneNumber l = choose (is_number l.token) (taking l) _ (taking_fault l) tt
-move_fault (Of p d) l = choose (counts p) (counted p d l) _ (counted_fault p d l) (becoming_fault p l.place (expansion p d (kind_of l.token)))
+move_fault (Of p d) l =
+    choose (counts p) (counted p d l) _ (counted_fault p d l) (becoming_fault p l.place (expansion p d (kind_of l.token)))
 
 pub stops_at_token : {ss : List Symbol} {ls : List Lexeme} {f : CReadFault} → Stops ss ls f → IsOfToken f
 stops_at_token (here {s = s} {ls = ls} is) = subst MoveFault is (move_fault s (first ls))

@@ -45,13 +45,15 @@ put_before l (m ∷ ls) e ended = (e, ended)
 abbrev Sound : List Lexeme → Type 0
 Sound ls = Proper ls × Ended ls
 
-sound_behind : (f : Front) (p : ℕ) (follow : ℕ → List Lexeme) → GoodFront f → ((k : ℕ) → Sound (follow k)) → Sound (texts.and_then f p follow)
+sound_behind : (f : Front) (p : ℕ) (follow : ℕ → List Lexeme) → GoodFront f → ((k : ℕ) → Sound (follow k))
+    → Sound (texts.and_then f p follow)
 sound_behind (Gap k) p follow good next = next k
 sound_behind (Begins Wrong k) p follow good next = ((tt, tt), refl)
 sound_behind (Begins (Fixed tok.End) k) p follow good next = ((tt, tt), refl)
 sound_behind (Begins (Fixed u) k) p follow good next = ((tt, (next k).0), put_before (lexeme p (Fixed u)) (follow k) refl (next k).1)
 sound_behind (Begins (Named n) k) p follow good next = ((tt, (next k).0), put_before (lexeme p (Named n)) (follow k) refl (next k).1)
-sound_behind (Begins (Number s ds) k) p follow good next = ((digits_of (Number s ds) good, (next k).0), put_before (lexeme p (Number s ds)) (follow k) refl (next k).1)
+sound_behind (Begins (Number s ds) k) p follow good next =
+    ((digits_of (Number s ds) good, (next k).0), put_before (lexeme p (Number s ds)) (follow k) refl (next k).1)
 
 sound : (text : List ℕ) (k p : ℕ) → Sound (lexemes k p text)
 sound [] k p = ((tt, tt), refl)
@@ -91,7 +93,10 @@ spelled text u ls' read =
     let is = end_token (first ls').token (rw read at (unit_end (lexemes 0 0 text) s.0)) in
     record {
       fits = rw read at (unit_fit (lexemes 0 0 text)).is;
-      in_order = has_tokens (lexemes 0 0 text) x.1 ls' x.2 ∙ ap (λ us. x.1 ++ us) (only_end ls' (ended_behind (lexemes 0 0 text) x.1 ls' x.2 s.1) is) ∙ ap (λ us. us ++ Fixed tok.End ∷ []) (sym x.3);
+      in_order =
+          has_tokens (lexemes 0 0 text) x.1 ls' x.2
+          ∙ ap (λ us. x.1 ++ us) (only_end ls' (ended_behind (lexemes 0 0 text) x.1 ls' x.2 s.1) is)
+          ∙ ap (λ us. us ++ Fixed tok.End ∷ []) (sym x.3);
     }
 
 -- a fault on the way is the table's
@@ -104,7 +109,8 @@ faulty text f read =
 pub unit_or_fault : (text : List ℕ) → ((u : List tree.Item) × CSpells u text) ⊎ ((f : CReadFault) × CUpto text f)
 unit_or_fault text = by (unit (lexemes 0 0 text)) refl
   where
-    by : (o : Outcome (List tree.Item)) → unit (lexemes 0 0 text) ≡ o → ((u : List tree.Item) × CSpells u text) ⊎ ((f : CReadFault) × CUpto text f)
+    by : (o : Outcome (List tree.Item)) → unit (lexemes 0 0 text) ≡ o
+        → ((u : List tree.Item) × CSpells u text) ⊎ ((f : CReadFault) × CUpto text f)
     by (Ok p) read = inl (p.0, spelled text p.0 p.1 read)
     by (Err f) read = inr (f, faulty text f read)
 
@@ -123,7 +129,8 @@ pub record IsRead (text : List ℕ) (r : Result (List Item) CReadFault) : Type 0
   pub rest : List Lexeme
   pub reads : Reads unit_of (unit (lexemes 0 0 text)) r rest
 
-pub is_read : {text : List ℕ} {start : List Lexeme} (r : Result (List Item) CReadFault) (rest : List Lexeme) → start ≡ lexemes 0 0 text → Reads unit_of (unit start) r rest → IsRead text r
+pub is_read : {text : List ℕ} {start : List Lexeme} (r : Result (List Item) CReadFault) (rest : List Lexeme) → start ≡ lexemes 0 0 text
+    → Reads unit_of (unit start) r rest → IsRead text r
 is_read r rest is reads = record { rest = rest; reads = subst (λ ls. Reads unit_of (unit ls) r rest) is reads }
 
 pub read_spelled : (text : List ℕ) (r : Result (List Item) CReadFault) → IsRead text r → IfOk r (λ u. CSpells (unit_of u) text)
@@ -134,7 +141,8 @@ pub read_fault : (text : List ℕ) (r : Result (List Item) CReadFault) → IsRea
 read_fault text (Ok u) is = tt
 read_fault text (Err f) is = λ other. faulty text f (is.reads other)
 
-pub read_complete : (text : List ℕ) (r : Result (List Item) CReadFault) → IsRead text r → (u : List tree.Item) → CSpells u text → MatchResult r (λ found. unit_of found ≡ u) (λ f. f ≡ Memory)
+pub read_complete : (text : List ℕ) (r : Result (List Item) CReadFault) → IsRead text r → (u : List tree.Item) → CSpells u text
+    → MatchResult r (λ found. unit_of found ≡ u) (λ f. f ≡ Memory)
 read_complete text (Ok found) is u spells = one_unit (unit_of found) u text (spelled text (unit_of found) is.rest is.reads) spells
 read_complete text (Err f) is u spells = memory_alone text u f spells (λ other. faulty text f (is.reads other))
 

@@ -77,11 +77,16 @@ through_type params result = record { params = params; result = result }
 
 -- the type of what is called through a name, from its parenthesis on
 unfoldable pub pointer_type : Parser tree.FuncType
-pointer_type = expect tok.LeftParen >> (ctype >>= λ t. expect tok.LeftParen >> (expect tok.Star >> (expect tok.RightParen >> (expect tok.LeftParen >> (types >>= λ ts. expect tok.RightParen >> (expect tok.RightParen >> pure (through_type ts t)))))))
+pointer_type =
+    expect tok.LeftParen >> (ctype >>= λ t. expect tok.LeftParen >>
+    (expect tok.Star >> (expect tok.RightParen >>
+    (expect tok.LeftParen >> (types >>= λ ts. expect tok.RightParen >> (expect tok.RightParen >> pure (through_type ts t)))))))
 
 -- a call through a name, behind its parenthesis and star
 unfoldable pub through : ℕ → Parser Called
-through d = pointer_type >>= λ t. name >>= λ n. expect tok.RightParen >> (expect tok.LeftParen >> (arguments d >>= λ xs. expect tok.RightParen >> pure (calls (tree.Through t n) xs)))
+through d =
+    pointer_type >>= λ t. name >>= λ n. expect tok.RightParen >>
+    (expect tok.LeftParen >> (arguments d >>= λ xs. expect tok.RightParen >> pure (calls (tree.Through t n) xs)))
 
 -- ---- right sides
 
@@ -92,8 +97,10 @@ pub data Right : Type 0 where
 
 -- what follows a name
 abbrev pub rname_by : ℕ → List ℕ → Kind → Parser Right
-rname_by d f (kind.Fixed tok.LeftBracket) = expect tok.LeftBracket >> (expr d >>= λ i. expect tok.RightBracket >> pure (Gives (tree.Value (tree.At f i))))
-rname_by d f (kind.Fixed tok.LeftParen) = expect tok.LeftParen >> (arguments d >>= λ xs. expect tok.RightParen >> pure (Calls (calls (tree.Called f) xs)))
+rname_by d f (kind.Fixed tok.LeftBracket) =
+    expect tok.LeftBracket >> (expr d >>= λ i. expect tok.RightBracket >> pure (Gives (tree.Value (tree.At f i))))
+rname_by d f (kind.Fixed tok.LeftParen) =
+    expect tok.LeftParen >> (arguments d >>= λ xs. expect tok.RightParen >> pure (Calls (calls (tree.Called f) xs)))
 rname_by d f _ = pure (Gives (tree.Value (tree.Name f)))
 
 unfoldable pub rname : ℕ → List ℕ → Parser Right

@@ -28,7 +28,11 @@ array_bytes = byte >>= more_bytes
 
 -- an array behind the word static
 unfoldable pub array : Parser tree.Item
-array = expect tok.WordConst >> (expect tok.WordU8 >> (name >>= λ n. expect tok.LeftBracket >> (plain (2 ^ 32) >>= λ count. expect tok.RightBracket >> (expect tok.Assign >> (expect tok.LeftBrace >> (array_bytes >>= λ bs. expect tok.RightBrace >> (expect tok.Semicolon >> pure (tree.Array n count bs))))))))
+array = expect tok.WordConst >> (expect tok.WordU8 >>
+    (name >>= λ n. expect tok.LeftBracket >>
+    (plain (2 ^ 32) >>= λ count. expect tok.RightBracket >>
+    (expect tok.Assign >> (expect tok.LeftBrace >>
+    (array_bytes >>= λ bs. expect tok.RightBrace >> (expect tok.Semicolon >> pure (tree.Array n count bs))))))))
 
 -- ---- functions
 
@@ -72,7 +76,8 @@ unfoldable pub close : Parser (Option tree.Body)
 close = peek >>= close_by
 
 abbrev pub func_from : Bool → CType → List ℕ → List tree.Param → Option tree.Body → tree.Item
-func_from is_static result name params body = tree.Function (record { is_static = is_static; result = result; name = name; params = params; body = body })
+func_from is_static result name params body =
+    tree.Function (record { is_static = is_static; result = result; name = name; params = params; body = body })
 
 -- a function from its parameters on
 unfoldable pub function : Bool → CType → List ℕ → Parser tree.Item

@@ -24,7 +24,9 @@ assigned n (Calls c) = tree.Call (Some n) c.callee c.args
 abbrev pub after_by : List ℕ → Kind → Parser tree.Stmt
 after_by n (kind.Fixed tok.Colon) = expect tok.Colon >> pure (tree.Label n)
 after_by n (kind.Fixed tok.Assign) = expect tok.Assign >> (right_in (depth - 1) >>= λ r. expect tok.Semicolon >> pure (assigned n r))
-after_by n (kind.Fixed tok.LeftParen) = expect tok.LeftParen >> (arguments depth >>= λ xs. expect tok.RightParen >> (expect tok.Semicolon >> pure (tree.Call None (tree.Called n) xs)))
+after_by n (kind.Fixed tok.LeftParen) =
+    expect tok.LeftParen >> (arguments depth >>= λ xs. expect tok.RightParen >>
+    (expect tok.Semicolon >> pure (tree.Call None (tree.Called n) xs)))
 after_by n _ = refuse part.InAfter
 
 unfoldable pub after : List ℕ → Parser tree.Stmt
@@ -63,11 +65,15 @@ default = peek >>= default_by
 
 -- a switch behind its key word
 unfoldable pub switch : Parser tree.Stmt
-switch = expect tok.LeftParen >> (expr depth >>= λ e. expect tok.RightParen >> (expect tok.LeftBrace >> (cases >>= λ cs. default >>= λ n. expect tok.RightBrace >> pure (tree.Switch e cs n))))
+switch =
+    expect tok.LeftParen >> (expr depth >>= λ e. expect tok.RightParen >>
+    (expect tok.LeftBrace >> (cases >>= λ cs. default >>= λ n. expect tok.RightBrace >> pure (tree.Switch e cs n))))
 
 -- a condition and its goto behind the key word
 unfoldable pub condition : Parser tree.Stmt
-condition = expect tok.LeftParen >> (expr depth >>= λ a. operator >>= λ o. expr depth >>= λ b. expect tok.RightParen >> (jump >>= λ n. pure (tree.If o a b n)))
+condition =
+    expect tok.LeftParen >> (expr depth >>= λ a. operator >>= λ o. expr depth >>= λ b. expect tok.RightParen >>
+    (jump >>= λ n. pure (tree.If o a b n)))
 
 -- an assignment through a pointer behind its star
 unfoldable pub set_star : Parser tree.Stmt

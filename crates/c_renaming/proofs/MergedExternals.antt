@@ -3,6 +3,7 @@ use Rattle.std.proofs.Common.{◌≡◌, ℕ, suc, ◌+◌, ◌&&◌, not, Bool,
 use Rattle.std.specs.Prelude.{⊤, zip, flat_map, slice_get}
 use Rattle.std.specs.List.{range_with_len}
 use Rattle.std.proofs.lemmas.Slice.Eq.{bytes_eq-Decides}
+use Rattle.w2c_base.proofs.Conjunctions.{both_hold}
 use Rattle.w2c_base.specs.Lookup.{if_found}
 use Rattle.c_tree.specs.Tree as tree
 use Rattle.c_meaning.specs.State.{Name, FuncAddress, UnitFunc}
@@ -70,10 +71,6 @@ each_unit : {A : Type 0} (P : A → Type 0) (xs : List A) → ((j : ℕ) (x : A)
 each_unit P [] holds = tt
 each_unit P (x ∷ xs) holds = (holds 0 x refl, each_unit P xs (λ j y there. holds (suc j) y there))
 
-both_true : (b c : Bool) → (b && c) ≡ true → (b ≡ true) × (c ≡ true)
-both_true true c e = (refl, e)
-both_true false c e = cc
-
 always : {A : Type 0} (xs : List A) → Each (λ (x : A). ⊤) xs
 always [] = tt
 always (x ∷ xs) = (tt, always xs)
@@ -109,13 +106,13 @@ module _ (p : Program) (rename : ℕ → Name → Name) (is_seen : Name → Bool
     where
       gives : (d : Definition) → IsSeen d → is_this x d ≡ true → is_seen x ≡ true
       gives d seen e =
-          let both = both_true (is_external d) (bytes_eq d.func.name x) e in
+          let both = both_hold (is_external d) (bytes_eq d.func.name x) e in
           subst (λ (n : Name). is_seen n ≡ true) ((bytes_eq-Decides d.func.name x).0 both.1) (seen ∙ both.0)
 
   external_defined : (x : Name) (items : List tree.Item) → is_some (defined_for_all items x) ≡ true → is_some (defined items x) ≡ true
   external_defined x items is =
       first_passes (is_this x) (λ d. bytes_eq d.func.name x) (λ d. ⊤)
-      (λ d tt e. (both_true (is_external d) (bytes_eq d.func.name x) e).1) (definitions_from 0 items)
+      (λ d tt e. (both_hold (is_external d) (bytes_eq d.func.name x) e).1) (definitions_from 0 items)
       (always (definitions_from 0 items)) is
 
   -- the unit that defines a function of external linkage

@@ -16,7 +16,8 @@ pub named-append : {A : Type 0} (q : List ℕ) (xs ys : List (List ℕ × A)) �
 named-append q [] ys = refl
 named-append q (x ∷ xs) ys = go (bytes_eq x.0 q) (named-append q xs ys)
   where
-    go : (b : Bool) → named q (xs ++ ys) ≡ option_or (named q xs) (named q ys) → (if b then Some x.1 else named q (xs ++ ys)) ≡ option_or (if b then Some x.1 else named q xs) (named q ys)
+    go : (b : Bool) → named q (xs ++ ys) ≡ option_or (named q xs) (named q ys)
+        → (if b then Some x.1 else named q (xs ++ ys)) ≡ option_or (if b then Some x.1 else named q xs) (named q ys)
     go true behind = refl
     go false behind = behind
 
@@ -33,12 +34,15 @@ found_of_four q a b c d own e =
     ap (λ o. option_or (option_or o (named q c)) (named q d)) (e ∙ named-append q a b)
     ∙ or_assoc (option_or (named q a) (named q b)) (named q c) (named q d)
     ∙ or_assoc (named q a) (named q b) (option_or (named q c) (named q d))
-    ∙ sym (named-append q a (b ++ (c ++ d)) ∙ ap (option_or (named q a)) (named-append q b (c ++ d) ∙ ap (option_or (named q b)) (named-append q c d)))
+    ∙ sym (named-append q a (b ++ (c ++ d))
+    ∙ ap (option_or (named q a)) (named-append q b (c ++ d) ∙ ap (option_or (named q b)) (named-append q c d)))
 
-pub among-append : (q : List ℕ) (xs ys : List (List ℕ)) → list_any (bytes_eq q) (xs ++ ys) ≡ (list_any (bytes_eq q) xs || list_any (bytes_eq q) ys)
+pub among-append : (q : List ℕ) (xs ys : List (List ℕ))
+    → list_any (bytes_eq q) (xs ++ ys) ≡ (list_any (bytes_eq q) xs || list_any (bytes_eq q) ys)
 among-append q [] ys = refl
 among-append q (x ∷ xs) ys = go (bytes_eq q x) (among-append q xs ys)
   where
-    go : (b : Bool) → list_any (bytes_eq q) (xs ++ ys) ≡ (list_any (bytes_eq q) xs || list_any (bytes_eq q) ys) → (b || list_any (bytes_eq q) (xs ++ ys)) ≡ ((b || list_any (bytes_eq q) xs) || list_any (bytes_eq q) ys)
+    go : (b : Bool) → list_any (bytes_eq q) (xs ++ ys) ≡ (list_any (bytes_eq q) xs || list_any (bytes_eq q) ys)
+        → (b || list_any (bytes_eq q) (xs ++ ys)) ≡ ((b || list_any (bytes_eq q) xs) || list_any (bytes_eq q) ys)
     go true behind = refl
     go false behind = behind

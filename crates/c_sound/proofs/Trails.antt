@@ -126,7 +126,46 @@ tab_set_keeps (pointer ∷ Number (I64 place) ∷ FuncPointer func ∷ Number (I
 tab_set_keeps _ m = tt
 
 all_keep : AllByRecursion (λ (e : Name × Body). Keeps e.1) prim.primitives
-all_keep = (trap_keeps, (mem_new_keeps, (mem_len_keeps, (mem_max_keeps, (mem_grow_keeps, (get_keeps 1 type.I32, (get_keeps 2 type.I32, (get_keeps 4 type.I32, (get_keeps 8 type.I64, (put_keeps 1 type.I32, (put_keeps 2 type.I32, (put_keeps 4 type.I32, (put_keeps 8 type.I64, (tab_new_keeps, (tab_len_keeps, (tab_max_keeps, (tab_sig_keeps, (tab_fn_keeps, (tab_set_keeps, tt)))))))))))))))))))
+all_keep = (
+  trap_keeps,
+  (
+    mem_new_keeps,
+    (
+      mem_len_keeps,
+      (
+        mem_max_keeps,
+        (
+          mem_grow_keeps,
+          (
+            get_keeps 1 type.I32,
+            (
+              get_keeps 2 type.I32,
+              (
+                get_keeps 4 type.I32,
+                (
+                  get_keeps 8 type.I64,
+                  (
+                    put_keeps 1 type.I32,
+                    (
+                      put_keeps 2 type.I32,
+                      (
+                        put_keeps 4 type.I32,
+                        (
+                          put_keeps 8 type.I64,
+                          (tab_new_keeps, (tab_len_keeps, (tab_max_keeps, (tab_sig_keeps, (tab_fn_keeps, (tab_set_keeps, tt)))))),
+                        ),
+                      ),
+                    ),
+                  ),
+                ),
+              ),
+            ),
+          ),
+        ),
+      ),
+    ),
+  ),
+)
 
 found_keeps : (name : Name) (bodies : List (Name × Body)) → AllByRecursion (λ (e : Name × Body). Keeps e.1) bodies
     → (does : Body) → named name bodies ≡ Some does → Keeps does

@@ -21,7 +21,8 @@ items_so names p units u l are here =
     ∙ go units u l here
   where
     go : (units : List LinkedUnit) (u : ℕ) (l : LinkedUnit) → slice_get units u ≡ Some l
-        → elim (slice_get (map (λ (l : LinkedUnit). unit_of l.items.value) units) u) [ None ↦ [] | Some items ↦ items ] ≡ unit_of l.items.value
+        → elim (slice_get (map (λ (l : LinkedUnit). unit_of l.items.value) units) u) [ None ↦ [] | Some items ↦ items ]
+        ≡ unit_of l.items.value
     go [] u l e = absurd cc
     go (k ∷ units) zero l e = let same : k ≡ l = cc in ap (λ (x : LinkedUnit). unit_of x.items.value) same
     go (k ∷ units) (suc u) l e = go units u l e

@@ -5,13 +5,16 @@ use Rattle.std.proofs.Common.{arith}
 use Rattle.c_tree.specs.Tree as tree
 use Rattle.c_tree.specs.FirstBroken.{BrokenAt, BrokenRule, IsFirstBroken, IsNotBehind, KeepsRules, first_broken, broken_rules}
 
-same_item : (i s k j t m : ℕ) → (i < j) ⊎ ((i ≡ j) × (s < t)) ⊎ ((i ≡ j) × (s ≡ t) × (k ≤ m)) → (j < i) ⊎ ((j ≡ i) × (t < s)) ⊎ ((j ≡ i) × (t ≡ s) × (m ≤ k)) → i ≡ j
+same_item : (i s k j t m : ℕ) → (i < j) ⊎ ((i ≡ j) × (s < t)) ⊎ ((i ≡ j) × (s ≡ t) × (k ≤ m))
+    → (j < i) ⊎ ((j ≡ i) × (t < s)) ⊎ ((j ≡ i) × (t ≡ s) × (m ≤ k)) → i ≡ j
 same_item i s k j t m p q = grind arith
 
-same_statement : (i s k j t m : ℕ) → (i < j) ⊎ ((i ≡ j) × (s < t)) ⊎ ((i ≡ j) × (s ≡ t) × (k ≤ m)) → (j < i) ⊎ ((j ≡ i) × (t < s)) ⊎ ((j ≡ i) × (t ≡ s) × (m ≤ k)) → s ≡ t
+same_statement : (i s k j t m : ℕ) → (i < j) ⊎ ((i ≡ j) × (s < t)) ⊎ ((i ≡ j) × (s ≡ t) × (k ≤ m))
+    → (j < i) ⊎ ((j ≡ i) × (t < s)) ⊎ ((j ≡ i) × (t ≡ s) × (m ≤ k)) → s ≡ t
 same_statement i s k j t m p q = grind arith
 
-same_rule : (i s k j t m : ℕ) → (i < j) ⊎ ((i ≡ j) × (s < t)) ⊎ ((i ≡ j) × (s ≡ t) × (k ≤ m)) → (j < i) ⊎ ((j ≡ i) × (t < s)) ⊎ ((j ≡ i) × (t ≡ s) × (m ≤ k)) → k ≡ m
+same_rule : (i s k j t m : ℕ) → (i < j) ⊎ ((i ≡ j) × (s < t)) ⊎ ((i ≡ j) × (s ≡ t) × (k ≤ m))
+    → (j < i) ⊎ ((j ≡ i) × (t < s)) ⊎ ((j ≡ i) × (t ≡ s) × (m ≤ k)) → k ≡ m
 same_rule i s k j t m p q = grind arith
 
 at : ℕ → ℕ → ℕ → BrokenAt

@@ -35,7 +35,8 @@ differs b d ds (x ∷ y ∷ ys) digit begins = by (b == x) (is_digit y) (bytes_e
     by true true rest e no_ = absurd cc
     by true false rest e no_ = rw (digit_differs d y digit e) refl
 
-none_equal : (b d : ℕ) (ds : List ℕ) (words : List (List ℕ)) → is_digit d ≡ true → list_all (begins_otherwise b) words ≡ true → list_any (bytes_eq (b ∷ d ∷ ds)) words ≡ false
+none_equal : (b d : ℕ) (ds : List ℕ) (words : List (List ℕ)) → is_digit d ≡ true → list_all (begins_otherwise b) words ≡ true
+    → list_any (bytes_eq (b ∷ d ∷ ds)) words ≡ false
 none_equal b d ds [] digit all = refl
 none_equal b d ds (w ∷ words) digit all =
     let h = both_true (begins_otherwise b w) (list_all (begins_otherwise b) words) all in
@@ -53,7 +54,8 @@ letter_and_digits b [] letter u w digits = absurd cc
 letter_and_digits b (d ∷ ds) letter u w digits =
     let all = all_digits (d ∷ ds) digits in
     let key : is_key_word (b ∷ d ∷ ds) ≡ false =
-    none_equal b d ds (map fixed_text key_words ++ other_words) (both_true (is_digit d) (list_all is_digit ds) all).0 (no_key_word_begins b u w) in
+    none_equal b d ds (map fixed_text key_words ++ other_words) (both_true (is_digit d) (list_all is_digit ds) all).0
+    (no_key_word_begins b u w) in
     rw (letter, digits_words (d ∷ ds) all) (ap not key)
 
 pub numbered : (b n : ℕ) → is_letter b ≡ true → b ≢ 117 → b ≢ 119 → n < 2 ^ 64 → IsName (b ∷ decimal n)

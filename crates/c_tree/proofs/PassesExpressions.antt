@@ -36,7 +36,8 @@ number_taken (N32 n) fits p = rw (value_decimal n (omega arith), below n (2 ^ 32
 number_taken (N64 n) fits p = rw (value_decimal n fits, below n (2 ^ 64) fits) refl
 number_taken (Plain n) fits p = rw (value_decimal n (omega arith), below n (2 ^ 32) fits) refl
 
-pub number_passes : (d : ℕ) (n : Num) (ss : List Symbol) (ts : List Token) → FitsNum n → Passes ss ts → Passes (Of part.InNumber d ∷ ss) (num_token n ∷ ts)
+pub number_passes : (d : ℕ) (n : Num) (ss : List Symbol) (ts : List Token) → FitsNum n → Passes ss ts
+    → Passes (Of part.InNumber d ∷ ss) (num_token n ∷ ts)
 number_passes d (N32 n) ss ts fits next = become (λ p. refl) (take (number_taken (N32 n) fits) next)
 number_passes d (N64 n) ss ts fits next = become (λ p. refl) (take (number_taken (N64 n) fits) next)
 number_passes d (Plain n) ss ts fits next = become (λ p. refl) (take (number_taken (Plain n) fits) next)
@@ -120,7 +121,9 @@ in_rgroup d (tree.To64 i) ss ts next = become (λ p. refl) next
 in_rgroup d (tree.Star n) ss ts next = become (λ p. refl) next
 in_rgroup d (tree.Op o x y) ss ts next = become (λ p. refl) next
 
-op_within : (o : COp) (a b : tree.Expr) (r : List Token) → (expr_tokens a ++ (op_token o ∷ (expr_tokens b ++ Fixed tok.RightParen ∷ []))) ++ r ≡ expr_tokens a ++ (op_token o ∷ (expr_tokens b ++ (Fixed tok.RightParen ∷ r)))
+op_within : (o : COp) (a b : tree.Expr) (r : List Token)
+    → (expr_tokens a ++ (op_token o ∷ (expr_tokens b ++ Fixed tok.RightParen ∷ []))) ++ r
+    ≡ expr_tokens a ++ (op_token o ∷ (expr_tokens b ++ (Fixed tok.RightParen ∷ r)))
 op_within o a b r = simp append_assoc
 
 pub paren : BehindExpr (Fixed tok.RightParen)
@@ -131,17 +134,34 @@ bracket = record { no_index = λ d p. refl }
 
 -- ---- expressions
 
-pub expr_passes : (d : ℕ) (e : tree.Expr) (ss : List Symbol) (t : Token) (ts : List Token) → FitsExpr d e → BehindExpr t → Passes ss (t ∷ ts) → Passes (Of part.InExpr d ∷ ss) (expr_tokens e ++ (t ∷ ts))
+pub expr_passes : (d : ℕ) (e : tree.Expr) (ss : List Symbol) (t : Token) (ts : List Token) → FitsExpr d e → BehindExpr t
+    → Passes ss (t ∷ ts) → Passes (Of part.InExpr d ∷ ss) (expr_tokens e ++ (t ∷ ts))
 expr_passes zero e ss t ts fits is next = absurd fits
 expr_passes (suc d) (tree.Name n) ss t ts fits is next = become (λ p. refl) (take (λ p. refl) (become_none (is.no_index d) next))
-expr_passes (suc d) (tree.At n i) ss t ts fits is next = become (λ p. refl) (take (λ p. refl) (become (λ p. refl) (take (λ p. refl) (rw append_assoc (expr_passes d i (One tok.RightBracket ∷ ss) (Fixed tok.RightBracket) (t ∷ ts) fits bracket (take (λ p. refl) next))))))
+expr_passes (suc d) (tree.At n i) ss t ts fits is next =
+    become (λ p. refl)
+    (take (λ p. refl)
+    (become (λ p. refl)
+    (take (λ p. refl)
+    (rw append_assoc (expr_passes d i (One tok.RightBracket ∷ ss) (Fixed tok.RightBracket) (t ∷ ts) fits bracket
+    (take (λ p. refl) next))))))
 expr_passes (suc d) (tree.Number (N32 n)) ss t ts fits is next = become (λ p. refl) (number_passes d (N32 n) ss (t ∷ ts) fits next)
 expr_passes (suc d) (tree.Number (N64 n)) ss t ts fits is next = become (λ p. refl) (number_passes d (N64 n) ss (t ∷ ts) fits next)
 expr_passes (suc d) (tree.Number (Plain n)) ss t ts fits is next = become (λ p. refl) (number_passes d (Plain n) ss (t ∷ ts) fits next)
-expr_passes (suc d) (tree.To32 e) ss t ts fits is next = become (λ p. refl) (take (λ p. refl) (become (λ p. refl) (take (λ p. refl) (take (λ p. refl) (expr_passes d e ss t ts fits is next)))))
-expr_passes (suc d) (tree.To64 e) ss t ts fits is next = become (λ p. refl) (take (λ p. refl) (become (λ p. refl) (take (λ p. refl) (take (λ p. refl) (expr_passes d e ss t ts fits is next)))))
-expr_passes (suc d) (tree.Star n) ss t ts fits is next = become (λ p. refl) (take (λ p. refl) (become (λ p. refl) (take (λ p. refl) (take (λ p. refl) (take (λ p. refl) next)))))
-expr_passes (suc d) (tree.Op o a b) ss t ts fits is next = become (λ p. refl) (take (λ p. refl) (rw (op_within o a b (t ∷ ts)) (in_group d a ss (op_token o ∷ (expr_tokens b ++ (Fixed tok.RightParen ∷ t ∷ ts))) (expr_passes d a (Of part.InOperator d ∷ Of part.InExpr d ∷ One tok.RightParen ∷ ss) (op_token o) (expr_tokens b ++ (Fixed tok.RightParen ∷ t ∷ ts)) fits.0 (behind_op o) (op_passes d o (Of part.InExpr d ∷ One tok.RightParen ∷ ss) (expr_tokens b ++ (Fixed tok.RightParen ∷ t ∷ ts)) (expr_passes d b (One tok.RightParen ∷ ss) (Fixed tok.RightParen) (t ∷ ts) fits.1 paren (take (λ p. refl) next)))))))
+expr_passes (suc d) (tree.To32 e) ss t ts fits is next =
+    become (λ p. refl) (take (λ p. refl) (become (λ p. refl) (take (λ p. refl) (take (λ p. refl) (expr_passes d e ss t ts fits is next)))))
+expr_passes (suc d) (tree.To64 e) ss t ts fits is next =
+    become (λ p. refl) (take (λ p. refl) (become (λ p. refl) (take (λ p. refl) (take (λ p. refl) (expr_passes d e ss t ts fits is next)))))
+expr_passes (suc d) (tree.Star n) ss t ts fits is next =
+    become (λ p. refl) (take (λ p. refl) (become (λ p. refl) (take (λ p. refl) (take (λ p. refl) (take (λ p. refl) next)))))
+expr_passes (suc d) (tree.Op o a b) ss t ts fits is next =
+    become (λ p. refl)
+    (take (λ p. refl) (rw (op_within o a b (t ∷ ts))
+    (in_group d a ss (op_token o ∷ (expr_tokens b ++ (Fixed tok.RightParen ∷ t ∷ ts)))
+    (expr_passes d a (Of part.InOperator d ∷ Of part.InExpr d ∷ One tok.RightParen ∷ ss) (op_token o)
+    (expr_tokens b ++ (Fixed tok.RightParen ∷ t ∷ ts)) fits.0 (behind_op o)
+    (op_passes d o (Of part.InExpr d ∷ One tok.RightParen ∷ ss) (expr_tokens b ++ (Fixed tok.RightParen ∷ t ∷ ts))
+    (expr_passes d b (One tok.RightParen ∷ ss) (Fixed tok.RightParen) (t ∷ ts) fits.1 paren (take (λ p. refl) next)))))))
 
 -- an operation, behind the part that has it as its own
 operation_passes : (d : ℕ) (o : COp) (a b : tree.Expr) (ss : List Symbol) (ts : List Token)
@@ -154,14 +174,23 @@ operation_passes d o a b ss ts left right next =
 
 -- ---- arguments
 
-pub arg_passes : (d : ℕ) (a : tree.Arg) (ss : List Symbol) (t : Token) (ts : List Token) → FitsArg (suc d) a → BehindExpr t → Passes ss (t ∷ ts) → Passes (Of part.InArgument (suc d) ∷ ss) (arg_tokens a ++ (t ∷ ts))
+pub arg_passes : (d : ℕ) (a : tree.Arg) (ss : List Symbol) (t : Token) (ts : List Token) → FitsArg (suc d) a → BehindExpr t
+    → Passes ss (t ∷ ts) → Passes (Of part.InArgument (suc d) ∷ ss) (arg_tokens a ++ (t ∷ ts))
 arg_passes d (tree.Address n) ss t ts fits is next = become (λ p. refl) (take (λ p. refl) (take (λ p. refl) next))
-arg_passes d (tree.OfFunction n) ss t ts fits is next = become (λ p. refl) (take (λ p. refl) (become (λ p. refl) (take (λ p. refl) (take (λ p. refl) (take (λ p. refl) next)))))
+arg_passes d (tree.OfFunction n) ss t ts fits is next =
+    become (λ p. refl) (take (λ p. refl) (become (λ p. refl) (take (λ p. refl) (take (λ p. refl) (take (λ p. refl) next)))))
 arg_passes d (tree.Value (tree.Name n)) ss t ts fits is next = become (λ p. refl) (take (λ p. refl) (become_none (is.no_index d) next))
-arg_passes d (tree.Value (tree.At n i)) ss t ts fits is next = become (λ p. refl) (take (λ p. refl) (become (λ p. refl) (take (λ p. refl) (rw append_assoc (expr_passes d i (One tok.RightBracket ∷ ss) (Fixed tok.RightBracket) (t ∷ ts) fits bracket (take (λ p. refl) next))))))
+arg_passes d (tree.Value (tree.At n i)) ss t ts fits is next =
+    become (λ p. refl)
+    (take (λ p. refl)
+    (become (λ p. refl)
+    (take (λ p. refl)
+    (rw append_assoc (expr_passes d i (One tok.RightBracket ∷ ss) (Fixed tok.RightBracket) (t ∷ ts) fits bracket
+    (take (λ p. refl) next))))))
 arg_passes d (tree.Value (tree.Number (N32 n))) ss t ts fits is next = become (λ p. refl) (number_passes d (N32 n) ss (t ∷ ts) fits next)
 arg_passes d (tree.Value (tree.Number (N64 n))) ss t ts fits is next = become (λ p. refl) (number_passes d (N64 n) ss (t ∷ ts) fits next)
-arg_passes d (tree.Value (tree.Number (Plain n))) ss t ts fits is next = become (λ p. refl) (number_passes d (Plain n) ss (t ∷ ts) fits next)
+arg_passes d (tree.Value (tree.Number (Plain n))) ss t ts fits is next =
+    become (λ p. refl) (number_passes d (Plain n) ss (t ∷ ts) fits next)
 arg_passes d (tree.Value (tree.To32 e)) ss t ts fits is next =
     become (λ p. refl) (take (λ p. refl) (become (λ p. refl) (take (λ p. refl) (take (λ p. refl) (expr_passes d e ss t ts fits is next)))))
 arg_passes d (tree.Value (tree.To64 e)) ss t ts fits is next =
@@ -177,22 +206,34 @@ arg_passes d (tree.Value (tree.Op o a b)) ss t ts fits is next =
 pub semicolon : BehindExpr (Fixed tok.Semicolon)
 semicolon = record { no_index = λ d p. refl }
 
-pub right_passes : (d : ℕ) (a : tree.Arg) (ss : List Symbol) (ts : List Token) → FitsArg (suc d) a → Passes ss (Fixed tok.Semicolon ∷ ts) → Passes (Of part.InRight (suc d) ∷ ss) (arg_tokens a ++ (Fixed tok.Semicolon ∷ ts))
+pub right_passes : (d : ℕ) (a : tree.Arg) (ss : List Symbol) (ts : List Token) → FitsArg (suc d) a → Passes ss (Fixed tok.Semicolon ∷ ts)
+    → Passes (Of part.InRight (suc d) ∷ ss) (arg_tokens a ++ (Fixed tok.Semicolon ∷ ts))
 right_passes d (tree.Address n) ss ts fits next = become (λ p. refl) (take (λ p. refl) (take (λ p. refl) next))
 right_passes d (tree.OfFunction n) ss ts fits next =
     become (λ p. refl) (take (λ p. refl) (become (λ p. refl) (take (λ p. refl) (take (λ p. refl) (take (λ p. refl) next)))))
 right_passes d (tree.Value (tree.Name n)) ss ts fits next = become (λ p. refl) (take (λ p. refl) (become (λ p. refl) next))
-right_passes d (tree.Value (tree.At n i)) ss ts fits next = become (λ p. refl) (take (λ p. refl) (become (λ p. refl) (take (λ p. refl) (rw append_assoc (expr_passes d i (One tok.RightBracket ∷ ss) (Fixed tok.RightBracket) (Fixed tok.Semicolon ∷ ts) fits bracket (take (λ p. refl) next))))))
-right_passes d (tree.Value (tree.Number (N32 n))) ss ts fits next = become (λ p. refl) (number_passes d (N32 n) ss (Fixed tok.Semicolon ∷ ts) fits next)
-right_passes d (tree.Value (tree.Number (N64 n))) ss ts fits next = become (λ p. refl) (number_passes d (N64 n) ss (Fixed tok.Semicolon ∷ ts) fits next)
-right_passes d (tree.Value (tree.Number (Plain n))) ss ts fits next = become (λ p. refl) (number_passes d (Plain n) ss (Fixed tok.Semicolon ∷ ts) fits next)
+right_passes d (tree.Value (tree.At n i)) ss ts fits next =
+    become (λ p. refl)
+    (take (λ p. refl)
+    (become (λ p. refl)
+    (take (λ p. refl)
+    (rw append_assoc (expr_passes d i (One tok.RightBracket ∷ ss) (Fixed tok.RightBracket) (Fixed tok.Semicolon ∷ ts) fits bracket
+    (take (λ p. refl) next))))))
+right_passes d (tree.Value (tree.Number (N32 n))) ss ts fits next =
+    become (λ p. refl) (number_passes d (N32 n) ss (Fixed tok.Semicolon ∷ ts) fits next)
+right_passes d (tree.Value (tree.Number (N64 n))) ss ts fits next =
+    become (λ p. refl) (number_passes d (N64 n) ss (Fixed tok.Semicolon ∷ ts) fits next)
+right_passes d (tree.Value (tree.Number (Plain n))) ss ts fits next =
+    become (λ p. refl) (number_passes d (Plain n) ss (Fixed tok.Semicolon ∷ ts) fits next)
 right_passes d (tree.Value (tree.To32 e)) ss ts fits next =
     become (λ p. refl) (take (λ p. refl) (become (λ p. refl) (take (λ p. refl) (take (λ p. refl)
     (expr_passes d e ss (Fixed tok.Semicolon) ts fits semicolon next)))))
 right_passes d (tree.Value (tree.To64 e)) ss ts fits next =
     become (λ p. refl) (take (λ p. refl) (become (λ p. refl) (take (λ p. refl) (take (λ p. refl)
     (expr_passes d e ss (Fixed tok.Semicolon) ts fits semicolon next)))))
-right_passes d (tree.Value (tree.Star n)) ss ts fits next = become (λ p. refl) (take (λ p. refl) (become (λ p. refl) (take (λ p. refl) (become (λ p. refl) (take (λ p. refl) (take (λ p. refl) next))))))
+right_passes d (tree.Value (tree.Star n)) ss ts fits next =
+    become (λ p. refl)
+    (take (λ p. refl) (become (λ p. refl) (take (λ p. refl) (become (λ p. refl) (take (λ p. refl) (take (λ p. refl) next))))))
 right_passes d (tree.Value (tree.Op o a b)) ss ts fits next =
     become (λ p. refl) (take (λ p. refl) (rw (op_within o a b (Fixed tok.Semicolon ∷ ts))
     (in_rgroup d a ss _ (operation_passes d o a b ss (Fixed tok.Semicolon ∷ ts) fits.0 fits.1 next))))

@@ -53,7 +53,8 @@ EndsToken (b ∷ rest) = ends_token b ≡ true
 
 -- read in front of what ends it, and in front of anything
 abbrev pub IsRead : Token → Type 0
-IsRead t = (rest : List ℕ) (place : ℕ) → EndsToken rest → (q : ℕ) × (lexemes 0 place (token_text t ++ rest) ≡ lexeme place t ∷ lexemes 0 q rest)
+IsRead t =
+    (rest : List ℕ) (place : ℕ) → EndsToken rest → (q : ℕ) × (lexemes 0 place (token_text t ++ rest) ≡ lexeme place t ∷ lexemes 0 q rest)
 
 abbrev pub IsReadAnywhere : Token → Type 0
 IsReadAnywhere t = (rest : List ℕ) (place : ℕ) → (q : ℕ) × (lexemes 0 place (token_text t ++ rest) ≡ lexeme place t ∷ lexemes 0 q rest)
@@ -63,7 +64,8 @@ no_word b e = (neither_true _ _ (not-true _ e)).0
 
 no_second : (b : ℕ) → ends_token b ≡ true → (b == 42 ≡ false) × (b == 60 ≡ false) × (b == 61 ≡ false) × (b == 62 ≡ false)
 no_second b e =
-    let h : b == 42 || (nat_le 60 b && nat_le b 62) ≡ false = (neither_true (is_word_byte b) (b == 42 || (nat_le 60 b && nat_le b 62)) (not-true _ e)).1 in
+    let h : b == 42 || (nat_le 60 b && nat_le b 62) ≡ false =
+    (neither_true (is_word_byte b) (b == 42 || (nat_le 60 b && nat_le b 62)) (not-true _ e)).1 in
     (grind (arith, nat_tests), grind (arith, nat_tests), grind (arith, nat_tests), grind (arith, nat_tests))
 
 -- ---- words
@@ -98,10 +100,14 @@ Starts t n = (place : ℕ) (follow : ℕ → List Lexeme) → and_then (Begins t
 front_read : (t : Token) (b : ℕ) (bs rest : List ℕ) (place : ℕ) → front b (bs ++ rest) ≡ Begins t (length bs) → Starts t (length bs)
     → (q : ℕ) × (lexemes 0 place ((b ∷ bs) ++ rest) ≡ lexeme place t ∷ lexemes 0 q rest)
 front_read t b bs rest place f starts =
-    let p = pass_all bs rest (place + 1) in
-    (p.0, ap (λ x. and_then x place (λ k. lexemes k (place + 1) (bs ++ rest))) f ∙ starts place (λ k. lexemes k (place + 1) (bs ++ rest)) ∙ ap (λ x. lexeme place t ∷ x) p.1)
+    let p = pass_all bs rest (place + 1) in (
+      p.0,
+      ap (λ x. and_then x place (λ k. lexemes k (place + 1) (bs ++ rest))) f ∙ starts place (λ k. lexemes k (place + 1) (bs ++ rest))
+          ∙ ap (λ x. lexeme place t ∷ x) p.1,
+    )
 
-word_read : (t : Token) (b : ℕ) (bs rest : List ℕ) (place : ℕ) → is_letter b ≡ true → list_all is_word_byte bs ≡ true → word_token (b ∷ bs) ≡ t → Starts t (length bs) → EndsToken rest
+word_read : (t : Token) (b : ℕ) (bs rest : List ℕ) (place : ℕ) → is_letter b ≡ true → list_all is_word_byte bs ≡ true
+    → word_token (b ∷ bs) ≡ t → Starts t (length bs) → EndsToken rest
     → (q : ℕ) × (lexemes 0 place ((b ∷ bs) ++ rest) ≡ lexeme place t ∷ lexemes 0 q rest)
 word_read t b bs rest place letter all is starts stop =
     front_read t b bs rest place (rw (letter_blank b letter, letter, run_all bs rest all stop, is) refl) starts
@@ -141,7 +147,9 @@ digits_words (d ∷ ds) all = let h = both_true (is_digit d) (list_all is_digit 
 pub all_digits : (ds : List ℕ) → are_digits ds ≡ true → list_all is_digit ds ≡ true
 all_digits [] e = absurd cc
 all_digits (d ∷ []) e = rw e refl
-all_digits (d ∷ x ∷ ds) e = let h = both_true (is_digit d && not (d == 48)) (list_all is_digit (x ∷ ds)) e in let g = both_true (is_digit d) (not (d == 48)) h.0 in rw g.0 h.1
+all_digits (d ∷ x ∷ ds) e =
+    let h = both_true (is_digit d && not (d == 48)) (list_all is_digit (x ∷ ds)) e in let g = both_true (is_digit d) (not (d == 48)) h.0 in
+    rw g.0 h.1
 
 -- no suffix begins with a digit
 run_digits : (ds : List ℕ) (s : Suffix) → list_all is_digit ds ≡ true → run is_digit (ds ++ suffix_text s) ≡ ds
@@ -171,8 +179,10 @@ number_read s (d ∷ ds) e rest place stop =
     let w : List ℕ = ds ++ suffix_text s in
     let words : list_all is_word_byte w ≡ true = all_append is_word_byte ds (suffix_text s) (digits_words ds all.1) (word_suffix s) in
     let whole : run is_word_byte (w ++ rest) ≡ w = run_all w rest words stop in
-    let begins : front d (w ++ rest) ≡ Begins (run_token (d ∷ run is_word_byte (w ++ rest))) (length (run is_word_byte (w ++ rest))) = rw (digit_blank d all.0, digit_letter d all.0, all.0) refl in
-    front_read (Number s (d ∷ ds)) d w rest place (begins ∙ ap (λ x. Begins (run_token (d ∷ x)) (length x)) whole ∙ ap (λ t. Begins t (length w)) (run_is (d ∷ ds) s e)) (λ _ _. refl)
+    let begins : front d (w ++ rest) ≡ Begins (run_token (d ∷ run is_word_byte (w ++ rest))) (length (run is_word_byte (w ++ rest))) =
+    rw (digit_blank d all.0, digit_letter d all.0, all.0) refl in
+    front_read (Number s (d ∷ ds)) d w rest place
+    (begins ∙ ap (λ x. Begins (run_token (d ∷ x)) (length x)) whole ∙ ap (λ t. Begins t (length w)) (run_is (d ∷ ds) s e)) (λ _ _. refl)
 
 -- ---- signs
 
@@ -186,7 +196,14 @@ second_differs x y b c other = by (b == x)
 no_long_sign : (b c : ℕ) → ends_token c ≡ true → two_sign b c ≡ Wrong
 no_long_sign b c stop =
     let h = no_second c stop in
-    rw (second_differs 60 60 b c h.1, second_differs 62 62 b c h.3, second_differs 61 61 b c h.2, second_differs 33 61 b c h.2, second_differs 60 61 b c h.2, second_differs 62 61 b c h.2) refl
+    rw (
+      second_differs 60 60 b c h.1,
+      second_differs 62 62 b c h.3,
+      second_differs 61 61 b c h.2,
+      second_differs 33 61 b c h.2,
+      second_differs 60 61 b c h.2,
+      second_differs 62 61 b c h.2,
+    ) refl
 
 abbrev begins_sign : ℕ → Bool
 begins_sign b = not (is_blank b || (is_letter b || (is_digit b || b == 35)))
@@ -202,7 +219,8 @@ and_false false y e = refl
 sign_is : (b : ℕ) (t : Token) (rest : List ℕ) → one_sign b ≡ t → EndsToken rest → sign_front b rest ≡ Begins t 0
 sign_is b t [] is stop = rw is refl
 sign_is b t (c ∷ rest) is stop =
-    ap (λ x. cond x (comment_front (comment_end rest)) (longer (two_sign b c) (one_sign b))) (and_false (b == 47) (c == 42) (no_second c stop).0)
+    ap (λ x. cond x (comment_front (comment_end rest)) (longer (two_sign b c) (one_sign b)))
+    (and_false (b == 47) (c == 42) (no_second c stop).0)
     ∙ ap (λ x. longer x (one_sign b)) (no_long_sign b c stop)
     ∙ ap (λ x. Begins x 0) is
 
@@ -218,22 +236,123 @@ short_read t s rest place stop =
 
 -- a key word
 abbrev IsWord : Tok → Type 0
-IsWord t = (b : ℕ) × (bs : List ℕ) × (fixed_text t ≡ b ∷ bs) × (is_letter b ≡ true) × (list_all is_word_byte bs ≡ true) × (word_token (b ∷ bs) ≡ Fixed t) × Starts (Fixed t) (length bs)
+IsWord t =
+    (b : ℕ) × (bs : List ℕ) × (fixed_text t ≡ b ∷ bs) × (is_letter b ≡ true) × (list_all is_word_byte bs ≡ true)
+    × (word_token (b ∷ bs) ≡ Fixed t) × Starts (Fixed t) (length bs)
 
 key_word_read : (t : Tok) → IsWord t → IsRead (Fixed t)
 key_word_read t w rest place stop = rw w.2 (word_read (Fixed t) w.0 w.1 rest place w.3 w.4 w.5 w.6 stop)
 
 words_are : AllByRecursion IsWord key_words
-words_are = ((_, _, refl, refl, refl, refl, λ _ _. refl), ((_, _, refl, refl, refl, refl, λ _ _. refl), ((_, _, refl, refl, refl, refl, λ _ _. refl), ((_, _, refl, refl, refl, refl, λ _ _. refl), ((_, _, refl, refl, refl, refl, λ _ _. refl), ((_, _, refl, refl, refl, refl, λ _ _. refl), ((_, _, refl, refl, refl, refl, λ _ _. refl), ((_, _, refl, refl, refl, refl, λ _ _. refl), ((_, _, refl, refl, refl, refl, λ _ _. refl), ((_, _, refl, refl, refl, refl, λ _ _. refl), ((_, _, refl, refl, refl, refl, λ _ _. refl), ((_, _, refl, refl, refl, refl, λ _ _. refl), ((_, _, refl, refl, refl, refl, λ _ _. refl), ((_, _, refl, refl, refl, refl, λ _ _. refl), ((_, _, refl, refl, refl, refl, λ _ _. refl), tt)))))))))))))))
+words_are = (
+  (_, _, refl, refl, refl, refl, λ _ _. refl),
+  (
+    (_, _, refl, refl, refl, refl, λ _ _. refl),
+    (
+      (_, _, refl, refl, refl, refl, λ _ _. refl),
+      (
+        (_, _, refl, refl, refl, refl, λ _ _. refl),
+        (
+          (_, _, refl, refl, refl, refl, λ _ _. refl),
+          (
+            (_, _, refl, refl, refl, refl, λ _ _. refl),
+            (
+              (_, _, refl, refl, refl, refl, λ _ _. refl),
+              (
+                (_, _, refl, refl, refl, refl, λ _ _. refl),
+                (
+                  (_, _, refl, refl, refl, refl, λ _ _. refl),
+                  (
+                    (_, _, refl, refl, refl, refl, λ _ _. refl),
+                    (
+                      (_, _, refl, refl, refl, refl, λ _ _. refl),
+                      (
+                        (_, _, refl, refl, refl, refl, λ _ _. refl),
+                        (
+                          (_, _, refl, refl, refl, refl, λ _ _. refl),
+                          ((_, _, refl, refl, refl, refl, λ _ _. refl), ((_, _, refl, refl, refl, refl, λ _ _. refl), tt)),
+                        ),
+                      ),
+                    ),
+                  ),
+                ),
+              ),
+            ),
+          ),
+        ),
+      ),
+    ),
+  ),
+)
 
 shorts_are : AllByRecursion IsShort short_signs
-shorts_are = ((_, refl, refl, refl, λ _ _. refl), ((_, refl, refl, refl, λ _ _. refl), ((_, refl, refl, refl, λ _ _. refl), ((_, refl, refl, refl, λ _ _. refl), ((_, refl, refl, refl, λ _ _. refl), ((_, refl, refl, refl, λ _ _. refl), ((_, refl, refl, refl, λ _ _. refl), ((_, refl, refl, refl, λ _ _. refl), ((_, refl, refl, refl, λ _ _. refl), ((_, refl, refl, refl, λ _ _. refl), ((_, refl, refl, refl, λ _ _. refl), ((_, refl, refl, refl, λ _ _. refl), ((_, refl, refl, refl, λ _ _. refl), ((_, refl, refl, refl, λ _ _. refl), ((_, refl, refl, refl, λ _ _. refl), ((_, refl, refl, refl, λ _ _. refl), ((_, refl, refl, refl, λ _ _. refl), ((_, refl, refl, refl, λ _ _. refl), ((_, refl, refl, refl, λ _ _. refl), ((_, refl, refl, refl, λ _ _. refl), tt))))))))))))))))))))
+shorts_are = (
+  (_, refl, refl, refl, λ _ _. refl),
+  (
+    (_, refl, refl, refl, λ _ _. refl),
+    (
+      (_, refl, refl, refl, λ _ _. refl),
+      (
+        (_, refl, refl, refl, λ _ _. refl),
+        (
+          (_, refl, refl, refl, λ _ _. refl),
+          (
+            (_, refl, refl, refl, λ _ _. refl),
+            (
+              (_, refl, refl, refl, λ _ _. refl),
+              (
+                (_, refl, refl, refl, λ _ _. refl),
+                (
+                  (_, refl, refl, refl, λ _ _. refl),
+                  (
+                    (_, refl, refl, refl, λ _ _. refl),
+                    (
+                      (_, refl, refl, refl, λ _ _. refl),
+                      (
+                        (_, refl, refl, refl, λ _ _. refl),
+                        (
+                          (_, refl, refl, refl, λ _ _. refl),
+                          (
+                            (_, refl, refl, refl, λ _ _. refl),
+                            (
+                              (_, refl, refl, refl, λ _ _. refl),
+                              (
+                                (_, refl, refl, refl, λ _ _. refl),
+                                (
+                                  (_, refl, refl, refl, λ _ _. refl),
+                                  (
+                                    (_, refl, refl, refl, λ _ _. refl),
+                                    ((_, refl, refl, refl, λ _ _. refl), ((_, refl, refl, refl, λ _ _. refl), tt)),
+                                  ),
+                                ),
+                              ),
+                            ),
+                          ),
+                        ),
+                      ),
+                    ),
+                  ),
+                ),
+              ),
+            ),
+          ),
+        ),
+      ),
+    ),
+  ),
+)
 
 abbrev IsFixedReadAnywhere : Tok → Type 0
 IsFixedReadAnywhere t = IsReadAnywhere (Fixed t)
 
 longs_read : AllByRecursion IsFixedReadAnywhere long_signs
-longs_read = (λ rest place. (_, refl), (λ rest place. (_, refl), (λ rest place. (_, refl), (λ rest place. (_, refl), (λ rest place. (_, refl), (λ rest place. (_, refl), tt))))))
+longs_read = (
+  λ rest place. (_, refl),
+  (
+    λ rest place. (_, refl),
+    (λ rest place. (_, refl), (λ rest place. (_, refl), (λ rest place. (_, refl), (λ rest place. (_, refl), tt)))),
+  ),
+)
 
 pub include_read : IsReadAnywhere (Fixed tok.Include)
 include_read rest place = (_, refl)

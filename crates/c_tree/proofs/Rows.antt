@@ -22,7 +22,8 @@ division = tree.Function (record {
   params = (type.U32, Some (codes "x")) ∷ (type.U32, Some (codes "y")) ∷ [];
   body = Some (record {
     locals = (type.U32, codes "z", N32 0) ∷ [];
-    stmts = tree.Set (codes "z") (tree.Value (tree.Op op.Div (tree.Name (codes "x")) (tree.Name (codes "y")))) ∷ tree.Return (tree.Value (tree.Name (codes "z"))) ∷ [];
+    stmts = tree.Set (codes "z") (tree.Value (tree.Op op.Div (tree.Name (codes "x")) (tree.Name (codes "y"))))
+        ∷ tree.Return (tree.Value (tree.Name (codes "z"))) ∷ [];
   });
 })
 
@@ -39,7 +40,14 @@ comment_first : CUpto (codes "/* */ u32 x;") (Unexpected 6 (wanted.Token tok.Inc
 comment_first = opened refl (here refl)
 
 cut_off : CUpto (codes "#include \"w2c_rt.h\"\nstatic u32 g0") (Unexpected 33 (wanted.Part part.InRest))
-cut_off = opened refl (taken refl (opened refl (opened refl (taken refl (opened refl (opened refl (taken refl (opened refl (taken refl (here refl))))))))))
+cut_off =
+    opened refl
+    (taken refl (opened refl (opened refl (taken refl (opened refl (opened refl (taken refl (opened refl (taken refl (here refl))))))))))
 
 too_large : CUpto (codes "#include \"w2c_rt.h\"\nstatic u32 g0 = 4294967296u;") (NumberTooLarge 36)
-too_large = opened refl (taken refl (opened refl (opened refl (taken refl (opened refl (opened refl (taken refl (opened refl (taken refl (opened refl (taken refl (opened refl (here refl)))))))))))))
+too_large =
+    opened refl
+    (taken refl
+    (opened refl
+    (opened refl
+    (taken refl (opened refl (opened refl (taken refl (opened refl (taken refl (opened refl (taken refl (opened refl (here refl)))))))))))))

@@ -147,11 +147,13 @@ same_star true false r s p q e = absurd (q r cc)
 same_star false true r s p q e = absurd (p s cc)
 
 -- no star follows a type
-pub same_type : (x y : CType) (r s : List Token) → NotFirst tok.Star r → NotFirst tok.Star s → type_tokens x ++ r ≡ type_tokens y ++ s → (x ≡ y) × (r ≡ s)
+pub same_type : (x y : CType) (r s : List Token) → NotFirst tok.Star r → NotFirst tok.Star s → type_tokens x ++ r ≡ type_tokens y ++ s
+    → (x ≡ y) × (r ≡ s)
 same_type x y r s p q e =
     let h = type_back x in
     let k = type_back y in
-    let g : Fixed (word x) ∷ (star (is_starred x) ++ r) ≡ Fixed (word y) ∷ (star (is_starred y) ++ s) = (let l = ap (λ ts. ts ++ r) h.1 in let m = ap (λ ts. ts ++ s) k.1 in cc) in
+    let g : Fixed (word x) ∷ (star (is_starred x) ++ r) ≡ Fixed (word y) ∷ (star (is_starred y) ++ s) =
+    (let l = ap (λ ts. ts ++ r) h.1 in let m = ap (λ ts. ts ++ s) k.1 in cc) in
     let w : word x ≡ word y = cc in
     let same = same_star (is_starred x) (is_starred y) r s p q cc in
     let back : type_with (word x) (is_starred x) ≡ type_with (word y) (is_starred y) = rw (w, same.0) refl in

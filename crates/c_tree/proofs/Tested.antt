@@ -16,19 +16,23 @@ at_front xs i x lt is = rw add-one (drop-cons xs i x lt ∙ ap (λ y. y ∷ drop
 
 pub all_more : {A : Type 0} (p : A → Bool) (xs : List A) (i : ℕ) (x : A) (whole : Bool) → i < length xs → x ≡ get_or xs i x → p x ≡ true
     → list_all p (drop i xs) ≡ whole → list_all p (drop (i + 1) xs) ≡ whole
-all_more p xs i x whole lt is passes so_far = sym (ap (list_all p) (at_front xs i x lt is) ∙ ap (λ b. b && list_all p (drop (i + 1) xs)) passes) ∙ so_far
+all_more p xs i x whole lt is passes so_far =
+    sym (ap (list_all p) (at_front xs i x lt is) ∙ ap (λ b. b && list_all p (drop (i + 1) xs)) passes) ∙ so_far
 
 pub all_stops : {A : Type 0} (p : A → Bool) (xs : List A) (i : ℕ) (x : A) (whole : Bool) → i < length xs → x ≡ get_or xs i x → p x ≡ false
     → list_all p (drop i xs) ≡ whole → false ≡ whole
-all_stops p xs i x whole lt is fails so_far = sym (ap (list_all p) (at_front xs i x lt is) ∙ ap (λ b. b && list_all p (drop (i + 1) xs)) fails) ∙ so_far
+all_stops p xs i x whole lt is fails so_far =
+    sym (ap (list_all p) (at_front xs i x lt is) ∙ ap (λ b. b && list_all p (drop (i + 1) xs)) fails) ∙ so_far
 
 pub any_more : {A : Type 0} (p : A → Bool) (xs : List A) (i : ℕ) (x : A) (whole : Bool) → i < length xs → x ≡ get_or xs i x → p x ≡ false
     → list_any p (drop i xs) ≡ whole → list_any p (drop (i + 1) xs) ≡ whole
-any_more p xs i x whole lt is fails so_far = sym (ap (list_any p) (at_front xs i x lt is) ∙ ap (λ b. b || list_any p (drop (i + 1) xs)) fails) ∙ so_far
+any_more p xs i x whole lt is fails so_far =
+    sym (ap (list_any p) (at_front xs i x lt is) ∙ ap (λ b. b || list_any p (drop (i + 1) xs)) fails) ∙ so_far
 
 pub any_stops : {A : Type 0} (p : A → Bool) (xs : List A) (i : ℕ) (x : A) (whole : Bool) → i < length xs → x ≡ get_or xs i x → p x ≡ true
     → list_any p (drop i xs) ≡ whole → true ≡ whole
-any_stops p xs i x whole lt is passes so_far = sym (ap (list_any p) (at_front xs i x lt is) ∙ ap (λ b. b || list_any p (drop (i + 1) xs)) passes) ∙ so_far
+any_stops p xs i x whole lt is passes so_far =
+    sym (ap (list_any p) (at_front xs i x lt is) ∙ ap (λ b. b || list_any p (drop (i + 1) xs)) passes) ∙ so_far
 
 -- ---- expressions
 

@@ -26,11 +26,13 @@ and_true_right a false c p q = sym (rw p refl)
 pub less_passes : (m n : ℕ) → m < n → nat_lt m n ≡ true
 less_passes m n less = grind (arith, nat_tests)
 
-all_tells : {A : Type 0} (p : A → Bool) (P : A → Type 0) → ((x : A) → p x ≡ true → P x) → (xs : List A) → list_all p xs ≡ true → AllByRecursion P xs
+all_tells : {A : Type 0} (p : A → Bool) (P : A → Type 0) → ((x : A) → p x ≡ true → P x) → (xs : List A) → list_all p xs ≡ true
+    → AllByRecursion P xs
 all_tells p P one [] t = tt
 all_tells p P one (x ∷ xs) t = let h = both_true (p x) (list_all p xs) t in (one x h.0, all_tells p P one xs h.1)
 
-all_passes : {A : Type 0} (p : A → Bool) (P : A → Type 0) → ((x : A) → P x → p x ≡ true) → (xs : List A) → AllByRecursion P xs → list_all p xs ≡ true
+all_passes : {A : Type 0} (p : A → Bool) (P : A → Type 0) → ((x : A) → P x → p x ≡ true) → (xs : List A) → AllByRecursion P xs
+    → list_all p xs ≡ true
 all_passes p P one [] all = refl
 all_passes p P one (x ∷ xs) all = and_passes (p x) (list_all p xs) (one x all.0) (all_passes p P one xs all.1)
 
@@ -101,7 +103,8 @@ expr_tells (tree.Star n) zero t = absurd (full (tree.Star n) t)
 expr_tells (tree.Star n) (suc d) t = (inside d (is_name n) t, tt)
 expr_tells (tree.Op o a b) zero t = absurd (full (tree.Op o a b) t)
 expr_tells (tree.Op o a b) (suc d) t =
-    let h = both_true (expr_formed (suc d - 1) a) (expr_formed (suc d - 1) b) (inside d (expr_formed (suc d - 1) a && expr_formed (suc d - 1) b) t) in
+    let h = both_true (expr_formed (suc d - 1) a) (expr_formed (suc d - 1) b)
+    (inside d (expr_formed (suc d - 1) a && expr_formed (suc d - 1) b) t) in
     let k = expr_tells a d (down d a h.0) in
     let l = expr_tells b d (down d b h.1) in
     ((k.0, l.0), (k.1, l.1))
@@ -111,7 +114,8 @@ expr_passes (tree.Name n) zero named fits = absurd fits
 expr_passes (tree.Name n) (suc d) named fits = room d (is_name n) named
 expr_passes (tree.At n i) zero named fits = absurd fits
 expr_passes (tree.At n i) (suc d) named fits =
-    room d (is_name n && expr_formed (suc d - 1) i) (and_passes (is_name n) (expr_formed (suc d - 1) i) named.0 (up d i (expr_passes i d named.1 fits)))
+    room d (is_name n && expr_formed (suc d - 1) i)
+    (and_passes (is_name n) (expr_formed (suc d - 1) i) named.0 (up d i (expr_passes i d named.1 fits)))
 expr_passes (tree.Number n) zero named fits = absurd fits
 expr_passes (tree.Number n) (suc d) named fits = room d (number_fits n) (number_passes n fits)
 expr_passes (tree.To32 e) zero named fits = absurd fits
@@ -123,7 +127,8 @@ expr_passes (tree.Star n) (suc d) named fits = room d (is_name n) named
 expr_passes (tree.Op o a b) zero named fits = absurd fits
 expr_passes (tree.Op o a b) (suc d) named fits =
     room d (expr_formed (suc d - 1) a && expr_formed (suc d - 1) b)
-    (and_passes (expr_formed (suc d - 1) a) (expr_formed (suc d - 1) b) (up d a (expr_passes a d named.0 fits.0)) (up d b (expr_passes b d named.1 fits.1)))
+    (and_passes (expr_formed (suc d - 1) a) (expr_formed (suc d - 1) b) (up d a (expr_passes a d named.0 fits.0))
+    (up d b (expr_passes b d named.1 fits.1)))
 
 -- ---- arguments and calls
 
@@ -139,11 +144,13 @@ arg_passes d (tree.OfFunction n) is = is.0
 
 callee_tells : (f : tree.Callee) → callee_formed f ≡ true → NamedCallee f × FitsCallee f
 callee_tells (tree.Called n) t = (t, tt)
-callee_tells (tree.Through ty n) t = let h = both_true (is_name n) (nat_lt 0 (length ty.params)) t in (h.0, ltb-true 0 (length ty.params) h.1)
+callee_tells (tree.Through ty n) t =
+    let h = both_true (is_name n) (nat_lt 0 (length ty.params)) t in (h.0, ltb-true 0 (length ty.params) h.1)
 
 callee_passes : (f : tree.Callee) → NamedCallee f → FitsCallee f → callee_formed f ≡ true
 callee_passes (tree.Called n) named fits = named
-callee_passes (tree.Through ty n) named fits = and_passes (is_name n) (nat_lt 0 (length ty.params)) named (less_passes 0 (length ty.params) fits)
+callee_passes (tree.Through ty n) named fits =
+    and_passes (is_name n) (nat_lt 0 (length ty.params)) named (less_passes 0 (length ty.params) fits)
 
 -- a call whose names are names, and whose parts fit
 abbrev IsCall : ℕ → tree.Callee → List tree.Arg → Type 0
@@ -201,12 +208,15 @@ stmt_passes d tree.Null is = refl
 stmt_passes d (tree.Set n a) is = and_passes (is_name n) (arg_formed d a) is.0.0 (arg_passes d a (is.0.1, is.1))
 stmt_passes d (tree.SetStar n e) is = and_passes (is_name n) (expr_formed d e) is.0.0 (expr_passes e d is.0.1 is.1)
 stmt_passes d (tree.Call None f args) is = call_passes d f args ((is.0.1, is.0.2), is.1)
-stmt_passes d (tree.Call (Some n) f args) is = and_passes (is_name n) (call_formed (d - 1) f args) is.0.0 (call_passes (d - 1) f args ((is.0.1, is.0.2), is.1))
+stmt_passes d (tree.Call (Some n) f args) is =
+    and_passes (is_name n) (call_formed (d - 1) f args) is.0.0 (call_passes (d - 1) f args ((is.0.1, is.0.2), is.1))
 stmt_passes d (tree.Goto n) is = is.0
 stmt_passes d (tree.If o a b n) is =
-    and_passes (is_name n) (expr_formed d a && expr_formed d b) is.0.2 (and_passes (expr_formed d a) (expr_formed d b) (expr_passes a d is.0.0 is.1.0) (expr_passes b d is.0.1 is.1.1))
+    and_passes (is_name n) (expr_formed d a && expr_formed d b) is.0.2
+    (and_passes (expr_formed d a) (expr_formed d b) (expr_passes a d is.0.0 is.1.0) (expr_passes b d is.0.1 is.1.1))
 stmt_passes d (tree.Switch e cases n) is =
-    and_passes (is_name n) (expr_formed d e && list_all case_formed cases) is.0.2 (and_passes (expr_formed d e) (list_all case_formed cases) (expr_passes e d is.0.0 is.1.0)
+    and_passes (is_name n) (expr_formed d e && list_all case_formed cases) is.0.2
+    (and_passes (expr_formed d e) (list_all case_formed cases) (expr_passes e d is.0.0 is.1.0)
     (all_passes case_formed (λ c. NamedCase c × FitsCase c) case_passes cases (both NamedCase FitsCase cases is.0.1 is.1.1)))
 stmt_passes d tree.ReturnNone is = refl
 stmt_passes d (tree.Return a) is = arg_passes d a is
@@ -224,15 +234,18 @@ body_tells d None t = (tt, tt)
 body_tells d (Some b) t =
     let h = both_true (list_all local_formed b.locals) (list_all (stmt_formed d) b.stmts) t in
     let k = all_tells local_formed (λ l. NamedLocal l × FitsLocal l) local_tells b.locals h.0 in
-    let l = all_tells (stmt_formed d) (λ s. NamedStmt s × FitsStmt d s) (stmt_tells d) b.stmts h.1 in
-    ((firsts NamedLocal FitsLocal b.locals k, firsts NamedStmt (FitsStmt d) b.stmts l), (seconds NamedLocal FitsLocal b.locals k, seconds NamedStmt (FitsStmt d) b.stmts l))
+    let l = all_tells (stmt_formed d) (λ s. NamedStmt s × FitsStmt d s) (stmt_tells d) b.stmts h.1 in (
+      (firsts NamedLocal FitsLocal b.locals k, firsts NamedStmt (FitsStmt d) b.stmts l),
+      (seconds NamedLocal FitsLocal b.locals k, seconds NamedStmt (FitsStmt d) b.stmts l),
+    )
 
 body_passes : (d : ℕ) (b : Option tree.Body) → NamedBody b → FitsBody d b → body_formed d b ≡ true
 body_passes d None named fits = refl
 body_passes d (Some b) named fits =
     and_passes (list_all local_formed b.locals) (list_all (stmt_formed d) b.stmts)
     (all_passes local_formed (λ l. NamedLocal l × FitsLocal l) local_passes b.locals (both NamedLocal FitsLocal b.locals named.0 fits.0))
-    (all_passes (stmt_formed d) (λ s. NamedStmt s × FitsStmt d s) (stmt_passes d) b.stmts (both NamedStmt (FitsStmt d) b.stmts named.1 fits.1))
+    (all_passes (stmt_formed d) (λ s. NamedStmt s × FitsStmt d s) (stmt_passes d) b.stmts
+    (both NamedStmt (FitsStmt d) b.stmts named.1 fits.1))
 
 value_tells : (v : Option Num) → value_formed v ≡ true → FitsValue v
 value_tells None t = tt
@@ -250,7 +263,9 @@ small_passes b small = less_passes b 256 small
 
 pub bytes_are : (bytes : List ℕ) → ((i : ℕ) → Fits w8 (get_or bytes i 0)) → list_all is_byte bytes ≡ true
 bytes_are [] small = refl
-bytes_are (b ∷ bytes) small = let first : Fits w8 b = small 0 in and_passes (is_byte b) (list_all is_byte bytes) (less_passes b 256 (omega arith)) (bytes_are bytes (λ i. small (suc i)))
+bytes_are (b ∷ bytes) small =
+    let first : Fits w8 b = small 0 in
+    and_passes (is_byte b) (list_all is_byte bytes) (less_passes b 256 (omega arith)) (bytes_are bytes (λ i. small (suc i)))
 
 item_tells : (d : ℕ) (i : tree.Item) → item_formed d i ≡ true → NamedItem i × FitsItem d i
 item_tells d (tree.Array n count bytes) t =
@@ -270,12 +285,15 @@ item_passes : (d : ℕ) (i : tree.Item) → NamedItem i × FitsItem d i → item
 item_passes d (tree.Array n count bytes) is =
     and_passes (is_name n) (nat_lt count (2 ^ 32) && bytes_formed bytes) is.0
     (and_passes (nat_lt count (2 ^ 32)) (bytes_formed bytes) (less_passes count (2 ^ 32) is.1.0)
-    (and_passes (nat_lt 0 (length bytes)) (list_all is_byte bytes) (less_passes 0 (length bytes) is.1.1) (all_passes is_byte (λ b. b < 256) small_passes bytes is.1.2)))
+    (and_passes (nat_lt 0 (length bytes)) (list_all is_byte bytes) (less_passes 0 (length bytes) is.1.1)
+    (all_passes is_byte (λ b. b < 256) small_passes bytes is.1.2)))
 item_passes d (tree.Var ty n v) is = and_passes (is_name n) (value_formed v) is.0 (value_passes v is.1)
 item_passes d (tree.Function f) is =
     and_passes (is_name f.name) (nat_lt 0 (length f.params) && (list_all param_formed f.params && body_formed d f.body)) is.0.0
-    (and_passes (nat_lt 0 (length f.params)) (list_all param_formed f.params && body_formed d f.body) (less_passes 0 (length f.params) is.1.0)
-    (and_passes (list_all param_formed f.params) (body_formed d f.body) (all_passes param_formed NamedParam (λ p. named_passes p.1) f.params is.0.1) (body_passes d f.body is.0.2 is.1.1)))
+    (and_passes (nat_lt 0 (length f.params)) (list_all param_formed f.params && body_formed d f.body)
+    (less_passes 0 (length f.params) is.1.0)
+    (and_passes (list_all param_formed f.params) (body_formed d f.body)
+    (all_passes param_formed NamedParam (λ p. named_passes p.1) f.params is.0.1) (body_passes d f.body is.0.2 is.1.1)))
 
 pub unit_tells : (u : List tree.Item) → list_all (item_formed depth_limit) u ≡ true → IsWellFormed u
 unit_tells u t =
@@ -283,4 +301,6 @@ unit_tells u t =
     record { named = firsts NamedItem (FitsItem depth_limit) u all; fits = seconds NamedItem (FitsItem depth_limit) u all }
 
 pub unit_passes : (u : List tree.Item) → IsWellFormed u → list_all (item_formed depth_limit) u ≡ true
-unit_passes u is = all_passes (item_formed depth_limit) (λ i. NamedItem i × FitsItem depth_limit i) (item_passes depth_limit) u (both NamedItem (FitsItem depth_limit) u is.named is.fits)
+unit_passes u is =
+    all_passes (item_formed depth_limit) (λ i. NamedItem i × FitsItem depth_limit i) (item_passes depth_limit) u
+    (both NamedItem (FitsItem depth_limit) u is.named is.fits)

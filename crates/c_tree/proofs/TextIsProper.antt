@@ -25,10 +25,23 @@ IsFixedTok t = is_fixed t ≡ true
 
 good_sign : (ts : List Tok) (text : List ℕ) → AllByRecursion IsFixedTok ts → IsGood (sign_among ts text)
 good_sign [] text all = inr refl
-good_sign (t ∷ ts) text all = choose (bytes_eq text (fixed_text t)) (Fixed t) (sign_among ts text) (λ _. inl all.0) (λ _. good_sign ts text all.1)
+good_sign (t ∷ ts) text all =
+    choose (bytes_eq text (fixed_text t)) (Fixed t) (sign_among ts text) (λ _. inl all.0) (λ _. good_sign ts text all.1)
 
 shorts_fixed : AllByRecursion IsFixedTok short_signs
-shorts_fixed = (refl, (refl, (refl, (refl, (refl, (refl, (refl, (refl, (refl, (refl, (refl, (refl, (refl, (refl, (refl, (refl, (refl, (refl, (refl, (refl, tt))))))))))))))))))))
+shorts_fixed = (
+  refl,
+  (
+    refl,
+    (
+      refl,
+      (
+        refl,
+        (refl, (refl, (refl, (refl, (refl, (refl, (refl, (refl, (refl, (refl, (refl, (refl, (refl, (refl, (refl, (refl, tt)))))))))))))))),
+      ),
+    ),
+  ),
+)
 
 longs_fixed : AllByRecursion IsFixedTok long_signs
 longs_fixed = (refl, (refl, (refl, (refl, (refl, (refl, tt))))))
@@ -39,10 +52,12 @@ words_fixed = (refl, (refl, (refl, (refl, (refl, (refl, (refl, (refl, (refl, (re
 -- ---- words
 
 -- none of the key words that are left, and of those passed none either
-good_word_among : (ts : List Tok) (w : List ℕ) → AllByRecursion IsFixedTok ts → (list_any (bytes_eq w) (map fixed_text ts ++ other_words) ≡ false → IsName w) → IsGood (key_word_among ts w)
+good_word_among : (ts : List Tok) (w : List ℕ) → AllByRecursion IsFixedTok ts
+    → (list_any (bytes_eq w) (map fixed_text ts ++ other_words) ≡ false → IsName w) → IsGood (key_word_among ts w)
 good_word_among [] w all named = choose (list_any (bytes_eq w) other_words) Wrong (Named w) (λ _. inr refl) (λ e. inl (named e))
 good_word_among (t ∷ ts) w all named =
-    choose (bytes_eq w (fixed_text t)) (Fixed t) (key_word_among ts w) (λ _. inl all.0) (λ e. good_word_among ts w all.1 (λ f. named (rw (e, f) refl)))
+    choose (bytes_eq w (fixed_text t)) (Fixed t) (key_word_among ts w) (λ _. inl all.0)
+    (λ e. good_word_among ts w all.1 (λ f. named (rw (e, f) refl)))
 
 good_word : (b : ℕ) (bs : List ℕ) → is_letter b ≡ true → list_all is_word_byte bs ≡ true → IsGood (word_token (b ∷ bs))
 good_word b bs letter all = good_word_among key_words (b ∷ bs) words_fixed (λ e. rw (letter, all) (ap not e))
@@ -59,7 +74,9 @@ run_passes p (x ∷ xs) = passes p x (run p xs) (p x) refl (run_passes p xs)
 
 good_run : (ds rest : List ℕ) → IsGood (number_token ds rest)
 good_run ds rest = choose (are_digits ds) _ _
-    (λ e. choose (bytes_eq rest []) _ _ (λ _. inl e) (λ _. choose (bytes_eq rest (codes "u")) _ _ (λ _. inl e) (λ _. choose (bytes_eq rest (codes "ull")) _ _ (λ _. inl e) (λ _. inr refl))))
+    (λ e. choose (bytes_eq rest []) _ _ (λ _. inl e)
+    (λ _. choose (bytes_eq rest (codes "u")) _ _ (λ _. inl e)
+    (λ _. choose (bytes_eq rest (codes "ull")) _ _ (λ _. inl e) (λ _. inr refl))))
     (λ _. inr refl)
 
 -- ---- whole texts
@@ -86,13 +103,17 @@ good_sign_front : (b : ℕ) (rest : List ℕ) → GoodFront (sign_front b rest)
 good_sign_front b [] = good_sign short_signs (b ∷ []) shorts_fixed
 good_sign_front b (c ∷ rest) =
     choose_front ((b == 47) && (c == 42)) _ _ (λ _. good_comment (comment_end rest))
-    (λ _. good_longer (two_sign b c) (one_sign b) (good_sign long_signs (b ∷ c ∷ []) longs_fixed) (good_sign short_signs (b ∷ []) shorts_fixed))
+    (λ _. good_longer (two_sign b c) (one_sign b) (good_sign long_signs (b ∷ c ∷ []) longs_fixed)
+    (good_sign short_signs (b ∷ []) shorts_fixed))
 
 pub good_front : (b : ℕ) (rest : List ℕ) → GoodFront (front b rest)
 good_front b rest =
-    choose_front (is_blank b) _ _ (λ _. tt) (λ _. choose_front (is_letter b) _ _ (λ l. good_word b (run is_word_byte rest) l (run_passes is_word_byte rest)) (λ _.
-    choose_front (is_digit b) _ _ (λ _. good_run (run is_digit (b ∷ run is_word_byte rest)) (past is_digit (b ∷ run is_word_byte rest))) (λ _.
-    choose_front (b == 35) _ _ (λ _. choose_front (is_include (b ∷ rest)) _ _ (λ _. inl refl) (λ _. inr refl)) (λ _. good_sign_front b rest))))
+    choose_front (is_blank b) _ _ (λ _. tt)
+    (λ _. choose_front (is_letter b) _ _ (λ l. good_word b (run is_word_byte rest) l (run_passes is_word_byte rest)) (λ _.
+    choose_front (is_digit b) _ _ (λ _. good_run (run is_digit (b ∷ run is_word_byte rest)) (past is_digit (b ∷ run is_word_byte rest)))
+    (λ _.
+    choose_front (b == 35) _ _ (λ _. choose_front (is_include (b ∷ rest)) _ _ (λ _. inl refl) (λ _. inr refl))
+    (λ _. good_sign_front b rest))))
 
 nothing_left : (xs : List Token) (t : Token) → xs ++ t ∷ [] ≡ [] → ⊥
 nothing_left [] t e = absurd cc
@@ -117,7 +138,8 @@ all_proper : (text : List ℕ) (k p : ℕ) (ts : List Token) → tokens_from k p
 all_proper text k p [] e = tt
 all_proper [] k p (t ∷ ts) e = absurd (nothing_left ts (Fixed tok.End) cc)
 all_proper (b ∷ rest) (suc k) p (t ∷ ts) e = all_proper rest k (p + 1) (t ∷ ts) e
-all_proper (b ∷ rest) zero p (t ∷ ts) e = behind (front b rest) p (λ k. lexemes k (p + 1) rest) t ts (good_front b rest) (λ k us is. all_proper rest k (p + 1) us is) e
+all_proper (b ∷ rest) zero p (t ∷ ts) e =
+    behind (front b rest) p (λ k. lexemes k (p + 1) rest) t ts (good_front b rest) (λ k us is. all_proper rest k (p + 1) us is) e
 
 -- the tokens of a text in front of its end are proper
 pub tokens_proper : (text : List ℕ) (ts : List Token) → tokens text ≡ ts ++ Fixed tok.End ∷ [] → AllByRecursion IsProper ts

@@ -39,21 +39,29 @@ pub both : {A : Type 0} (P Q : A → Type 0) (xs : List A) → AllByRecursion P 
 both P Q [] a b = tt
 both P Q (x ∷ xs) a b = ((a.0, b.0), both P Q xs a.1 b.1)
 
-each_proper : {A : Type 0} (f : A → List Token) (P : A → Type 0) → ((x : A) → P x → AllProper (f x)) → (xs : List A) → AllByRecursion P xs → AllProper (each f xs)
+each_proper : {A : Type 0} (f : A → List Token) (P : A → Type 0) → ((x : A) → P x → AllProper (f x)) → (xs : List A) → AllByRecursion P xs
+    → AllProper (each f xs)
 each_proper f P one [] all = tt
 each_proper f P one (x ∷ xs) all = join (f x) (each f xs) (one x all.0) (each_proper f P one xs all.1)
 
-pub each_of : {A : Type 0} (f : A → List Token) (P : A → Type 0) → ((x : A) → AllProper (f x) → P x) → (xs : List A) → AllProper (each f xs) → AllByRecursion P xs
+pub each_of : {A : Type 0} (f : A → List Token) (P : A → Type 0) → ((x : A) → AllProper (f x) → P x) → (xs : List A) → AllProper (each f xs)
+    → AllByRecursion P xs
 each_of f P one [] all = tt
 each_of f P one (x ∷ xs) all = let h = split (f x) (each f xs) all in (one x h.0, each_of f P one xs h.1)
 
-separated_proper : {A : Type 0} (f : A → List Token) (P : A → Type 0) → ((x : A) → P x → AllProper (f x)) → (xs : List A) → AllByRecursion P xs → AllProper (separated f xs)
+separated_proper : {A : Type 0} (f : A → List Token) (P : A → Type 0) → ((x : A) → P x → AllProper (f x)) → (xs : List A)
+    → AllByRecursion P xs → AllProper (separated f xs)
 separated_proper f P one [] all = tt
-separated_proper f P one (x ∷ xs) all = join (f x) (each (λ y. Fixed tok.Comma ∷ f y) xs) (one x all.0) (each_proper (λ y. Fixed tok.Comma ∷ f y) P (λ y p. (refl, one y p)) xs all.1)
+separated_proper f P one (x ∷ xs) all =
+    join (f x) (each (λ y. Fixed tok.Comma ∷ f y) xs) (one x all.0)
+    (each_proper (λ y. Fixed tok.Comma ∷ f y) P (λ y p. (refl, one y p)) xs all.1)
 
-separated_of : {A : Type 0} (f : A → List Token) (P : A → Type 0) → ((x : A) → AllProper (f x) → P x) → (xs : List A) → AllProper (separated f xs) → AllByRecursion P xs
+separated_of : {A : Type 0} (f : A → List Token) (P : A → Type 0) → ((x : A) → AllProper (f x) → P x) → (xs : List A)
+    → AllProper (separated f xs) → AllByRecursion P xs
 separated_of f P one [] all = tt
-separated_of f P one (x ∷ xs) all = let h = split (f x) (each (λ y. Fixed tok.Comma ∷ f y) xs) all in (one x h.0, each_of (λ y. Fixed tok.Comma ∷ f y) P (λ y p. one y p.1) xs h.1)
+separated_of f P one (x ∷ xs) all =
+    let h = split (f x) (each (λ y. Fixed tok.Comma ∷ f y) xs) all in
+    (one x h.0, each_of (λ y. Fixed tok.Comma ∷ f y) P (λ y p. one y p.1) xs h.1)
 
 -- ---- numbers
 
@@ -69,14 +77,16 @@ not_zero_digit d more = grind (arith, nat_tests)
 
 are_digits_of : (ds : List ℕ) → IsNumeral 10 ds → 48 < get_or ds 0 0 → are_digits ds ≡ true
 are_digits_of [] is more = absurd (omega arith)
-are_digits_of (d ∷ []) is more = let h = digits_are (d ∷ []) is.1 in let k = digit_from_value d is.1.0 in digit_is d (omega arith) (omega arith)
+are_digits_of (d ∷ []) is more =
+    let h = digits_are (d ∷ []) is.1 in let k = digit_from_value d is.1.0 in digit_is d (omega arith) (omega arith)
 are_digits_of (d ∷ e ∷ ds) is more =
     let k = digit_from_value d is.1.0 in
     rw (digit_is d (omega arith) (omega arith), not_zero_digit d more) (digits_are (e ∷ ds) is.1.1)
 
 pub decimal_digits : (n : ℕ) → n < 2 ^ 64 → are_digits (decimal n) ≡ true
 decimal_digits zero small = rw (decimal_digit 0 (omega arith)) refl
-decimal_digits (suc n) small = are_digits_of (decimal (suc n)) (decimal_is_IsNumeral (suc n) small).0 (first_decimal (suc n) (omega arith) small)
+decimal_digits (suc n) small =
+    are_digits_of (decimal (suc n)) (decimal_is_IsNumeral (suc n) small).0 (first_decimal (suc n) (omega arith) small)
 
 num_proper : (n : Num) → FitsNum n → IsProper (num_token n)
 num_proper (N32 n) fits = decimal_digits n (omega arith)
@@ -127,8 +137,11 @@ expr_proper (tree.To64 e) zero named fits = absurd fits
 expr_proper (tree.To64 e) (suc d) named fits = (refl, (refl, (refl, expr_proper e d named fits)))
 expr_proper (tree.Star n) d named fits = (refl, (refl, (named, (refl, tt))))
 expr_proper (tree.Op o a b) zero named fits = absurd fits
-expr_proper (tree.Op o a b) (suc d) named fits =
-    (refl, join (expr_tokens a) _ (expr_proper a d named.0 fits.0) (op_proper o, join (expr_tokens b) _ (expr_proper b d named.1 fits.1) (refl, tt)))
+expr_proper (tree.Op o a b) (suc d) named fits = (
+  refl,
+  join (expr_tokens a) _ (expr_proper a d named.0 fits.0)
+      (op_proper o, join (expr_tokens b) _ (expr_proper b d named.1 fits.1) (refl, tt)),
+)
 
 arg_proper : (d : ℕ) (a : tree.Arg) → NamedArg a × FitsArg d a → AllProper (arg_tokens a)
 arg_proper d (tree.Value e) is = expr_proper e d is.0 is.1
@@ -144,15 +157,31 @@ types_proper ts = separated_proper type_tokens (λ t. Unit {0}) (λ t is. type_p
 
 callee_proper : (f : tree.Callee) → NamedCallee f → AllProper (callee_tokens f)
 callee_proper (tree.Called n) named = (named, tt)
-callee_proper (tree.Through t n) named =
-    (refl, (refl, (refl, join (type_tokens t.result) _ (type_proper t.result) (refl, (refl, (refl, (refl, join (separated type_tokens t.params) _ (types_proper t.params) (refl, (refl, (named, (refl, tt)))))))))))
+callee_proper (tree.Through t n) named = (
+  refl,
+  (
+    refl,
+    (
+      refl,
+      join (type_tokens t.result) _ (type_proper t.result) (
+        refl,
+        (
+          refl,
+          (refl, (refl, join (separated type_tokens t.params) _ (types_proper t.params) (refl, (refl, (named, (refl, tt)))))),
+        ),
+      ),
+    ),
+  ),
+)
 
-call_proper : (d : ℕ) (f : tree.Callee) (args : List tree.Arg) → NamedCallee f → AllByRecursion NamedArg args → AllByRecursion (FitsArg d) args → AllProper (call_tokens f args)
+call_proper : (d : ℕ) (f : tree.Callee) (args : List tree.Arg) → NamedCallee f → AllByRecursion NamedArg args
+    → AllByRecursion (FitsArg d) args → AllProper (call_tokens f args)
 call_proper d f args named all fits =
     join (callee_tokens f) _ (callee_proper f named) (
       refl,
       join (separated arg_tokens args) _
-          (separated_proper arg_tokens (λ a. NamedArg a × FitsArg d a) (arg_proper d) args (both NamedArg (FitsArg d) args all fits)) (refl, (refl, tt)),
+          (separated_proper arg_tokens (λ a. NamedArg a × FitsArg d a) (arg_proper d) args (both NamedArg (FitsArg d) args all fits))
+          (refl, (refl, tt)),
     )
 
 goto_proper : (n : List ℕ) → IsName n → AllProper (goto_tokens n)
@@ -175,8 +204,14 @@ stmt_proper d (tree.SetStar n e) is = (refl, (is.0.0, (refl, join (expr_tokens e
 stmt_proper d (tree.Call None f args) is = call_proper d f args is.0.1 is.0.2 is.1.1
 stmt_proper d (tree.Call (Some n) f args) is = (is.0.0, (refl, call_proper (d - 1) f args is.0.1 is.0.2 is.1.1))
 stmt_proper d (tree.Goto n) is = goto_proper n is.0
-stmt_proper d (tree.If o a b n) is =
-    (refl, (refl, join (expr_tokens a) _ (expr_proper a d is.0.0 is.1.0) (op_proper o, join (expr_tokens b) _ (expr_proper b d is.0.1 is.1.1) (refl, goto_proper n is.0.2))))
+stmt_proper d (tree.If o a b n) is = (
+  refl,
+  (
+    refl,
+    join (expr_tokens a) _ (expr_proper a d is.0.0 is.1.0)
+        (op_proper o, join (expr_tokens b) _ (expr_proper b d is.0.1 is.1.1) (refl, goto_proper n is.0.2)),
+  ),
+)
 stmt_proper d (tree.Switch e cases n) is = (
   refl,
   (
@@ -186,7 +221,8 @@ stmt_proper d (tree.Switch e cases n) is = (
       (
         refl,
         join (each case_tokens cases) _
-            (each_proper case_tokens (λ c. NamedCase c × FitsCase c) case_proper cases (both NamedCase FitsCase cases is.0.1 is.1.1)) (refl, (refl, (refl, (is.0.2, (refl, (refl, tt)))))),
+            (each_proper case_tokens (λ c. NamedCase c × FitsCase c) case_proper cases (both NamedCase FitsCase cases is.0.1 is.1.1))
+            (refl, (refl, (refl, (is.0.2, (refl, (refl, tt)))))),
       ),
     ),
   ),
@@ -207,8 +243,10 @@ close_proper : (d : ℕ) (b : Option tree.Body) → NamedBody b → FitsBody d b
 close_proper d None named fits = (refl, tt)
 close_proper d (Some b) named fits = (
   refl,
-  join (each local_tokens b.locals) _ (each_proper local_tokens (λ l. NamedLocal l × FitsLocal l) local_proper b.locals (both NamedLocal FitsLocal b.locals named.0 fits.0))
-      (join (each stmt_tokens b.stmts) _ (each_proper stmt_tokens (λ s. NamedStmt s × FitsStmt d s) (stmt_proper d) b.stmts (both NamedStmt (FitsStmt d) b.stmts named.1 fits.1)) (refl, tt)),
+  join (each local_tokens b.locals) _ (each_proper local_tokens (λ l. NamedLocal l × FitsLocal l) local_proper b.locals
+      (both NamedLocal FitsLocal b.locals named.0 fits.0))
+      (join (each stmt_tokens b.stmts) _ (each_proper stmt_tokens (λ s. NamedStmt s × FitsStmt d s) (stmt_proper d) b.stmts
+      (both NamedStmt (FitsStmt d) b.stmts named.1 fits.1)) (refl, tt)),
 )
 
 abbrev pub NamedParam : tree.Param → Type 0
@@ -264,11 +302,18 @@ item_proper d (tree.Array n count bytes) is = (
 )
 item_proper d (tree.Var t n v) is = (refl, join (type_tokens t) _ (type_proper t) (is.0, value_proper v is.1))
 item_proper d (tree.Function f) is =
-    join (static_tokens f.is_static) _ (static_proper f.is_static) (join (type_tokens f.result) _ (type_proper f.result)
-    (is.0.0, (refl, join (separated param_tokens f.params) _ (separated_proper param_tokens NamedParam param_proper f.params is.0.1) (refl, close_proper d f.body is.0.2 is.1.1))))
+    join (static_tokens f.is_static) _ (static_proper f.is_static) (join (type_tokens f.result) _ (type_proper f.result) (
+      is.0.0,
+      (
+        refl,
+        join (separated param_tokens f.params) _ (separated_proper param_tokens NamedParam param_proper f.params is.0.1)
+            (refl, close_proper d f.body is.0.2 is.1.1),
+      ),
+    ))
 
 pub unit_proper : (d : ℕ) (u : List tree.Item) → AllByRecursion NamedItem u → AllByRecursion (FitsItem d) u → AllProper (unit_tokens u)
-unit_proper d u named fits = (refl, each_proper item_tokens (λ i. NamedItem i × FitsItem d i) (item_proper d) u (both NamedItem (FitsItem d) u named fits))
+unit_proper d u named fits =
+    (refl, each_proper item_tokens (λ i. NamedItem i × FitsItem d i) (item_proper d) u (both NamedItem (FitsItem d) u named fits))
 
 -- ---- where the tokens of a tree are proper, its names are names
 
@@ -291,13 +336,21 @@ arg_named (tree.OfFunction n) all = all.1.1.1.0
 callee_named : (f : tree.Callee) → AllProper (callee_tokens f) → NamedCallee f
 callee_named (tree.Called n) all = all.0
 callee_named (tree.Through t n) all =
-    let h = split (type_tokens t.result) (Fixed tok.LeftParen ∷ Fixed tok.Star ∷ Fixed tok.RightParen ∷ Fixed tok.LeftParen ∷ (separated type_tokens t.params ++ Fixed tok.RightParen ∷ Fixed tok.RightParen ∷ Named n ∷ Fixed tok.RightParen ∷ [])) all.1.1.1 in
-    (split (separated type_tokens t.params) (Fixed tok.RightParen ∷ Fixed tok.RightParen ∷ Named n ∷ Fixed tok.RightParen ∷ []) h.1.1.1.1.1).1.1.1.0
+    let h = split (type_tokens t.result)
+    (Fixed tok.LeftParen ∷ Fixed tok.Star ∷ Fixed tok.RightParen ∷ Fixed tok.LeftParen
+    ∷ (separated type_tokens t.params ++ Fixed tok.RightParen ∷ Fixed tok.RightParen ∷ Named n ∷ Fixed tok.RightParen
+    ∷ [])) all.1.1.1 in
+    (split (separated type_tokens t.params)
+    (Fixed tok.RightParen ∷ Fixed tok.RightParen ∷ Named n ∷ Fixed tok.RightParen ∷ []) h.1.1.1.1.1).1.1.1.0
 
 call_named : (f : tree.Callee) (args : List tree.Arg) → AllProper (call_tokens f args) → NamedCallee f × AllByRecursion NamedArg args
 call_named f args all =
-    let h = split (callee_tokens f) (Fixed tok.LeftParen ∷ (separated arg_tokens args ++ Fixed tok.RightParen ∷ Fixed tok.Semicolon ∷ [])) all in
-    (callee_named f h.0, separated_of arg_tokens NamedArg arg_named args (split (separated arg_tokens args) (Fixed tok.RightParen ∷ Fixed tok.Semicolon ∷ []) h.1.1).0)
+    let h = split (callee_tokens f) (Fixed tok.LeftParen ∷ (separated arg_tokens args ++ Fixed tok.RightParen ∷ Fixed tok.Semicolon ∷ []))
+    all in (
+      callee_named f h.0,
+      separated_of arg_tokens NamedArg arg_named args
+          (split (separated arg_tokens args) (Fixed tok.RightParen ∷ Fixed tok.Semicolon ∷ []) h.1.1).0,
+    )
 
 stmt_named : (s : tree.Stmt) → AllProper (stmt_tokens s) → NamedStmt s
 stmt_named (tree.Label n) all = all.0
@@ -325,8 +378,10 @@ local_named l all = (split (type_tokens l.0) (Named l.1 ∷ Fixed tok.Assign ∷
 body_named : (b : Option tree.Body) → AllProper (close_tokens b) → NamedBody b
 body_named None all = tt
 body_named (Some b) all =
-    let h = split (each local_tokens b.locals) (each stmt_tokens b.stmts ++ Fixed tok.RightBrace ∷ []) all.1 in
-    (each_of local_tokens NamedLocal local_named b.locals h.0, each_of stmt_tokens NamedStmt stmt_named b.stmts (split (each stmt_tokens b.stmts) (Fixed tok.RightBrace ∷ []) h.1).0)
+    let h = split (each local_tokens b.locals) (each stmt_tokens b.stmts ++ Fixed tok.RightBrace ∷ []) all.1 in (
+      each_of local_tokens NamedLocal local_named b.locals h.0,
+      each_of stmt_tokens NamedStmt stmt_named b.stmts (split (each stmt_tokens b.stmts) (Fixed tok.RightBrace ∷ []) h.1).0,
+    )
 
 named_if_any : (n : Option (List ℕ)) → AllProper (maybe_name n) → IsNamedIfAny n
 named_if_any None all = tt

@@ -56,8 +56,11 @@ expansion part.InUnit d _ = Some (One tok.Include ∷ Of part.InItems d ∷ One 
 expansion part.InItems d (kind.Fixed tok.End) = Some []
 expansion part.InItems d _ = Some (Of part.InItem d ∷ Of part.InItems d ∷ [])
 expansion part.InItem d (kind.Fixed tok.WordStatic) = Some (One tok.WordStatic ∷ Of part.InInner d ∷ [])
-expansion part.InItem d k = if begins_type k then Some (Of part.InType d ∷ One tok.Name ∷ One tok.LeftParen ∷ Of part.InFunction d ∷ []) else None
-expansion part.InInner d (kind.Fixed tok.WordConst) = Some (One tok.WordConst ∷ One tok.WordU8 ∷ One tok.Name ∷ One tok.LeftBracket ∷ One tok.Plain ∷ One tok.RightBracket ∷ One tok.Assign ∷ One tok.LeftBrace ∷ OneByte ∷ Of part.InMore d ∷ One tok.RightBrace ∷ One tok.Semicolon ∷ [])
+expansion part.InItem d k =
+    if begins_type k then Some (Of part.InType d ∷ One tok.Name ∷ One tok.LeftParen ∷ Of part.InFunction d ∷ []) else None
+expansion part.InInner d (kind.Fixed tok.WordConst) =
+    Some (One tok.WordConst ∷ One tok.WordU8 ∷ One tok.Name ∷ One tok.LeftBracket ∷ One tok.Plain ∷ One tok.RightBracket ∷ One tok.Assign
+    ∷ One tok.LeftBrace ∷ OneByte ∷ Of part.InMore d ∷ One tok.RightBrace ∷ One tok.Semicolon ∷ [])
 expansion part.InInner d k = if begins_type k then Some (Of part.InType d ∷ One tok.Name ∷ Of part.InRest d ∷ []) else None
 expansion part.InMore d (kind.Fixed tok.Comma) = Some (One tok.Comma ∷ OneByte ∷ Of part.InMore d ∷ [])
 expansion part.InMore d _ = Some []
@@ -83,22 +86,30 @@ expansion part.InPtail d _ = Some []
 expansion part.InClose d (kind.Fixed tok.Semicolon) = Some (One tok.Semicolon ∷ [])
 expansion part.InClose d (kind.Fixed tok.LeftBrace) = Some (One tok.LeftBrace ∷ Of part.InBody d ∷ One tok.RightBrace ∷ [])
 expansion part.InClose d _ = None
-expansion part.InBody d k = if begins_type k then Some (Of part.InDeclaration d ∷ Of part.InBody d ∷ []) else Some (Of part.InStatements d ∷ [])
+expansion part.InBody d k =
+    if begins_type k then Some (Of part.InDeclaration d ∷ Of part.InBody d ∷ []) else Some (Of part.InStatements d ∷ [])
 expansion part.InDeclaration d _ = Some (Of part.InType d ∷ One tok.Name ∷ One tok.Assign ∷ Of part.InNumber d ∷ One tok.Semicolon ∷ [])
 expansion part.InStatements d (kind.Fixed tok.RightBrace) = Some []
 expansion part.InStatements d _ = Some (Of part.InStatement d ∷ Of part.InStatements d ∷ [])
 expansion part.InStatement d (kind.Fixed tok.Semicolon) = Some (One tok.Semicolon ∷ [])
 expansion part.InStatement d kind.Name = Some (One tok.Name ∷ Of part.InAfter d ∷ [])
-expansion part.InStatement d (kind.Fixed tok.Star) = Some (One tok.Star ∷ One tok.Name ∷ One tok.Assign ∷ Of part.InExpr d ∷ One tok.Semicolon ∷ [])
-expansion part.InStatement d (kind.Fixed tok.LeftParen) = Some (One tok.LeftParen ∷ One tok.Star ∷ Of part.InThrough d ∷ One tok.Semicolon ∷ [])
+expansion part.InStatement d (kind.Fixed tok.Star) =
+    Some (One tok.Star ∷ One tok.Name ∷ One tok.Assign ∷ Of part.InExpr d ∷ One tok.Semicolon ∷ [])
+expansion part.InStatement d (kind.Fixed tok.LeftParen) =
+    Some (One tok.LeftParen ∷ One tok.Star ∷ Of part.InThrough d ∷ One tok.Semicolon ∷ [])
 expansion part.InStatement d (kind.Fixed tok.WordGoto) = Some (One tok.WordGoto ∷ One tok.Name ∷ One tok.Semicolon ∷ [])
-expansion part.InStatement d (kind.Fixed tok.WordIf) = Some (One tok.WordIf ∷ One tok.LeftParen ∷ Of part.InExpr d ∷ Of part.InOperator d ∷ Of part.InExpr d ∷ One tok.RightParen ∷ One tok.WordGoto ∷ One tok.Name ∷ One tok.Semicolon ∷ [])
-expansion part.InStatement d (kind.Fixed tok.WordSwitch) = Some (One tok.WordSwitch ∷ One tok.LeftParen ∷ Of part.InExpr d ∷ One tok.RightParen ∷ One tok.LeftBrace ∷ Of part.InCases d ∷ One tok.RightBrace ∷ [])
+expansion part.InStatement d (kind.Fixed tok.WordIf) =
+    Some (One tok.WordIf ∷ One tok.LeftParen ∷ Of part.InExpr d ∷ Of part.InOperator d ∷ Of part.InExpr d ∷ One tok.RightParen
+    ∷ One tok.WordGoto ∷ One tok.Name ∷ One tok.Semicolon ∷ [])
+expansion part.InStatement d (kind.Fixed tok.WordSwitch) =
+    Some (One tok.WordSwitch ∷ One tok.LeftParen ∷ Of part.InExpr d ∷ One tok.RightParen ∷ One tok.LeftBrace ∷ Of part.InCases d
+    ∷ One tok.RightBrace ∷ [])
 expansion part.InStatement d (kind.Fixed tok.WordReturn) = Some (One tok.WordReturn ∷ Of part.InResult d ∷ One tok.Semicolon ∷ [])
 expansion part.InStatement d _ = None
 expansion part.InAfter d (kind.Fixed tok.Colon) = Some (One tok.Colon ∷ [])
 expansion part.InAfter d (kind.Fixed tok.Assign) = Some (One tok.Assign ∷ Of part.InRight d ∷ One tok.Semicolon ∷ [])
-expansion part.InAfter d (kind.Fixed tok.LeftParen) = Some (One tok.LeftParen ∷ Of part.InArguments d ∷ One tok.RightParen ∷ One tok.Semicolon ∷ [])
+expansion part.InAfter d (kind.Fixed tok.LeftParen) =
+    Some (One tok.LeftParen ∷ Of part.InArguments d ∷ One tok.RightParen ∷ One tok.Semicolon ∷ [])
 expansion part.InAfter d _ = None
 expansion part.InRight d kind.Name = Some (One tok.Name ∷ Of part.InRname d ∷ [])
 expansion part.InRight d (kind.Number s) = Some (Of part.InNumber d ∷ [])
@@ -113,7 +124,10 @@ expansion part.InRgroup d k = as_agroup d k
 expansion part.InRstar d kind.Name = Some (One tok.Name ∷ One tok.RightParen ∷ [])
 expansion part.InRstar d (kind.Fixed tok.LeftParen) = Some (Of part.InThrough d ∷ [])
 expansion part.InRstar d _ = None
-expansion part.InThrough d _ = Some (One tok.LeftParen ∷ Of part.InType d ∷ One tok.LeftParen ∷ One tok.Star ∷ One tok.RightParen ∷ One tok.LeftParen ∷ Of part.InTypes d ∷ One tok.RightParen ∷ One tok.RightParen ∷ One tok.Name ∷ One tok.RightParen ∷ One tok.LeftParen ∷ Of part.InArguments d ∷ One tok.RightParen ∷ [])
+expansion part.InThrough d _ =
+    Some (One tok.LeftParen ∷ Of part.InType d ∷ One tok.LeftParen ∷ One tok.Star ∷ One tok.RightParen ∷ One tok.LeftParen
+    ∷ Of part.InTypes d ∷ One tok.RightParen ∷ One tok.RightParen ∷ One tok.Name ∷ One tok.RightParen ∷ One tok.LeftParen
+    ∷ Of part.InArguments d ∷ One tok.RightParen ∷ [])
 expansion part.InTypes d _ = Some (Of part.InType d ∷ Of part.InTtail d ∷ [])
 expansion part.InTtail d (kind.Fixed tok.Comma) = Some (One tok.Comma ∷ Of part.InType d ∷ Of part.InTtail d ∷ [])
 expansion part.InTtail d _ = Some []
@@ -129,8 +143,11 @@ expansion part.InAtail d _ = Some []
 expansion part.InAgroup d k = as_agroup d k
 expansion part.InResult d (kind.Fixed tok.Semicolon) = Some []
 expansion part.InResult d _ = Some (Of part.InArgument d ∷ [])
-expansion part.InCases d (kind.Fixed tok.WordCase) = Some (One tok.WordCase ∷ Of part.InNumber d ∷ One tok.Colon ∷ One tok.WordGoto ∷ One tok.Name ∷ One tok.Semicolon ∷ Of part.InCases d ∷ [])
-expansion part.InCases d (kind.Fixed tok.WordDefault) = Some (One tok.WordDefault ∷ One tok.Colon ∷ One tok.WordGoto ∷ One tok.Name ∷ One tok.Semicolon ∷ [])
+expansion part.InCases d (kind.Fixed tok.WordCase) =
+    Some (One tok.WordCase ∷ Of part.InNumber d ∷ One tok.Colon ∷ One tok.WordGoto ∷ One tok.Name ∷ One tok.Semicolon ∷ Of part.InCases d
+    ∷ [])
+expansion part.InCases d (kind.Fixed tok.WordDefault) =
+    Some (One tok.WordDefault ∷ One tok.Colon ∷ One tok.WordGoto ∷ One tok.Name ∷ One tok.Semicolon ∷ [])
 expansion part.InCases d _ = None
 expansion part.InExpr d kind.Name = Some (One tok.Name ∷ Of part.InIndex d ∷ [])
 expansion part.InExpr d (kind.Number s) = Some (Of part.InNumber d ∷ [])
@@ -227,7 +244,9 @@ counted p (suc d) l = becoming p l.place (expansion p d (kind_of l.token))
 
 abbrev pub move : Symbol → Lexeme → Move
 move (One t) l = if fits t (kind_of l.token) then taking l else Faulty (Unexpected l.place (wanted.Token t))
-move OneByte l = if is_plain l.token then (if is_byte l.token then Takes else Faulty (NumberTooLarge l.place)) else Faulty (Unexpected l.place (wanted.Token tok.Plain))
+move OneByte l =
+    if is_plain l.token then (if is_byte l.token then Takes else Faulty (NumberTooLarge l.place))
+    else Faulty (Unexpected l.place (wanted.Token tok.Plain))
 move OneNumber l = if is_number l.token then taking l else Faulty (Unexpected l.place (wanted.Part part.InNumber))
 move (Of p d) l = if counts p then counted p d l else becoming p l.place (expansion p d (kind_of l.token))
 
@@ -243,5 +262,7 @@ others (l ∷ ls) = ls
 -- With these symbols expected at these tokens the table comes to a first faulty token.
 pub data Stops : List Symbol → List Lexeme → CReadFault → Type 0 where
   here : {s : Symbol} {ss : List Symbol} {ls : List Lexeme} {f : CReadFault} → move s (first ls) ≡ Faulty f → Stops (s ∷ ss) ls f
-  taken : {s : Symbol} {ss : List Symbol} {ls : List Lexeme} {f : CReadFault} → move s (first ls) ≡ Takes → Stops ss (others ls) f → Stops (s ∷ ss) ls f
-  opened : {s : Symbol} {ss new : List Symbol} {ls : List Lexeme} {f : CReadFault} → move s (first ls) ≡ Becomes new → Stops (new ++ ss) ls f → Stops (s ∷ ss) ls f
+  taken : {s : Symbol} {ss : List Symbol} {ls : List Lexeme} {f : CReadFault} → move s (first ls) ≡ Takes → Stops ss (others ls) f
+      → Stops (s ∷ ss) ls f
+  opened : {s : Symbol} {ss new : List Symbol} {ls : List Lexeme} {f : CReadFault} → move s (first ls) ≡ Becomes new
+      → Stops (new ++ ss) ls f → Stops (s ∷ ss) ls f

@@ -26,7 +26,8 @@ external locals stmts = tree.Function (record {
 
 -- a function's declaration, without a body
 abbrev pub declaration : Bool → CType → Name → List tree.Param → tree.Item
-declaration is_static result name params = tree.Function (record { is_static = is_static; result = result; name = name; params = params; body = None })
+declaration is_static result name params =
+    tree.Function (record { is_static = is_static; result = result; name = name; params = params; body = None })
 
 -- static void f(void) { return; }
 abbrev pub f_defined : tree.Item

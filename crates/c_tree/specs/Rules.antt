@@ -128,7 +128,8 @@ abbrev pub types_are_proper : Place → Bool
 types_are_proper p = elim p.item [
   | tree.Array name count bytes ↦ nat_le 1 count && (count == length bytes)
   | tree.Var t name number ↦ not (is_void t)
-  | tree.Function f ↦ (is_result_type f.result && list_all (λ (q : tree.Param). is_value_type q.0) (proper_params f.params)) && locals_have_values f.body
+  | tree.Function f ↦ (is_result_type f.result && list_all (λ (q : tree.Param). is_value_type q.0) (proper_params f.params))
+      && locals_have_values f.body
 ]
 
 abbrev pub written_type_is_proper : StmtPlace → Bool

@@ -36,11 +36,18 @@ is_comment_byte b = b == 10 || ((nat_le 32 b && nat_le b 126) && not (b == 92 ||
 
 -- the key words of the subset
 abbrev pub key_words : List Tok
-key_words = tok.WordStatic ∷ tok.WordConst ∷ tok.WordVoid ∷ tok.WordU8 ∷ tok.WordU32 ∷ tok.WordU64 ∷ tok.WordW2cMem ∷ tok.WordW2cTab ∷ tok.WordW2cFn ∷ tok.WordGoto ∷ tok.WordIf ∷ tok.WordSwitch ∷ tok.WordCase ∷ tok.WordDefault ∷ tok.WordReturn ∷ []
+key_words =
+    tok.WordStatic ∷ tok.WordConst ∷ tok.WordVoid ∷ tok.WordU8 ∷ tok.WordU32 ∷ tok.WordU64 ∷ tok.WordW2cMem ∷ tok.WordW2cTab ∷ tok.WordW2cFn
+    ∷ tok.WordGoto ∷ tok.WordIf ∷ tok.WordSwitch ∷ tok.WordCase ∷ tok.WordDefault ∷ tok.WordReturn ∷ []
 
 -- the other key words of C11 (6.4.1), which fit nowhere
 abbrev pub other_words : List (List ℕ)
-other_words = codes "auto" ∷ codes "break" ∷ codes "char" ∷ codes "continue" ∷ codes "do" ∷ codes "double" ∷ codes "else" ∷ codes "enum" ∷ codes "extern" ∷ codes "float" ∷ codes "for" ∷ codes "inline" ∷ codes "int" ∷ codes "long" ∷ codes "register" ∷ codes "restrict" ∷ codes "short" ∷ codes "signed" ∷ codes "sizeof" ∷ codes "struct" ∷ codes "typedef" ∷ codes "union" ∷ codes "unsigned" ∷ codes "volatile" ∷ codes "while" ∷ codes "_Alignas" ∷ codes "_Alignof" ∷ codes "_Atomic" ∷ codes "_Bool" ∷ codes "_Complex" ∷ codes "_Generic" ∷ codes "_Imaginary" ∷ codes "_Noreturn" ∷ codes "_Static_assert" ∷ codes "_Thread_local" ∷ []
+other_words =
+    codes "auto" ∷ codes "break" ∷ codes "char" ∷ codes "continue" ∷ codes "do" ∷ codes "double" ∷ codes "else" ∷ codes "enum"
+    ∷ codes "extern" ∷ codes "float" ∷ codes "for" ∷ codes "inline" ∷ codes "int" ∷ codes "long" ∷ codes "register" ∷ codes "restrict"
+    ∷ codes "short" ∷ codes "signed" ∷ codes "sizeof" ∷ codes "struct" ∷ codes "typedef" ∷ codes "union" ∷ codes "unsigned"
+    ∷ codes "volatile" ∷ codes "while" ∷ codes "_Alignas" ∷ codes "_Alignof" ∷ codes "_Atomic" ∷ codes "_Bool" ∷ codes "_Complex"
+    ∷ codes "_Generic" ∷ codes "_Imaginary" ∷ codes "_Noreturn" ∷ codes "_Static_assert" ∷ codes "_Thread_local" ∷ []
 
 abbrev pub key_word_among : List Tok → List ℕ → Token
 key_word_among [] word = if list_any (bytes_eq word) other_words then Wrong else Named word
@@ -60,7 +67,9 @@ are_digits (d ∷ e ∷ ds) = (is_digit d && not (d == 48)) && list_all is_digit
 abbrev pub number_token : List ℕ → List ℕ → Token
 number_token digits rest =
     if are_digits digits
-    then (if bytes_eq rest [] then Number OfPlain digits else (if bytes_eq rest (codes "u") then Number Of32 digits else (if bytes_eq rest (codes "ull") then Number Of64 digits else Wrong)))
+    then (if bytes_eq rest [] then Number OfPlain digits
+    else (if bytes_eq rest (codes "u") then Number Of32 digits
+    else (if bytes_eq rest (codes "ull") then Number Of64 digits else Wrong)))
     else Wrong
 
 abbrev pub run_token : List ℕ → Token
@@ -71,7 +80,10 @@ sign_among [] text = Wrong
 sign_among (t ∷ ts) text = if bytes_eq text (fixed_text t) then Fixed t else sign_among ts text
 
 abbrev pub short_signs : List Tok
-short_signs = tok.LeftParen ∷ tok.RightParen ∷ tok.LeftBrace ∷ tok.RightBrace ∷ tok.LeftBracket ∷ tok.RightBracket ∷ tok.Semicolon ∷ tok.Comma ∷ tok.Colon ∷ tok.Assign ∷ tok.Star ∷ tok.Amp ∷ tok.Plus ∷ tok.Minus ∷ tok.Slash ∷ tok.Percent ∷ tok.Bar ∷ tok.Caret ∷ tok.Less ∷ tok.Greater ∷ []
+short_signs =
+    tok.LeftParen ∷ tok.RightParen ∷ tok.LeftBrace ∷ tok.RightBrace ∷ tok.LeftBracket ∷ tok.RightBracket ∷ tok.Semicolon ∷ tok.Comma
+    ∷ tok.Colon ∷ tok.Assign ∷ tok.Star ∷ tok.Amp ∷ tok.Plus ∷ tok.Minus ∷ tok.Slash ∷ tok.Percent ∷ tok.Bar ∷ tok.Caret ∷ tok.Less
+    ∷ tok.Greater ∷ []
 
 abbrev pub long_signs : List Tok
 long_signs = tok.ShiftLeft ∷ tok.ShiftRight ∷ tok.Equal ∷ tok.NotEqual ∷ tok.LessEqual ∷ tok.GreaterEqual ∷ []
@@ -92,7 +104,8 @@ pub data Front : Type 0 where
 abbrev pub comment_end : List ℕ → Option ℕ
 comment_end [] = None
 comment_end (b ∷ []) = None
-comment_end (b ∷ c ∷ rest) = if (b == 42) && (c == 47) then Some 2 else (if is_comment_byte b then option_map suc (comment_end (c ∷ rest)) else None)
+comment_end (b ∷ c ∷ rest) =
+    if (b == 42) && (c == 47) then Some 2 else (if is_comment_byte b then option_map suc (comment_end (c ∷ rest)) else None)
 
 abbrev pub comment_front : Option ℕ → Front
 comment_front None = Begins Wrong 0

@@ -74,7 +74,9 @@ arg_tokens (tree.OfFunction n) = Fixed tok.LeftParen ∷ Fixed tok.WordW2cFn ∷
 -- ( * ( type ( * ) ( types ) ) name )
 abbrev pub through_tokens : tree.FuncType → List ℕ → List Token
 through_tokens t n =
-    Fixed tok.LeftParen ∷ Fixed tok.Star ∷ Fixed tok.LeftParen ∷ (type_tokens t.result ++ (Fixed tok.LeftParen ∷ Fixed tok.Star ∷ Fixed tok.RightParen ∷ Fixed tok.LeftParen ∷ (separated type_tokens t.params
+    Fixed tok.LeftParen ∷ Fixed tok.Star ∷ Fixed tok.LeftParen
+    ∷ (type_tokens t.result ++ (Fixed tok.LeftParen ∷ Fixed tok.Star ∷ Fixed tok.RightParen ∷ Fixed tok.LeftParen
+    ∷ (separated type_tokens t.params
     ++ Fixed tok.RightParen ∷ Fixed tok.RightParen ∷ Named n ∷ Fixed tok.RightParen ∷ [])))
 
 abbrev pub callee_tokens : tree.Callee → List Token
@@ -82,7 +84,8 @@ callee_tokens (tree.Called n) = Named n ∷ []
 callee_tokens (tree.Through t n) = through_tokens t n
 
 abbrev pub call_tokens : tree.Callee → List tree.Arg → List Token
-call_tokens f args = callee_tokens f ++ (Fixed tok.LeftParen ∷ (separated arg_tokens args ++ Fixed tok.RightParen ∷ Fixed tok.Semicolon ∷ []))
+call_tokens f args =
+    callee_tokens f ++ (Fixed tok.LeftParen ∷ (separated arg_tokens args ++ Fixed tok.RightParen ∷ Fixed tok.Semicolon ∷ []))
 
 abbrev pub goto_tokens : List ℕ → List Token
 goto_tokens n = Fixed tok.WordGoto ∷ Named n ∷ Fixed tok.Semicolon ∷ []
@@ -98,8 +101,12 @@ stmt_tokens (tree.SetStar n e) = Fixed tok.Star ∷ Named n ∷ Fixed tok.Assign
 stmt_tokens (tree.Call None f args) = call_tokens f args
 stmt_tokens (tree.Call (Some n) f args) = Named n ∷ Fixed tok.Assign ∷ call_tokens f args
 stmt_tokens (tree.Goto n) = goto_tokens n
-stmt_tokens (tree.If o a b n) = Fixed tok.WordIf ∷ Fixed tok.LeftParen ∷ (expr_tokens a ++ (op_token o ∷ (expr_tokens b ++ Fixed tok.RightParen ∷ goto_tokens n)))
-stmt_tokens (tree.Switch e cases n) = Fixed tok.WordSwitch ∷ Fixed tok.LeftParen ∷ (expr_tokens e ++ (Fixed tok.RightParen ∷ Fixed tok.LeftBrace ∷ (each case_tokens cases ++ (Fixed tok.WordDefault ∷ Fixed tok.Colon ∷ (goto_tokens n ++ Fixed tok.RightBrace ∷ [])))))
+stmt_tokens (tree.If o a b n) =
+    Fixed tok.WordIf ∷ Fixed tok.LeftParen ∷ (expr_tokens a ++ (op_token o ∷ (expr_tokens b ++ Fixed tok.RightParen ∷ goto_tokens n)))
+stmt_tokens (tree.Switch e cases n) =
+    Fixed tok.WordSwitch ∷ Fixed tok.LeftParen
+    ∷ (expr_tokens e ++ (Fixed tok.RightParen ∷ Fixed tok.LeftBrace
+    ∷ (each case_tokens cases ++ (Fixed tok.WordDefault ∷ Fixed tok.Colon ∷ (goto_tokens n ++ Fixed tok.RightBrace ∷ [])))))
 stmt_tokens tree.ReturnNone = Fixed tok.WordReturn ∷ Fixed tok.Semicolon ∷ []
 stmt_tokens (tree.Return a) = Fixed tok.WordReturn ∷ (arg_tokens a ++ Fixed tok.Semicolon ∷ [])
 
@@ -122,7 +129,9 @@ static_tokens true = Fixed tok.WordStatic ∷ []
 static_tokens false = []
 
 abbrev pub func_tokens : tree.Func → List Token
-func_tokens f = static_tokens f.is_static ++ (type_tokens f.result ++ (Named f.name ∷ Fixed tok.LeftParen ∷ (separated param_tokens f.params ++ (Fixed tok.RightParen ∷ close_tokens f.body))))
+func_tokens f =
+    static_tokens f.is_static ++ (type_tokens f.result
+    ++ (Named f.name ∷ Fixed tok.LeftParen ∷ (separated param_tokens f.params ++ (Fixed tok.RightParen ∷ close_tokens f.body))))
 
 abbrev pub value_tokens : Option Num → List Token
 value_tokens None = Fixed tok.Semicolon ∷ []
@@ -130,7 +139,8 @@ value_tokens (Some n) = Fixed tok.Assign ∷ num_token n ∷ Fixed tok.Semicolon
 
 abbrev pub item_tokens : tree.Item → List Token
 item_tokens (tree.Array n count bytes) =
-    Fixed tok.WordStatic ∷ Fixed tok.WordConst ∷ Fixed tok.WordU8 ∷ Named n ∷ Fixed tok.LeftBracket ∷ num_token (Plain count) ∷ Fixed tok.RightBracket ∷ Fixed tok.Assign ∷ Fixed tok.LeftBrace
+    Fixed tok.WordStatic ∷ Fixed tok.WordConst ∷ Fixed tok.WordU8 ∷ Named n ∷ Fixed tok.LeftBracket ∷ num_token (Plain count)
+    ∷ Fixed tok.RightBracket ∷ Fixed tok.Assign ∷ Fixed tok.LeftBrace
     ∷ (separated (λ b. num_token (Plain b) ∷ []) bytes ++ Fixed tok.RightBrace ∷ Fixed tok.Semicolon ∷ [])
 item_tokens (tree.Var t n v) = Fixed tok.WordStatic ∷ (type_tokens t ++ (Named n ∷ value_tokens v))
 item_tokens (tree.Function f) = func_tokens f

@@ -3,6 +3,7 @@ use Rattle.std.proofs.Common.{◌≡◌, ◌||◌, Bool, true, false, not, List,
 use Rattle.std.specs.Prelude.{⊤}
 use Rattle.std.specs.List.{AllByRecursion, list_all, cons_option}
 use Rattle.std.proofs.lemmas.Slice.Eq.{bytes_eq-Decides}
+use Rattle.w2c_base.proofs.Conjunctions.{both_hold}
 use Rattle.c_tree.specs.declared.tree.CType.{CType}
 use Rattle.c_tree.specs.declared.tree.CType.TheVariants as type
 use Rattle.c_tree.specs.Tree as tree
@@ -12,7 +13,7 @@ use Rattle.c_meaning.specs.State.{CValue, Memory, Table}
 use Rattle.c_meaning.specs.Machine.{file_var, file_memory, file_table}
 use Rattle.c_renaming.specs.Kept as text
 use Rattle.c_renaming.specs.ObjectNames.{AreDistinct}
-use Rattle.c_trim.proofs.Lists.{by_test, and_both, each, all_of_both, take_front}
+use Rattle.c_trim.proofs.Lists.{by_test, each, all_of_both, take_front}
 use Rattle.c_trim.proofs.RulesHold.{ItemsHold, moved}
 
 -- the two may be declared one after the other
@@ -26,7 +27,7 @@ follow_all before (y ∷ items) hold = (
   sym (ap (list_all (λ x. may_follow x y)) (take_front before (y ∷ items))) ∙ hold.0.0.0,
   each (λ (z : tree.Item). list_all (λ x. may_follow x z) (before ++ y ∷ []) ≡ true)
       (λ (z : tree.Item). list_all (λ x. may_follow x z) before ≡ true)
-      (λ z e. (and_both (list_all (λ x. may_follow x z) before) (list_all (λ x. may_follow x z) (y ∷ []))
+      (λ z e. (both_hold (list_all (λ x. may_follow x z) before) (list_all (λ x. may_follow x z) (y ∷ []))
       (sym (all_of_both (λ x. may_follow x z) before (y ∷ [])) ∙ e)).0) items
       (follow_all (before ++ y ∷ []) items (moved before y items hold.1)),
 )
@@ -39,8 +40,8 @@ pub in_order : (before items : List tree.Item) → ItemsHold (before ++ items) (
 in_order before [] hold = tt
 in_order before (x ∷ items) hold = (
   each (λ (z : tree.Item). list_all (λ y. may_follow y z) (before ++ x ∷ []) ≡ true) (λ (z : tree.Item). may_follow x z ≡ true)
-      (λ z e. (and_both (may_follow x z) true
-      (and_both (list_all (λ y. may_follow y z) before) (list_all (λ y. may_follow y z) (x ∷ []))
+      (λ z e. (both_hold (may_follow x z) true
+      (both_hold (list_all (λ y. may_follow y z) before) (list_all (λ y. may_follow y z) (x ∷ []))
       (sym (all_of_both (λ y. may_follow y z) before (x ∷ [])) ∙ e)).1).0) items
       (follow_all (before ++ x ∷ []) items (moved before x items hold.1)),
   in_order (before ++ x ∷ []) items (moved before x items hold.1),

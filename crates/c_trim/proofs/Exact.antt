@@ -4,6 +4,7 @@ use Rattle.std.specs.Prelude.{slice_index_or, zip}
 use Rattle.std.specs.List.{AllByRecursion, list_any, position_from, range_with_len}
 use Rattle.std.proofs.lemmas.List.{take_all}
 use Rattle.std.proofs.lemmas.Slice.Eq.{bytes_eq-Decides}
+use Rattle.w2c_base.proofs.Conjunctions.{both_hold}
 use Rattle.w2c_base.specs.Lookup.{numbered}
 use Rattle.c_tree.specs.Tree as tree
 use Rattle.c_tree.specs.FirstBroken.{KeepsRules}
@@ -12,7 +13,7 @@ use Rattle.c_tree.specs.Rules.{defines, has_body}
 use Rattle.c_tree.specs.Scope.{Name, is_among, name_of}
 use Rattle.c_trim.specs.Trim.{IsNeeded, IsTrimmed, body_functions, is_external, item_functions, kept, leads, names, stays}
 use Rattle.c_trim.specs.Marks.{Reached, KnowsDefiners, definer, is_in, is_reached, AreAllReached}
-use Rattle.c_trim.proofs.Lists.{by_test, and_both, both_and, or_left, or_right}
+use Rattle.c_trim.proofs.Lists.{by_test, both_and, or_left, or_right}
 use Rattle.c_trim.proofs.RulesHold.{ItemsHold, item_at, rules_hold}
 use Rattle.c_trim.proofs.KeptText.{AreNamed, are_named}
 use Rattle.c_trim.proofs.Distinct.{InOrder, in_order, may_follow}
@@ -85,8 +86,8 @@ at_place P (y ∷ xs) (suc i) x all there = at_place P xs i x all.1 there
 
 both_define : (x y : tree.Item) (name : Name) → defines name x ≡ true → defines name y ≡ true → may_follow x y ≡ true → ⊥
 both_define x y name one two follow =
-    let left = and_both (bytes_eq (name_of x) name) (has_body x) one in
-    let right = and_both (bytes_eq (name_of y) name) (has_body y) two in
+    let left = both_hold (bytes_eq (name_of x) name) (has_body x) one in
+    let right = both_hold (bytes_eq (name_of y) name) (has_body y) two in
     let same : name_of x ≡ name_of y = (bytes_eq-Decides (name_of x) name).0 left.0 ∙ sym ((bytes_eq-Decides (name_of y) name).0 right.0) in
     no (bytes_eq (name_of x) (name_of y)) (rule.are_alike x y) (has_body x) (has_body y)
     ((bytes_eq-Decides (name_of x) (name_of y)).1 same) left.1 right.1 follow
@@ -184,12 +185,12 @@ module _ (unit : List tree.Item) (keeps : KeepsRules unit) (table : List (Name �
   flagged : (chain : List Name) (x : Name) → leads unit chain x ≡ true → (m : ℕ) → definer unit x ≡ Some m → flag r.0 m ≡ true
   flagged [] x e m is =
       let s = somewhere (λ item. is_external item && is_among x (item_functions item)) unit e in
-      let two = and_both (is_external s.item) (is_among x (item_functions s.item)) s.passes in
+      let two = both_hold (is_external s.item) (is_among x (item_functions s.item)) s.passes in
       followed s.at s.item (begun s.at s.item x s.there two.0 two.1) s.there x two.1 m is
   flagged (y ∷ chain) x e m is =
-      let parts = and_both (names unit y x) (leads unit chain y) e in
+      let parts = both_hold (names unit y x) (leads unit chain y) e in
       let s = somewhere (λ item. bytes_eq (name_of item) y && is_among x (item_functions item)) unit parts.0 in
-      let two = and_both (bytes_eq (name_of s.item) y) (is_among x (item_functions s.item)) s.passes in
+      let two = both_hold (bytes_eq (name_of s.item) y) (is_among x (item_functions s.item)) s.passes in
       let here : definer unit y ≡ Some s.at =
       one_definer y s.at s.item s.there (both_and (bytes_eq (name_of s.item) y) (has_body s.item) two.0 (names_by_body s.item x two.1)) in
       followed s.at s.item (flagged chain y parts.1 s.at here) s.there x two.1 m is
@@ -205,7 +206,7 @@ module _ (unit : List tree.Item) (keeps : KeepsRules unit) (table : List (Name �
   is_needed : (x : Name) → needed x ≡ true → IsNeeded unit x
   is_needed x e =
       let s = somewhere_from (names_it x) 0 unit e in
-      let two = and_both (flag r.0 (0 + s.at)) (is_among x (item_functions s.item)) s.passes in
+      let two = both_hold (flag r.0 (0 + s.at)) (is_among x (item_functions s.item)) s.passes in
       let n : 0 + s.at ≡ s.at = omega arith in
       let inside : is_in s.at r.1 ≡ true = all.reached.ordered s.at (ap (flag r.0) (sym n) ∙ two.0) in
       names_needed unit table knows s.at s.item s.there (all.reached.wanted s.at s.item inside s.there) x two.1
@@ -221,12 +222,12 @@ module _ (unit : List tree.Item) (keeps : KeepsRules unit) (table : List (Name �
   tells_needed : (chain : List Name) (x : Name) → leads unit chain x ≡ true → needed x ≡ true
   tells_needed [] x e =
       let s = somewhere (λ item. is_external item && is_among x (item_functions item)) unit e in
-      let two = and_both (is_external s.item) (is_among x (item_functions s.item)) s.passes in
+      let two = both_hold (is_external s.item) (is_among x (item_functions s.item)) s.passes in
       needed_at s.at s.item x s.there (begun s.at s.item x s.there two.0 two.1) two.1
   tells_needed (y ∷ chain) x e =
-      let parts = and_both (names unit y x) (leads unit chain y) e in
+      let parts = both_hold (names unit y x) (leads unit chain y) e in
       let s = somewhere (λ item. bytes_eq (name_of item) y && is_among x (item_functions item)) unit parts.0 in
-      let two = and_both (bytes_eq (name_of s.item) y) (is_among x (item_functions s.item)) s.passes in
+      let two = both_hold (bytes_eq (name_of s.item) y) (is_among x (item_functions s.item)) s.passes in
       let here : definer unit y ≡ Some s.at =
       one_definer y s.at s.item s.there (both_and (bytes_eq (name_of s.item) y) (has_body s.item) two.0 (names_by_body s.item x two.1)) in
       needed_at s.at s.item x s.there (flagged chain y parts.1 s.at here) two.1
@@ -254,7 +255,7 @@ module _ (unit : List tree.Item) (keeps : KeepsRules unit) (table : List (Name �
       back {m} d is =
           let name : name_of d.item
           ≡ f.name = (bytes_eq-Decides (name_of d.item) f.name).0
-          (and_both (bytes_eq (name_of d.item) f.name) (has_body d.item) d.defines_it).0 in
+          (both_hold (bytes_eq (name_of d.item) f.name) (has_body d.item) d.defines_it).0 in
           by name (all.reached.wanted m d.item (all.reached.ordered m is) d.there)
         where
           free : AreNamed unit

@@ -4,6 +4,7 @@ use Rattle.std.specs.List.{AllByRecursion, list_all, list_any}
 use Rattle.std.proofs.lemmas.List.{append-nil}
 use Rattle.std.proofs.lemmas.List.Elements.{filter-append}
 use Rattle.std.proofs.lemmas.Slice.Eq.{bytes_eq-Decides}
+use Rattle.w2c_base.proofs.Conjunctions.{both_hold}
 use Rattle.w2c_base.specs.Lookup.{named}
 use Rattle.c_tree.specs.Tree as tree
 use Rattle.c_tree.specs.Scope as scope
@@ -11,7 +12,7 @@ use Rattle.c_tree.specs.Scope.{Name, name_of, is_among}
 use Rattle.c_tree.specs.Rules as rule
 use Rattle.c_tree.specs.FirstBroken.{KeepsRules}
 use Rattle.c_trim.specs.Trim.{body_functions, item_functions, stays, kept}
-use Rattle.c_trim.proofs.Lists.{and_both, both_and, all_where, all_left, any_left, any_map, not_true, or_right, any_of_left, map_left, take_front, take_next, one_longer}
+use Rattle.c_trim.proofs.Lists.{both_and, all_where, all_left, any_left, any_map, not_true, or_right, any_of_left, map_left, take_front, take_next, one_longer}
 use Rattle.c_trim.proofs.RulesHold.{Hold, ItemHolds, ItemsHold, TextHolds, BodyHolds, item_at, moved, rules_hold, keeps_rules}
 use Rattle.c_trim.proofs.SameScope.{Each, AgreeOn, stmts_hold}
 
@@ -109,8 +110,8 @@ module _ (needed : Name → Bool) where
     own_distinct (tree.Var ty name number) e = refl
     own_distinct (tree.Function f) e =
         let names : List Name = rule.local_names (tree.Function f) in
-        let two = and_both (rule.params_are_named f) (rule.are_distinct names && rule.hides_none u names) e in
-        let last = and_both (rule.are_distinct names) (rule.hides_none u names) two.1 in
+        let two = both_hold (rule.params_are_named f) (rule.are_distinct names && rule.hides_none u names) e in
+        let last = both_hold (rule.are_distinct names) (rule.hides_none u names) two.1 in
         both_and (rule.params_are_named f) (rule.are_distinct names && rule.hides_none t names) two.0
         (both_and (rule.are_distinct names) (rule.hides_none t names) last.0 (hides names last.1))
 
@@ -124,7 +125,7 @@ module _ (needed : Name → Bool) where
         same_stays is (tree.Array name count bytes) e = refl
         same_stays is (tree.Var ty name number) e = refl
         same_stays is (tree.Function g) e =
-            let same = and_both (bytes_eq g.name f.name) (is_some g.body) e in
+            let same = both_hold (bytes_eq g.name f.name) (is_some g.body) e in
             or_right (not g.is_static) (needed g.name) (ap needed ((bytes_eq-Decides g.name f.name).0 same.0) ∙ is)
 
         by : (b : Bool) → (not b || needed f.name) ≡ true → (not b || list_any (rule.defines f.name) u) ≡ true

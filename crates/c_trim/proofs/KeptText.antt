@@ -3,6 +3,7 @@ use Rattle.std.proofs.Common.{◌≡◌, ℕ, zero, suc, ◌+◌, ◌||◌, Bool
 use Rattle.std.specs.Prelude.{⊤}
 use Rattle.std.specs.List.{AllByRecursion, list_all}
 use Rattle.std.proofs.lemmas.Slice.Eq.{bytes_eq-Decides}
+use Rattle.w2c_base.proofs.Conjunctions.{both_hold}
 use Rattle.w2c_base.specs.Lookup.{named, if_found}
 use Rattle.c_tree.specs.declared.tree.CType.{CType}
 use Rattle.c_tree.specs.Tree as tree
@@ -16,7 +17,7 @@ use Rattle.c_renaming.specs.Kept as text
 use Rattle.c_renaming.specs.Kept.{KeptArg, KeptCallee, KeptStmt}
 use Rattle.c_renaming.specs.Parts.{KeptBody, KeptItem}
 use Rattle.c_trim.specs.Trim.{arg_functions, callee_functions, stmt_functions, body_functions}
-use Rattle.c_trim.proofs.Lists.{by_test, and_both, all_of_both, both_append}
+use Rattle.c_trim.proofs.Lists.{by_test, all_of_both, both_append}
 use Rattle.c_trim.proofs.RulesHold.{StmtsHold, BodyHolds, TextHolds, ItemsHold, scope_at}
 use Rattle.c_trim.proofs.SameScope.{Each}
 
@@ -55,7 +56,7 @@ AreNamed items = AllByRecursion (λ (item : tree.Item). rule.file_name_is_free i
 pub are_named : (unit : List tree.Item) (k : ℕ) (items : List tree.Item) → ItemsHold unit k items → AreNamed items
 are_named unit k [] hold = tt
 are_named unit k (x ∷ items) hold = (
-  (and_both (rule.file_name_is_free x) (list_all rule.is_own_name (rule.local_names x)) hold.0.0.1.0).0,
+  (both_hold (rule.file_name_is_free x) (list_all rule.is_own_name (rule.local_names x)) hold.0.0.1.0).0,
   are_named unit (k + 1) items hold.1,
 )
 
@@ -97,7 +98,7 @@ module _ (ρ : Renaming) (u : ℕ) (s : Scope) (none : named depth_name (file_va
   kept_args (t ∷ types) [] used suits = cc
   kept_args (t ∷ types) (a ∷ args) used suits =
       let two = both_append (λ (x : Name). ρ.uses u x ≡ true) (arg_functions a) (flat_map arg_functions args) used in
-      let both = and_both (rule.arg_suits s t a) (rule.args_suit s types args) suits in
+      let both = both_hold (rule.arg_suits s t a) (rule.args_suit s types args) suits in
       (kept_arg t a two.0 both.0, kept_args types args two.1 both.1)
 
   kept_callee : (f : tree.Callee) → Used (callee_functions f) → KeptCallee ρ u f
@@ -110,7 +111,7 @@ module _ (ρ : Renaming) (u : ℕ) (s : Scope) (none : named depth_name (file_va
   kept_call target args used None there suits = cc
   kept_call target args used (Some ty) there suits =
       kept_args (rule.proper_types ty.params) args used
-      (and_both (rule.args_suit s (rule.proper_types ty.params) args) (rule.target_suits s ty.result target) suits).0
+      (both_hold (rule.args_suit s (rule.proper_types ty.params) args) (rule.target_suits s ty.result target) suits).0
 
   kept_set : (a : tree.Arg) → Used (arg_functions a) → (o : Option CType) → is_some o ≡ true
       → rule.if_any o (λ t. rule.arg_suits s t a) ≡ true
@@ -119,24 +120,24 @@ module _ (ρ : Renaming) (u : ℕ) (s : Scope) (none : named depth_name (file_va
   kept_set a used (Some t) there suits = kept_arg t a used suits
 
   callee_there : (f : tree.Callee) → list_all (rule.is_known s) (rule.callee_uses f) ≡ true → is_some (rule.callee_type s f) ≡ true
-  callee_there (tree.Called x) known = (and_both (is_some (named x (functions s))) true known).0
+  callee_there (tree.Called x) known = (both_hold (is_some (named x (functions s))) true known).0
   callee_there (tree.Through ty x) known = refl
 
   kept_stmt : (stmt : tree.Stmt) → Used (stmt_functions stmt) → list_all (rule.is_known s) (rule.stmt_uses stmt) ≡ true
       → rule.stmt_suits s stmt ≡ true → KeptStmt ρ u stmt
   kept_stmt (tree.Set x a) used known suits =
       kept_set a used (named x (variables s))
-      (and_both (is_some (named x (variables s))) (list_all (rule.is_known s) (rule.arg_uses a)) known).0 suits
+      (both_hold (is_some (named x (variables s))) (list_all (rule.is_known s) (rule.arg_uses a)) known).0 suits
   kept_stmt (tree.Call target f args) used known suits =
       let two = both_append (λ (x : Name). ρ.uses u x ≡ true) (callee_functions f) (flat_map arg_functions args) used in
       let behind : List rule.Use = rule.callee_uses f ++ flat_map rule.arg_uses args in
-      let rest = and_both (list_all (rule.is_known s) (rule.target_uses target)) (list_all (rule.is_known s) behind)
+      let rest = both_hold (list_all (rule.is_known s) (rule.target_uses target)) (list_all (rule.is_known s) behind)
       (sym (all_of_both (rule.is_known s) (rule.target_uses target) behind) ∙ known) in
-      let callee = and_both (list_all (rule.is_known s) (rule.callee_uses f)) (list_all (rule.is_known s) (flat_map rule.arg_uses args))
+      let callee = both_hold (list_all (rule.is_known s) (rule.callee_uses f)) (list_all (rule.is_known s) (flat_map rule.arg_uses args))
       (sym (all_of_both (rule.is_known s) (rule.callee_uses f) (flat_map rule.arg_uses args)) ∙ rest.1) in
       (kept_callee f two.0, kept_call target args two.1 (rule.callee_type s f) (callee_there f callee.0) suits)
   kept_stmt (tree.Return a) used known suits =
-      kept_arg s.func.result a used (and_both (not (rule.is_void s.func.result)) (rule.arg_suits s s.func.result a) suits).1
+      kept_arg s.func.result a used (both_hold (not (rule.is_void s.func.result)) (rule.arg_suits s s.func.result a) suits).1
   kept_stmt (tree.SetStar x e) used known suits = tt
   kept_stmt (tree.If op left right x) used known suits = tt
   kept_stmt (tree.Switch e cases x) used known suits = tt

@@ -3,12 +3,8 @@ use Rattle.std.proofs.Common.{◌≡◌, ℕ, suc, ◌+◌, ◌&&◌, ◌||◌, 
 use Rattle.std.specs.List.{AllByRecursion, list_all, list_any}
 use Rattle.std.specs.List.{cons_option}
 use Rattle.std.specs.Option.{option_or}
+use Rattle.w2c_base.proofs.Conjunctions.{both_hold}
 use Rattle.w2c_base.specs.Lookup.{named}
-
-pub and_both : (a b : Bool) → (a && b) ≡ true → (a ≡ true) × (b ≡ true)
-and_both true true e = (refl, refl)
-and_both true false e = cc
-and_both false b e = cc
 
 pub both_and : (a b : Bool) → a ≡ true → b ≡ true → (a && b) ≡ true
 both_and a b left right = λ i. left i && right i
@@ -40,7 +36,7 @@ pub all_where : {A : Type 0} (p q : A → Bool) → ((a : A) → p a ≡ true �
     → list_all q xs ≡ true
 all_where p q go [] e = refl
 all_where p q go (x ∷ xs) e =
-    let two = and_both (p x) (list_all p xs) e in
+    let two = both_hold (p x) (list_all p xs) e in
     both_and (q x) (list_all q xs) (go x two.0) (all_where p q go xs two.1)
 
 pub all_of_both : {A : Type 0} (p : A → Bool) (xs ys : List A) → list_all p (xs ++ ys) ≡ (list_all p xs && list_all p ys)
@@ -55,7 +51,7 @@ all_of_both {A} p (x ∷ xs) ys = by (p x) (all_of_both p xs ys)
 pub all_left : {A : Type 0} (p keep : A → Bool) (xs : List A) → list_all p xs ≡ true → list_all p (filter keep xs) ≡ true
 all_left p keep [] e = refl
 all_left {A} p keep (x ∷ xs) e =
-    let two = and_both (p x) (list_all p xs) e in by (keep x) two.0 (all_left p keep xs two.1)
+    let two = both_hold (p x) (list_all p xs) e in by (keep x) two.0 (all_left p keep xs two.1)
   where
     by : (b : Bool) → p x ≡ true → list_all p (filter keep xs) ≡ true → list_all p (if b then x ∷ filter keep xs else filter keep xs) ≡ true
     by true here behind = both_and (p x) (list_all p (filter keep xs)) here behind

@@ -2,6 +2,7 @@
 use Rattle.std.proofs.Common.{◌≡◌, ◌&&◌, ◌||◌, Bool, true, false, not, if◌then◌else◌, List, [], ◌∷◌, filter, bytes_eq, refl, sym, ap, ◌∙◌, subst}
 use Rattle.std.specs.List.{AllByRecursion, list_any}
 use Rattle.std.proofs.lemmas.Slice.Eq.{bytes_eq-Decides}
+use Rattle.w2c_base.proofs.Conjunctions.{both_hold}
 use Rattle.c_tree.specs.Tree as tree
 use Rattle.c_tree.specs.Scope.{Name, name_of, is_among}
 use Rattle.c_tree.specs.FirstBroken.{KeepsRules}
@@ -9,7 +10,7 @@ use Rattle.c_tree.specs.Spelled.{Formed, FitsItem, depth_limit}
 use Rattle.c_tree.specs.WellFormed.{IsWellFormed, NamedItem}
 use Rattle.c_tree.proofs.WellFormedUnits as whole
 use Rattle.c_trim.specs.Trim.{item_functions, is_external, names, leads, IsNeeded, stays, kept, TellsNeeded, IsTrimmed}
-use Rattle.c_trim.proofs.Lists.{and_both, both_and, or_right, each, any_left, any_of_each}
+use Rattle.c_trim.proofs.Lists.{both_and, or_right, each, any_left, any_of_each}
 use Rattle.c_trim.proofs.SameScope.{Each}
 use Rattle.c_trim.proofs.KeptRules.{IsClosed, kept_keeps_rules}
 
@@ -57,19 +58,19 @@ module _ (unit : List tree.Item) (needed : Name → Bool) (tells : TellsNeeded u
   external_stays : (x : Name) (item : tree.Item) → (is_external item && is_among x (item_functions item)) ≡ true → stays needed item ≡ true
   external_stays x (tree.Array name count bytes) e = refl
   external_stays x (tree.Var ty name number) e = refl
-  external_stays x (tree.Function f) e = ap (λ b. b || needed f.name) (and_both (not f.is_static) _ e).0
+  external_stays x (tree.Function f) e = ap (λ b. b || needed f.name) (both_hold (not f.is_static) _ e).0
 
   named_stays : (y x : Name) → needed y ≡ true → (item : tree.Item) → (bytes_eq (name_of item) y && is_among x (item_functions item)) ≡ true
       → stays needed item ≡ true
   named_stays y x is (tree.Array name count bytes) e = refl
   named_stays y x is (tree.Var ty name number) e = refl
   named_stays y x is (tree.Function f) e =
-      or_right (not f.is_static) (needed f.name) (ap needed ((bytes_eq-Decides f.name y).0 (and_both (bytes_eq f.name y) _ e).0) ∙ is)
+      or_right (not f.is_static) (needed f.name) (ap needed ((bytes_eq-Decides f.name y).0 (both_hold (bytes_eq f.name y) _ e).0) ∙ is)
 
   leads_still : (chain : List Name) (x : Name) → leads unit chain x ≡ true → leads (kept needed unit) chain x ≡ true
   leads_still [] x e = any_left _ (stays needed) (external_stays x) unit e
   leads_still (y ∷ chain) x e =
-      let two = and_both (names unit y x) (leads unit chain y) e in
+      let two = both_hold (names unit y x) (leads unit chain y) e in
       let need : needed y ≡ true = (tells y).1 (record { chain = chain; leads_there = two.1 }) in
       both_and (names (kept needed unit) y x) (leads (kept needed unit) chain y)
       (any_left _ (stays needed) (named_stays y x need) unit two.0) (leads_still chain y two.1)

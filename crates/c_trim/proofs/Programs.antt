@@ -3,6 +3,7 @@ use Rattle.std.proofs.Common.{◌≡◌, ◌≢◌, ℕ, ◌+◌, ◌<◌, ◌==
 use Rattle.std.specs.Prelude.{slice_get, zip, option_map}
 use Rattle.std.specs.List.{AllByRecursion, cons_option, range_with_len}
 use Rattle.std.proofs.lemmas.Bool.{eqb-true, eq-eqb}
+use Rattle.w2c_base.proofs.Conjunctions.{both_hold}
 use Rattle.w2c_base.specs.Run.{Host}
 use Rattle.c_tree.specs.Tree as tree
 use Rattle.c_tree.specs.Scope.{Name}
@@ -16,7 +17,7 @@ use Rattle.c_renaming.specs.Trimming as whole
 use Rattle.c_renaming.proofs.Trimmed.{trimmed_renames}
 use Rattle.c_trim.specs.Trim.{body_functions, stays, kept, TellsNeeded}
 use Rattle.c_trim.specs.Runs.{among, AllKeepRules}
-use Rattle.c_trim.proofs.Lists.{by_test, and_both, both_and, or_left, or_right, each}
+use Rattle.c_trim.proofs.Lists.{by_test, both_and, or_left, or_right, each}
 use Rattle.c_trim.proofs.RulesHold.{rules_hold}
 use Rattle.c_trim.proofs.SameScope.{Each}
 use Rattle.c_trim.proofs.KeptRules.{IsClosed}
@@ -169,7 +170,7 @@ module _ (before after : List (List tree.Item)) (hosts : List Host) (unit : List
       by (Some b) behind = (λ external. symbol_stays u f.name (symbol f.is_static free.0 external), behind)
 
   is_used : (u : ℕ) (x : Name) → used u x ≡ true → whole.IsUsed p stay u x
-  is_used u x e = by (definition_at p u x) refl (and_both (is_some (slice_get p.units u)) _ e)
+  is_used u x e = by (definition_at p u x) refl (both_hold (is_some (slice_get p.units u)) _ e)
     where
       by : (o : Option Definition) → definition_at p u x ≡ o → (is_some (slice_get p.units u) ≡ true) × ((stay u x || not (is_some o))
           ≡ true)

@@ -5,6 +5,7 @@ use Rattle.std.specs.List.{list_any}
 use Rattle.std.proofs.lemmas.List.{append-nil}
 use Rattle.std.proofs.lemmas.Bool.{eqb-true, eq-eqb}
 use Rattle.std.proofs.lemmas.Slice.Eq.{bytes_eq-Decides}
+use Rattle.w2c_base.proofs.Conjunctions.{both_hold}
 use Rattle.w2c_base.specs.Lookup.{named}
 use Rattle.c_tree.specs.Tree as tree
 use Rattle.c_tree.specs.Rules.{defines, has_body}
@@ -12,7 +13,7 @@ use Rattle.c_tree.specs.Scope.{Name, is_among, name_of}
 use Rattle.c_renaming.proofs.Trimmed.{Found, position_found}
 use Rattle.c_trim.specs.Trim.{IsNeeded, is_external, item_functions, names}
 use Rattle.c_trim.specs.Marks.{Reached, KnowsDefiners, definer, with_item, with_names, is_in, IsWanted, AreReached, BegunTo, FollowedTo, begins, functions_at, unreached}
-use Rattle.c_trim.proofs.Lists.{and_both, both_and, or_left, or_right, any_of_both}
+use Rattle.c_trim.proofs.Lists.{both_and, or_left, or_right, any_of_both}
 
 abbrev flag : List Bool → ℕ → Bool
 flag flags j = slice_index_or flags j false
@@ -209,7 +210,7 @@ module _ (unit : List tree.Item) where
         by (Some j) is =
             let d = defined_at x j is in
             let name : name_of d.item
-            ≡ x = (bytes_eq-Decides (name_of d.item) x).0 (and_both (bytes_eq (name_of d.item) x) (has_body d.item) d.defines_it).0 in
+            ≡ x = (bytes_eq-Decides (name_of d.item) x).0 (both_hold (bytes_eq (name_of d.item) x) (has_body d.item) d.defines_it).0 in
             reached_item j r old (λ item there.
             let same : d.item ≡ item = cc in
             inr (subst (IsNeeded unit) (sym name ∙ ap name_of same)
@@ -332,7 +333,7 @@ begin_next unit i item r r' there is old begun = by (begins item) refl is
     by true starts new =
         let want : (other : tree.Item) → slice_get unit i ≡ Some other → IsWanted unit other =
         λ other at. inl (ap is_external (sym (same_item item other (sym there ∙ at)))
-        ∙ (and_both (is_external item) (has_body item) starts).0) in
+        ∙ (both_hold (is_external item) (has_body item) starts).0) in
         let g : Grows r r' = subst (Grows r) (sym new) (grows_item (Some i) r) in
         let less : i < length r.0 = subst (λ n. i < n) (sym old.long) (get_less unit unit i item there) in (
           subst (AreReached unit) (sym new)

@@ -7,7 +7,8 @@ pub all_append : {A : Type 0} (p : A → Bool) (xs ys : List A) → list_all p (
 all_append p [] ys = refl
 all_append p (x ∷ xs) ys = go (p x) (all_append p xs ys)
   where
-    go : (b : Bool) → list_all p (xs ++ ys) ≡ (list_all p xs && list_all p ys) → (b && list_all p (xs ++ ys)) ≡ ((b && list_all p xs) && list_all p ys)
+    go : (b : Bool) → list_all p (xs ++ ys) ≡ (list_all p xs && list_all p ys)
+        → (b && list_all p (xs ++ ys)) ≡ ((b && list_all p xs) && list_all p ys)
     go true behind = behind
     go false behind = refl
 
@@ -26,6 +27,8 @@ all_mapped p view [] = refl
 all_mapped p view (x ∷ xs) = ap (λ b. p (view x) && b) (all_mapped p view xs)
 
 -- what each item gives, joined
-pub all_of_each : {A B C : Type 0} (p : C → Bool) (f : B → List C) (view : A → B) (xs : List A) → list_all p (flat_map f (map view xs)) ≡ list_all (λ x. list_all p (f (view x))) xs
+pub all_of_each : {A B C : Type 0} (p : C → Bool) (f : B → List C) (view : A → B) (xs : List A)
+    → list_all p (flat_map f (map view xs)) ≡ list_all (λ x. list_all p (f (view x))) xs
 all_of_each p f view [] = refl
-all_of_each p f view (x ∷ xs) = all_append p (f (view x)) (flat_map f (map view xs)) ∙ ap (λ b. list_all p (f (view x)) && b) (all_of_each p f view xs)
+all_of_each p f view (x ∷ xs) =
+    all_append p (f (view x)) (flat_map f (map view xs)) ∙ ap (λ b. list_all p (f (view x)) && b) (all_of_each p f view xs)

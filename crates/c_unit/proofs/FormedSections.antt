@@ -449,7 +449,8 @@ module _ (m : NamedModule) (a : IsAccepted m) where
           (no_fault (is_none (slice_get (global_space t) e.index)) e.index_place cause.UnknownGlobal v)
 
   pub exports_formed : AllByRecursion IsFormed (map (λ e. tree.Function (export_func m e)) t.exports)
-  exports_formed = each t.exports (accepted_limits a).export_names (each_none (unknown_export t) t.exports (exports_known t a.valid.no_faults).0)
+  exports_formed =
+      each t.exports (accepted_limits a).export_names (each_none (unknown_export t) t.exports (exports_known t a.valid.no_faults).0)
     where
       each : (exports : List Export) → AllByRecursion (λ (e : Export). AllByRecursion (λ b. b < 256) e.name) exports
           → AllByRecursion (λ e. unknown_export t e ≡ []) exports

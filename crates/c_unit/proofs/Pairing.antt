@@ -490,7 +490,8 @@ no_stuck_module c.OutOfSteps h = h
 forward : (s : link.LinkedSet) → Pairing s → Forward (program_of s) s
 forward s paired calls replies n listing over = go (paired calls replies n listing)
   where
-    go : Paired s calls replies n → (m : ℕ) × (m ≤ 400 * n + 400) × Alike s (wasm.wasm_run s calls n replies) (c_run_of (program_of s) calls m replies)
+    go : Paired s calls replies n → (m : ℕ) × (m ≤ 400 * n + 400)
+        × Alike s (wasm.wasm_run s calls n replies) (c_run_of (program_of s) calls m replies)
     go (inl alike) = (400 * n + 400, omega arith, alike)
     go (inr out) = absurd (over out.0)
 
@@ -522,7 +523,8 @@ never_stops s paired = record {
         → (wasm.wasm_run s calls n replies).outcome ≡ wasm.Stopped exec.Stuck → Paired s calls replies n → ⊥
     module_never_stuck calls replies n stopped (inl alike) =
         no_stuck_module (c_run_of (program_of s) calls (400 * n + 400) replies).outcome
-        (subst (λ (o : wasm.Outcome). OutcomesAlike o (c_run_of (program_of s) calls (400 * n + 400) replies).outcome) stopped alike.outcome)
+        (subst (λ (o : wasm.Outcome). OutcomesAlike o (c_run_of (program_of s) calls (400 * n + 400) replies).outcome) stopped
+        alike.outcome)
     module_never_stuck calls replies n stopped (inr out) = let wrong : wasm.Stopped exec.Stuck ≡ wasm.Stopped exec.OutOfSteps = sym stopped
         ∙ out.0 in grind arith
 

@@ -326,7 +326,8 @@ module _ (m : NamedModule) (a : IsAccepted m) where
 
   pub data_class : AllClass 5 (data_of t)
   data_class = all_flat (λ o. class (name_of o) ≡ 5) data_item 0 (length t.segments) t.segments (omega arith)
-      (λ j d low high. one_data (λ o. class (name_of o) ≡ 5) (j, d) (class_lettered 100 j (omega (arith, high, (accepted_limits a).segments)) refl))
+      (λ j d low high. one_data (λ o. class (name_of o) ≡ 5) (j, d)
+      (class_lettered 100 j (omega (arith, high, (accepted_limits a).segments)) refl))
 
   pub data_pairs : AllPairs NotSame (data_of t)
   data_pairs = pairs_flat NotSame data_item 0 (length t.segments) t.segments (omega arith)

@@ -54,7 +54,8 @@ IsListing s calls = AllByRecursion (Fits s) calls
 abbrev pub Paired : LinkedSet → List ListedCall → List Reply → ℕ → Type 0
 Paired s calls replies n =
     Alike s (wasm_run s calls n replies) (c_run_of (program_of s) calls (400 * n + 400) replies)
-    ⊎ ((wasm_run s calls n replies).outcome ≡ wasm.Stopped exec.OutOfSteps) × ((c_run_of (program_of s) calls n replies).outcome ≡ c.OutOfSteps)
+    ⊎ ((wasm_run s calls n replies).outcome ≡ wasm.Stopped exec.OutOfSteps)
+    × ((c_run_of (program_of s) calls n replies).outcome ≡ c.OutOfSteps)
 
 abbrev pub Pairing : LinkedSet → Type 0
 Pairing s = (calls : List ListedCall) (replies : List Reply) (n : ℕ) → IsListing s calls → Paired s calls replies n

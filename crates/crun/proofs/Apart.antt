@@ -23,6 +23,7 @@ use Rattle.std.proofs.Common.{
 use Rattle.std.specs.Prelude.{not}
 use Rattle.std.specs.List.{AllByRecursion, cons_option, list_all}
 use Rattle.std.proofs.lemmas.Slice.Eq.{bytes_eq-Decides}
+use Rattle.w2c_base.proofs.Conjunctions.{left_holds, right_holds}
 use Rattle.c_tree.specs.declared.tree.CType.{CType}
 use Rattle.c_tree.specs.declared.tree.CType.TheVariants as type
 use Rattle.c_tree.specs.declared.tree.Num.{Num}
@@ -37,7 +38,6 @@ use Rattle.crun.specs.declared.names.ObjectKind.{ObjectKind}
 use Rattle.crun.specs.declared.names.ObjectKind.TheVariants as kind
 use Rattle.crun.specs.Names.{has_object, names_in}
 use Rattle.crun.specs.Objects.{var_value}
-use Rattle.crun.proofs.Checked.{both_left, both_right}
 
 not_equal : (x y : Name) → bytes_eq x y ≡ false → bytes_eq y x ≡ false
 not_equal x y e = go (bytes_eq y x) refl
@@ -88,13 +88,13 @@ module _ (k : ObjectKind) where
       → AllByRecursion (Differ (name_of x)) (names_in k items)
   differs_later x [] e = tt
   differs_later x (item ∷ items) e =
-      by_test (has_object k item) refl (differs_later x items (both_right (stands_behind x item) (list_all (stands_behind x) items) e))
+      by_test (has_object k item) refl (differs_later x items (right_holds (stands_behind x item) (list_all (stands_behind x) items) e))
     where
       by_test : (b : Bool) → has_object k item ≡ b → AllByRecursion (Differ (name_of x)) (names_in k items)
           → AllByRecursion (Differ (name_of x)) (cons_option (if b then Some (name_of item) else None) (names_in k items))
       by_test false has rest = rest
       by_test true has rest =
-          let one = clash_here x item has (both_left (stands_behind x item) (list_all (stands_behind x) items) e) in
+          let one = clash_here x item has (left_holds (stands_behind x item) (list_all (stands_behind x) items) e) in
           ((one, not_equal (name_of x) (name_of item) one), rest)
 
 has_letters : (name : Name) → IsName name → Differ [] name
@@ -115,12 +115,12 @@ pub are_names : (k : ObjectKind) (items : List tree.Item) → none_clash items �
     → AreNames (names_in k items)
 are_names k [] kept named = tt
 are_names k (item ∷ items) kept named =
-    by_test (has_object k item) (are_names k items (both_right (list_all (stands_behind item) items) (none_clash items) kept) named.1)
+    by_test (has_object k item) (are_names k items (right_holds (list_all (stands_behind item) items) (none_clash items) kept) named.1)
   where
     by_test : (b : Bool) → AreNames (names_in k items) → AreNames (cons_option (if b then Some (name_of item) else None) (names_in k items))
     by_test false rest = rest
     by_test true rest =
-        (letters item named.0, differs_later k item items (both_left (list_all (stands_behind item) items) (none_clash items) kept), rest)
+        (letters item named.0, differs_later k item items (left_holds (list_all (stands_behind item) items) (none_clash items) kept), rest)
 
 -- ---- names of two kinds
 
@@ -133,10 +133,10 @@ module _ (k l : ObjectKind) (only : (item : tree.Item) → has_object k item ≡
   are_apart [] kept = tt
   are_apart (item ∷ items) kept =
       by_tests (has_object k item) (has_object l item) refl refl
-      (are_apart items (both_right (list_all (stands_behind item) items) (none_clash items) kept))
+      (are_apart items (right_holds (list_all (stands_behind item) items) (none_clash items) kept))
     where
       stands : list_all (stands_behind item) items ≡ true
-      stands = both_left (list_all (stands_behind item) items) (none_clash items) kept
+      stands = left_holds (list_all (stands_behind item) items) (none_clash items) kept
 
       by_tests : (b c : Bool) → has_object k item ≡ b → has_object l item ≡ c → AreApart (names_in k items) (names_in l items)
           → AreApart (cons_option (if b then Some (name_of item) else None) (names_in k items))

@@ -32,6 +32,7 @@ use Rattle.std.specs.Prelude.{slice_get, not}
 use Rattle.std.specs.List.{AllByRecursion, list_all}
 use Rattle.std.specs.Option.{option_or}
 use Rattle.std.proofs.lemmas.Slice.Eq.{bytes_eq-Decides}
+use Rattle.w2c_base.proofs.Conjunctions.{left_holds, right_holds}
 use Rattle.w2c_base.specs.Lookup.{if_found}
 use Rattle.c_tree.specs.declared.tree.CType.{CType}
 use Rattle.c_tree.specs.Tree as tree
@@ -45,18 +46,10 @@ use Rattle.c_machine.specs.Threads.{definition_in}
 use Rattle.c_machine.proofs.Functions.{defined_is}
 use Rattle.crun.specs.Names.{function_name}
 
-pub both_left : (a b : Bool) → (a && b) ≡ true → a ≡ true
-both_left true b e = refl
-both_left false b e = cc
-
-pub both_right : (a b : Bool) → (a && b) ≡ true → b ≡ true
-both_right true b e = e
-both_right false b e = cc
-
 pub all_at : {A : Type 0} (p : A → Bool) (xs : List A) (i : ℕ) (x : A) → list_all p xs ≡ true → slice_get xs i ≡ Some x → p x ≡ true
 all_at p [] i x all at = absurd cc
-all_at p (y ∷ xs) zero x all at = let same : y ≡ x = cc in ap p (sym same) ∙ both_left (p y) (list_all p xs) all
-all_at p (y ∷ xs) (suc i) x all at = all_at p xs i x (both_right (p y) (list_all p xs) all) at
+all_at p (y ∷ xs) zero x all at = let same : y ≡ x = cc in ap p (sym same) ∙ left_holds (p y) (list_all p xs) all
+all_at p (y ∷ xs) (suc i) x all at = all_at p xs i x (right_holds (p y) (list_all p xs) all) at
 
 same_self : (q : Name) → bytes_eq q q ≡ true
 same_self q = (bytes_eq-Decides q q).1 refl
@@ -119,7 +112,7 @@ first_is k (x ∷ items) zero item q kept at is =
 first_is k (x ∷ items) (suc i) item q kept at is =
     let here : (k + 1) + i ≡ k + suc i = omega arith in
     ap (λ o. option_or o (entry_in (k + 1) q (map defined_name items))) (not_found (defined_name x) refl)
-    ∙ first_is (k + 1) items i item q (both_right (list_all (stands_behind x) items) (none_clash items) kept) at is ∙ ap Some here
+    ∙ first_is (k + 1) items i item q (right_holds (list_all (stands_behind x) items) (none_clash items) kept) at is ∙ ap Some here
   where
     not_found : (o : Option Name) → defined_name x ≡ o → found_at k o q ≡ None
     not_found None e = refl
@@ -129,7 +122,7 @@ first_is k (x ∷ items) (suc i) item q kept at is =
         by_test false same = refl
         by_test true same =
             absurd (clash x item r q e is same
-            (all_at (stands_behind x) items i item (both_left (list_all (stands_behind x) items) (none_clash items) kept) at))
+            (all_at (stands_behind x) items i item (left_holds (list_all (stands_behind x) items) (none_clash items) kept) at))
 
 -- no item defines the name of no letters
 nameless_item : (item : tree.Item) → NamedItem item → (r : Name) → defined_name item ≡ Some r → bytes_eq r [] ≡ false

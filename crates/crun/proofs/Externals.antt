@@ -3,13 +3,14 @@ use Rattle.std.proofs.Common.{◌≡◌, ℕ, ◌+◌, Bool, true, false, if◌t
 use Rattle.std.specs.Prelude.{slice_get, filter}
 use Rattle.std.specs.List.{list_all}
 use Rattle.std.proofs.lemmas.Slice.Eq.{bytes_eq-Decides}
+use Rattle.w2c_base.proofs.Conjunctions.{left_holds, right_holds}
 use Rattle.c_tree.specs.declared.tree.CType.{CType}
 use Rattle.c_tree.specs.Tree as tree
 use Rattle.c_tree.specs.Scope.{Name}
 use Rattle.c_check.specs.UnitNames.{none_clash, stands_behind}
 use Rattle.c_meaning.specs.Linking.{Definition, defined, defined_for_all}
 use Rattle.c_link.proofs.Apart.{seen_under, definitions_from, first_under}
-use Rattle.c_link.proofs.Rules.{both_left, both_right, first_defined, none_under}
+use Rattle.c_link.proofs.Rules.{first_defined, none_under}
 
 function_first : (k : ℕ) (q : Name) (d : Definition) (items : List tree.Item) (is_static : Bool) (result : CType) (name : Name)
     (params : List tree.Param) (o : Option tree.Body)
@@ -55,13 +56,13 @@ first_from : (k : ℕ) (q : Name) (d : Definition) (items : List tree.Item) → 
     → first_defined k q items ≡ Some d
 first_from k q d [] kept e = cc
 first_from k q d (tree.Array name count bytes ∷ items) kept e =
-    first_from (k + 1) q d items (both_right (list_all (stands_behind (tree.Array name count bytes)) items) (none_clash items) kept) e
+    first_from (k + 1) q d items (right_holds (list_all (stands_behind (tree.Array name count bytes)) items) (none_clash items) kept) e
 first_from k q d (tree.Var ty name number ∷ items) kept e =
-    first_from (k + 1) q d items (both_right (list_all (stands_behind (tree.Var ty name number)) items) (none_clash items) kept) e
+    first_from (k + 1) q d items (right_holds (list_all (stands_behind (tree.Var ty name number)) items) (none_clash items) kept) e
 first_from k q d (tree.Function g ∷ items) kept e =
     function_first k q d items g.is_static g.result g.name g.params g.body
-    (both_left (list_all (stands_behind (tree.Function g)) items) (none_clash items) kept)
-    (first_from (k + 1) q d items (both_right (list_all (stands_behind (tree.Function g)) items) (none_clash items) kept)) e
+    (left_holds (list_all (stands_behind (tree.Function g)) items) (none_clash items) kept)
+    (first_from (k + 1) q d items (right_holds (list_all (stands_behind (tree.Function g)) items) (none_clash items) kept)) e
 
 pub defined_first : (items : List tree.Item) (q : Name) (d : Definition) → none_clash items ≡ true → defined_for_all items q ≡ Some d
     → defined items q ≡ Some d

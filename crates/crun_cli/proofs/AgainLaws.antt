@@ -144,7 +144,8 @@ record Found (line : RunLine) (handed : List Host) (m : Contents) (job : Job) : 
   read : AreInputs m line.units line.calls texts text
   of : IsJobOfTexts line handed m texts text job
 
-found : (line : RunLine) (handed : List Host) (m : Contents) (units : List (List tree.Item)) (calls : List SymbolCall) (steps : ℕ) (shown : Bool)
+found : (line : RunLine) (handed : List Host) (m : Contents) (units : List (List tree.Item)) (calls : List SymbolCall) (steps : ℕ)
+    (shown : Bool)
     → IsRunJob line handed m (Run units calls steps shown) → Found line handed m (Run units calls steps shown)
 found line handed m units calls steps shown (AllRead texts text, is, of) = record { texts = texts; text = text; read = is; of = of }
 found line handed m units calls steps shown (NotThere file, is, of) = cc
@@ -214,21 +215,24 @@ module _ {H : Type 0} (hm : HostModule H) (hosts : List H) (words : List Name) (
 
 -- ---- both
 
-module _ {H : Type 0} (hm : HostModule H) (words' : List Name) (line again : RunLine) (m m' left : Contents) (hosts' : List H) (text : List ℕ)
+module _ {H : Type 0} (hm : HostModule H) (words' : List Name) (line again : RunLine) (m m' left : Contents) (hosts' : List H)
+    (text : List ℕ)
     (is' : line_of words' ≡ Some (runs again)) (same : AsksAgain line again m m') (r : ReplaysJournal line again left m' text)
     (old new : Outside) (status : ℕ) (told : old.files.told ≡ Some m) (told' : new.files.told ≡ Some left)
     (units : List (List tree.Item)) (calls : List SymbolCall) (texts : List (List ℕ)) (calls_text : List ℕ)
     (read : AreInputs m line.units line.calls texts calls_text) where
   module _ {G : Type 0} (n : HostModule G) (gs : List G) (played : HasPlayed n gs line units calls old new status)
       (of : IsTextsJob line (symbols_of (hosts_of n gs)) texts calls_text (Run units calls line.steps line.shows_state)) where
-    the_text : (text ≡ text_of (journal n gs line units calls old new status played)) × IsJournal text (journal n gs line units calls old new status played)
+    the_text : (text ≡ text_of (journal n gs line units calls old new status played))
+        × IsJournal text (journal n gs line units calls old new status played)
     the_text = left_text n gs line units calls old new status played m left r.name text told told' r.written r.left_is
 
     second : (Q : (K : Type 0) → HostModule K → List K → RunLine → List (List tree.Item) → List SymbolCall → Type 0)
         → IsRun hm hosts' words' m' Q
         → (replays : List ReplayHost) × AreReplays (journal n gs line units calls old new status played) replays
         × Q ReplayHost replaying replays again units calls
-    second = second_of hm hosts' words' line again m m' is' same text r.from r.replayed (r.read_is, r.short) units calls texts calls_text read
+    second =
+        second_of hm hosts' words' line again m m' is' same text r.from r.replayed (r.read_is, r.short) units calls texts calls_text read
         (journal n gs line units calls old new status played) the_text.1 of
 
     is_the_same : IsTheSame hm hosts' words' again m' text old new status
@@ -242,7 +246,8 @@ module _ {H : Type 0} (hm : HostModule H) (words' : List Name) (line again : Run
           journal_again old' new' other to s.0 s.1 s.2 named;
     }
       where
-        of_run : (replays : List ReplayHost) → AreReplays (journal n gs line units calls old new status played) replays → (asks : List Asked)
+        of_run : (replays : List ReplayHost) → AreReplays (journal n gs line units calls old new status played) replays
+            → (asks : List Asked)
             → IsAnsweredRun replaying replays units calls again.steps asks → (other : ℕ)
             → HasStatus (run_with replaying replays units calls again.steps asks).outcome other → other ≡ status
         of_run replays are asks run other has =
@@ -250,12 +255,16 @@ module _ {H : Type 0} (hm : HostModule H) (words' : List Name) (line again : Run
 
         of_answer : (other : ℕ) → IsAnswered hm hosts' words' m' other → other ≡ status
         of_answer other (By_refusal why job is) =
-            (let apart : Stops why ≡ Run units calls again.steps again.shows_state = only_job hm hosts' words' line again m m' is' same text r.from
-            r.replayed (r.read_is, r.short) units calls texts calls_text read (journal n gs line units calls old new status played) the_text.1 of
+            (let apart : Stops why
+            ≡ Run units calls again.steps again.shows_state = only_job hm hosts' words' line again m m' is' same text r.from
+            r.replayed (r.read_is, r.short) units calls texts calls_text read
+            (journal n gs line units calls old new status played) the_text.1 of
             (Stops why) job in cc)
         of_answer other (By_unit output unit job is) =
-            (let apart : Write output unit ≡ Run units calls again.steps again.shows_state = only_job hm hosts' words' line again m m' is' same text
-            r.from r.replayed (r.read_is, r.short) units calls texts calls_text read (journal n gs line units calls old new status played) the_text.1
+            (let apart : Write output unit
+            ≡ Run units calls again.steps again.shows_state = only_job hm hosts' words' line again m m' is' same text
+            r.from r.replayed (r.read_is, r.short) units calls texts calls_text read
+            (journal n gs line units calls old new status played) the_text.1
             of (Write output unit) job in cc)
         of_answer other (By_run run) =
             let s = second (λ K k ks l us cs. HasAnswer K k ks l us cs other) run in
@@ -297,8 +306,10 @@ module _ {H : Type 0} (hm : HostModule H) (words' : List Name) (line again : Run
             → HasPlayed replaying replays again units calls old' new' other → again.journal ≡ Some to
             → new'.files.told ≡ holding old'.files.told to text
         journal_again old' new' other to replays are p named =
-            let written : IsJournaled (Some to) (record { hosts = hosts_of replaying replays; entries = p.run.asks }) old'.files.told new'.files.told =
-            subst (λ o. IsJournaled o (record { hosts = hosts_of replaying replays; entries = p.run.asks }) old'.files.told new'.files.told) named
+            let written : IsJournaled (Some to)
+            (record { hosts = hosts_of replaying replays; entries = p.run.asks }) old'.files.told new'.files.told =
+            subst (λ o. IsJournaled o (record { hosts = hosts_of replaying replays; entries = p.run.asks }) old'.files.told new'.files.told)
+            named
             p.written in
             written.0 ∙ ap (holding old'.files.told to)
             (same_text n gs line units calls old new status played again.steps same.steps replays are p.run.asks
@@ -332,7 +343,8 @@ module _ {H : Type 0} (hm : HostModule H) (hosts : List H) (words : List Name) w
   runs_again m left old new status told told' (line, units, calls, is, job, with) line' again words' m' hosts' text is_line is' same r =
       let f = found line (hosts_of hm hosts) m units calls line.steps line.shows_state run_job in
       by_hosts_of hm words' line again m m' left hosts' text is' (subst (λ l. AsksAgain l again m m') lines same)
-      (subst (λ l. ReplaysJournal l again left m' text) lines r) old new status told told' units calls f.texts f.text f.read hosts line.replayed
+      (subst (λ l. ReplaysJournal l again left m' text) lines r) old new status told told' units calls f.texts f.text f.read hosts
+      line.replayed
       f.of with
     where
       lines : line' ≡ line

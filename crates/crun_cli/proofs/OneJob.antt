@@ -31,8 +31,10 @@ module _ (line : RunLine) (handed : List Host) (m : Contents) where
   one_replay name texts text (Held journal) a b (inl (j, is, of)) (inl (j', is', of')) =
       one_texts_job line (symbols_of j'.hosts) texts text a b
       (subst (λ x. IsTextsJob line (symbols_of x.hosts) texts text a) (one_read empty j j' (lines_of journal) none_distinct is is') of) of'
-  one_replay name texts text (Held journal) a b (inl (j, is, of)) (inr (k, refused, is')) = absurd (read_or_refused j (lines_of journal) k is refused)
-  one_replay name texts text (Held journal) a b (inr (k, refused, is')) (inl (j, is, of)) = absurd (read_or_refused j (lines_of journal) k is refused)
+  one_replay name texts text (Held journal) a b (inl (j, is, of)) (inr (k, refused, is')) =
+      absurd (read_or_refused j (lines_of journal) k is refused)
+  one_replay name texts text (Held journal) a b (inr (k, refused, is')) (inl (j, is, of)) =
+      absurd (read_or_refused j (lines_of journal) k is refused)
   one_replay name texts text (Held journal) a b (inr (k, refused, is)) (inr (k', refused', is')) =
       is ∙ ap (λ n. Stops (JournalLine n)) (one_refused (lines_of journal) k k' refused refused') ∙ sym is'
   one_replay name texts text NoJournal a b first second = first ∙ sym second

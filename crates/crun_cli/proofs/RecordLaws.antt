@@ -157,7 +157,8 @@ module _ {H : Type 0} (m : HostModule H) (hosts : List H) (line : RunLine) (text
 
       pub journal_part : IsWrittenPart line.journal filled old.files.told new.files.told → IsTextsPart m hosts line texts text old new
       journal_part part =
-          let p = is_part m hosts line.journal file filled recorded_run.run.asks old.files.told new.files.told recorded_run.filled_is blank part in
+          let p = is_part m hosts line.journal file filled recorded_run.run.asks old.files.told new.files.told recorded_run.filled_is blank
+          part in
           texts_run (λ us cs. HasPlayedPart m hosts line us cs old new) (inr (record {
             status = status;
             run = recorded_run.run;

@@ -101,7 +101,8 @@ module _ {G : Type 0} (n : HostModule G) (gs : List G) (line : RunLine) (start m
       subst (λ w. Faulted file w new.files.write_faults new.files.fault_name) writes faulted,
     )
 
-    texts_part_from : (texts : List (List ℕ)) (text : List ℕ) → IsTextsPart n gs line texts text Mid new → IsTextsPart n gs line texts text Old new
+    texts_part_from : (texts : List (List ℕ)) (text : List ℕ) → IsTextsPart n gs line texts text Mid new
+        → IsTextsPart n gs line texts text Old new
     texts_part_from texts text (units, calls, job, part) = (units, calls, job, part_from units calls part)
 
     pub stop_from : (texts : List (List ℕ)) (text : List ℕ) (why : Reason) → StopsRun n gs line texts text Mid new why
@@ -137,7 +138,8 @@ replay_from name start middle new told later Unwritten stop = absurd stop
 
 -- ---- words that ask for a run
 
-module _ {H : Type 0} (hm : HostModule H) (hosts : List H) (line : RunLine) (words : List Name) (is : line_of words ≡ Some (runs line)) where
+module _ {H : Type 0} (hm : HostModule H) (hosts : List H) (line : RunLine) (words : List Name)
+    (is : line_of words ≡ Some (runs line)) where
   job_there : (m : Contents) (job : Job) → IsRunJob line (hosts_of hm hosts) m job → IsJobWith hm hosts words m job
   job_there m job of = subst (λ o. MatchOption o (job ≡ Stops Usage) (λ l. IsLineJob (hosts_of hm hosts) m l job)) (sym is) of
 
@@ -245,8 +247,14 @@ module _ {H : Type 0} (hm : HostModule H) (hosts : List H) (line : RunLine) (wor
         run_ran : (old new : Outside) (status : ℕ)
             → IsTextsRun n gs line texts text (λ units calls. HasPlayed n gs line units calls old new status)
             → (m : Contents) → told ≡ Some m → Ran hm hosts words m old new status
-        run_ran old new status (units, calls, job, played) m tells =
-            (line, units, calls, is, jobs m tells _ job, with_hosts m tells (λ K k ks. HasPlayed k ks line units calls old new status) played)
+        run_ran old new status (units, calls, job, played) m tells = (
+          line,
+          units,
+          calls,
+          is,
+          jobs m tells _ job,
+          with_hosts m tells (λ K k ks. HasPlayed k ks line units calls old new status) played,
+        )
 
         run_part : (old new : Outside) → IsTextsPart n gs line texts text old new → (m : Contents) → told ≡ Some m
             → RanPart hm hosts words m old new

@@ -99,11 +99,13 @@ stop_small status WantOfMemory is = omega (arith, is)
 written_by_no_run : {H : Type 0} (hm : HostModule H) (hosts : List H) (words : List Name) (m : Contents) (line : RunLine) (output : Name)
     (unit : List tree.Item) → line_of words ≡ Some (runs line) → IsJobWith hm hosts words m (Write output unit) → ⊥
 written_by_no_run hm hosts words m line output unit is job =
-    of_line (subst (λ o. MatchOption o (Write output unit ≡ Stops Usage) (λ l. IsLineJob (hosts_of hm hosts) m l (Write output unit))) is job)
+    of_line (subst (λ o. MatchOption o (Write output unit ≡ Stops Usage) (λ l. IsLineJob (hosts_of hm hosts) m l (Write output unit))) is
+    job)
   where
     of_texts : (texts : List (List ℕ)) (text : List ℕ) (o : Option Name)
         → MatchOption o (IsTextsJob line (symbols_of (hosts_of hm hosts)) texts text (Write output unit))
-        (λ name. (reading : JournalReading) × IsJournalReading m name reading × IsReplayJob line name texts text reading (Write output unit)) → ⊥
+        (λ name. (reading : JournalReading) × IsJournalReading m name reading
+        × IsReplayJob line name texts text reading (Write output unit)) → ⊥
     of_texts texts text None of = of
     of_texts texts text (Some name) (Held t, is, inl (j, is_j, of)) = of
     of_texts texts text (Some name) (Held t, is, inr (k, refused, of)) = cc

@@ -50,7 +50,8 @@ abbrev pub IsJobWith : {H : Type 0} → HostModule H → List H → List Name �
 IsJobWith m hosts words contents job = IsJob words (hosts_of m hosts) contents job
 
 -- this holds of the hosts that a run is with: those that were handed in, or hosts that reply again what a journal says
-abbrev pub WithHosts : {H : Type 0} → HostModule H → List H → Option Name → Contents → ((G : Type 0) → HostModule G → List G → Type 0) → Type 0
+abbrev pub WithHosts : {H : Type 0} → HostModule H → List H → Option Name → Contents → ((G : Type 0) → HostModule G → List G → Type 0)
+    → Type 0
 WithHosts {H} m hosts None contents P = P H m hosts
 WithHosts m hosts (Some name) contents P =
     (j : Recorded) × (replays : List ReplayHost) × HoldsJournal contents name j × AreReplays j replays × P ReplayHost replaying replays
@@ -112,7 +113,8 @@ RanPart m hosts words contents old new =
 -- ---- a unit
 
 -- the words ask for a unit's text in a file: the text spells the unit, and nothing goes on the stream
-pub record Wrote {H : Type 0} (m : HostModule H) (hosts : List H) (words : List Name) (contents : Contents) (old new : Outside) : Type 0 where
+pub record Wrote {H : Type 0} (m : HostModule H) (hosts : List H) (words : List Name) (contents : Contents)
+    (old new : Outside) : Type 0 where
   pub output : Name
   pub unit : List tree.Item
   pub job : IsJobWith m hosts words contents (Write output unit)
@@ -152,7 +154,8 @@ HasAnswer G n gs line units calls status = (asks : List Asked) × (after : List 
 
 -- the status that answers what the words ask for: that of the refusal, 0 for a unit that is written, or that of the run
 pub data IsAnswered {H : Type 0} (m : HostModule H) (hosts : List H) (words : List Name) (contents : Contents) (status : ℕ) : Type 0 where
-  By_refusal : (why : Reason) → IsJobWith m hosts words contents (Stops why) → status ≡ status_of why → IsAnswered m hosts words contents status
+  By_refusal : (why : Reason) → IsJobWith m hosts words contents (Stops why) → status ≡ status_of why
+      → IsAnswered m hosts words contents status
   By_unit : (output : Name) → (unit : List tree.Item) → IsJobWith m hosts words contents (Write output unit) → status ≡ 0
       → IsAnswered m hosts words contents status
   By_run : IsRun m hosts words contents (λ G n gs line units calls. HasAnswer G n gs line units calls status)

@@ -27,10 +27,12 @@ pub none_yet : (params : List CType) (numbers : List ℕ) → AreSome params num
 none_yet params numbers = record { types_are = refl; numbers_are = refl; fit = All-nil IsNumber }
 
 pub one_more : (params : List CType) (numbers : List ℕ) (k : ℕ) (t : CType) (n : ℕ) (values new : List Value) (v : Value)
-    → slice_get params k ≡ Some t → slice_get numbers k ≡ Some n → AreSome params numbers k values → IsArgument t n v → new ≡ values ++ v ∷ []
+    → slice_get params k ≡ Some t → slice_get numbers k ≡ Some n → AreSome params numbers k values → IsArgument t n v
+    → new ≡ values ++ v ∷ []
     → AreSome params numbers (k + 1) new
 one_more params numbers k t n values new v at at_number so_far is pushed = record {
-  types_are = next_at params k t at ∙ (λ i. so_far.types_are i ++ is.type_is i ∷ []) ∙ sym (map_push c_type_of (types_of values) (type_of v))
+  types_are =
+      next_at params k t at ∙ (λ i. so_far.types_are i ++ is.type_is i ∷ []) ∙ sym (map_push c_type_of (types_of values) (type_of v))
       ∙ ap (map c_type_of) (sym (types_push values v)) ∙ ap (λ (l : List Value). map c_type_of (types_of l)) (sym pushed);
   numbers_are = next_at numbers k n at_number ∙ (λ i. so_far.numbers_are i ++ is.number_is i ∷ []) ∙ sym (map_push number_of values v)
       ∙ ap (map number_of) (sym pushed);
@@ -78,7 +80,8 @@ typed params numbers values some are = are.types_are ∙ sym (params_are values 
 
 -- a number that is no value for its parameter
 pub no_argument : (params : List CType) (numbers : List ℕ) (values : List Value) (k : ℕ) (t : CType) (n : ℕ) → 0 < length numbers
-    → slice_get params k ≡ Some t → slice_get numbers k ≡ Some n → ((v : Value) → IsArgument t n v → ⊥) → AreArguments params numbers values → ⊥
+    → slice_get params k ≡ Some t → slice_get numbers k ≡ Some n → ((v : Value) → IsArgument t n v → ⊥) → AreArguments params numbers values
+    → ⊥
 no_argument params numbers values k t n some at at_number none are =
     not_among values k t n (ap (λ (l : List CType). slice_get l k) (sym (typed params numbers values some are)) ∙ at)
     (ap (λ (l : List ℕ). slice_get l k) (sym are.numbers_are) ∙ at_number) are.fit none

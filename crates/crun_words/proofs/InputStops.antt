@@ -27,7 +27,8 @@ same_name names k name other at is = same_some other name (sym is ∙ at)
 
 -- ---- 16 units do not pass the limit of all
 
-units_bytes : (texts : List (List ℕ)) → AllByRecursion (λ text. length text ≤ most_unit_bytes) texts → total texts ≤ most_unit_bytes * length texts
+units_bytes : (texts : List (List ℕ)) → AllByRecursion (λ text. length text ≤ most_unit_bytes) texts
+    → total texts ≤ most_unit_bytes * length texts
 units_bytes [] fit = omega arith
 units_bytes (text ∷ texts) fit = let more = units_bytes texts fit.1 in omega (arith, more, fit.0)
 
@@ -48,7 +49,8 @@ never_past contents names name place few s =
 
 -- ---- the units
 
-module _ (told : Told) (names : List Name) (before after : ℕ) (named : Option Name) (k : ℕ) (name : Name) (at : slice_get names k ≡ Some name) where
+module _ (told : Told) (names : List Name) (before after : ℕ) (named : Option Name) (k : ℕ) (name : Name)
+    (at : slice_get names k ≡ Some name) where
   pub unread : (why : ReadStop) → why ≡ read.Unread k → StopsAt most_unit_bytes most_units_bytes told names before after named why
       → Faulted name before after named
       ⊎ ((contents : Contents) × (told ≡ Some contents) × StopsReading most_unit_bytes most_units_bytes contents names name Missing)
@@ -84,13 +86,15 @@ module _ (told : Told) (names : List Name) (before after : ℕ) (named : Option 
 pub stops_at_unit : (told : Told) (units : List Name) (calls : Name) (before after : ℕ) (named : Option Name) (why : InputStop)
     → StopsUnits told units before after named why → StopsInputs told units calls before after named why
 stops_at_unit told units calls before after named (stop.Unread name) (one, inl faulted) = (inl one, inl faulted)
-stops_at_unit told units calls before after named (stop.Unread name) (one, inr (contents, is, missing)) = (inl one, inr (contents, is, inl missing))
+stops_at_unit told units calls before after named (stop.Unread name) (one, inr (contents, is, missing)) =
+    (inl one, inr (contents, is, inl missing))
 stops_at_unit told units calls before after named (stop.UnitTooLong name) s = s
 stops_at_unit told units calls before after named stop.CallsTooLong s = absurd s
 stops_at_unit told units calls before after named stop.JournalTooLong s = absurd s
 stops_at_unit told units calls before after named stop.Memory s = tt
 
-pub stops_at_calls : (told : Told) (units : List Name) (calls : Name) (start before after : ℕ) (named : Option Name) (why : InputStop) → start ≤ before
+pub stops_at_calls : (told : Told) (units : List Name) (calls : Name) (start before after : ℕ) (named : Option Name) (why : InputStop)
+    → start ≤ before
     → Tells told (λ contents. HasUnits contents units) → StopsCalls told calls before after named why
     → StopsInputs told units calls start after named why
 stops_at_calls told units calls start before after named (stop.Unread name) later has (same, inl faulted) =
@@ -98,7 +102,8 @@ stops_at_calls told units calls start before after named (stop.Unread name) late
 stops_at_calls told units calls start before after named (stop.Unread name) later has (same, inr (contents, is, none)) =
     (inr same, inr (contents, is, inr (same, has contents is, none)))
 stops_at_calls told units calls start before after named (stop.UnitTooLong name) later has s = absurd s
-stops_at_calls told units calls start before after named stop.CallsTooLong later has s = λ contents tells. (has contents tells, s contents tells)
+stops_at_calls told units calls start before after named stop.CallsTooLong later has s =
+    λ contents tells. (has contents tells, s contents tells)
 stops_at_calls told units calls start before after named stop.JournalTooLong later has s = absurd s
 stops_at_calls told units calls start before after named stop.Memory later has s = tt
 
@@ -135,9 +140,11 @@ module _ (contents : Contents) (units : List Name) where
   read_short : (name : Name) (texts : List (List ℕ)) → AreUnits contents units texts → IsLongUnit contents units name → ⊥
   read_short name texts are stops = no_stop most_unit_bytes most_units_bytes contents units name TooLong texts stops are
 
-  two_reasons : (name other : Name) → StopsReading most_unit_bytes most_units_bytes contents units name Missing → IsLongUnit contents units other → ⊥
+  two_reasons : (name other : Name) → StopsReading most_unit_bytes most_units_bytes contents units name Missing
+      → IsLongUnit contents units other → ⊥
   two_reasons name other missing long =
-      let same : Missing ≡ TooLong = (one_stop most_unit_bytes most_units_bytes contents units name other Missing TooLong missing long).1 in cc
+      let same : Missing ≡ TooLong = (one_stop most_unit_bytes most_units_bytes contents units name other Missing TooLong missing long).1 in
+      cc
 
   one_missing : (name other : Name) → StopsReading most_unit_bytes most_units_bytes contents units name Missing
       → StopsReading most_unit_bytes most_units_bytes contents units other Missing → name ≡ other
@@ -169,7 +176,8 @@ module _ (contents : Contents) (units : List Name) where
     one_reading (AllRead texts text) (NotThere name) r (inl s) = absurd (read_all name texts r.units_are s)
     one_reading (AllRead texts text) (NotThere name) r (inr s) = absurd (no_text contents calls text s.2 r.calls_are)
     one_reading (AllRead texts text) (LongUnit name) r s = absurd (read_short name texts r.units_are s)
-    one_reading (AllRead texts text) LongCalls r (has, (other, is, long)) = absurd (too_long_and_fit contents calls most_calls_bytes text other r.calls_are is r.calls_fit long)
+    one_reading (AllRead texts text) LongCalls r (has, (other, is, long)) =
+        absurd (too_long_and_fit contents calls most_calls_bytes text other r.calls_are is r.calls_fit long)
     one_reading (NotThere name) (AllRead texts text) (inl r) s = absurd (read_all name texts s.units_are r)
     one_reading (NotThere name) (AllRead texts text) (inr r) s = absurd (no_text contents calls text r.2 s.calls_are)
     one_reading (NotThere name) (NotThere other) (inl r) (inl s) = ap NotThere (one_missing name other r s)
@@ -186,7 +194,8 @@ module _ (contents : Contents) (units : List Name) where
     one_reading (LongUnit name) (LongUnit other) r s =
         ap LongUnit (one_long name other r s)
     one_reading (LongUnit name) LongCalls r s = absurd (read_short name s.0.0 s.0.1 r)
-    one_reading LongCalls (AllRead texts text) (has, (other, is, long)) s = absurd (too_long_and_fit contents calls most_calls_bytes text other s.calls_are is s.calls_fit long)
+    one_reading LongCalls (AllRead texts text) (has, (other, is, long)) s =
+        absurd (too_long_and_fit contents calls most_calls_bytes text other s.calls_are is s.calls_fit long)
     one_reading LongCalls (NotThere name) r (inl s) = absurd (read_all name r.0.0 r.0.1 s)
     one_reading LongCalls (NotThere name) (has, (other, is, long)) (inr s) = absurd (no_text contents calls other s.2 is)
     one_reading LongCalls (LongUnit name) r s = absurd (read_short name r.0.0 r.0.1 s)

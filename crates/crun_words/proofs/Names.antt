@@ -52,7 +52,8 @@ no_module m x symbol empty is = by_name is.module_name is.module_is_there (sym (
     by_name [] some none = omega (arith, some)
     by_name (b ∷ name) some none = elim (escaped_byte-cases b) [
       | inl p ↦ let same : length (b ∷ escaped name) ≡ 0 = sym (ap (λ l. length (l ++ escaped name)) p.1) ∙ none in omega (arith, same)
-      | inr p ↦ let same : length (z_escape b ++ escaped name) ≡ 0 = sym (ap (λ l. length (l ++ escaped name)) p.1) ∙ none in omega (arith, same)
+      | inr p ↦ let same : length (z_escape b ++ escaped name) ≡ 0 =
+          sym (ap (λ l. length (l ++ escaped name)) p.1) ∙ none in omega (arith, same)
     ]
 
 -- words that are escapes of no names

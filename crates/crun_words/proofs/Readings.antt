@@ -36,7 +36,8 @@ nothing_among k (x ∷ xs) h = ne_eqb (length (x ∷ xs)) 0 (λ e. omega (arith,
 
 pub no_line : (words : List (List ℕ)) → is_empty (fault_of crun words) ≡ false → line_of words ≡ None
 unfolding values_of
-no_line words some = ap (λ (none : Bool). option_and_then line_of_values (if none then Some (values_in (matches_of crun words)) else None)) some
+no_line words some =
+    ap (λ (none : Bool). option_and_then line_of_values (if none then Some (values_in (matches_of crun words)) else None)) some
 
 pub no_fault : {T : Type 0} (kinds : Kinds) (r : Result T Error) (x : T) → r ≡ Ok x → FailsBy kinds r → kinds ≡ []
 no_fault kinds (Ok y) x is h = h

@@ -117,7 +117,8 @@ module _ (p : Program) (rest others : List Reply) (n : ℕ) where
         (below : List Frame) → host_type p a.host a.function ≡ Some ty → equal_types ty.params (types_of a.args) ≡ true
         → Beside (then_ (step.replied ty (front ++ rest) told a (with_trail m (Left told front)) below))
         (then_ (step.replied ty (front ++ others) told a (with_trail m (Right told front)) below))
-    replied_beside ty told [] so a m below is takes = inr (inr (parted ty told a (with_trail m (Left told [])) (with_trail m (Right told []))
+    replied_beside ty told [] so a m below is takes =
+        inr (inr (parted ty told a (with_trail m (Left told [])) (with_trail m (Right told []))
         below is takes (omega (arith, so))))
     replied_beside ty told (HostTrapped ∷ front) so a m below is takes =
         in_both (step.Stops m (Trapped HostTrap)) (told ++ Asked a (Some HostTrapped) ∷ []) front

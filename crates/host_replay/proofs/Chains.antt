@@ -2,6 +2,7 @@
 use Rattle.std.proofs.Common.{◌≡◌, ◌&&◌, ℕ, zero, suc, Bool, true, false, length, List, [], ◌∷◌, ◌++◌, map, flat_map, slice_get, option_map, Option, Some, None, refl, sym, ap, ◌∙◌, subst, append_assoc}
 use Rattle.std.specs.List.{list_all}
 use Rattle.std.proofs.lemmas.List.{append-nil}
+use Rattle.w2c_base.proofs.Conjunctions.{both_hold}
 use Rattle.w2c_base.specs.Lookup.{if_found}
 use Rattle.w2c_base.specs.Run.{Host, HostFunction}
 use Rattle.w2c_mangle.specs.declared.symbol.SymbolKind.TheVariants as symbol
@@ -126,7 +127,7 @@ module _ (name : List ℕ) where
               (grown front more done (f ∷ rest) offered.0 offered.1 _ offered.2) (there front more done rest f) in
               let none : symbol_at (front ++ with_functions name done ∷ []) offered.0 offered.1 ≡ None =
               (λ i. symbol_at (front ++ with_functions name done ∷ []) (places.0 i) (places.1 i)) ∙ gone front done in
-              let both = sym none ∙ offered.2 in
+              let both_hold = sym none ∙ offered.2 in
               cc;
         },
         subst (λ (fs : List HostFunction). Chain
@@ -179,16 +180,11 @@ offered hosts a fit = by_host (slice_get hosts a.host) refl
         (ap (λ (o : Option Host). fits_function (if_found o (λ m. slice_get m.functions a.function)) a) none) ∙ fit in absurd cc
     by_host (Some m) at = by_function m (slice_get m.functions a.function) at refl
 
-both : (a b : Bool) → (a && b) ≡ true → (a ≡ true) × (b ≡ true)
-both true true e = (refl, refl)
-both true false e = absurd cc
-both false b e = absurd cc
-
 entries_chain : (hosts : List Host) (done rest : List Asked) → list_all (fits hosts) rest ≡ true
     → Chain (record { hosts = hosts; entries = done }) (map (entry_said hosts) rest) (record { hosts = hosts; entries = done ++ rest })
 entries_chain hosts done [] fit = ap (λ (es : List Asked). record { hosts = hosts; entries = es }) (append-nil done)
 entries_chain hosts done (a ∷ rest) fit =
-    let parts = both (fits hosts a) (list_all (fits hosts) rest) fit in (
+    let parts = both_hold (fits hosts a) (list_all (fits hosts) rest) fit in (
       record { hosts = hosts; entries = done ++ a ∷ [] },
       record {
         entry = a;

@@ -2,20 +2,13 @@
 use Rattle.std.proofs.Common.{◌≡◌, ℕ, zero, suc, Bool, true, false, ◌&&◌, ◌||◌, not, List, [], ◌∷◌, ◌++◌, map, slice_get, option_map, bytes_eq, Some, refl, sym, ap, ◌∙◌}
 use Rattle.std.proofs.lemmas.Option.{slice_get-map}
 use Rattle.std.proofs.lemmas.Slice.Eq.{bytes_eq-Decides}
+use Rattle.w2c_base.proofs.Conjunctions.{left_holds, right_holds}
 use Rattle.w2c_base.specs.Run.{Host}
 use Rattle.c_tree.specs.Rules.{are_distinct}
 use Rattle.c_tree.specs.Scope.{Name, is_among}
 use Rattle.c_scope.proofs.Lookups.{among-append}
 use Rattle.host_replay.specs.Reading.{symbol_at, symbol_of}
 use Rattle.host_replay.specs.Writable.{symbols_of, AreDistinct}
-
-first_of : (a b : Bool) → (a && b) ≡ true → a ≡ true
-first_of true b e = refl
-first_of false b e = absurd cc
-
-second_of : (a b : Bool) → (a && b) ≡ true → b ≡ true
-second_of true b e = e
-second_of false b e = absurd cc
 
 or_right : (a b : Bool) → b ≡ true → (a || b) ≡ true
 or_right true b e = refl
@@ -39,7 +32,7 @@ is_there (x ∷ xs) (suc f) s at = among_later s x xs (is_there xs f s at)
 -- the first is not among the others
 first_apart : (s x : Name) (xs : List Name) → are_distinct (x ∷ xs) ≡ true → x ≡ s → is_among s xs ≡ true → ⊥
 first_apart s x xs distinct is there_ =
-    let no = first_of (not (is_among x xs)) (are_distinct xs) distinct in
+    let no = left_holds (not (is_among x xs)) (are_distinct xs) distinct in
     let yes_ : is_among x xs ≡ true = ap (λ (n : Name). is_among n xs) is ∙ there_ in
     let both : not true ≡ true = ap not (sym yes_) ∙ no in
     cc
@@ -52,12 +45,12 @@ one_place (x ∷ xs) zero (suc g) s distinct at at' =
 one_place (x ∷ xs) (suc f) zero s distinct at at' =
     let same : x ≡ s = cc in absurd (first_apart s x xs distinct same (is_there xs f s at))
 one_place (x ∷ xs) (suc f) (suc g) s distinct at at' =
-    ap suc (one_place xs f g s (second_of (not (is_among x xs)) (are_distinct xs) distinct) at at')
+    ap suc (one_place xs f g s (right_holds (not (is_among x xs)) (are_distinct xs) distinct) at at')
 
 front_distinct : (xs ys : List Name) → are_distinct (xs ++ ys) ≡ true → are_distinct xs ≡ true
 front_distinct [] ys distinct = refl
 front_distinct (x ∷ xs) ys distinct =
-    λ i. fresh (is_among x xs) refl i && front_distinct xs ys (second_of (not (is_among x (xs ++ ys))) (are_distinct (xs ++ ys)) distinct) i
+    λ i. fresh (is_among x xs) refl i && front_distinct xs ys (right_holds (not (is_among x (xs ++ ys))) (are_distinct (xs ++ ys)) distinct) i
   where
     fresh : (b : Bool) → is_among x xs ≡ b → not b ≡ true
     fresh false is = refl
@@ -65,14 +58,14 @@ front_distinct (x ∷ xs) ys distinct =
 
 behind_distinct : (xs ys : List Name) → are_distinct (xs ++ ys) ≡ true → are_distinct ys ≡ true
 behind_distinct [] ys distinct = distinct
-behind_distinct (x ∷ xs) ys distinct = behind_distinct xs ys (second_of (not (is_among x (xs ++ ys))) (are_distinct (xs ++ ys)) distinct)
+behind_distinct (x ∷ xs) ys distinct = behind_distinct xs ys (right_holds (not (is_among x (xs ++ ys))) (are_distinct (xs ++ ys)) distinct)
 
 apart : (xs ys : List Name) (s : Name) → are_distinct (xs ++ ys) ≡ true → is_among s xs ≡ true → is_among s ys ≡ true → ⊥
 apart [] ys s distinct here there_ = cc
 apart (x ∷ xs) ys s distinct here there_ = by (bytes_eq s x) refl here (λ h. apart xs ys s rest h there_)
   where
     rest : are_distinct (xs ++ ys) ≡ true
-    rest = second_of (not (is_among x (xs ++ ys))) (are_distinct (xs ++ ys)) distinct
+    rest = right_holds (not (is_among x (xs ++ ys))) (are_distinct (xs ++ ys)) distinct
 
     by : (b : Bool) → bytes_eq s x ≡ b → (b || is_among s xs) ≡ true → (is_among s xs ≡ true → ⊥) → ⊥
     by true is h later = first_apart s x (xs ++ ys) distinct (sym ((bytes_eq-Decides s x).0 is))

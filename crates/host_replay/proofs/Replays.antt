@@ -3,6 +3,7 @@ use Rattle.std.proofs.Common.{◌≡◌, ◌==◌, ◌<◌, ◌+◌, ◌&&◌, i
 use Rattle.std.specs.List.{list_all}
 use Rattle.std.proofs.lemmas.Bool.{eqb-true}
 use Rattle.std.proofs.lemmas.Option.{slice_get-map}
+use Rattle.w2c_base.proofs.Conjunctions.{both_hold}
 use Rattle.w2c_base.specs.Lookup.{if_found}
 use Rattle.w2c_base.specs.Run.{Host}
 use Rattle.w2c_base.specs.declared.value.Value.{Value}
@@ -18,11 +19,6 @@ use Rattle.host_replay.specs.declared.module.JournalModule.{JournalModule}
 use Rattle.host_replay.specs.Modules.{module_of, modules_of}
 use Rattle.host_replay.specs.Replaying.{calls_of, fits_own, Replays}
 
-both : (a b : Bool) → (a && b) ≡ true → (a ≡ true) × (b ≡ true)
-both true true e = (refl, refl)
-both true false e = absurd cc
-both false b e = absurd cc
-
 module _ (hosts : List Host) (k : ℕ) (name : List ℕ) (functions : List HostFunction)
     (at : slice_get hosts k ≡ Some (record { name = name; functions = map function_of functions })) where
   pub own : (a : Asked) → (a.host == k) ≡ true → fits hosts a ≡ true → fits_own functions a ≡ true
@@ -36,7 +32,7 @@ module _ (hosts : List Host) (k : ℕ) (name : List ℕ) (functions : List HostF
   pub calls_fit : (entries : List Asked) → list_all (fits hosts) entries ≡ true → list_all (fits_own functions) (calls_of k entries) ≡ true
   calls_fit [] fit = refl
   calls_fit (a ∷ entries) fit =
-      let parts = both (fits hosts a) (list_all (fits hosts) entries) fit in
+      let parts = both_hold (fits hosts a) (list_all (fits hosts) entries) fit in
       by_test (a.host == k) refl parts.0 (calls_fit entries parts.1)
     where
       by_test : (b : Bool) → (a.host == k) ≡ b → fits hosts a ≡ true → list_all (fits_own functions) (calls_of k entries) ≡ true
@@ -55,7 +51,7 @@ pub reply_of_next : (functions : List HostFunction) (entries : List Asked) (used
     → IfSome (slice_get functions i) (λ f. IsReply f r)
 reply_of_next functions [] used e fit at i is r reply_is = absurd cc
 reply_of_next functions (x ∷ entries) zero e fit at i is r reply_is =
-    let parts = both (fits_own functions x) (list_all (fits_own functions) entries) fit in
+    let parts = both_hold (fits_own functions x) (list_all (fits_own functions) entries) fit in
     let same : x ≡ e = cc in
     by_found (slice_get functions i) refl (subst (λ (a : Asked). fits_own functions a ≡ true) same parts.0)
   where
@@ -65,10 +61,10 @@ reply_of_next functions (x ∷ entries) zero e fit at i is r reply_is =
         let found : slice_get functions e.function ≡ Some f = ap (slice_get functions) is ∙ some in
         let here : fits_function (Some (function_of f)) e
         ≡ true = ap (λ (o : Option HostFunction). fits_function (option_map function_of o) e) (sym found) ∙ fit in
-        let given = (both (equal_types f.ty.params (types_of e.args)) (is_reply f.ty.result e.reply) here).1 in
+        let given = (both_hold (equal_types f.ty.params (types_of e.args)) (is_reply f.ty.result e.reply) here).1 in
         subst (IsReply f) (sym reply_is) (reply_fits f e.reply given)
 reply_of_next functions (x ∷ entries) (suc used) e fit at i is r reply_is =
-    reply_of_next functions entries used e (both (fits_own functions x) (list_all (fits_own functions) entries) fit).1 at i is r reply_is
+    reply_of_next functions entries used e (both_hold (fits_own functions x) (list_all (fits_own functions) entries) fit).1 at i is r reply_is
 
 pub module_at : (modules : List JournalModule) (k : ℕ) (m : JournalModule) → k < length (modules_of modules)
     → m ≡ slice_index_or modules k m

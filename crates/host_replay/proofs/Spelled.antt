@@ -5,6 +5,7 @@ use Rattle.std.proofs.lemmas.Bool.{ltb-true}
 use Rattle.std.proofs.lemmas.Grind.{flat_map-append}
 use Rattle.std.proofs.lemmas.List.Elements.{All-from_recursion}
 use Rattle.std.proofs.lemmas.List.Splits.{length-slice_split}
+use Rattle.w2c_base.proofs.Conjunctions.{both_hold}
 use Rattle.w2c_base.specs.declared.value.ValType.{ValType}
 use Rattle.w2c_base.specs.declared.value.Value.{Value}
 use Rattle.w2c_base.specs.Run.{Host, HostFunction}
@@ -118,11 +119,6 @@ function_bytes [] h f are = no_bytes
 function_bytes (m ∷ hosts) zero f are = module_bytes m.functions f are.0.1
 function_bytes (m ∷ hosts) (suc h) f are = function_bytes hosts h f are.1
 
-both : (a b : Bool) → (a && b) ≡ true → (a ≡ true) × (b ≡ true)
-both true true e = (refl, refl)
-both true false e = absurd cc
-both false b e = absurd cc
-
 number : (v : Value) → is_number v ≡ true → IsNumber v
 number v e = ltb-true (number_of v) (2 ^ bits (type_of v)) e
 
@@ -130,17 +126,17 @@ given : (t : Option ValType) (r : HostReply) → is_reply t r ≡ true → IsGiv
 given t reply.Trap e = tt
 given t (reply.Value None) e = tt
 given None (reply.Value (Some v)) e = absurd cc
-given (Some t) (reply.Value (Some v)) e = number v (both (equal_type t (type_of v)) (is_number v) e).1
+given (Some t) (reply.Value (Some v)) e = number v (both_hold (equal_type t (type_of v)) (is_number v) e).1
 
 given_by : (o : Option HostFunction) (a : Asked) → fits_function o a ≡ true → IsGiven (reply_said a.reply)
 given_by None a e = absurd cc
-given_by (Some f) a e = given f.ty.result a.reply (both _ (is_reply f.ty.result a.reply) e).1
+given_by (Some f) a e = given f.ty.result a.reply (both_hold _ (is_reply f.ty.result a.reply) e).1
 
 entries_proper : (hosts : List Host) (entries : List Asked) → AllByRecursion HasNames hosts → list_all (fits hosts) entries ≡ true
     → AllByRecursion HasNumbers entries → AllByRecursion IsProper (map (entry_said hosts) entries)
 entries_proper hosts [] names fit numbers = tt
 entries_proper hosts (a ∷ entries) names fit numbers =
-    let parts = both (fits hosts a) (list_all (fits hosts) entries) fit in (
+    let parts = both_hold (fits hosts a) (list_all (fits hosts) entries) fit in (
       (
         host_bytes hosts a.host names,
         function_bytes hosts a.host a.function names,

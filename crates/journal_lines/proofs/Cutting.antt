@@ -3,6 +3,7 @@ use Rattle.std.proofs.Common.{◌≡◌, ◌==◌, ℕ, Bool, true, false, not, 
 use Rattle.std.proofs.lemmas.Bool.{eq-eqb}
 use Rattle.std.proofs.lemmas.List.Splits.{slice_split-cons_no, slice_split-cons_yes}
 use Rattle.std.specs.List.{join_with_byte, list_all, onto_first, slice_split, AllByRecursion}
+use Rattle.w2c_base.proofs.Conjunctions.{both_hold}
 
 -- a byte does not stand in a text
 abbrev pub lacks : ℕ → List ℕ → Bool
@@ -11,11 +12,6 @@ lacks c text = list_all (λ b. not (b == c)) text
 abbrev pub cut : ℕ → List ℕ → List (List ℕ)
 cut c text = slice_split (λ b. b == c) text
 
-both : (a b : Bool) → (a && b) ≡ true → (a ≡ true) × (b ≡ true)
-both true true e = (refl, refl)
-both true false e = absurd cc
-both false b e = absurd cc
-
 differs : (a : Bool) → not a ≡ true → a ≡ false
 differs false e = refl
 differs true e = absurd cc
@@ -23,20 +19,20 @@ differs true e = absurd cc
 pub lacks-append : (c : ℕ) (x y : List ℕ) → lacks c x ≡ true → lacks c y ≡ true → lacks c (x ++ y) ≡ true
 lacks-append c [] y hx hy = hy
 lacks-append c (b ∷ x) y hx hy =
-    let parts = both (not (b == c)) (lacks c x) hx in
+    let parts = both_hold (not (b == c)) (lacks c x) hx in
     (λ i. parts.0 i && lacks-append c x y parts.1 hy i)
 
 -- the part in front of the first such byte
 pub cut-first : (c : ℕ) (x y : List ℕ) → lacks c x ≡ true → cut c (x ++ c ∷ y) ≡ x ∷ cut c y
 cut-first c [] y h = slice_split-cons_yes (λ b. b == c) c y (eq-eqb c c refl)
 cut-first c (b ∷ x) y h =
-    let parts = both (not (b == c)) (lacks c x) h in
+    let parts = both_hold (not (b == c)) (lacks c x) h in
     slice_split-cons_no (λ b. b == c) b (x ++ c ∷ y) (differs (b == c) parts.0) ∙ ap (onto_first b) (cut-first c x y parts.1)
 
 pub cut-last : (c : ℕ) (x : List ℕ) → lacks c x ≡ true → cut c x ≡ x ∷ []
 cut-last c [] h = refl
 cut-last c (b ∷ x) h =
-    let parts = both (not (b == c)) (lacks c x) h in
+    let parts = both_hold (not (b == c)) (lacks c x) h in
     slice_split-cons_no (λ b. b == c) b x (differs (b == c) parts.0) ∙ ap (onto_first b) (cut-last c x parts.1)
 
 -- each of some texts lacks a byte

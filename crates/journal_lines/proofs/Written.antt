@@ -5,6 +5,7 @@ use Rattle.std.specs.List.{list_all}
 use Rattle.std.proofs.lemmas.Bool.Decides.{nat_tests}
 use Rattle.std.proofs.lemmas.Fmt.{decimal_by_steps}
 use Rattle.std.proofs.lemmas.List.Folds.{list_all-append}
+use Rattle.w2c_base.proofs.Conjunctions.{both_hold}
 use Rattle.w2c_base.specs.declared.value.ValType.{ValType}
 use Rattle.w2c_base.specs.declared.value.ValType.TheVariants as type
 use Rattle.w2c_base.specs.declared.value.Value.{Value}
@@ -30,18 +31,13 @@ IsHigh text = list_all is_high text ≡ true
 both_true : (a b : Bool) → a ≡ true → b ≡ true → (a && b) ≡ true
 both_true a b ha hb = (λ i. ha i && hb i)
 
-both : (a b : Bool) → (a && b) ≡ true → (a ≡ true) × (b ≡ true)
-both true true e = (refl, refl)
-both true false e = absurd cc
-both false b e = absurd cc
-
 apart : (c b : ℕ) → c < 48 → is_high b ≡ true → (not (b == c)) ≡ true
 apart c b small h = ap not (ne_eqb b c (λ e. grind (arith, nat_tests)))
 
 pub lacks_low : (c : ℕ) (text : List ℕ) → c < 48 → IsHigh text → lacks c text ≡ true
 lacks_low c [] small h = refl
 lacks_low c (b ∷ text) small h =
-    let parts = both (is_high b) (list_all is_high text) h in
+    let parts = both_hold (is_high b) (list_all is_high text) h in
     both_true (not (b == c)) (lacks c text) (apart c b small parts.0) (lacks_low c text small parts.1)
 
 pub high-append : (x y : List ℕ) → IsHigh x → IsHigh y → IsHigh (x ++ y)
@@ -53,7 +49,7 @@ high_character b h = grind (arith, nat_tests)
 high_characters : (text : List ℕ) → list_all is_identifier_character text ≡ true → IsHigh text
 high_characters [] h = refl
 high_characters (b ∷ text) h =
-    let parts = both (is_identifier_character b) (list_all is_identifier_character text) h in
+    let parts = both_hold (is_identifier_character b) (list_all is_identifier_character text) h in
     both_true (is_high b) (list_all is_high text) (high_character b parts.0) (high_characters text parts.1)
 
 high_or_z : (text : List ℕ) → IsHigh text → IsHigh (or_z text)

@@ -37,11 +37,17 @@ seven_bit_sum-spell (suc k) n lt =
 
 -- ---- the least length
 
-least : (P : ℕ → Type 0) → ((k : ℕ) → P k ⊎ (P k → ⊥)) → ((j k : ℕ) → j ≤ k → P j → P k) → (m : ℕ) → P (suc m) → (k : ℕ) × P (suc k) × (k ≤ m) × ((j : ℕ) → 0 < j → P j → suc k ≤ j)
+least : (P : ℕ → Type 0) → ((k : ℕ) → P k ⊎ (P k → ⊥)) → ((j k : ℕ) → j ≤ k → P j → P k) → (m : ℕ) → P (suc m)
+    → (k : ℕ) × P (suc k) × (k ≤ m) × ((j : ℕ) → 0 < j → P j → suc k ≤ j)
 least P decide more zero p = (0, p, omega arith, λ j some _. omega arith)
 least P decide more (suc m) p = elim (decide (suc m)) [
   | inl here ↦ let l = least P decide more m here in (l.0, l.1, omega (arith, l.2), l.3)
-  | inr none ↦ (suc m, p, omega arith, λ j some q. elim (cases_lt j (suc (suc m))) [ inl less ↦ absurd (none (more j (suc m) (omega (arith, less)) q)) | inr past ↦ past ])
+  | inr none ↦ (
+    suc m,
+    p,
+    omega arith,
+    λ j some q. elim (cases_lt j (suc (suc m))) [ inl less ↦ absurd (none (more j (suc m) (omega (arith, less)) q)) | inr past ↦ past ],
+  )
 ]
 
 holds : (n k : ℕ) → (n < 2 ^ (7 * k)) ⊎ (n < 2 ^ (7 * k) → ⊥)
@@ -61,7 +67,8 @@ shortest_unsigned width n wide fits =
     let l = least (λ k. n < 2 ^ (7 * k)) (holds n) (holds-more n) m (omega (arith, room, fits)) in
     let k = l.0 in
     let bytes = spell k n in
-    let r : IsRunOf (suc k) bytes n = record { run = spell-run k n; short = omega (arith, length-spell k n); value = sym (seven_bit_sum-spell k n l.1) } in
+    let r : IsRunOf (suc k) bytes n =
+    record { run = spell-run k n; short = omega (arith, length-spell k n); value = sym (seven_bit_sum-spell k n l.1) } in
     (bytes, unsigned_shortest width n (suc k) bytes r fits (omega (arith, wide, l.2)) l.3)
 
 -- ---- with a sign
@@ -108,9 +115,13 @@ pattern k (negsuc n) some r =
 pub shortest_signed : (width : ℕ) (n : ℤ) → 0 < width → InRange width n → (bytes : List ℕ) × IsShortest (SpellsSigned width) bytes n
 shortest_signed width n wide fits =
     let m = most_bytes width - 1 in
-    let l = least (λ k. InRange (7 * k) n) (in_range n) (λ j k le r. in_range-wider (7 * j) (7 * k) n (omega (arith, le)) r) m (in_range-wider width (7 * suc m) n (most-enough width wide) fits) in
+    let l = least (λ k. InRange (7 * k) n) (in_range n) (λ j k le r. in_range-wider (7 * j) (7 * k) n (omega (arith, le)) r) m
+    (in_range-wider width (7 * suc m) n (most-enough width wide) fits) in
     let k = l.0 in
     let p = pattern (suc k) n (omega arith) l.1 in
     let bytes = spell k p.0 in
-    let sum : seven_bit_sum bytes ≡ p.0 = seven_bit_sum-spell k p.0 p.1 in
-    (bytes, signed_shortest width (suc k) n bytes (spell-run k p.0) (length-spell k p.0) (p.2 ∙ ap (signed_sum (suc k)) (sym sum)) fits (omega (arith, wide, l.2)) l.3)
+    let sum : seven_bit_sum bytes ≡ p.0 = seven_bit_sum-spell k p.0 p.1 in (
+      bytes,
+      signed_shortest width (suc k) n bytes (spell-run k p.0) (length-spell k p.0) (p.2 ∙ ap (signed_sum (suc k)) (sym sum)) fits
+          (omega (arith, wide, l.2)) l.3,
+    )

@@ -59,7 +59,8 @@ in_range_low width k s lt fits =
     let high : pos s <ℤ pos W = omega (arith, ints, fits) in
     record { low = subst (λ n. (pos 0 -ℤ pos W) ≤ℤ n) (sym e) low; high = subst (λ n. n <ℤ pos W) (sym e) high }
 
-pub in_range_high : (width k s : ℕ) → 2 ^ (7 * k - 1) ≤ s → s < 2 ^ (7 * k) → 2 ^ (7 * k) ≤ s + 2 ^ (width - 1) → InRange width (signed_sum k s)
+pub in_range_high : (width k s : ℕ) → 2 ^ (7 * k - 1) ≤ s → s < 2 ^ (7 * k) → 2 ^ (7 * k) ≤ s + 2 ^ (width - 1)
+    → InRange width (signed_sum k s)
 in_range_high width k s le lt fits =
     let e = signed_sum-high k s le in
     let W = 2 ^ (width - 1) in
@@ -83,7 +84,8 @@ rows width k within =
     sym (pow-add 2 (7 * k - (width - 1)) (width - 1)) ∙ ap (λ n. 2 ^ n) e
 
 -- with the most bytes a number out of range has bits unlike its sign
-pub unlike_from : (width k s : ℕ) → 0 < k → 0 < width → width ≤ 7 * k → s < 2 ^ (7 * k) → (InRange width (signed_sum k s) → ⊥) → Unlike width k s
+pub unlike_from : (width k s : ℕ) → 0 < k → 0 < width → width ≤ 7 * k → s < 2 ^ (7 * k) → (InRange width (signed_sum k s) → ⊥)
+    → Unlike width k s
 unlike_from width k s some wide within lt out =
     let W = 2 ^ (width - 1) in
     let R = 2 ^ (7 * k - (width - 1)) in

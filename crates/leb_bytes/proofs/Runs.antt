@@ -19,7 +19,8 @@ step : (p g : ℕ) → g * (128 * p) ≡ 128 * (g * p)
 step p g = grind arith
 
 -- the sum of one more byte
-pub seven_bit_sum-more : (bytes : List ℕ) (i : ℕ) → i < length bytes → seven_bit_sum (take (suc i) bytes) ≡ seven_bit_sum (take i bytes) + get_or bytes i 0 % 128 * 2 ^ (7 * i)
+pub seven_bit_sum-more : (bytes : List ℕ) (i : ℕ) → i < length bytes
+    → seven_bit_sum (take (suc i) bytes) ≡ seven_bit_sum (take i bytes) + get_or bytes i 0 % 128 * 2 ^ (7 * i)
 seven_bit_sum-more [] i lt = absurd (omega (arith, lt))
 seven_bit_sum-more (b ∷ bs) zero lt = omega arith
 seven_bit_sum-more (b ∷ bs) (suc i) lt =
@@ -31,7 +32,8 @@ seven_bit_sum-more (b ∷ bs) (suc i) lt =
 -- ---- where a run ends
 
 -- bytes that go on, and one that ends them
-pub IsNumberRun-from_go_on : (i : ℕ) (bytes : List ℕ) → GoOn (take i bytes) → i < length bytes → get_or bytes i 0 < 128 → IsNumberRun (take (suc i) bytes)
+pub IsNumberRun-from_go_on : (i : ℕ) (bytes : List ℕ) → GoOn (take i bytes) → i < length bytes → get_or bytes i 0 < 128
+    → IsNumberRun (take (suc i) bytes)
 IsNumberRun-from_go_on i [] go_on within last = absurd (omega (arith, within))
 IsNumberRun-from_go_on zero (b ∷ bs) go_on within last = last
 IsNumberRun-from_go_on (suc i) (b ∷ []) go_on within last = absurd (omega (arith, within))
@@ -52,7 +54,8 @@ IsNumberRun-some [] r = absurd r
 IsNumberRun-some (b ∷ bs) r = omega arith
 
 -- two runs of as many bytes and of one sum are one
-pub seven_bit_sum-injective : (xs ys : List ℕ) → All (λ b. b < 256) xs → All (λ b. b < 256) ys → IsNumberRun xs → IsNumberRun ys → length xs ≡ length ys → seven_bit_sum xs ≡ seven_bit_sum ys → xs ≡ ys
+pub seven_bit_sum-injective : (xs ys : List ℕ) → All (λ b. b < 256) xs → All (λ b. b < 256) ys → IsNumberRun xs → IsNumberRun ys
+    → length xs ≡ length ys → seven_bit_sum xs ≡ seven_bit_sum ys → xs ≡ ys
 seven_bit_sum-injective [] ys p q r s l e = absurd r
 seven_bit_sum-injective (b ∷ bs) [] p q r s l e = absurd s
 seven_bit_sum-injective (b ∷ []) (c ∷ []) p q r s l e = let h : b ≡ c = omega (arith, r, s, e) in ap (λ x. x ∷ []) h
@@ -60,7 +63,9 @@ seven_bit_sum-injective (b ∷ []) (c ∷ d ∷ ds) p q r s l e = absurd (omega 
 seven_bit_sum-injective (b ∷ x ∷ xs) (c ∷ []) p q r s l e = absurd (omega (arith, l))
 seven_bit_sum-injective (b ∷ x ∷ xs) (c ∷ y ∷ ys) p q r s l e =
     let byte : ℕ → Type 0 = λ b. b < 256 in
-    let rest = seven_bit_sum-injective (x ∷ xs) (y ∷ ys) (All-tail byte b (x ∷ xs) p) (All-tail byte c (y ∷ ys) q) r.1 s.1 (omega (arith, l)) (omega (arith, e)) in
+    let rest =
+    seven_bit_sum-injective (x ∷ xs) (y ∷ ys) (All-tail byte b (x ∷ xs) p) (All-tail byte c (y ∷ ys) q) r.1 s.1 (omega (arith, l))
+    (omega (arith, e)) in
     let sums : seven_bit_sum (x ∷ xs) ≡ seven_bit_sum (y ∷ ys) = ap seven_bit_sum rest in
     let first : b ≡ c = omega (arith, All-head byte b (x ∷ xs) p, All-head byte c (y ∷ ys) q, r.0, s.0, e, sums) in
     ap (λ z. z ∷ x ∷ xs) first ∙ ap (λ zs. c ∷ zs) rest

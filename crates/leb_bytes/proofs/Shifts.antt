@@ -23,7 +23,8 @@ pub top_bit : (b : ℕ) → b < 256 → bit_and b 128 + b % 128 ≡ b
 top_bit b lt = and_high_numeral b 127 refl lt
 
 -- the sum of the bytes before a place, and of the one there
-pub sum-more : (window : List ℕ) (i sum low : ℕ) → i < length window → i < 10 → sum ≡ seven_bit_sum (take i window) → low ≡ bit_and (get_or window i 0) 127 → bit_or sum (low * 2 ^ (7 * i) % 2 ^ 128) ≡ seven_bit_sum (take (i + 1) window)
+pub sum-more : (window : List ℕ) (i sum low : ℕ) → i < length window → i < 10 → sum ≡ seven_bit_sum (take i window)
+    → low ≡ bit_and (get_or window i 0) 127 → bit_or sum (low * 2 ^ (7 * i) % 2 ^ 128) ≡ seven_bit_sum (take (i + 1) window)
 sum-more window i sum low within lt so_far is =
     let b = get_or window i 0 in
     let group : low ≡ b % 128 = is ∙ low_seven b in

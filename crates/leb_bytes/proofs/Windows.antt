@@ -21,15 +21,18 @@ use Rattle.leb_bytes.proofs.Runs.{IsNumberRun-from_go_on, IsNumberRun-some, seve
 -- ---- a run that fits is a spelling, and one that does not has wrong bits
 
 pub sum-below : (k : ℕ) (window : List ℕ) → k ≤ length window → seven_bit_sum (take k window) < 2 ^ (7 * k)
-sum-below k window within = subst (λ n. seven_bit_sum (take k window) < 2 ^ (7 * n)) (length-take-le k window within) (seven_bit_sum-below (take k window))
+sum-below k window within =
+    subst (λ n. seven_bit_sum (take k window) < 2 ^ (7 * n)) (length-take-le k window within) (seven_bit_sum-below (take k window))
 
 run-some : (k : ℕ) (window : List ℕ) → k ≤ length window → IsNumberRun (take k window) → 0 < k
 run-some k window within r = subst (λ n. 0 < n) (length-take-le k window within) (IsNumberRun-some (take k window) r)
 
-pub unsigned-fits : (width k s : ℕ) (window : List ℕ) → IsRunOf (most_bytes width) (take k window) s → s < 2 ^ width → SpellsUnsigned width (take k window) s
+pub unsigned-fits : (width k s : ℕ) (window : List ℕ) → IsRunOf (most_bytes width) (take k window) s → s < 2 ^ width
+    → SpellsUnsigned width (take k window) s
 unsigned-fits width k s window r fits = record { run = r.run; short = r.short; value = r.value; fits = fits }
 
-pub unsigned-wrong : (width k s : ℕ) (window : List ℕ) → k ≤ length window → IsRunOf (most_bytes width) (take k window) s → 2 ^ width ≤ s → (most_bytes width ≤ length window) × HasBitsPast width (take (most_bytes width) window)
+pub unsigned-wrong : (width k s : ℕ) (window : List ℕ) → k ≤ length window → IsRunOf (most_bytes width) (take k window) s → 2 ^ width ≤ s
+    → (most_bytes width ≤ length window) × HasBitsPast width (take (most_bytes width) window)
 unsigned-wrong width k s window within r big =
     let below = sum-below k window within in
     let length = length-take-le k window within in
@@ -39,17 +42,28 @@ unsigned-wrong width k s window within r big =
           absurd (omega (arith, below, room, big, r.value))
       | inr past ↦
           let e : k ≡ most_bytes width = omega (arith, past, r.short, length) in
-          let wrong : HasBitsPast width (take k window) = record { run = r.run; past = λ z. omega (arith, div-zero_below (seven_bit_sum (take k window)) (2 ^ width) (omega (arith, pow_mono {i = 0} {j = width} (omega arith))) z, r.value, big) } in
+          let wrong : HasBitsPast width (take k window) =
+          record {
+            run = r.run;
+            past = λ z. omega (
+              arith,
+              div-zero_below (seven_bit_sum (take k window)) (2 ^ width) (omega (arith, pow_mono {i = 0} {j = width} (omega arith))) z,
+              r.value,
+              big,
+            );
+          } in
           (omega (arith, e, within), subst (λ n. HasBitsPast width (take n window)) e wrong)
     ]
 
-pub signed-fits : (width k s : ℕ) (window : List ℕ) → k ≤ length window → IsRunOf (most_bytes width) (take k window) s → InRange width (signed_sum k s) → SpellsSigned width (take k window) (signed_sum k s)
+pub signed-fits : (width k s : ℕ) (window : List ℕ) → k ≤ length window → IsRunOf (most_bytes width) (take k window) s
+    → InRange width (signed_sum k s) → SpellsSigned width (take k window) (signed_sum k s)
 signed-fits width k s window within r fits =
     let e : signed_sum k s ≡ signed_sum (length (take k window)) (seven_bit_sum (take k window)) =
     ap (λ n. signed_sum n s) (sym (length-take-le k window within)) ∙ ap (signed_sum (length (take k window))) r.value in
     record { run = r.run; short = r.short; value = e; low = fits.low; high = fits.high }
 
-pub signed-wrong : (width k s : ℕ) (window : List ℕ) → 0 < width → k ≤ length window → IsRunOf (most_bytes width) (take k window) s → (InRange width (signed_sum k s) → ⊥) → (most_bytes width ≤ length window) × HasBitsUnlikeSign width (take (most_bytes width) window)
+pub signed-wrong : (width k s : ℕ) (window : List ℕ) → 0 < width → k ≤ length window → IsRunOf (most_bytes width) (take k window) s
+    → (InRange width (signed_sum k s) → ⊥) → (most_bytes width ≤ length window) × HasBitsUnlikeSign width (take (most_bytes width) window)
 signed-wrong width k s window wide within r out =
     let some = run-some k window within r.run in
     let lt : s < 2 ^ (7 * k) = omega (arith, sum-below k window within, r.value) in
@@ -68,7 +82,8 @@ signed-wrong width k s window wide within r out =
     ]
 
 -- where no width is looked at, the other faults are the same
-pub same_fault : {A B : Type 0} (most : ℕ) (Spells : List ℕ → A → Type 0) (Other : List ℕ → B → Type 0) (Wrong : List ℕ → Type 0) (window : List ℕ) (f : LebFault) → Answers most Spells NeverWrong window (Err f) → Answers most Other Wrong window (Err f)
+pub same_fault : {A B : Type 0} (most : ℕ) (Spells : List ℕ → A → Type 0) (Other : List ℕ → B → Type 0) (Wrong : List ℕ → Type 0)
+    (window : List ℕ) (f : LebFault) → Answers most Spells NeverWrong window (Err f) → Answers most Other Wrong window (Err f)
 same_fault most Spells Other Wrong window Ends a = a
 same_fault most Spells Other Wrong window TooLong a = a
 same_fault most Spells Other Wrong window Unused a = absurd a.1
@@ -143,7 +158,8 @@ Counts most window (Err Ends) = (length window < most) × GoOn window
 Counts most window (Err TooLong) = (most ≤ length window) × GoOn (take most window)
 Counts most window (Err Unused) = ⊥
 
-counts-at : (most : ℕ) (window : List ℕ) (t u : Bool) → ltb (lead window) most ≡ t → ltb (lead window) (length window) ≡ u → Counts most window (cond t (cond u (Ok (lead window + 1)) (Err Ends)) (Err TooLong))
+counts-at : (most : ℕ) (window : List ℕ) (t u : Bool) → ltb (lead window) most ≡ t → ltb (lead window) (length window) ≡ u
+    → Counts most window (cond t (cond u (Ok (lead window + 1)) (Err Ends)) (Err TooLong))
 counts-at most window true true below inside =
     let l = lead window in
     let lt : l < length window = ltb-true l (length window) inside in
@@ -173,7 +189,8 @@ fitting-false : {A : Type 0} (t : Bool) (n : A) (k : ℕ) → t ≡ false → fi
 fitting-false t n k e = ap (λ u. fitting u n k) e
 
 -- any answer that the bytes have is the one that is computed
-pub unsigned_of-complete : (width : ℕ) (window : List ℕ) (r : Result (ℕ × ℕ) LebFault) → AnswersUnsigned width window r → unsigned_of width window ≡ r
+pub unsigned_of-complete : (width : ℕ) (window : List ℕ) (r : Result (ℕ × ℕ) LebFault) → AnswersUnsigned width window r
+    → unsigned_of width window ≡ r
 unsigned_of-complete width window (Ok x) a =
     let k = x.1 in
     let s = seven_bit_sum (take k window) in
@@ -187,19 +204,26 @@ unsigned_of-complete width window (Err TooLong) a = ap (unsigned_after width win
 unsigned_of-complete width window (Err Unused) a =
     let k = most_bytes width in
     let s = seven_bit_sum (take k window) in
-    let big : 2 ^ width ≤ s = elim (cases_lt s (2 ^ width)) [ inl less ↦ absurd (a.1.past (below-div_zero s (2 ^ width) less)) | inr more ↦ more ] in
+    let big : 2 ^ width ≤ s =
+    elim (cases_lt s (2 ^ width)) [ inl less ↦ absurd (a.1.past (below-div_zero s (2 ^ width) less)) | inr more ↦ more ] in
     ap (unsigned_after width window) (count_of-run k k window a.0 (omega arith) a.1.run)
     ∙ fitting-false (ltb s (2 ^ width)) s k (le-ltb s (2 ^ width) big)
 
-unsigned-fitting : (width k : ℕ) (window : List ℕ) (t : Bool) → ltb (seven_bit_sum (take k window)) (2 ^ width) ≡ t → k ≤ length window → k ≤ most_bytes width → IsNumberRun (take k window) → AnswersUnsigned width window (fitting t (seven_bit_sum (take k window)) k)
+unsigned-fitting : (width k : ℕ) (window : List ℕ) (t : Bool) → ltb (seven_bit_sum (take k window)) (2 ^ width) ≡ t → k ≤ length window
+    → k ≤ most_bytes width → IsNumberRun (take k window) → AnswersUnsigned width window (fitting t (seven_bit_sum (take k window)) k)
 unsigned-fitting width k window true e within short r =
-    let s = seven_bit_sum (take k window) in
-    (within, unsigned-fits width k s window (record { run = r; short = omega (arith, short, length-take-le k window within); value = refl }) (ltb-true s (2 ^ width) e))
+    let s = seven_bit_sum (take k window) in (
+      within,
+      unsigned-fits width k s window (record { run = r; short = omega (arith, short, length-take-le k window within); value = refl })
+          (ltb-true s (2 ^ width) e),
+    )
 unsigned-fitting width k window false e within short r =
     let s = seven_bit_sum (take k window) in
-    unsigned-wrong width k s window within (record { run = r; short = omega (arith, short, length-take-le k window within); value = refl }) (ltb-false s (2 ^ width) e)
+    unsigned-wrong width k s window within (record { run = r; short = omega (arith, short, length-take-le k window within); value = refl })
+    (ltb-false s (2 ^ width) e)
 
-unsigned-after : (width : ℕ) (window : List ℕ) (c : Result ℕ LebFault) → Counts (most_bytes width) window c → AnswersUnsigned width window (unsigned_after width window c)
+unsigned-after : (width : ℕ) (window : List ℕ) (c : Result ℕ LebFault) → Counts (most_bytes width) window c
+    → AnswersUnsigned width window (unsigned_after width window c)
 unsigned-after width window (Ok k) h = unsigned-fitting width k window (ltb (seven_bit_sum (take k window)) (2 ^ width)) refl h.0 h.1 h.2
 unsigned-after width window (Err Ends) h = h
 unsigned-after width window (Err TooLong) h = h
@@ -212,7 +236,8 @@ unsigned_of-sound width window = unsigned-after width window (count_of (most_byt
 -- ---- the answer with a sign
 
 tests_in_range : (width : ℕ) (n : ℤ) → InRange width n → fits_signed width n ≡ true
-tests_in_range width n fits = and_from (int_le (pos 0 -ℤ pos (2 ^ (width - 1))) n) (int_lt n (pos (2 ^ (width - 1)))) (le-test _ _ fits.low) (lt-test _ _ fits.high)
+tests_in_range width n fits =
+    and_from (int_le (pos 0 -ℤ pos (2 ^ (width - 1))) n) (int_lt n (pos (2 ^ (width - 1)))) (le-test _ _ fits.low) (lt-test _ _ fits.high)
   where
     le-test : (a b : ℤ) → a ≤ℤ b → int_le a b ≡ true
     le-test a b h = grind (arith, ints)
@@ -235,7 +260,8 @@ false_from : (t : Bool) → (t ≡ true → ⊥) → t ≡ false
 false_from true h = absurd (h refl)
 false_from false h = refl
 
-pub signed_of-complete : (width : ℕ) (window : List ℕ) (r : Result (ℤ × ℕ) LebFault) → AnswersSigned width window r → signed_of width window ≡ r
+pub signed_of-complete : (width : ℕ) (window : List ℕ) (r : Result (ℤ × ℕ) LebFault) → AnswersSigned width window r
+    → signed_of width window ≡ r
 signed_of-complete width window (Ok x) a =
     let k = x.1 in
     let l = length-take-le k window a.0 in
@@ -252,25 +278,35 @@ signed_of-complete width window (Err Unused) a =
     let s = seven_bit_sum (take k window) in
     let n = signed_sum k s in
     let l = length-take-le k window a.0 in
-    let u : Unlike width k s = record { set = a.1.set; clear = subst (λ j. s / 2 ^ (width - 1) ≢ 2 ^ (7 * j - (width - 1)) - 1) l a.1.clear } in
+    let u : Unlike width k s =
+    record { set = a.1.set; clear = subst (λ j. s / 2 ^ (width - 1) ≢ 2 ^ (7 * j - (width - 1)) - 1) l a.1.clear } in
     let out : InRange width n → ⊥ = λ fits. in_range_unlike width k s (omega arith) (sum-below k window a.0) fits u in
     ap (signed_after width window) (count_of-run k k window a.0 (omega arith) a.1.run)
     ∙ fitting-false (fits_signed width n) n k (false_from (fits_signed width n) (λ t. out (in_range_tests width n t)))
 
-signed-fitting : (width k : ℕ) (window : List ℕ) (t : Bool) → fits_signed width (signed_sum k (seven_bit_sum (take k window))) ≡ t → 0 < width → k ≤ length window → k ≤ most_bytes width → IsNumberRun (take k window) → AnswersSigned width window (fitting t (signed_sum k (seven_bit_sum (take k window))) k)
+signed-fitting : (width k : ℕ) (window : List ℕ) (t : Bool) → fits_signed width (signed_sum k (seven_bit_sum (take k window))) ≡ t
+    → 0 < width → k ≤ length window → k ≤ most_bytes width → IsNumberRun (take k window)
+    → AnswersSigned width window (fitting t (signed_sum k (seven_bit_sum (take k window))) k)
 signed-fitting width k window true e wide within short r =
-    let s = seven_bit_sum (take k window) in
-    (within, signed-fits width k s window within (record { run = r; short = omega (arith, short, length-take-le k window within); value = refl }) (in_range_tests width (signed_sum k s) e))
+    let s = seven_bit_sum (take k window) in (
+      within,
+      signed-fits width k s window within
+          (record { run = r; short = omega (arith, short, length-take-le k window within); value = refl })
+          (in_range_tests width (signed_sum k s) e),
+    )
 signed-fitting width k window false e wide within short r =
     let s = seven_bit_sum (take k window) in
     let out : InRange width (signed_sum k s) → ⊥ = λ fits. true_false (sym (tests_in_range width (signed_sum k s) fits) ∙ e) in
-    signed-wrong width k s window wide within (record { run = r; short = omega (arith, short, length-take-le k window within); value = refl }) out
+    signed-wrong width k s window wide within
+    (record { run = r; short = omega (arith, short, length-take-le k window within); value = refl }) out
   where
     true_false : true ≡ false → ⊥
     true_false e = cc
 
-signed-after : (width : ℕ) (window : List ℕ) (c : Result ℕ LebFault) → 0 < width → Counts (most_bytes width) window c → AnswersSigned width window (signed_after width window c)
-signed-after width window (Ok k) wide h = signed-fitting width k window (fits_signed width (signed_sum k (seven_bit_sum (take k window)))) refl wide h.0 h.1 h.2
+signed-after : (width : ℕ) (window : List ℕ) (c : Result ℕ LebFault) → 0 < width → Counts (most_bytes width) window c
+    → AnswersSigned width window (signed_after width window c)
+signed-after width window (Ok k) wide h =
+    signed-fitting width k window (fits_signed width (signed_sum k (seven_bit_sum (take k window)))) refl wide h.0 h.1 h.2
 signed-after width window (Err Ends) wide h = h
 signed-after width window (Err TooLong) wide h = h
 signed-after width window (Err Unused) wide h = absurd h
@@ -283,10 +319,14 @@ signed_of-sound width window wide = signed-after width window (count_of (most_by
 within : (bytes more : List ℕ) → length bytes ≤ length (bytes ++ more)
 within bytes more = simp length-append (omega arith)
 
-pub unsigned_of-append : (width : ℕ) (bytes more : List ℕ) (n : ℕ) → SpellsUnsigned width bytes n → unsigned_of width (bytes ++ more) ≡ Ok (n, length bytes)
+pub unsigned_of-append : (width : ℕ) (bytes more : List ℕ) (n : ℕ) → SpellsUnsigned width bytes n
+    → unsigned_of width (bytes ++ more) ≡ Ok (n, length bytes)
 unsigned_of-append width bytes more n spells =
-    unsigned_of-complete width (bytes ++ more) (Ok (n, length bytes)) (within bytes more, subst (λ b. SpellsUnsigned width b n) (sym (take-append_seam bytes more)) spells)
+    unsigned_of-complete width (bytes ++ more) (Ok (n, length bytes))
+    (within bytes more, subst (λ b. SpellsUnsigned width b n) (sym (take-append_seam bytes more)) spells)
 
-pub signed_of-append : (width : ℕ) (bytes more : List ℕ) (n : ℤ) → SpellsSigned width bytes n → signed_of width (bytes ++ more) ≡ Ok (n, length bytes)
+pub signed_of-append : (width : ℕ) (bytes more : List ℕ) (n : ℤ) → SpellsSigned width bytes n
+    → signed_of width (bytes ++ more) ≡ Ok (n, length bytes)
 signed_of-append width bytes more n spells =
-    signed_of-complete width (bytes ++ more) (Ok (n, length bytes)) (within bytes more, subst (λ b. SpellsSigned width b n) (sym (take-append_seam bytes more)) spells)
+    signed_of-complete width (bytes ++ more) (Ok (n, length bytes))
+    (within bytes more, subst (λ b. SpellsSigned width b n) (sym (take-append_seam bytes more)) spells)

@@ -16,7 +16,8 @@ pub record Holds (pattern i : ℕ) (out : List ℕ) : Type 0 where
   pub so_far : seven_bit_sum (take i out) ≡ pattern % 2 ^ (7 * i)
   pub go_on : GoOn (take i out)
 
-sum-written : (out : List ℕ) (i v : ℕ) → i < length out → seven_bit_sum (take (suc i) (set out i v)) ≡ seven_bit_sum (take i out) + v % 128 * 2 ^ (7 * i)
+sum-written : (out : List ℕ) (i v : ℕ) → i < length out
+    → seven_bit_sum (take (suc i) (set out i v)) ≡ seven_bit_sum (take i out) + v % 128 * 2 ^ (7 * i)
 sum-written out i v lt =
     seven_bit_sum-more (set out i v) i (omega (arith, lt, length-set out i v))
     ∙ ap (λ bs. seven_bit_sum bs + get_or (set out i v) i 0 % 128 * 2 ^ (7 * i)) (take-set out i v)
@@ -26,7 +27,8 @@ sum-written out i v lt =
 topped : (x : ℕ) → bit_or (bit_and x 127) 128 ≡ 128 + x % 128
 topped x = let e = low_seven x in or_numeral (bit_and x 127) 127 refl (omega (arith, e)) ∙ ap (λ g. 128 + g) e
 
-pub Holds-more : (pattern i : ℕ) (out : List ℕ) → i < length out → Holds pattern i out → Holds pattern (i + 1) (set out i (bit_or (bit_and (pattern / 2 ^ (7 * i)) 127) 128))
+pub Holds-more : (pattern i : ℕ) (out : List ℕ) → i < length out → Holds pattern i out
+    → Holds pattern (i + 1) (set out i (bit_or (bit_and (pattern / 2 ^ (7 * i)) 127) 128))
 Holds-more pattern i out lt h =
     let x = pattern / 2 ^ (7 * i) in
     let v = bit_or (bit_and x 127) 128 in
@@ -52,7 +54,8 @@ Holds-more pattern i out lt h =
     flip a b = omega arith
 
 -- the last group ends the run
-pub Holds-last : (pattern i : ℕ) (out : List ℕ) → i < length out → pattern / 2 ^ (7 * i) < 128 → Holds pattern i out → IsRunOf (suc i) (take (suc i) (set out i (pattern / 2 ^ (7 * i)))) pattern
+pub Holds-last : (pattern i : ℕ) (out : List ℕ) → i < length out → pattern / 2 ^ (7 * i) < 128 → Holds pattern i out
+    → IsRunOf (suc i) (take (suc i) (set out i (pattern / 2 ^ (7 * i)))) pattern
 Holds-last pattern i out lt small h =
     let v = pattern / 2 ^ (7 * i) in
     let same = take-set out i v in

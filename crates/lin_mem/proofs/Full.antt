@@ -41,7 +41,8 @@ module _ {X : Type 0} where
       ((ap length e ∙ length-held xs ∙ l, e ∙ ap held (sym s)), s)
 
   -- a part of full places
-  pub part-full : (cs : List (Option X)) (at k : ℕ) → cs ≡ map Some (somes cs) → take k (drop at cs) ≡ map Some (take k (drop at (somes cs)))
+  pub part-full : (cs : List (Option X)) (at k : ℕ) → cs ≡ map Some (somes cs)
+      → take k (drop at cs) ≡ map Some (take k (drop at (somes cs)))
   part-full cs at k e = ap (λ l. take k (drop at l)) e ∙ ap (take k) (drop-held at (somes cs)) ∙ take-held k (drop at (somes cs))
 
   pub whole-full : (cs : List (Option X)) (n : ℕ) → IsFull cs n → take n cs ≡ map Some (somes cs)
@@ -64,7 +65,8 @@ module _ {X : Type 0} where
   set-begun a (x ∷ xs) zero lt = refl
   set-begun a (x ∷ xs) (suc i) lt = ap (λ l. a ∷ l) (set-begun a xs i (omega (arith, lt)))
 
-  pub begun-more : (a : X) (xs cs ds : List X) (i : ℕ) → i < length xs → cs ≡ replicate i a ++ drop i xs → ds ≡ set cs i a → ds ≡ replicate (i + 1) a ++ drop (i + 1) xs
+  pub begun-more : (a : X) (xs cs ds : List X) (i : ℕ) → i < length xs → cs ≡ replicate i a ++ drop i xs → ds ≡ set cs i a
+      → ds ≡ replicate (i + 1) a ++ drop (i + 1) xs
   begun-more a xs cs ds i lt e f =
       let n : suc i ≡ i + 1 = omega arith in
       f ∙ ap (λ l. set l i a) e ∙ set-begun a xs i lt ∙ ap (λ k. replicate k a ++ drop k xs) n
@@ -97,7 +99,8 @@ module _ {X : Type 0} where
   get_or-held (x ∷ xs) (suc i) lt = get_or-held xs i (omega (arith, lt))
 
 -- bytes written among full places
-pub put-full : (cs ds : List (Option ℕ)) (n at : ℕ) (bs : List ℕ) → IsFull cs n → ds ≡ take at cs ++ map Some bs ++ drop (at + length bs) cs → ds ≡ map Some (with_bytes (somes cs) at bs)
+pub put-full : (cs ds : List (Option ℕ)) (n at : ℕ) (bs : List ℕ) → IsFull cs n → ds ≡ take at cs ++ map Some bs ++ drop (at + length bs) cs
+    → ds ≡ map Some (with_bytes (somes cs) at bs)
 put-full cs ds n at bs full e =
     let xs = somes cs in let k = at + length bs in
     let front : take at cs ≡ held (take at xs) = ap (take at) full.1 ∙ take-held at xs in

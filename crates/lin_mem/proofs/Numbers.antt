@@ -23,7 +23,8 @@ from_32 (a ∷ b ∷ c ∷ []) e = absurd (omega (arith, e))
 from_32 (a ∷ b ∷ c ∷ d ∷ []) e = omega arith
 from_32 (a ∷ b ∷ c ∷ d ∷ f ∷ bs) e = absurd (omega (arith, e))
 
-from_64-all : (a b c d f g h i : ℕ) → from_le_bytes w64 (a ∷ b ∷ c ∷ d ∷ f ∷ g ∷ h ∷ i ∷ []) ≡ little_endian (a ∷ b ∷ c ∷ d ∷ f ∷ g ∷ h ∷ i ∷ [])
+from_64-all : (a b c d f g h i : ℕ)
+    → from_le_bytes w64 (a ∷ b ∷ c ∷ d ∷ f ∷ g ∷ h ∷ i ∷ []) ≡ little_endian (a ∷ b ∷ c ∷ d ∷ f ∷ g ∷ h ∷ i ∷ [])
 from_64-all a b c d f g h i = omega arith
 
 pub from_64 : (bs : List ℕ) → length bs ≡ 8 → from_le_bytes w64 bs ≡ little_endian bs

@@ -33,7 +33,8 @@ slice-split xs k a b = take-add a b (drop k xs) ∙ ap (λ ys. take a (drop k xs
 pub length-with_bytes : (xs : List ℕ) (k : ℕ) (bs : List ℕ) → k + length bs ≤ length xs → length (with_bytes xs k bs) ≡ length xs
 length-with_bytes xs k bs le = simp (length-append, length-take-le k xs (omega (arith, le)), length-drop) (omega (arith, le))
 
-pub with_bytes-front : (xs ys : List ℕ) (j : ℕ) (bs : List ℕ) → j + length bs ≤ length xs → with_bytes xs j bs ++ ys ≡ with_bytes (xs ++ ys) j bs
+pub with_bytes-front : (xs ys : List ℕ) (j : ℕ) (bs : List ℕ) → j + length bs ≤ length xs
+    → with_bytes xs j bs ++ ys ≡ with_bytes (xs ++ ys) j bs
 with_bytes-front xs ys j bs le =
     append_assoc (take j xs) (bs ++ drop (j + length bs) xs) ys
     ∙ ap (λ zs. take j xs ++ zs) (append_assoc bs (drop (j + length bs) xs) ys)
@@ -50,7 +51,8 @@ with_bytes-back xs ys k bs =
     ∙ ap (λ m. take (length xs + k) (xs ++ ys) ++ (bs ++ drop m (xs ++ ys))) (sym e)
 
 -- two writes side by side are one
-pub with_bytes-twice : (xs : List ℕ) (k : ℕ) (bs cs : List ℕ) → k + length bs + length cs ≤ length xs → with_bytes (with_bytes xs k bs) (k + length bs) cs ≡ with_bytes xs k (bs ++ cs)
+pub with_bytes-twice : (xs : List ℕ) (k : ℕ) (bs cs : List ℕ) → k + length bs + length cs ≤ length xs
+    → with_bytes (with_bytes xs k bs) (k + length bs) cs ≡ with_bytes xs k (bs ++ cs)
 with_bytes-twice xs k bs cs le =
     let front = take k xs ++ bs in
     let back = drop (k + length bs) xs in
@@ -60,7 +62,8 @@ with_bytes-twice xs k bs cs le =
     ap (λ zs. take (k + length bs) zs ++ (cs ++ drop (k + length bs + length cs) zs)) (sym (append_assoc (take k xs) bs back))
     ∙ ap (λ m. take m (front ++ back) ++ (cs ++ drop (m + length cs) (front ++ back))) (sym n)
     ∙ ap (λ zs. zs ++ (cs ++ drop (length front + length cs) (front ++ back))) (take-append_seam front back)
-    ∙ ap (λ zs. front ++ (cs ++ zs)) (drop-append-add front back (length cs) ∙ drop-drop (length cs) (k + length bs) xs ∙ ap (λ m. drop m xs) e)
+    ∙ ap (λ zs. front ++ (cs ++ zs)) (drop-append-add front back (length cs) ∙ drop-drop (length cs) (k + length bs) xs
+    ∙ ap (λ m. drop m xs) e)
     ∙ append_assoc (take k xs) bs (cs ++ rest)
     ∙ ap (λ zs. take k xs ++ zs) (sym (append_assoc bs cs rest))
 
@@ -76,7 +79,8 @@ module _ (size : ℕ) where
       let e = length-append p (concat ps) in
       grind (arith, head, rest, e)
 
-  pub slice-concat : (ps : List (List ℕ)) (i j n : ℕ) → All Whole ps → i < length ps → j + n ≤ size → take n (drop (size * i + j) (concat ps)) ≡ take n (drop j (get_or ps i []))
+  pub slice-concat : (ps : List (List ℕ)) (i j n : ℕ) → All Whole ps → i < length ps → j + n ≤ size
+      → take n (drop (size * i + j) (concat ps)) ≡ take n (drop j (get_or ps i []))
   slice-concat [] i j n all lt le = absurd (omega (arith, lt))
   slice-concat (p ∷ ps) zero j n all lt le =
       let head : length p ≡ size = All-head Whole p ps all in
@@ -89,7 +93,8 @@ module _ (size : ℕ) where
       ∙ slice-back p (concat ps) (size * i + j) n
       ∙ slice-concat ps i j n (All-tail Whole p ps all) (omega (arith, lt)) le
 
-  pub with_bytes-concat : (ps : List (List ℕ)) (i j : ℕ) (bs : List ℕ) → All Whole ps → i < length ps → j + length bs ≤ size → concat (set ps i (with_bytes (get_or ps i []) j bs)) ≡ with_bytes (concat ps) (size * i + j) bs
+  pub with_bytes-concat : (ps : List (List ℕ)) (i j : ℕ) (bs : List ℕ) → All Whole ps → i < length ps → j + length bs ≤ size
+      → concat (set ps i (with_bytes (get_or ps i []) j bs)) ≡ with_bytes (concat ps) (size * i + j) bs
   with_bytes-concat [] i j bs all lt le = absurd (omega (arith, lt))
   with_bytes-concat (p ∷ ps) zero j bs all lt le =
       let head : length p ≡ size = All-head Whole p ps all in
@@ -112,7 +117,8 @@ module _ (size : ℕ) where
       let e : suc (length p + n) ≡ length (b ∷ p) + n = omega arith in
       ap (λ x. x ∷ p ++ replicate n 0) head ∙ ap (λ bs. 0 ∷ bs) rest ∙ ap (λ k. replicate k 0) e
 
-  pub concat-zeros : (ps : List (List ℕ)) → All (λ p. (length p ≡ size) × All (λ b. b ≡ 0) p) ps → concat ps ≡ replicate (size * length ps) 0
+  pub concat-zeros : (ps : List (List ℕ)) → All (λ p. (length p ≡ size) × All (λ b. b ≡ 0) p) ps
+      → concat ps ≡ replicate (size * length ps) 0
   concat-zeros [] all = let e : 0 ≡ size * length {A = List ℕ} [] = omega arith in ap (λ k. replicate k 0) e
   concat-zeros (p ∷ ps) all =
       let Zeros : List ℕ → Type 0 = λ p. (length p ≡ size) × All (λ b. b ≡ 0) p in

@@ -10,11 +10,13 @@ append-nil [] = refl
 append-nil (x ∷ xs) = ap (λ ys. x ∷ ys) (append-nil xs)
 
 -- a list whose first part is written, and then the rest, holds both
-pub put_rest : (out first second : List ℕ) (room : ℕ) → length first ≡ room → put_mid room (length (first ++ drop room out) - room) (first ++ drop room out) second ≡ first ++ second
+pub put_rest : (out first second : List ℕ) (room : ℕ) → length first ≡ room
+    → put_mid room (length (first ++ drop room out) - room) (first ++ drop room out) second ≡ first ++ second
 put_rest out first second room l =
     let xs = first ++ drop room out in
     let front : take room xs ≡ first = ap (λ k. take k xs) (sym l) ∙ take-append_seam first (drop room out) in
-    let none : drop (length xs - room) (drop room xs) ≡ [] = drop_of_length-le (drop room xs) {i = length xs - room} (omega (arith, length-drop room xs)) in
+    let none : drop (length xs - room) (drop room xs) ≡ [] =
+    drop_of_length-le (drop room xs) {i = length xs - room} (omega (arith, length-drop room xs)) in
     ap (λ ys. ys ++ (second ++ drop (length xs - room) (drop room xs))) front
     ∙ ap (λ ys. first ++ (second ++ ys)) none
     ∙ ap (λ ys. first ++ ys) (append-nil second)

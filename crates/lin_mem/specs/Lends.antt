@@ -15,4 +15,6 @@ module _ {X : Type 0} where
   spliced cs from len ws = take from cs ++ (map Some ws ++ drop (from + len) cs)
 
 abbrev pub lends_run : (R : RattleType) → MutBor (Cells R.Denot) → ℕ → ℕ → MutBor (List R.Denot) → Fml
-lends_run R c from len r = Lends (the_row R) (Array R 0) c r (λ ws. with_slots c.now (spliced c.now.slots from len (refill len (somes (take len (drop from c.now.slots))) ws)))
+lends_run R c from len r =
+    Lends (the_row R) (Array R 0) c r
+    (λ ws. with_slots c.now (spliced c.now.slots from len (refill len (somes (take len (drop from c.now.slots))) ws)))

@@ -3,8 +3,8 @@ use Rattle.std.proofs.Common.{ℕ, suc, List, [], ◌∷◌, get_or, Fits, w8, I
 use Rattle.std.specs.Prelude.{nat_lt}
 use Rattle.std.specs.List.{list_all}
 use Rattle.std.proofs.lemmas.Bool.{ltb-true}
+use Rattle.w2c_base.proofs.Conjunctions.{both_hold}
 use Rattle.wasm_spelling.specs.Bytes.{AreBytes}
-use Rattle.wasm_valid.proofs.Exact.{and_true}
 
 -- what a slice of bytes holds
 pub slice_bytes : (bytes : List ℕ) → ((i : ℕ) → Fits w8 (get_or bytes i 0)) → AreBytes bytes
@@ -17,5 +17,5 @@ slice_bytes (b ∷ bytes) fits =
 pub tested_bytes : (bytes : List ℕ) → IsTrue (list_all (λ b. nat_lt b 256) bytes) → AreBytes bytes
 tested_bytes [] h = tt
 tested_bytes (b ∷ bytes) h =
-    let each = and_true (nat_lt b 256) (list_all (λ b. nat_lt b 256) bytes) h in
+    let each = both_hold (nat_lt b 256) (list_all (λ b. nat_lt b 256) bytes) h in
     (ltb-true b 256 each.0, tested_bytes bytes each.1)

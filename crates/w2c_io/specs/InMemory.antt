@@ -48,7 +48,8 @@ abbrev pub CountsCall : FileCall → MemFiles → MemFiles → Type 0
 CountsCall Read old new = CountsOne old.reads new.reads × (new.begins ≡ old.begins) × (new.puts ≡ old.puts) × (new.finishes ≡ old.finishes)
 CountsCall Begin old new = CountsOne old.begins new.begins × (new.reads ≡ old.reads) × (new.puts ≡ old.puts) × (new.finishes ≡ old.finishes)
 CountsCall Put old new = CountsOne old.puts new.puts × (new.reads ≡ old.reads) × (new.begins ≡ old.begins) × (new.finishes ≡ old.finishes)
-CountsCall Finish old new = CountsOne old.finishes new.finishes × (new.reads ≡ old.reads) × (new.begins ≡ old.begins) × (new.puts ≡ old.puts)
+CountsCall Finish old new =
+    CountsOne old.finishes new.finishes × (new.reads ≡ old.reads) × (new.begins ≡ old.begins) × (new.puts ≡ old.puts)
 
 -- the nth call of one kind is planned to fail besides
 pub record PlansOne (old new : FaultPlan) (nth : ℕ) : Type 0 where
@@ -57,10 +58,14 @@ pub record PlansOne (old new : FaultPlan) (nth : ℕ) : Type 0 where
 
 -- this is so for this kind of call, and the other plans stay
 abbrev pub PlansCall : FileCall → MemFiles → MemFiles → ℕ → Type 0
-PlansCall Read old new nth = PlansOne old.reads new.reads nth × (new.begins ≡ old.begins) × (new.puts ≡ old.puts) × (new.finishes ≡ old.finishes)
-PlansCall Begin old new nth = PlansOne old.begins new.begins nth × (new.reads ≡ old.reads) × (new.puts ≡ old.puts) × (new.finishes ≡ old.finishes)
-PlansCall Put old new nth = PlansOne old.puts new.puts nth × (new.reads ≡ old.reads) × (new.begins ≡ old.begins) × (new.finishes ≡ old.finishes)
-PlansCall Finish old new nth = PlansOne old.finishes new.finishes nth × (new.reads ≡ old.reads) × (new.begins ≡ old.begins) × (new.puts ≡ old.puts)
+PlansCall Read old new nth =
+    PlansOne old.reads new.reads nth × (new.begins ≡ old.begins) × (new.puts ≡ old.puts) × (new.finishes ≡ old.finishes)
+PlansCall Begin old new nth =
+    PlansOne old.begins new.begins nth × (new.reads ≡ old.reads) × (new.puts ≡ old.puts) × (new.finishes ≡ old.finishes)
+PlansCall Put old new nth =
+    PlansOne old.puts new.puts nth × (new.reads ≡ old.reads) × (new.begins ≡ old.begins) × (new.finishes ≡ old.finishes)
+PlansCall Finish old new nth =
+    PlansOne old.finishes new.finishes nth × (new.reads ≡ old.reads) × (new.begins ≡ old.begins) × (new.puts ≡ old.puts)
 
 -- what a sink has gained
 abbrev pub sure_bytes : SureSink → List ℕ

@@ -11,7 +11,8 @@ z_escape b = 90 ∷ hexadecimal_digit (b / 16) ∷ hexadecimal_digit (b % 16) �
 -- a byte stays, or stands as Z and two digits
 pub escaped_byte-cases : (b : ℕ) → ((stays b ≡ true) × (escaped_byte b ≡ b ∷ [])) ⊎ ((stays b ≡ false) × (escaped_byte b ≡ z_escape b))
 escaped_byte-cases b =
-    elim (stays b) as (λ v. ((v ≡ true) × (cond v (b ∷ []) (z_escape b) ≡ b ∷ [])) ⊎ ((v ≡ false) × (cond v (b ∷ []) (z_escape b) ≡ z_escape b)))
+    elim (stays b) as (λ v. ((v ≡ true) × (cond v (b ∷ []) (z_escape b) ≡ b ∷ []))
+    ⊎ ((v ≡ false) × (cond v (b ∷ []) (z_escape b) ≡ z_escape b)))
     [ true ↦ inl (refl, refl) | false ↦ inr (refl, refl) ]
 
 -- the escape of the first byte apart
@@ -73,16 +74,20 @@ pub escaped_byte-not_end : (b : ℕ) (r s : List ℕ) → b < 256 → escaped_by
 escaped_byte-not_end b r s small e =
     elim (escaped_byte-cases b) [
       | inl p ↦ let same : b ∷ r ≡ 90 ∷ 95 ∷ s = sym (ap (λ v. v ++ r) p.1) ∙ e in stays-not_Z b p.0 (cc)
-      | inr p ↦ let same : z_escape b ++ r ≡ 90 ∷ 95 ∷ s = sym (ap (λ v. v ++ r) p.1) ∙ e in hexadecimal_digit-not_underscore (b / 16) (omega arith) (cc)
+      | inr p ↦ let same : z_escape b ++ r ≡ 90 ∷ 95 ∷ s =
+          sym (ap (λ v. v ++ r) p.1) ∙ e in hexadecimal_digit-not_underscore (b / 16) (omega arith) (cc)
     ]
 
 -- Z_ ends an escaped name: what stands before it and after it is determined
-pub escaped-end : (m n r s : List ℕ) → All (λ b. b < 256) m → All (λ b. b < 256) n → escaped m ++ 90 ∷ 95 ∷ r ≡ escaped n ++ 90 ∷ 95 ∷ s → (m ≡ n) × (r ≡ s)
+pub escaped-end : (m n r s : List ℕ) → All (λ b. b < 256) m → All (λ b. b < 256) n → escaped m ++ 90 ∷ 95 ∷ r ≡ escaped n ++ 90 ∷ 95 ∷ s
+    → (m ≡ n) × (r ≡ s)
 escaped-end [] [] r s _ _ e = (refl, cc)
 escaped-end [] (c ∷ n) r s _ small e =
-    absurd (escaped_byte-not_end c (escaped n ++ 90 ∷ 95 ∷ s) r (All-head (λ b. b < 256) c n small) (sym (escaped-cons c n (90 ∷ 95 ∷ s)) ∙ sym e))
+    absurd (escaped_byte-not_end c (escaped n ++ 90 ∷ 95 ∷ s) r (All-head (λ b. b < 256) c n small)
+    (sym (escaped-cons c n (90 ∷ 95 ∷ s)) ∙ sym e))
 escaped-end (b ∷ m) [] r s small _ e =
-    absurd (escaped_byte-not_end b (escaped m ++ 90 ∷ 95 ∷ r) s (All-head (λ b. b < 256) b m small) (sym (escaped-cons b m (90 ∷ 95 ∷ r)) ∙ e))
+    absurd (escaped_byte-not_end b (escaped m ++ 90 ∷ 95 ∷ r) s (All-head (λ b. b < 256) b m small)
+    (sym (escaped-cons b m (90 ∷ 95 ∷ r)) ∙ e))
 escaped-end (b ∷ m) (c ∷ n) r s small_m small_n e =
     let split = sym (escaped-cons b m (90 ∷ 95 ∷ r)) ∙ e ∙ escaped-cons c n (90 ∷ 95 ∷ s) in
     let first = escaped_byte-prefix b c (escaped m ++ 90 ∷ 95 ∷ r) (escaped n ++ 90 ∷ 95 ∷ s) split in

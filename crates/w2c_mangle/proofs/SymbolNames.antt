@@ -31,7 +31,8 @@ abbrev pub export_part : SymbolKind → List ℕ → List ℕ
 export_part k n = kind_letter k ∷ 90 ∷ 95 ∷ escaped n
 
 -- w2cZ_, the module and Z_, and then what tells the symbols of a module apart
-pub export_symbol_of-parts : (m : List ℕ) (k : SymbolKind) (n : List ℕ) → export_symbol_of m k n ≡ codes "w2cZ_" ++ (escaped m ++ 90 ∷ 95 ∷ export_part k n)
+pub export_symbol_of-parts : (m : List ℕ) (k : SymbolKind) (n : List ℕ)
+    → export_symbol_of m k n ≡ codes "w2cZ_" ++ (escaped m ++ 90 ∷ 95 ∷ export_part k n)
 export_symbol_of-parts m k n = simp append_assoc
 
 pub init_symbol_of-parts : (m : List ℕ) → init_symbol_of m ≡ codes "w2cZ_" ++ (escaped m ++ 90 ∷ 95 ∷ 105 ∷ [])
@@ -96,7 +97,8 @@ kind_letter-identifier Const = refl
 kind_letter-identifier Var = refl
 
 -- w2cZ_, an escaped name and what makes an identifier
-IsSymbol-parts : (m rest text : List ℕ) → All (λ b. b < 256) m → list_all is_identifier_character rest ≡ true → text ≡ codes "w2cZ_" ++ (escaped m ++ rest) → IsSymbol text
+IsSymbol-parts : (m rest text : List ℕ) → All (λ b. b < 256) m → list_all is_identifier_character rest ≡ true
+    → text ≡ codes "w2cZ_" ++ (escaped m ++ rest) → IsSymbol text
 IsSymbol-parts m rest text small h e = record {
   characters = AllPass-from_list_all is_identifier_character text
       (ap (list_all is_identifier_character) e
@@ -105,10 +107,12 @@ IsSymbol-parts m rest text small h e = record {
   begins = rw e refl;
 }
 
-pub IsSymbol-export_symbol_of : (m : List ℕ) (k : SymbolKind) (n : List ℕ) → All (λ b. b < 256) m → All (λ b. b < 256) n → IsSymbol (export_symbol_of m k n)
+pub IsSymbol-export_symbol_of : (m : List ℕ) (k : SymbolKind) (n : List ℕ) → All (λ b. b < 256) m → All (λ b. b < 256) n
+    → IsSymbol (export_symbol_of m k n)
 IsSymbol-export_symbol_of m k n small_m small_n =
     IsSymbol-parts m (90 ∷ 95 ∷ export_part k n) (export_symbol_of m k n) small_m
-    (both (is_identifier_character (kind_letter k)) (list_all is_identifier_character (escaped n)) (kind_letter-identifier k) (list_all-escaped n small_n))
+    (both (is_identifier_character (kind_letter k)) (list_all is_identifier_character (escaped n)) (kind_letter-identifier k)
+    (list_all-escaped n small_n))
     (export_symbol_of-parts m k n)
 
 pub IsSymbol-init_symbol_of : (m : List ℕ) → All (λ b. b < 256) m → IsSymbol (init_symbol_of m)

@@ -24,7 +24,8 @@ named_is_accepted name tree is_valid is_formed named short are_bytes = record {
 pub module_is_accepted : (bytes name : List ℕ) (tree : Module) → IsModuleOf bytes name tree
     → IsAccepted (record { name = name; tree = tree })
 module_is_accepted bytes name tree is =
-    named_is_accepted name tree (valid tree is.accepted.1) (bytes, is.are_bytes, (tree, refl, is.accepted.0)) is.named is.short is.name_bytes
+    named_is_accepted name tree (valid tree is.accepted.1)
+    (bytes, is.are_bytes, (tree, refl, is.accepted.0)) is.named is.short is.name_bytes
 
 -- a file has one module
 pub one_module : (bytes name : List ℕ) (tree other : Module) → IsModuleOf bytes name tree → IsModuleOf bytes name other → tree ≡ other

@@ -43,7 +43,8 @@ from_file c f (module_tree, is, is_text) from =
 
 -- ---- all of it
 
-all_from_files : (files : List File) → AllByRecursion IsTranslated files → (chosen : List Chosen) → AllByRecursion (ComesFromOne files) chosen
+all_from_files : (files : List File) → AllByRecursion IsTranslated files → (chosen : List Chosen)
+    → AllByRecursion (ComesFromOne files) chosen
     → AllByRecursion IsOfItself chosen
 all_from_files files translated [] from = tt
 all_from_files files translated (c ∷ chosen) ((f, there, one), from) =

@@ -122,7 +122,8 @@ memory_cause before after le = record { later = le; failed = λ e. absurd cc }
 pub done_cause : {A : Type 0} (x : A) (before after : ℕ) → before ≤ after → WriteCause before after (Ok x)
 done_cause x before after le = record { later = le; failed = λ e. absurd cc }
 
-pub named_behind : {A : Type 0} (result : Result A WriteAnswer) (current earlier_current : Option Name) (fault earlier_fault new : Option Name)
+pub named_behind : {A : Type 0} (result : Result A WriteAnswer) (current earlier_current : Option Name)
+    (fault earlier_fault new : Option Name)
     → current ≡ earlier_current → fault ≡ earlier_fault → new ≡ name_after_write result current fault
     → new ≡ name_after_write result earlier_current earlier_fault
 named_behind result current earlier_current fault earlier_fault new same_current same_fault is =

@@ -16,7 +16,8 @@ use Rattle.w2c_sim.specs.Refusals.{IsRefused, IsRefusal, refusal_of, invalid_of}
 -- ---- what the checker says
 
 pub rule_refusal : (bytes : List ℕ) (tree : Module) (r : ValidRefusal) → Spells tree bytes
-    → ((f : Fault) → ◌≡◌ {A = Result Module ValidRefusal} (Err r) (Err (rule.Invalid f.place f.cause)) → Verdict tree (is_invalid f)) → IsRefusal bytes (invalid_of r)
+    → ((f : Fault) → ◌≡◌ {A = Result Module ValidRefusal} (Err r) (Err (rule.Invalid f.place f.cause)) → Verdict tree (is_invalid f))
+    → IsRefusal bytes (invalid_of r)
 rule_refusal bytes tree (rule.Invalid place cause) spelled first = (tree, (spelled, first (record { place = place; cause = cause }) refl))
 rule_refusal bytes tree rule.Memory spelled first = tt
 
@@ -56,7 +57,8 @@ one_refusal bytes r other is is' =
     let (w, on', of_other) = refusal_verdict bytes other is' in
     sym (verdict_makes r v of_r) ∙ ap refusal_for (one_file_verdict bytes v w on on') ∙ verdict_makes other w of_other
 
-pub accepted_is_not_refused : (bytes : List ℕ) (tree : Module) (r : Refusal) → IsVerdictOn bytes (Read tree Accepted) → IsRefused bytes r → ⊥
+pub accepted_is_not_refused : (bytes : List ℕ) (tree : Module) (r : Refusal) → IsVerdictOn bytes (Read tree Accepted) → IsRefused bytes r
+    → ⊥
 accepted_is_not_refused bytes tree r accepted is =
     let (v, on, of_r) = refusal_verdict bytes r is in
     no_memory r is (sym (verdict_makes r v of_r) ∙ ap refusal_for (one_file_verdict bytes v (Read tree Accepted) on accepted))

@@ -64,14 +64,16 @@ calls_fit s accepted call is =
     let f : link.FuncAddress = is.0 in
     let found : exported (instances s) call.module_name call.export_name ≡ Some (IsFunc f) =
     as_func_is (exported (instances s) call.module_name call.export_name) f is.2 in
-    let h : ExportedBy s _ call.module_name call.export_name (IsFunc f) = exported_by s call.module_name call.export_name (IsFunc f) found in
+    let h : ExportedBy s _ call.module_name call.export_name (IsFunc f) =
+    exported_by s call.module_name call.export_name (IsFunc f) found in
     let x : ExportedFunc s h.owner h.exporter h.one.one f = exported_func s accepted _ call.module_name call.export_name f h found
     (λ k at. func_stands s accepted h.owner h.exporter h.exporter_is k f at) in
     let symbol : SymbolFound s h.owner h.exporter h.one.one = symbol_found s accepted _ call.module_name call.export_name (IsFunc f) h in
     let same : export_symbol h.exporter h.one.one ≡ (symbol_call call).symbol = x.symbol_is
     ∙ ap (λ n. export_symbol_of n Func h.one.one.name) h.its_name ∙ ap (export_symbol_of call.module_name Func) h.one.name_is in
     let called : called_func p (symbol_call call) ≡ Some (UnitFunc h.owner (symbol_call call).symbol) =
-    subst (λ (n : Name). option_map (λ u. UnitFunc u n) (position_from (λ unit. is_some (defined_for_all unit n)) 0 p.units) ≡ Some (UnitFunc h.owner n))
+    subst (λ (n : Name). option_map (λ u. UnitFunc u n) (position_from (λ unit. is_some (defined_for_all unit n)) 0 p.units)
+    ≡ Some (UnitFunc h.owner n))
     same (ap (option_map (λ u. UnitFunc u (export_symbol h.exporter h.one.one))) symbol.first_unit) in
     let typed : func_type p (UnitFunc h.owner (symbol_call call).symbol) ≡ Some (c_func_type_of x.stands.ty) =
     subst (λ (n : Name). func_type p (UnitFunc h.owner n) ≡ Some (c_func_type_of x.stands.ty)) same x.stands.c_ty_is in

@@ -25,7 +25,8 @@ some_same a b e = cc
 same_name : (names : List Name) (k : ℕ) (name other : Name) → slice_get names k ≡ Some name → slice_get names k ≡ Some other → name ≡ other
 same_name names k name other at at' = some_same name other (sym at ∙ at')
 
-module _ (told : Told) (names : List Name) (before after : ℕ) (named : Option Name) (k : ℕ) (name : Name) (at : slice_get names k ≡ Some name) where
+module _ (told : Told) (names : List Name) (before after : ℕ) (named : Option Name) (k : ℕ) (name : Name)
+    (at : slice_get names k ≡ Some name) where
   pub unread : (stop : ReadStop) → stop ≡ read.Unread k → StopsAt most_module_bytes most_set_bytes told names before after named stop
       → Faulted name before after named ⊎ ((contents : Contents) × (told ≡ Some contents)
       × StopsReading most_module_bytes most_set_bytes contents names name Missing)
@@ -34,7 +35,8 @@ module _ (told : Told) (names : List Name) (before after : ℕ) (named : Option 
       by_file : StopsAt most_module_bytes most_set_bytes told names before after named (read.Unread k)
           → IsUnread most_module_bytes most_set_bytes told names before after named name
       by_file (other, at', why') =
-          subst (λ (n : Name). IsUnread most_module_bytes most_set_bytes told names before after named n) (same_name names k other name at' at) why'
+          subst (λ (n : Name). IsUnread most_module_bytes most_set_bytes told names before after named n)
+          (same_name names k other name at' at) why'
 
   pub too_long : (stop : ReadStop) → stop ≡ read.TooLong k → StopsAt most_module_bytes most_set_bytes told names before after named stop
       → Tells told (λ contents. PassesLimit contents names name (Limit most_module_bytes ModuleBytes))
@@ -57,7 +59,8 @@ module _ (told : Told) (names : List Name) (before after : ℕ) (named : Option 
           → Tells told (λ contents. PassesLimit contents names name (Limit place SetBytes))
       by_file (few, other, at', why') = λ contents tells. inr (
         place,
-        subst (λ (n : Name). StopsReading most_module_bytes most_set_bytes contents names n (Past place)) (same_name names k other name at' at)
+        subst (λ (n : Name). StopsReading most_module_bytes most_set_bytes contents names n (Past place))
+            (same_name names k other name at' at)
             (why' contents tells),
         refl,
       )

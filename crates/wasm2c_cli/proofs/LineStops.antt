@@ -18,7 +18,8 @@ module _ (old new : Told) (r r' w w' : ℕ) (named : Option Name) where
 
   translates : (t : Translation) (contents : Contents) (modules : List Module) → AreAllTaken (inputs_of (translate t)) contents modules
       → Translates (translate t) contents (files_of (targets_of (translate t)) modules)
-  translates t contents modules all = record { sources = all.sources; modules = modules; read = all.read; accepted = all.accepted; written = refl }
+  translates t contents modules all =
+      record { sources = all.sources; modules = modules; read = all.read; accepted = all.accepted; written = refl }
 
   pub translation_stops : (t : Translation) (stop : Stop)
       → StopsTranslating (inputs_of (translate t)) (targets_of (translate t)) old new r r' w w' named stop

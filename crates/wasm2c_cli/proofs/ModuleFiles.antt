@@ -52,7 +52,8 @@ stops_at old new files before after named answer file stops.Memory stands faulte
 
 -- ---- the files of all modules
 
-files_joined : (ts us : List plan.Target) (ms ns : List Module) → length ms ≡ length ts → files_of (ts ++ us) (ms ++ ns) ≡ files_of ts ms ++ files_of us ns
+files_joined : (ts us : List plan.Target) (ms ns : List Module) → length ms ≡ length ts
+    → files_of (ts ++ us) (ms ++ ns) ≡ files_of ts ms ++ files_of us ns
 files_joined [] us [] ns same = refl
 files_joined [] us (m ∷ ms) ns same = absurd (omega (arith, same))
 files_joined (t ∷ ts) us [] ns same = absurd (omega (arith, same))

@@ -6,6 +6,7 @@ use Rattle.std.specs.Str.Parse.{digits_value}
 use Rattle.std.proofs.lemmas.Bool.{leb-true}
 use Rattle.std.proofs.lemmas.List.{append_cancel_left, length-map}
 use Rattle.std.proofs.lemmas.Slice.Eq.{bytes_eq-Decides}
+use Rattle.w2c_base.proofs.Conjunctions.{both_hold}
 use Rattle.w2c_io.specs.Contents.{Name}
 use Rattle.w2c_files.specs.Standing.{IsOneOf, AreDistinct, file_names}
 use Rattle.wasm2c_words.specs.Command.{Values, values_of}
@@ -19,10 +20,6 @@ use Rattle.wasm2c_cli.specs.Parts.{HasName, HasPassed}
 use Rattle.wasm2c_cli.specs.Plan.{target_in, inputs_of, targets_of, names_of_targets, outputs_of}
 use Rattle.wasm2c_cli.specs.Runtime.{runtime_files}
 
-both_true : (a b : Bool) → (a && b) ≡ true → (a ≡ true) × (b ≡ true)
-both_true true b e = (refl, e)
-both_true false b e = absurd (cc)
-
 -- what is given where a test is passed, was given since it was
 given : {A : Type 0} (b : Bool) (x y : A) → ◌≡◌ {A = Option A} (if b then Some x else None) (Some y) → (b ≡ true) × (x ≡ y)
 given true x y e = (refl, cc)
@@ -32,13 +29,13 @@ given false x y e = absurd (cc)
 
 fit_name : (name : List ℕ) → is_module_name name ≡ true → (1 ≤ length name) × (length name ≤ 1024)
 fit_name name fits =
-    let parts = both_true _ _ fits in (leb-true 1 (length name) parts.0, leb-true (length name) 1024 parts.1)
+    let parts = both_hold _ _ fits in (leb-true 1 (length name) parts.0, leb-true (length name) 1024 parts.1)
 
 fit_names : (dir : Name) (inputs : List Name) → list_all is_module_name (map module_name_of inputs) ≡ true
     → AllByRecursion HasName (map (target_in dir) inputs)
 fit_names dir [] fits = tt
 fit_names dir (input ∷ inputs) fits =
-    let parts = both_true _ _ fits in (fit_name (module_name_of input) parts.0, fit_names dir inputs parts.1)
+    let parts = both_hold _ _ fits in (fit_name (module_name_of input) parts.0, fit_names dir inputs parts.1)
 
 -- ---- the forms
 
@@ -46,7 +43,7 @@ translation_passed : (input output : Name) (name : List ℕ) (line : Line) → t
 translation_passed input output name line is =
     let t : Translation = record { input = input; output = output; module_name = name } in
     let passed = given (are_names output name) (translate t) line is in
-    let parts = both_true _ _ passed.0 in
+    let parts = both_hold _ _ passed.0 in
     subst HasPassed passed.1 (parts.0, fit_name name parts.1)
 
 output_passed : (output : Name) (name : Option (List ℕ)) (files : List Name) (line : Line) → line_with_output output name files ≡ Some line
@@ -61,14 +58,14 @@ dir_passed dir (Some name) files line is = absurd (cc)
 dir_passed dir None files line is =
     let s : FileSet = record { dir = dir; inputs = files } in
     let passed = given (is_set files) (set s) line is in
-    let parts = both_true _ _ passed.0 in
-    let names = both_true _ _ parts.1 in
+    let parts = both_hold _ _ passed.0 in
+    let names = both_hold _ _ parts.1 in
     subst HasPassed passed.1 (fit_names dir files names.0, names.1)
 
 in_range_fits : (count n : ℕ) → in_range count ≡ Some n → (1 ≤ n) × (n ≤ 20000)
 in_range_fits count n is =
     let passed = given (nat_le 1 count && nat_le count 20000) count n is in
-    let parts = both_true (nat_le 1 count) (nat_le count 20000) passed.0 in
+    let parts = both_hold (nat_le 1 count) (nat_le count 20000) passed.0 in
     let some : 1 ≤ count = leb-true 1 count parts.0 in
     let few : count ≤ 20000 = leb-true count 20000 parts.1 in
     (omega (arith, some, passed.1), omega (arith, few, passed.1))
@@ -86,7 +83,7 @@ generation_passed None output name line fits is = absurd (cc)
 generation_passed (Some count) output name line fits is =
     let g : Generation = record { count = count; output = output; module_name = name } in
     let passed = given (are_names output name) (generate g) line is in
-    let parts = both_true _ _ passed.0 in
+    let parts = both_hold _ _ passed.0 in
     let fit = fits count refl in
     subst HasPassed passed.1 (parts.0, fit_name name parts.1, fit.0, fit.1)
 
@@ -168,7 +165,7 @@ is_no_other name (other ∷ names) none (inr one) = is_no_other name names (both
 pub distinct_names : (names : List Name) → are_distinct names ≡ true → AreDistinct names
 distinct_names [] distinct = tt
 distinct_names (name ∷ names) distinct =
-    let parts = both_true _ _ distinct in
+    let parts = both_hold _ _ distinct in
     (is_no_other name names (no_more _ parts.0), distinct_names names parts.1)
 
 two_distinct : (name other : Name) → (name ≡ other → ⊥) → AreDistinct (name ∷ other ∷ [])

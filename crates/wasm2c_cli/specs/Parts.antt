@@ -86,7 +86,8 @@ AreTaken (bytes ∷ sources) [] = ⊥
 -- the stop at the file with a number, which is refused: memory was wanting, or this is the reason
 abbrev pub StopsAtRefused : Refusal → List Name → ℕ → Stop → Type 0
 StopsAtRefused refusal names k stops.Usage = ⊥
-StopsAtRefused refusal names k (stops.Refused name reason) = (reason_of refusal ≡ Some reason) × (slice_get names k ≡ Some (string_bytes name))
+StopsAtRefused refusal names k (stops.Refused name reason) =
+    (reason_of refusal ≡ Some reason) × (slice_get names k ≡ Some (string_bytes name))
 StopsAtRefused refusal names k (stops.Unread name) = ⊥
 StopsAtRefused refusal names k (stops.Unwritten name) = ⊥
 StopsAtRefused refusal names k stops.Memory = Unit {0}
@@ -176,7 +177,8 @@ StopsGenerating g old new writes writes' named stops.Usage = ⊥
 StopsGenerating g old new writes writes' named (stops.Refused name reason) = ⊥
 StopsGenerating g old new writes writes' named (stops.Unread name) = ⊥
 StopsGenerating g old new writes writes' named (stops.Unwritten name) = Faulted (string_bytes name) writes writes' named
-    × ((bytes : List ℕ) × (m : Module) × IsTakenFile g bytes m × StandsAt old new (module_files (target g.output g.module_name) m) (string_bytes name))
+    × ((bytes : List ℕ) × (m : Module) × IsTakenFile g bytes m
+    × StandsAt old new (module_files (target g.output g.module_name) m) (string_bytes name))
 StopsGenerating g old new writes writes' named stops.Memory = (new ≡ old)
     ⊎ ((bytes : List ℕ) × (m : Module) × IsTakenFile g bytes m × Stands old new (module_files (target g.output g.module_name) m))
 

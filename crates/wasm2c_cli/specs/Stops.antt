@@ -36,7 +36,8 @@ KeepsCurrent old new stops.Memory = Unit {0}
 
 -- the files are written as the line's job says
 abbrev pub DoneLine : Line → Told → Told → Type 0
-DoneLine line old new = Tells old (λ contents. (files : List (Name × List ℕ)) × IsJobOf line contents (Write files) × (new ≡ written old files))
+DoneLine line old new =
+    Tells old (λ contents. (files : List (Name × List ℕ)) × IsJobOf line contents (Write files) × (new ≡ written old files))
 
 -- nothing has changed, or some of the job's files stand
 abbrev pub StandsOfLine : Line → Contents → Told → Told → Type 0
@@ -53,7 +54,8 @@ StopsLine line old new reads reads' writes writes' named (stops.Unread name) = I
     ⊎ ((contents : Contents) × (old ≡ Some contents) × IsJobOf line contents (Missing (string_bytes name)))) × (new ≡ old)
 StopsLine line old new reads reads' writes writes' named (stops.Unwritten name) = IsOneOf (string_bytes name) (outputs_of line)
     × Faulted (string_bytes name) writes writes' named
-    × Tells old (λ contents. (files : List (Name × List ℕ)) × IsJobOf line contents (Write files) × StandsAt old new files (string_bytes name))
+    × Tells old (λ contents. (files : List (Name × List ℕ)) × IsJobOf line contents (Write files)
+    × StandsAt old new files (string_bytes name))
 StopsLine line old new reads reads' writes writes' named stops.Memory = Tells old (λ contents. StandsOfLine line contents old new)
 
 -- ---- what the words ask for

@@ -6,28 +6,21 @@ use Rattle.std.specs.Str.{all_ascii_digits}
 use Rattle.std.specs.Str.Parse.{ParsesUnsigned, digits_value}
 use Rattle.std.proofs.lemmas.Str.Parse.{digits_value_short, numerals_by_value, parse_gives, tells_all_ascii_digits}
 use Rattle.std.proofs.lemmas.Bool.{leb-true}
+use Rattle.w2c_base.proofs.Conjunctions.{left_holds, right_holds}
 use Rattle.wasm2c_words.specs.CommandLine.{is_count}
 
 all_digits : (text : List ℕ) → list_all is_ascii_digit text ≡ all_ascii_digits text
 all_digits [] = refl
 all_digits (c ∷ cs) = ap (λ b. is_ascii_digit c && b) (all_digits cs)
 
-first_true : (a b : Bool) → (a && b) ≡ true → a ≡ true
-first_true true b e = refl
-first_true false b e = e
-
-second_true : (a b : Bool) → (a && b) ≡ true → b ≡ true
-second_true true b e = e
-second_true false b e = absurd (cc)
-
 -- such a text is read as the number that its digits write
 pub count_parsed : {E : Type 0} (text : List ℕ) (r : Result ℕ E) → is_count text ≡ true → ParsesUnsigned 32 10 text r
     → r ≡ Ok (digits_value 10 text)
 count_parsed text r is parsed =
-    let lengths = first_true _ _ is in
-    let some : 1 ≤ length text = leb-true 1 (length text) (first_true _ _ lengths) in
-    let few : length text ≤ 5 = leb-true (length text) 5 (second_true _ _ lengths) in
-    let digits : all_ascii_digits text ≡ true = sym (all_digits text) ∙ second_true _ _ is in
+    let lengths = left_holds _ _ is in
+    let some : 1 ≤ length text = leb-true 1 (length text) (left_holds _ _ lengths) in
+    let few : length text ≤ 5 = leb-true (length text) 5 (right_holds _ _ lengths) in
+    let digits : all_ascii_digits text ≡ true = sym (all_digits text) ∙ right_holds _ _ is in
     let own = numerals_by_value (λ ds. all_ascii_digits ds ≡ true) tells_all_ascii_digits in
     let small : digits_value 10 text < 10 ^ 5 = digits_value_short own text 5 digits few in
     let fits : digits_value 10 text < 2 ^ 32 = omega (arith, small) in

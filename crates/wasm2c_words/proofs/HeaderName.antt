@@ -22,7 +22,8 @@ ends_in_c out h =
 
 pub is_apart : (out : Name) → IsTrue (is_c_file out) → out ≡ header_name_of out → ⊥
 is_apart out h same =
-    let ends : codes ".c" ≡ codes ".h" = append_cancel_left (take (length out - 2) out) (codes ".c") (codes ".h") (sym (ends_in_c out h) ∙ same) in
+    let ends : codes ".c" ≡ codes ".h" =
+    append_cancel_left (take (length out - 2) out) (codes ".c") (codes ".h") (sym (ends_in_c out h) ∙ same) in
     let last : ◌≡◌ {A = ℕ} 99 104 = ap (λ (l : List ℕ). get_or l 1 0) ends in
     omega (arith, last)
 
@@ -51,4 +52,5 @@ pub header_name_is : (out old mid new : List ℕ) (len : ℕ) → IsTrue (is_c_f
 header_name_is out old mid new len h same is_len pops is =
     let stem = take (length out - 2) out in
     let ends : old ≡ (stem ++ 46 ∷ []) ++ 99 ∷ [] = same ∙ ends_in_c out h ∙ sym (append_assoc stem (46 ∷ []) (99 ∷ [])) in
-    changed old (stem ++ 46 ∷ []) mid new ends (subst (λ n. 0 < n → get_or old (n - 1) 0 < 128 → mid ≡ take (n - 1) old) is_len pops) is ∙ append_assoc stem (46 ∷ []) (104 ∷ [])
+    changed old (stem ++ 46 ∷ []) mid new ends (subst (λ n. 0 < n → get_or old (n - 1) 0 < 128 → mid ≡ take (n - 1) old) is_len pops) is
+    ∙ append_assoc stem (46 ∷ []) (104 ∷ [])

@@ -21,7 +21,8 @@ pub line_is : (words : List (List ℕ)) (rows : List Row) → fault_of wasm2c wo
     → line_of words ≡ line_of_values (values_in rows)
 unfolding values_of
 line_is words rows none is =
-    ap (λ (kinds : Kinds). option_and_then line_of_values (if is_empty kinds then Some (values_in (matches_of wasm2c words)) else None)) none
+    ap (λ (kinds : Kinds). option_and_then line_of_values (if is_empty kinds then Some (values_in (matches_of wasm2c words)) else None))
+    none
     ∙ ap (λ (rs : List Row). line_of_values (values_in rs)) (sym is)
 
 -- what is said of one line is said of its equal
@@ -36,7 +37,8 @@ nothing_among k (x ∷ xs) h = ne_eqb (length (x ∷ xs)) 0 (λ e. omega (arith,
 
 pub no_line : (words : List (List ℕ)) → is_empty (fault_of wasm2c words) ≡ false → line_of words ≡ None
 unfolding values_of
-no_line words some = ap (λ (none : Bool). option_and_then line_of_values (if none then Some (values_in (matches_of wasm2c words)) else None)) some
+no_line words some =
+    ap (λ (none : Bool). option_and_then line_of_values (if none then Some (values_in (matches_of wasm2c words)) else None)) some
 
 pub no_fault : {T : Type 0} (kinds : Kinds) (r : Result T Error) (x : T) → r ≡ Ok x → FailsBy kinds r → kinds ≡ []
 no_fault kinds (Ok y) x is h = h

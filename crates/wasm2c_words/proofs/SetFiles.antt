@@ -8,6 +8,7 @@ use Rattle.std.proofs.lemmas.List.{append_cancel_left, append_cancel_right}
 use Rattle.std.proofs.lemmas.List.Elements.{All-weaker}
 use Rattle.std.proofs.lemmas.List.Sums.{AllPass-from_list_all}
 use Rattle.std.proofs.lemmas.Slice.Eq.{bytes_eq-Decides}
+use Rattle.w2c_base.proofs.Conjunctions.{both_hold}
 use Rattle.w2c_io.specs.Contents.{Name}
 use Rattle.w2c_mangle.specs.Escaping.{escaped}
 use Rattle.w2c_mangle.specs.Symbols.{is_identifier_character}
@@ -31,14 +32,16 @@ file dir name letter = dir ++ (codes "/" ++ (escaped name ++ 46 ∷ letter ∷ [
 last_of : (front : List ℕ) (letter : ℕ) → get_or (drop (length (front ++ 46 ∷ letter ∷ []) - 2) (front ++ 46 ∷ letter ∷ [])) 1 0 ≡ letter
 last_of front letter =
     let len : length (front ++ 46 ∷ letter ∷ []) - 2 ≡ length front = omega (arith, length-append front (46 ∷ letter ∷ [])) in
-    ap (λ (n : ℕ). get_or (drop n (front ++ 46 ∷ letter ∷ [])) 1 0) len ∙ ap (λ (l : List ℕ). get_or l 1 0) (drop-append_seam front (46 ∷ letter ∷ []))
+    ap (λ (n : ℕ). get_or (drop n (front ++ 46 ∷ letter ∷ [])) 1 0) len
+    ∙ ap (λ (l : List ℕ). get_or l 1 0) (drop-append_seam front (46 ∷ letter ∷ []))
 
 same_file : (dir m n : List ℕ) (a b : ℕ) → file dir m a ≡ file dir n b → (m ≡ n) × (a ≡ b)
 same_file dir m n a b same =
     let ends : escaped m ++ 46 ∷ a ∷ [] ≡ escaped n ++ 46 ∷ b ∷ [] =
     append_cancel_left (codes "/") (escaped m ++ 46 ∷ a ∷ []) (escaped n ++ 46 ∷ b ∷ [])
     (append_cancel_left dir (codes "/" ++ (escaped m ++ 46 ∷ a ∷ [])) (codes "/" ++ (escaped n ++ 46 ∷ b ∷ [])) same) in
-    let letters : a ≡ b = sym (last_of (escaped m) a) ∙ ap (λ (l : List ℕ). get_or (drop (length l - 2) l) 1 0) ends ∙ last_of (escaped n) b in
+    let letters : a ≡ b =
+    sym (last_of (escaped m) a) ∙ ap (λ (l : List ℕ). get_or (drop (length l - 2) l) 1 0) ends ∙ last_of (escaped n) b in
     let same_end : escaped m ++ 46 ∷ b ∷ [] ≡ escaped n ++ 46 ∷ b ∷ [] = ap (λ (x : ℕ). escaped m ++ 46 ∷ x ∷ []) (sym letters) ∙ ends in
     (escaped-injective m n (append_cancel_right (escaped m) (escaped n) (46 ∷ b ∷ []) same_end), letters)
 
@@ -69,12 +72,9 @@ apart dir n letter (m ∷ ms) none =
     let c : bytes_eq (file dir m 99) (file dir n letter) ≡ false = unequal _ _ (λ same. differ (same_file dir m n 99 letter same).0) in
     let h : bytes_eq (file dir m 104) (file dir n letter) ≡ false = unequal _ _ (λ same. differ (same_file dir m n 104 letter same).0) in
     let rest = apart dir n letter ms parts.1 in
-    ap (λ (b : Bool). b || (bytes_eq (file dir m 104) (file dir n letter) || list_any (λ other. bytes_eq other (file dir n letter)) (files_of dir ms))) c
+    ap (λ (b : Bool). b || (bytes_eq (file dir m 104) (file dir n letter)
+    || list_any (λ other. bytes_eq other (file dir n letter)) (files_of dir ms))) c
     ∙ ap (λ (b : Bool). b || list_any (λ other. bytes_eq other (file dir n letter)) (files_of dir ms)) h ∙ rest
-
-both_true : (a b : Bool) → (a && b) ≡ true → (a ≡ true) × (b ≡ true)
-both_true true b e = (refl, e)
-both_true false b e = absurd (cc)
 
 no_more : (a : Bool) → not a ≡ true → a ≡ false
 no_more true e = absurd (cc)
@@ -83,14 +83,15 @@ no_more false e = refl
 pub files_are_distinct : (dir : Name) (names : List (List ℕ)) → are_distinct names ≡ true → are_distinct (files_of dir names) ≡ true
 files_are_distinct dir [] distinct = refl
 files_are_distinct dir (n ∷ ns) distinct =
-    let parts = both_true _ _ distinct in
+    let parts = both_hold _ _ distinct in
     let none : list_any (λ other. bytes_eq other n) ns ≡ false = no_more _ parts.0 in
     let h_c : bytes_eq (file dir n 104) (file dir n 99) ≡ false =
     unequal _ _ (λ same. let letters : ◌≡◌ {A = ℕ} 104 99 = (same_file dir n n 104 99 same).1 in omega (arith, letters)) in
     let c : list_any (λ other. bytes_eq other (file dir n 99)) (file dir n 104 ∷ files_of dir ns) ≡ false =
     ap (λ (b : Bool). b || list_any (λ other. bytes_eq other (file dir n 99)) (files_of dir ns)) h_c ∙ apart dir n 99 ns none in
     let h = apart dir n 104 ns none in
-    ap (λ (b : Bool). not b && (not (list_any (λ other. bytes_eq other (file dir n 104)) (files_of dir ns)) && are_distinct (files_of dir ns))) c
+    ap (λ (b : Bool). not b && (not (list_any (λ other. bytes_eq other (file dir n 104)) (files_of dir ns))
+    && are_distinct (files_of dir ns))) c
     ∙ ap (λ (b : Bool). not b && are_distinct (files_of dir ns)) h ∙ files_are_distinct dir ns parts.1
 
 -- a name that ends in a dot and a letter, cut before both
@@ -109,7 +110,8 @@ before_ending dir name = dir ++ (codes "/" ++ escaped name)
 
 parted : (dir name : List ℕ) (letter : ℕ) → file dir name letter ≡ before_ending dir name ++ 46 ∷ letter ∷ []
 parted dir name letter =
-    sym (append_assoc dir (codes "/" ++ escaped name) (46 ∷ letter ∷ []) ∙ ap (λ (l : List ℕ). dir ++ l) (append_assoc (codes "/") (escaped name) (46 ∷ letter ∷ [])))
+    sym (append_assoc dir (codes "/" ++ escaped name) (46 ∷ letter ∷ [])
+    ∙ ap (λ (l : List ℕ). dir ++ l) (append_assoc (codes "/") (escaped name) (46 ∷ letter ∷ [])))
 
 pub header_beside : (dir name : List ℕ) → header_name_of (c_file_of dir name) ≡ header_of dir name
 header_beside dir name =
@@ -127,4 +129,5 @@ ends_in_c front some =
 pub is_c : (dir name : List ℕ) → IsTrue (is_c_file (c_file_of dir name))
 is_c dir name =
     ap is_c_file (parted dir name 99)
-    ∙ ends_in_c (before_ending dir name) (omega (arith, length-append dir (codes "/" ++ escaped name), length-append (codes "/") (escaped name)))
+    ∙ ends_in_c (before_ending dir name)
+    (omega (arith, length-append dir (codes "/" ++ escaped name), length-append (codes "/") (escaped name)))

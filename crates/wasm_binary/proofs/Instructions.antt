@@ -28,8 +28,10 @@ unfolding plain_at
 plain_is place b f a is = ap (λ o. by_form place b o a) is
 
 -- an opcode of one row
-pub by_opcode : {X : Type 0} (view : X → Kind × At) (r : Result X ReadFault) (place b n : ℕ) (f : Form) (a : At) → b ≡ n → form_in (row_of n) ≡ Some f → Gives view r (form_at f a) → Gives view r (plain_at place b a)
-by_opcode view r place b n f a same is g = subst (Gives view r) (sym (plain_is place b f a (ap (λ (x : ℕ). form_in (row_of x)) same ∙ is))) g
+pub by_opcode : {X : Type 0} (view : X → Kind × At) (r : Result X ReadFault) (place b n : ℕ) (f : Form) (a : At)
+    → b ≡ n → form_in (row_of n) ≡ Some f → Gives view r (form_at f a) → Gives view r (plain_at place b a)
+by_opcode view r place b n f a same is g =
+    subst (Gives view r) (sym (plain_is place b f a (ap (λ (x : ℕ). form_in (row_of x)) same ∙ is))) g
 
 -- ---- the opcode of an operator
 
@@ -73,7 +75,8 @@ op_row o =
     let has = op_has o in
     subst (λ n. form_in (row_of n) ≡ Some (op_form o)) has.0 (has_row (op_tree o) (op_form o) has.1)
 
-pub by_op : {X : Type 0} (view : X → Kind × At) (r : Result X ReadFault) (place b : ℕ) (o : Op) (a : At) → op_opcode o ≡ b → Gives view r (form_at (op_form o) a) → Gives view r (plain_at place b a)
+pub by_op : {X : Type 0} (view : X → Kind × At) (r : Result X ReadFault) (place b : ℕ) (o : Op) (a : At)
+    → op_opcode o ≡ b → Gives view r (form_at (op_form o) a) → Gives view r (plain_at place b a)
 by_op view r place b o a is g = by_opcode view r place b (op_opcode o) (op_form o) a (sym is) (op_row o) g
 
 -- ---- an opcode of no row
@@ -157,7 +160,8 @@ as_fails A (Malformed p c) r e = e
 as_fails A (Float p) r e = e
 as_fails A (Limit p w) r e = e
 
-pub none_fails : (place b : ℕ) (a : At) (f : ReadFault) → f ≡ fault_of place b → (HasOp b → ⊥) → (b ≡ 0x0E → ⊥) → (b ≡ 0x11 → ⊥) → (b ≡ 0x3F → ⊥)
+pub none_fails : (place b : ℕ) (a : At) (f : ReadFault) → f ≡ fault_of place b → (HasOp b → ⊥)
+    → (b ≡ 0x0E → ⊥) → (b ≡ 0x11 → ⊥) → (b ≡ 0x3F → ⊥)
     → (b ≡ 0x40 → ⊥) → (b ≡ 0x41 → ⊥) → (b ≡ 0x42 → ⊥) → (b ≡ 0xFC → ⊥) → Fails f (plain_at place b a)
 unfolding plain_at
 none_fails place b a f is no_op not_labels not_type not_size not_grow not_i32 not_i64 not_prefix =
@@ -171,4 +175,5 @@ none_fails place b a f is no_op not_labels not_type not_size not_grow not_i32 no
       not_i64 = not_i64;
       not_prefix = not_prefix;
     } in
-    as_fails (Kind × At) f (plain_at place b a) (ap (λ o. by_form place b o a) (none_in b (row_of b) refl none) ∙ ap (λ (f : ReadFault). Err f) (sym is))
+    as_fails (Kind × At) f (plain_at place b a)
+    (ap (λ o. by_form place b o a) (none_in b (row_of b) refl none) ∙ ap (λ (f : ReadFault). Err f) (sym is))

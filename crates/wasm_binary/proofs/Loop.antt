@@ -25,31 +25,47 @@ at_start read count done a z =
     let whole : count - done ≡ count = omega (arith, z) in
     subst (λ n. (times_at read n a >>= after_front []) ≡ times_at read count a) (sym whole) (nothing_before (times_at read count a))
 
-regroup : {A : Type 0} (front : List A) (x : A) (r : Result (List A × At) ReadFault) → ((r >>= with_front x) >>= after_front front) ≡ (r >>= after_front (front ++ x ∷ []))
+regroup : {A : Type 0} (front : List A) (x : A) (r : Result (List A × At) ReadFault)
+    → ((r >>= with_front x) >>= after_front front) ≡ (r >>= after_front (front ++ x ∷ []))
 regroup front x (Ok xs) = ap (λ l. Ok (l, xs.1)) (sym (append_assoc front (x ∷ []) xs.0))
 regroup front x (Err f) = refl
 
-step : {A : Type 0} (read : Reader A) (k : ℕ) (front : List A) (a : At) (x : A) (b : At) (total : Result (List A × At) ReadFault) → read a ≡ Ok (x, b) → (times_at read (suc k) a >>= after_front front) ≡ total → (times_at read k b >>= after_front (front ++ x ∷ [])) ≡ total
+step : {A : Type 0} (read : Reader A) (k : ℕ) (front : List A) (a : At) (x : A) (b : At) (total : Result (List A × At) ReadFault)
+    → read a ≡ Ok (x, b) → (times_at read (suc k) a >>= after_front front) ≡ total
+    → (times_at read k b >>= after_front (front ++ x ∷ [])) ≡ total
 unfolding times_at
 step {A} read k front a x b total e h =
-    sym (regroup front x (times_at read k b)) ∙ ap (λ (r : Result (A × At) ReadFault). (r >>= λ x. times_at read k x.1 >>= with_front x.0) >>= after_front front) (sym e) ∙ h
+    sym (regroup front x (times_at read k b))
+    ∙ ap (λ (r : Result (A × At) ReadFault). (r >>= λ x. times_at read k x.1 >>= with_front x.0) >>= after_front front) (sym e) ∙ h
 
-pub goes_on : {A : Type 0} (read : Reader A) (count done next : ℕ) (front : List A) (a : At) (x : A) (b : At) (total : Result (List A × At) ReadFault) → done < count → next ≡ done + 1 → read a ≡ Ok (x, b) → Ahead read count done front a total → Ahead read count next (front ++ x ∷ []) b total
+pub goes_on : {A : Type 0} (read : Reader A) (count done next : ℕ) (front : List A) (a : At) (x : A) (b : At)
+    (total : Result (List A × At) ReadFault) → done < count → next ≡ done + 1 → read a ≡ Ok (x, b) → Ahead read count done front a total
+    → Ahead read count next (front ++ x ∷ []) b total
 goes_on read count done next front a x b total less is e h =
     let now : count - done ≡ suc (count - next) = omega (arith, less, is) in
     step read (count - next) front a x b total e (subst (λ n. (times_at read n a >>= after_front front) ≡ total) now h)
 
-failed : {A : Type 0} (read : Reader A) (k : ℕ) (front : List A) (a : At) (f : ReadFault) (total : Result (List A × At) ReadFault) → read a ≡ Err f → (times_at read (suc k) a >>= after_front front) ≡ total → total ≡ Err f
+failed : {A : Type 0} (read : Reader A) (k : ℕ) (front : List A) (a : At) (f : ReadFault) (total : Result (List A × At) ReadFault)
+    → read a ≡ Err f → (times_at read (suc k) a >>= after_front front) ≡ total → total ≡ Err f
 unfolding times_at
-failed {A} read k front a f total e h = sym h ∙ ap (λ (r : Result (A × At) ReadFault). (r >>= λ x. times_at read k x.1 >>= with_front x.0) >>= after_front front) e
+failed {A} read k front a f total e h =
+    sym h ∙ ap (λ (r : Result (A × At) ReadFault). (r >>= λ x. times_at read k x.1 >>= with_front x.0) >>= after_front front) e
 
-pub stops : {A : Type 0} (read : Reader A) (count done : ℕ) (front : List A) (a : At) (f : ReadFault) (total : Result (List A × At) ReadFault) → done < count → Fails f (read a) → Ahead read count done front a total → Fails f total
+pub stops : {A : Type 0} (read : Reader A) (count done : ℕ) (front : List A) (a : At) (f : ReadFault)
+    (total : Result (List A × At) ReadFault) → done < count → Fails f (read a) → Ahead read count done front a total → Fails f total
 stops read count done front a Memory total less e h = tt
-stops read count done front a (Malformed p c) total less e h = failed read (count - done - 1) front a _ total e (subst (λ n. (times_at read n a >>= after_front front) ≡ total) (omega (arith, less)) h)
-stops read count done front a (Float p) total less e h = failed read (count - done - 1) front a _ total e (subst (λ n. (times_at read n a >>= after_front front) ≡ total) (omega (arith, less)) h)
-stops read count done front a (Limit p w) total less e h = failed read (count - done - 1) front a _ total e (subst (λ n. (times_at read n a >>= after_front front) ≡ total) (omega (arith, less)) h)
+stops read count done front a (Malformed p c) total less e h =
+    failed read (count - done - 1) front a _ total e
+    (subst (λ n. (times_at read n a >>= after_front front) ≡ total) (omega (arith, less)) h)
+stops read count done front a (Float p) total less e h =
+    failed read (count - done - 1) front a _ total e
+    (subst (λ n. (times_at read n a >>= after_front front) ≡ total) (omega (arith, less)) h)
+stops read count done front a (Limit p w) total less e h =
+    failed read (count - done - 1) front a _ total e
+    (subst (λ n. (times_at read n a >>= after_front front) ≡ total) (omega (arith, less)) h)
 
-pub is_done : {A : Type 0} (read : Reader A) (count done : ℕ) (front : List A) (a : At) (total : Result (List A × At) ReadFault) → count ≤ done → Ahead read count done front a total → total ≡ Ok (front, a)
+pub is_done : {A : Type 0} (read : Reader A) (count done : ℕ) (front : List A) (a : At) (total : Result (List A × At) ReadFault)
+    → count ≤ done → Ahead read count done front a total → total ≡ Ok (front, a)
 unfolding times_at
 is_done {A} read count done front a total le h =
     let none : count - done ≡ 0 = omega (arith, le) in

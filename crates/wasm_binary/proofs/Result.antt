@@ -25,20 +25,25 @@ pub given : (result r : Result Module ReadFault) → Gives (λ x. x) result r �
 given (Ok t) r g n = sym g
 given (Err f) r g n = sym (failed f r n g)
 
-pub is_found : (bytes : List ℕ) (result : Result Module ReadFault) → length bytes ≤ 8388608 → Gives (λ x. x) result (file_at bytes) → IfOk result (λ t. Spells t bytes)
+pub is_found : (bytes : List ℕ) (result : Result Module ReadFault) → length bytes ≤ 8388608 → Gives (λ x. x) result (file_at bytes)
+    → IfOk result (λ t. Spells t bytes)
 is_found bytes (Ok t) small g = (file_takes bytes t g, small)
 is_found bytes (Err f) small g = tt
 
-pub is_only : (bytes : List ℕ) (result : Result Module ReadFault) → Gives (λ x. x) result (file_at bytes) → (t : Module) → Spells t bytes → UnlessMemory result (Ok t)
+pub is_only : (bytes : List ℕ) (result : Result Module ReadFault) → Gives (λ x. x) result (file_at bytes) → (t : Module) → Spells t bytes
+    → UnlessMemory result (Ok t)
 is_only bytes result g t s n = given result (file_at bytes) g n ∙ file_again bytes t s.0
 
-pub is_first : (bytes : List ℕ) (result : Result Module ReadFault) → Gives (λ x. x) result (file_at bytes) → (f : ReadFault) → f ≢ Memory → result ≡ Err f → Upto bytes f
-is_first bytes result g f n e = file_stops bytes f (sym (given result (file_at bytes) g (λ wanting. n (same f Memory (sym e ∙ wanting)))) ∙ e)
+pub is_first : (bytes : List ℕ) (result : Result Module ReadFault) → Gives (λ x. x) result (file_at bytes) → (f : ReadFault) → f ≢ Memory
+    → result ≡ Err f → Upto bytes f
+is_first bytes result g f n e =
+    file_stops bytes f (sym (given result (file_at bytes) g (λ wanting. n (same f Memory (sym e ∙ wanting)))) ∙ e)
   where
     same : (f g : ReadFault) → bad f ≡ bad g → f ≡ g
     same f g e = cc
 
-pub is_first_only : (bytes : List ℕ) (result : Result Module ReadFault) → Gives (λ x. x) result (file_at bytes) → (f : ReadFault) → Upto bytes f → UnlessMemory result (Err f)
+pub is_first_only : (bytes : List ℕ) (result : Result Module ReadFault) → Gives (λ x. x) result (file_at bytes) → (f : ReadFault)
+    → Upto bytes f → UnlessMemory result (Err f)
 is_first_only bytes result g f u n = given result (file_at bytes) g n ∙ first_is_read bytes f u
 
 -- a slice of bytes

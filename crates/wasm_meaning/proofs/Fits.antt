@@ -59,11 +59,13 @@ binary_fits t DivS x y p q =
     let z : ℤ = int_div (signed (bits t) x) (signed (bits t) y) in
     chosen (bits t) (nat_eq y 0) (Traps DivByZero) (cond (overflows (bits t) x y) (Traps IntOverflow) (Gives (pattern_of (bits t) z))) tt
     (chosen (bits t) (overflows (bits t) x y) (Traps IntOverflow) (Gives (pattern_of (bits t) z)) tt (pattern_below (bits t) z))
-binary_fits t DivU x y p q = chosen (bits t) (nat_eq y 0) (Traps DivByZero) (Gives (x / y)) tt (let l : x / y ≤ x = div-le_self x y in omega arith)
+binary_fits t DivU x y p q =
+    chosen (bits t) (nat_eq y 0) (Traps DivByZero) (Gives (x / y)) tt (let l : x / y ≤ x = div-le_self x y in omega arith)
 binary_fits t RemS x y p q =
     let z : ℤ = int_rem (signed (bits t) x) (signed (bits t) y) in
     chosen (bits t) (nat_eq y 0) (Traps DivByZero) (Gives (pattern_of (bits t) z)) tt (pattern_below (bits t) z)
-binary_fits t RemU x y p q = chosen (bits t) (nat_eq y 0) (Traps DivByZero) (Gives (x % y)) tt (let l : x % y ≤ x = mod-le x y in omega arith)
+binary_fits t RemU x y p q =
+    chosen (bits t) (nat_eq y 0) (Traps DivByZero) (Gives (x % y)) tt (let l : x % y ≤ x = mod-le x y in omega arith)
 binary_fits t And x y p q = and_lt (bits t) x y p q
 binary_fits t Or x y p q = or_lt (bits t) x y p q
 binary_fits t Xor x y p q = xor_lt (bits t) x y p q
@@ -100,7 +102,8 @@ dropped zero bytes h = h
 dropped (suc n) [] h = tt
 dropped (suc n) (b ∷ bytes) h = dropped n bytes h.1
 
-read_below : (bytes : List ℕ) (address width : ℕ) → AllByRecursion (λ b. b < 256) bytes → little_endian (bytes_at bytes address width) < 256 ^ width
+read_below : (bytes : List ℕ) (address width : ℕ) → AllByRecursion (λ b. b < 256) bytes
+    → little_endian (bytes_at bytes address width) < 256 ^ width
 read_below bytes address width h = bytes_below width (drop address bytes) (dropped address bytes h)
 
 extended_fits : (op : LoadOp) (n : ℕ) → n < 256 ^ (load_access op).width → extended op n < 2 ^ bits (load_access op).ty
@@ -117,7 +120,8 @@ extended_fits I64Load16U n h = omega arith
 extended_fits I64Load32S n h = pattern_below 64 _
 extended_fits I64Load32U n h = omega arith
 
-pub load_fits : (op : LoadOp) (bytes : List ℕ) (address : ℕ) → AllByRecursion (λ b. b < 256) bytes → AnswerFits (bits (load_access op).ty) (load_number op bytes address)
+pub load_fits : (op : LoadOp) (bytes : List ℕ) (address : ℕ) → AllByRecursion (λ b. b < 256) bytes
+    → AnswerFits (bits (load_access op).ty) (load_number op bytes address)
 load_fits op bytes address h =
     chosen (bits (load_access op).ty) (nat_le (address + (load_access op).width) (length bytes))
     (Gives (extended op (little_endian (bytes_at bytes address (load_access op).width)))) (Traps MemoryOut)

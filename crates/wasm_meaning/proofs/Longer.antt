@@ -47,13 +47,15 @@ stopped d Asks state = refl
 stopped d OutOfSteps state = tt
 stopped d Stuck state = refl
 
-call_stopped : (d : ℕ) (why : Stop) (made : store.Store) (trail : Trail) → LongerCall d (CallStops why made trail) (CallStops why made trail)
+call_stopped : (d : ℕ) (why : Stop) (made : store.Store) (trail : Trail)
+    → LongerCall d (CallStops why made trail) (CallStops why made trail)
 call_stopped d (Trapped kind) made trail = refl
 call_stopped d Asks made trail = refl
 call_stopped d OutOfSteps made trail = tt
 call_stopped d Stuck made trail = refl
 
-spent : (d n : ℕ) (state : store.State) (go : ℕ → Result) → ((m : ℕ) → Longer d (go m) (go (m + d))) → Longer d (spend n state go) (spend (n + d) state go)
+spent : (d n : ℕ) (state : store.State) (go : ℕ → Result) → ((m : ℕ) → Longer d (go m) (go (m + d)))
+    → Longer d (spend n state go) (spend (n + d) state go)
 spent d zero state go h = tt
 spent d (suc n) state go h = let e : suc n + d ≡ suc (n + d) = omega arith in rw e (h n)
 
@@ -84,11 +86,13 @@ and_then_longer d (Stops Asks state) s go e h = ap (λ t. and_then t go) e
 and_then_longer d (Stops OutOfSteps state) s go e h = tt
 and_then_longer d (Stops Stuck state) s go e h = ap (λ t. and_then t go) e
 
-onto_longer : (d n : ℕ) (values : Option (List Value)) (under : List Value) (state : store.State) → Longer d (onto n values under state) (onto (n + d) values under state)
+onto_longer : (d n : ℕ) (values : Option (List Value)) (under : List Value) (state : store.State)
+    → Longer d (onto n values under state) (onto (n + d) values under state)
 onto_longer d n None under state = refl
 onto_longer d n (Some values) under state = refl
 
-leave_longer : (d : ℕ) (t : Option ValType) (under : List Value) (r s : Result) → Longer d r s → Longer d (leave t under r) (leave t under s)
+leave_longer : (d : ℕ) (t : Option ValType) (under : List Value) (r s : Result) → Longer d r s
+    → Longer d (leave t under r) (leave t under s)
 leave_longer d t under (Normal n stack state) s e = ap (leave t under) e
 leave_longer d t under (Branch zero n stack state) s e =
     subst (λ o. Longer d (onto n (top t stack) under state) (leave t under o)) (sym e) (onto_longer d n (top t stack) under state)
@@ -103,7 +107,8 @@ turn_longer : (d : ℕ) (again other : ℕ → store.State → Result) (under : 
     → ((n : ℕ) (state : store.State) → Longer d (again n state) (other (n + d) state))
     → Longer d (turn again under r) (turn other under s)
 turn_longer d again other under (Normal n stack state) s e h = ap (turn other under) e
-turn_longer d again other under (Branch zero n stack state) s e h = subst (λ o. Longer d (again n state) (turn other under o)) (sym e) (h n state)
+turn_longer d again other under (Branch zero n stack state) s e h =
+    subst (λ o. Longer d (again n state) (turn other under o)) (sym e) (h n state)
 turn_longer d again other under (Branch (suc label) n stack state) s e h = ap (turn other under) e
 turn_longer d again other under (Returned n stack state) s e h = ap (turn other under) e
 turn_longer d again other under (Stops (Trapped kind) state) s e h = ap (turn other under) e
@@ -139,7 +144,8 @@ dropped_longer : (d n : ℕ) (stack : List Value) (state : store.State) → Long
 dropped_longer d n [] state = refl
 dropped_longer d n (v ∷ stack) state = refl
 
-came_back_longer : (d : ℕ) (c e : Called) (stack : List Value) (state : store.State) → LongerCall d c e → Longer d (came_back c stack state) (came_back e stack state)
+came_back_longer : (d : ℕ) (c e : Called) (stack : List Value) (state : store.State) → LongerCall d c e
+    → Longer d (came_back c stack state) (came_back e stack state)
 came_back_longer d (Back n value made trail) e stack state h = ap (λ o. came_back o stack state) h
 came_back_longer d (CallStops (Trapped kind) made trail) e stack state h = ap (λ o. came_back o stack state) h
 came_back_longer d (CallStops Asks made trail) e stack state h = ap (λ o. came_back o stack state) h
@@ -201,10 +207,12 @@ call_indirect_longer : (d : ℕ) (s : LinkedSet) (calls : Calls) → LongerCalls
 call_indirect_longer d s calls h None want n stack state = refl
 call_indirect_longer d s calls h (Some t) None n stack state = refl
 call_indirect_longer d s calls h (Some t) (Some want) n [] state = refl
-call_indirect_longer d s calls h (Some t) (Some want) n (I32 i ∷ stack) state = call_element_longer d s calls h (slice_get t.elements i) want n stack state
+call_indirect_longer d s calls h (Some t) (Some want) n (I32 i ∷ stack) state =
+    call_element_longer d s calls h (slice_get t.elements i) want n stack state
 call_indirect_longer d s calls h (Some t) (Some want) n (I64 i ∷ stack) state = refl
 
-plain_longer : (d : ℕ) (o : Done) (n : ℕ) (state : store.State) → Longer d (spend n state (λ left. did left state o)) (spend (n + d) state (λ left. did left state o))
+plain_longer : (d : ℕ) (o : Done) (n : ℕ) (state : store.State)
+    → Longer d (spend n state (λ left. did left state o)) (spend (n + d) state (λ left. did left state o))
 plain_longer d o n state = spent d n state (λ left. did left state o) (λ m. did_longer d m state o)
 
 counted_longer : (d count : ℕ) (o : Done) (n : ℕ) (state : store.State)
@@ -236,8 +244,10 @@ mutual
       (λ under. leave t under (exec_else s calls p otherwise m state))
       (λ under. leave t under (exec s calls p code (m + d) [] state))
       (λ under. leave t under (exec_else s calls p otherwise (m + d) state))
-      (λ under. leave_longer d t under (exec s calls p code m [] state) (exec s calls p code (m + d) [] state) (exec_longer d s calls h p code m [] state))
-      (λ under. leave_longer d t under (exec_else s calls p otherwise m state) (exec_else s calls p otherwise (m + d) state) (else_longer d s calls h p otherwise m state)))
+      (λ under. leave_longer d t under (exec s calls p code m [] state) (exec s calls p code (m + d) [] state)
+      (exec_longer d s calls h p code m [] state))
+      (λ under. leave_longer d t under (exec_else s calls p otherwise m state) (exec_else s calls p otherwise (m + d) state)
+      (else_longer d s calls h p otherwise m state)))
   kind_longer d s calls h p Unreachable n stack state = spent d n state (λ left. Stops (Trapped trap.Unreachable) state) (λ m. refl)
   kind_longer d s calls h p (Br label) n stack state = spent d n state (λ left. Branch label left stack state) (λ m. refl)
   kind_longer d s calls h p (BrIf label) n stack state = spent d n state
@@ -246,8 +256,10 @@ mutual
       (λ rest. Branch label m rest state) (λ rest. Normal m rest state)
       (λ rest. Branch label (m + d) rest state) (λ rest. Normal (m + d) rest state)
       (λ rest. refl) (λ rest. refl))
-  kind_longer d s calls h p (BrTable labels default) n stack state = spent d n state (λ left. pick stack state labels default (λ label rest. Branch label left rest state)) (λ m.
-      pick_longer d stack state labels default (λ label rest. Branch label m rest state) (λ label rest. Branch label (m + d) rest state) (λ label rest. refl))
+  kind_longer d s calls h p (BrTable labels default) n stack state =
+      spent d n state (λ left. pick stack state labels default (λ label rest. Branch label left rest state)) (λ m.
+      pick_longer d stack state labels default (λ label rest. Branch label m rest state) (λ label rest. Branch label (m + d) rest state)
+      (λ label rest. refl))
   kind_longer d s calls h p Return n stack state = spent d n state (λ left. Returned left stack state) (λ m. refl)
   kind_longer d s calls h p (Call index) n stack state = spent d n state (λ left. call s calls (func_at s p index) left stack state)
       (λ m. call_longer d s calls h (func_at s p index) m stack state)
@@ -265,15 +277,19 @@ mutual
   else_longer d s calls h p no_else n state = refl
   else_longer d s calls h p (else_code place code) n state = exec_longer d s calls h p code n [] state
 
-gave_longer : (d : ℕ) (result : Option (Option Value)) (n : ℕ) (state : store.State) → LongerCall d (gave result n state) (gave result (n + d) state)
+gave_longer : (d : ℕ) (result : Option (Option Value)) (n : ℕ) (state : store.State)
+    → LongerCall d (gave result n state) (gave result (n + d) state)
 gave_longer d None n state = refl
 gave_longer d (Some result) n state = refl
 
 finish_longer : (d : ℕ) (t : Option ValType) (r s : Result) → Longer d r s → LongerCall d (finish t r) (finish t s)
-finish_longer d t (Normal n stack state) s e = subst (λ o. LongerCall d (gave (gives_all t stack) n state) (finish t o)) (sym e) (gave_longer d (gives_all t stack) n state)
-finish_longer d t (Branch zero n stack state) s e = subst (λ o. LongerCall d (gave (gives_top t stack) n state) (finish t o)) (sym e) (gave_longer d (gives_top t stack) n state)
+finish_longer d t (Normal n stack state) s e =
+    subst (λ o. LongerCall d (gave (gives_all t stack) n state) (finish t o)) (sym e) (gave_longer d (gives_all t stack) n state)
+finish_longer d t (Branch zero n stack state) s e =
+    subst (λ o. LongerCall d (gave (gives_top t stack) n state) (finish t o)) (sym e) (gave_longer d (gives_top t stack) n state)
 finish_longer d t (Branch (suc label) n stack state) s e = ap (finish t) e
-finish_longer d t (Returned n stack state) s e = subst (λ o. LongerCall d (gave (gives_top t stack) n state) (finish t o)) (sym e) (gave_longer d (gives_top t stack) n state)
+finish_longer d t (Returned n stack state) s e =
+    subst (λ o. LongerCall d (gave (gives_top t stack) n state) (finish t o)) (sym e) (gave_longer d (gives_top t stack) n state)
 finish_longer d t (Stops (Trapped kind) state) s e = ap (finish t) e
 finish_longer d t (Stops Asks state) s e = ap (finish t) e
 finish_longer d t (Stops OutOfSteps state) s e = tt
@@ -284,11 +300,13 @@ enter_longer : (d : ℕ) (s : LinkedSet) (calls : Calls) → LongerCalls d calls
     → LongerCall d (enter s calls p body ty args n made trail) (enter s calls p body ty args (n + d) made trail)
 enter_longer d s calls h p (Some body) (Some ty) args n made trail =
     let state : store.State = record { locals = args ++ zeros (declared_locals body.runs); store = made; trail = trail } in
-    finish_longer d ty.result (exec s calls p body.code n [] state) (exec s calls p body.code (n + d) [] state) (exec_longer d s calls h p body.code n [] state)
+    finish_longer d ty.result (exec s calls p body.code n [] state) (exec s calls p body.code (n + d) [] state)
+    (exec_longer d s calls h p body.code n [] state)
 enter_longer d s calls h p (Some body) None args n made trail = refl
 enter_longer d s calls h p None ty args n made trail = refl
 
-call_branch : (d : ℕ) (b : Bool) (r s u v : Called) → LongerCall d r s → LongerCall d u v → LongerCall d (if b then r else u) (if b then s else v)
+call_branch : (d : ℕ) (b : Bool) (r s u v : Called) → LongerCall d r s → LongerCall d u v
+    → LongerCall d (if b then r else u) (if b then s else v)
 call_branch d true r s u v h k = h
 call_branch d false r s u v h k = k
 
@@ -300,7 +318,8 @@ replied_longer d (Some ty) (HostTrapped ∷ replies) before a n made = refl
 replied_longer d (Some ty) (Gave result ∷ replies) before a n made =
     let taken : Trail = asked before a (Some (Gave result)) replies in
     let refused : Trail = asked before a None replies in
-    call_branch d (is_result ty.result result) (Back n result made taken) (Back (n + d) result made taken) (CallStops Asks made refused) (CallStops Asks made refused) refl refl
+    call_branch d (is_result ty.result result) (Back n result made taken) (Back (n + d) result made taken) (CallStops Asks made refused)
+    (CallStops Asks made refused) refl refl
 
 pub calls_longer : (d : ℕ) (s : LinkedSet) (room : ℕ) → LongerCalls d (call_within s room)
 calls_longer d s zero (HostFunc h f) args n made trail =

@@ -39,11 +39,13 @@ taken s p i made trail kind n = elim kind [
 taken_longer : (d : ℕ) (s : LinkedSet) (p : ℕ) (i : Import) (kind : ImportKind) (n : ℕ) (made : store.Store) (trail : Trail)
     → LongerCall d (taken s p i made trail kind n) (taken s p i made trail kind (n + d))
 taken_longer d s p i (ImportFunc t) n made trail = refl
-taken_longer d s p i (ImportTable want) n made trail = found_longer d (if_found (if_found (import_at s p i) as_table) (store.table_in made)) made trail
+taken_longer d s p i (ImportTable want) n made trail =
+    found_longer d (if_found (if_found (import_at s p i) as_table) (store.table_in made)) made trail
     (λ t. tested (limits_fit (length t.elements) t.max want) trap.ImportLimits n made trail)
     (λ t. tested (limits_fit (length t.elements) t.max want) trap.ImportLimits (n + d) made trail)
     (λ t. tested_longer d (limits_fit (length t.elements) t.max want) trap.ImportLimits n made trail)
-taken_longer d s p i (ImportMemory want) n made trail = found_longer d (if_found (if_found (import_at s p i) as_memory) (store.memory_in made)) made trail
+taken_longer d s p i (ImportMemory want) n made trail =
+    found_longer d (if_found (if_found (import_at s p i) as_memory) (store.memory_in made)) made trail
     (λ m. tested (limits_fit (store.pages m) m.max want) trap.ImportLimits n made trail)
     (λ m. tested (limits_fit (store.pages m) m.max want) trap.ImportLimits (n + d) made trail)
     (λ m. tested_longer d (limits_fit (store.pages m) m.max want) trap.ImportLimits n made trail)
@@ -55,7 +57,8 @@ table_longer : (d : ℕ) (s : LinkedSet) (p : ℕ) (e : ElementEntry) (made : st
     → LongerCall d (with_table_at s p e made trail go) (with_table_at s p e made trail other)
 table_longer d s p e made trail go other h =
     found_longer d (table_at s p e.table) made trail
-    (λ owner. with_found (store.table_in made owner) made trail (λ t. with_found (if_found (constant_of s p made e.offset) as_offset) made trail (λ offset. go owner t offset)))
+    (λ owner. with_found (store.table_in made owner) made trail
+    (λ t. with_found (if_found (constant_of s p made e.offset) as_offset) made trail (λ offset. go owner t offset)))
     (λ owner. with_found (store.table_in made owner) made trail
     (λ t. with_found (if_found (constant_of s p made e.offset) as_offset) made trail (λ offset. other owner t offset)))
     (λ owner. found_longer d (store.table_in made owner) made trail
@@ -70,7 +73,8 @@ memory_longer : (d : ℕ) (s : LinkedSet) (p : ℕ) (e : SegmentEntry) (made : s
     → LongerCall d (with_memory_at s p e made trail go) (with_memory_at s p e made trail other)
 memory_longer d s p e made trail go other h =
     found_longer d (memory_at s p e.memory) made trail
-    (λ owner. with_found (store.memory_in made owner) made trail (λ m. with_found (if_found (constant_of s p made e.offset) as_offset) made trail (λ offset. go owner m offset)))
+    (λ owner. with_found (store.memory_in made owner) made trail
+    (λ m. with_found (if_found (constant_of s p made e.offset) as_offset) made trail (λ offset. go owner m offset)))
     (λ owner. with_found (store.memory_in made owner) made trail
     (λ m. with_found (if_found (constant_of s p made e.offset) as_offset) made trail (λ offset. other owner m offset)))
     (λ owner. found_longer d (store.memory_in made owner) made trail
@@ -87,7 +91,8 @@ task_longer d s p (MakeTable l) n made trail = refl
 task_longer d s p (MakeMemory l) n made trail = refl
 task_longer d s p (MakeGlobal ty initial) n made trail = found_longer d (first_value s p made ty initial) made trail
     (λ v. done n (store.with_objects made p (λ o. record { memory = o.memory; table = o.table; globals = o.globals ++ v ∷ [] })) trail)
-    (λ v. done (n + d) (store.with_objects made p (λ o. record { memory = o.memory; table = o.table; globals = o.globals ++ v ∷ [] })) trail)
+    (λ v. done (n + d) (store.with_objects made p (λ o. record { memory = o.memory; table = o.table; globals = o.globals ++ v ∷ [] }))
+    trail)
     (λ v. refl)
 task_longer d s p (TestElements e) n made trail = table_longer d s p e made trail
     (λ owner t offset. tested (nat_le (offset + length e.funcs) (length t.elements)) trap.SegmentOut n made trail)
@@ -109,11 +114,14 @@ task_longer d s p (WriteElement e number func) n made trail = table_longer d s p
     (record { elements = slice_set t.elements (offset + number) (Some f); max = t.max })) trail))
     (λ owner t offset. found_longer d (func_at s p func) made trail
     (λ f. done n (store.with_table made owner (record { elements = slice_set t.elements (offset + number) (Some f); max = t.max })) trail)
-    (λ f. done (n + d) (store.with_table made owner (record { elements = slice_set t.elements (offset + number) (Some f); max = t.max })) trail)
+    (λ f. done (n + d) (store.with_table made owner (record { elements = slice_set t.elements (offset + number) (Some f); max = t.max }))
+    trail)
     (λ f. refl))
 task_longer d s p (WriteByte e number byte) n made trail = memory_longer d s p e made trail
-    (λ owner m offset. done n (store.with_memory made owner (record { bytes = slice_set m.bytes (offset + number) byte; max = m.max })) trail)
-    (λ owner m offset. done (n + d) (store.with_memory made owner (record { bytes = slice_set m.bytes (offset + number) byte; max = m.max })) trail)
+    (λ owner m offset. done n (store.with_memory made owner (record { bytes = slice_set m.bytes (offset + number) byte; max = m.max }))
+    trail)
+    (λ owner m offset. done (n + d) (store.with_memory made owner
+    (record { bytes = slice_set m.bytes (offset + number) byte; max = m.max })) trail)
     (λ owner m offset. refl)
 task_longer d s p (CallStart func) n made trail = found_longer d (func_at s p func) made trail
     (λ f. call_within s 1024 f [] n made trail) (λ f. call_within s 1024 f [] (n + d) made trail)
@@ -149,7 +157,8 @@ tasks_longer d s (t ∷ plan) last n made trail =
     (paid (is_free t.task) n made trail (λ left. do_task s t.place t.task left made trail))
     (paid (is_free t.task) (n + d) made trail (λ left. do_task s t.place t.task left made trail))
     t (run_tasks s plan t.phase)
-    (paid_longer d (is_free t.task) n made trail (λ left. do_task s t.place t.task left made trail) (λ m. task_longer d s t.place t.task m made trail))
+    (paid_longer d (is_free t.task) n made trail (λ left. do_task s t.place t.task left made trail)
+    (λ m. task_longer d s t.place t.task m made trail))
     (λ m made' trail'. tasks_longer d s plan t.phase m made' trail')
 
 abbrev fresh : LinkedSet → store.Store

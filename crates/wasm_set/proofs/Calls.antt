@@ -3,6 +3,7 @@ use Rattle.std.proofs.Common.{◌≡◌, ◌≤◌, true, List, [], ◌∷◌, m
 use Rattle.std.specs.List.{AllByRecursion, list_all}
 use Rattle.std.proofs.lemmas.Bool.Decides.{nat_tests}
 use Rattle.std.proofs.lemmas.List.{take_all}
+use Rattle.w2c_base.proofs.Conjunctions.{both_hold}
 use Rattle.w2c_base.specs.declared.value.Value.{Value}
 use Rattle.w2c_base.specs.declared.value.ValType.{ValType}
 use Rattle.w2c_base.specs.declared.signature.FuncType.{FuncType}
@@ -19,7 +20,7 @@ use Rattle.wasm_set.specs.Sets.{named_of, set_of}
 use Rattle.wasm_set.specs.Offers.{offered}
 use Rattle.wasm_set.specs.Joining.{module_named, takes, offer_takes, module_takes}
 use Rattle.wasm_set.proofs.Pairs.{Together}
-use Rattle.wasm_set.proofs.EqualTypes.{both_hold, one_list, same_list}
+use Rattle.wasm_set.proofs.EqualTypes.{one_list, same_list}
 use Rattle.wasm_set.proofs.Stands.{Stands}
 use Rattle.wasm_set.proofs.Instances.{IsInstanceOf, StandsIn, behind_is, first_stand, found_stands}
 

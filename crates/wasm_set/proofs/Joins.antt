@@ -5,6 +5,7 @@ use Rattle.std.proofs.lemmas.Bool.Decides.{nat_tests}
 use Rattle.std.proofs.lemmas.List.{length-append, length-map, map-append}
 use Rattle.std.proofs.lemmas.Option.{slice_get_within}
 use Rattle.std.proofs.lemmas.Slice.Eq.{bytes_eq-Decides}
+use Rattle.w2c_base.proofs.Conjunctions.{both_hold}
 use Rattle.w2c_base.specs.Lookup.{AreDistinct}
 use Rattle.w2c_base.specs.Run.{Host}
 use Rattle.wasm_tree.specs.declared.tree.Module.{Module}
@@ -13,7 +14,7 @@ use Rattle.wasm_set.specs.declared.set_module.SetModule.{SetModule}
 use Rattle.wasm_set.specs.Sets.{named_of, set_of}
 use Rattle.wasm_set.specs.Joining.{module_named, is_given, may_join}
 use Rattle.wasm_set.proofs.Pairs.{Together}
-use Rattle.wasm_set.proofs.EqualTypes.{both, both_hold}
+use Rattle.wasm_set.proofs.EqualTypes.{both}
 use Rattle.wasm_set.proofs.Instances.{IsInstanceOf, IsSound, first_stand}
 use Rattle.wasm_set.proofs.Extending.{alone, module_extends, all_extend}
 use Rattle.wasm_set.proofs.Resolving.{IsBehind, given_resolve, resolved_are_given}

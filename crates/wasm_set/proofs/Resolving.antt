@@ -3,6 +3,7 @@ use Rattle.std.proofs.Common.{◌≡◌, ℕ, Bool, true, List, [], ◌∷◌, m
 use Rattle.std.specs.List.{AllByRecursion, list_all}
 use Rattle.std.specs.Option.{option_or}
 use Rattle.std.proofs.lemmas.Option.{some_pair_parts}
+use Rattle.w2c_base.proofs.Conjunctions.{both_hold}
 use Rattle.w2c_base.specs.declared.value.ValType.{ValType}
 use Rattle.w2c_base.specs.declared.signature.FuncType.{FuncType}
 use Rattle.w2c_base.specs.Values.{equal_type}
@@ -20,7 +21,7 @@ use Rattle.wasm_set.specs.Sets.{named_of}
 use Rattle.wasm_set.specs.Offers.{offered, are_one_type, equal_bool, is_of_kind}
 use Rattle.wasm_set.specs.Joining.{module_named, gives_if_any, gives, is_given}
 use Rattle.wasm_set.proofs.Pairs.{Together}
-use Rattle.wasm_set.proofs.EqualTypes.{both, both_hold, one_type, same_type, one_bool, same_bool, same_func_type, are_one}
+use Rattle.wasm_set.proofs.EqualTypes.{both, one_type, same_type, one_bool, same_bool, same_func_type, are_one}
 use Rattle.wasm_set.proofs.Stands.{Stands, of_kind, type_at_is}
 use Rattle.wasm_set.proofs.Instances.{IsInstanceOf, StandsIn, found_stands}
 
@@ -85,7 +86,8 @@ resolved s p i (ImportGlobal ty mutable) r = (IsGlobal r.0, r.1)
 -- ---- by the module of the name
 
 gives_resolves : (s : LinkedSet) (p : ℕ) (m : Module) → module_at s p ≡ Some m
-    → (i : Import) (from : Option SetModule) (x : Option External) → StandsIn s x from i.field → import_at s p i ≡ x → gives from m i ≡ true → Resolves s p i
+    → (i : Import) (from : Option SetModule) (x : Option External) → StandsIn s x from i.field
+    → import_at s p i ≡ x → gives from m i ≡ true → Resolves s p i
 gives_resolves s p m is i None x stands at e = absurd (cc)
 gives_resolves s p m is i (Some from) x stands at e = by (offered from.«module» i.field) stands e
   where
@@ -94,7 +96,8 @@ gives_resolves s p m is i (Some from) x stands at e = by (offered from.«module�
     by (Some o) h e = offer_resolves s p from.«module» m is i o x h at i.kind e
 
 resolves_gives : (s : LinkedSet) (p : ℕ) (m : Module) → module_at s p ≡ Some m
-    → (i : Import) (from : Option SetModule) (x : Option External) → StandsIn s x from i.field → import_at s p i ≡ x → Resolves s p i → gives from m i ≡ true
+    → (i : Import) (from : Option SetModule) (x : Option External) → StandsIn s x from i.field
+    → import_at s p i ≡ x → Resolves s p i → gives from m i ≡ true
 resolves_gives s p m is i None x none at r =
     let y = resolved s p i i.kind r in
     let wrong : Some y.0 ≡ None = sym y.1 ∙ at ∙ none in absurd (cc)

@@ -36,8 +36,10 @@ SpellsPrefixed op r = (room : ℕ) (rest : Fields) → instr_fields room r.kind 
 abbrev pub SpellsRow : ℕ → Form → Type 0
 SpellsRow op (nothing kind) = (room : ℕ) (rest : Fields) → instr_fields room kind rest ≡ byte op rest
 SpellsRow op (an_index make) = (n : ℕ) (room : ℕ) (rest : Fields) → instr_fields room (make n) rest ≡ byte op (number n rest)
-SpellsRow op (a_mem_arg make) = (m : MemArg) (room : ℕ) (rest : Fields) → instr_fields room (make m) rest ≡ byte op (number m.align (number m.offset rest))
-SpellsRow op (labels make) = (ls : List ℕ) (d : ℕ) (room : ℕ) (rest : Fields) → instr_fields room (make ls d) rest ≡ byte op (vector number ls (number d rest))
+SpellsRow op (a_mem_arg make) =
+    (m : MemArg) (room : ℕ) (rest : Fields) → instr_fields room (make m) rest ≡ byte op (number m.align (number m.offset rest))
+SpellsRow op (labels make) =
+    (ls : List ℕ) (d : ℕ) (room : ℕ) (rest : Fields) → instr_fields room (make ls d) rest ≡ byte op (vector number ls (number d rest))
 SpellsRow op (a_type make) = (n : ℕ) (room : ℕ) (rest : Fields) → instr_fields room (make n) rest ≡ byte op (number n (number 0 rest))
 SpellsRow op (a_zero kind) = (room : ℕ) (rest : Fields) → instr_fields room kind rest ≡ byte op (byte 0x00 rest)
 SpellsRow op (an_i32 make) = (n : ℤ) (room : ℕ) (rest : Fields) → instr_fields room (make n) rest ≡ byte op (signed 32 n rest)
@@ -115,7 +117,8 @@ no_prefixed A r e = absurd cc
 prefixed_in : (op n : ℕ) (rs : List Prefixed) (r : Prefixed) → AllByRecursion (SpellsPrefixed op) rs → first_prefixed n rs ≡ Some r
     → (r.sub_opcode ≡ n) × SpellsPrefixed op r
 prefixed_in op n [] r all is = no_prefixed _ r is
-prefixed_in op n (first ∷ rs) r all is = chosen_prefixed op n first r (first_prefixed n rs) (eqb first.sub_opcode n) refl all.0 (prefixed_in op n rs r all.1) is
+prefixed_in op n (first ∷ rs) r all is =
+    chosen_prefixed op n first r (first_prefixed n rs) (eqb first.sub_opcode n) refl all.0 (prefixed_in op n rs r all.1) is
 
 prefixed_spells : (op : ℕ) → AllByRecursion (SpellsPrefixed op) prefixed → (n : ℕ) (r : Prefixed) → prefixed_of n ≡ Some r
     → (r.sub_opcode ≡ n) × SpellsPrefixed op r
@@ -146,7 +149,8 @@ unfolding mem_arg_at
 mem_arg_takes a v b e =
     first_taken _ _ number number_takes a (v, b) e (λ x0 b0 t0 e0.
     first_taken _ _ number number_takes b0 (v, b) e0 (λ x1 b1 t1 e1.
-    subst (λ (y : MemArg × At). Took a (λ rest. number y.0.align (number y.0.offset rest)) y.1) (ok_is _ (v, b) e1) (took_then a b0 b1 t0 t1)))
+    subst (λ (y : MemArg × At). Took a (λ rest. number y.0.align (number y.0.offset rest)) y.1) (ok_is _ (v, b) e1)
+    (took_then a b0 b1 t0 t1)))
 
 mem_arg_again : Again mem_arg_at (λ m rest. number m.align (number m.offset rest))
 unfolding mem_arg_at
@@ -166,30 +170,36 @@ unfolding form_at
 form_takes room op (nothing kind) r a k b e =
     subst (λ (y : Kind × At). Behind room op y.0 a y.1) (ok_is _ (k, b) e) ((λ rest. rest), took_none a, r room)
 form_takes room op (an_index make) r a k b e =
-    first_taken _ _ number number_takes a (k, b) e (λ n c t e0. subst (λ (y : Kind × At). Behind room op y.0 a y.1) (ok_is _ (k, b) e0) (number n, t, r n room))
+    first_taken _ _ number number_takes a (k, b) e
+    (λ n c t e0. subst (λ (y : Kind × At). Behind room op y.0 a y.1) (ok_is _ (k, b) e0) (number n, t, r n room))
 form_takes room op (a_mem_arg make) r a k b e =
     first_taken _ _ (λ m rest. number m.align (number m.offset rest)) mem_arg_takes a (k, b) e (λ m c t e0.
     subst (λ (y : Kind × At). Behind room op y.0 a y.1) (ok_is _ (k, b) e0) ((λ rest. number m.align (number m.offset rest)), t, r m room))
 form_takes room op (labels make) r a k b e =
     first_taken _ _ (vector number) index_vector_takes a (k, b) e (λ ls c t e0.
     first_taken _ _ number number_takes c (k, b) e0 (λ d c1 t1 e1.
-    subst (λ (y : Kind × At). Behind room op y.0 a y.1) (ok_is _ (k, b) e1) ((λ rest. vector number ls (number d rest)), took_then a c c1 t t1, r ls d room)))
+    subst (λ (y : Kind × At). Behind room op y.0 a y.1) (ok_is _ (k, b) e1)
+    ((λ rest. vector number ls (number d rest)), took_then a c c1 t t1, r ls d room)))
 form_takes room op (a_type make) r a k b e =
     first_taken _ _ number number_takes a (k, b) e (λ n c t e0.
     first_taken _ _ (λ u. number 0) zero_takes c (k, b) e0 (λ u c1 t1 e1.
-    subst (λ (y : Kind × At). Behind room op y.0 a y.1) (ok_is _ (k, b) e1) ((λ rest. number n (number 0 rest)), took_then a c c1 t t1, r n room)))
+    subst (λ (y : Kind × At). Behind room op y.0 a y.1) (ok_is _ (k, b) e1)
+    ((λ rest. number n (number 0 rest)), took_then a c c1 t t1, r n room)))
 form_takes room op (a_zero kind) r a k b e =
     first_taken _ _ (λ u. byte 0x00) (exactly_takes 0x00 cause.ZeroByteExpected) a (k, b) e (λ u c t e0.
     subst (λ (y : Kind × At). Behind room op y.0 a y.1) (ok_is _ (k, b) e0) (byte 0x00, t, r room))
 form_takes room op (an_i32 make) r a k b e =
-    first_taken _ _ (signed 32) signed32_takes a (k, b) e (λ n c t e0. subst (λ (y : Kind × At). Behind room op y.0 a y.1) (ok_is _ (k, b) e0) (signed 32 n, t, r n room))
+    first_taken _ _ (signed 32) signed32_takes a (k, b) e
+    (λ n c t e0. subst (λ (y : Kind × At). Behind room op y.0 a y.1) (ok_is _ (k, b) e0) (signed 32 n, t, r n room))
 form_takes room op (an_i64 make) r a k b e =
-    first_taken _ _ (signed 64) signed64_takes a (k, b) e (λ n c t e0. subst (λ (y : Kind × At). Behind room op y.0 a y.1) (ok_is _ (k, b) e0) (signed 64 n, t, r n room))
+    first_taken _ _ (signed 64) signed64_takes a (k, b) e
+    (λ n c t e0. subst (λ (y : Kind × At). Behind room op y.0 a y.1) (ok_is _ (k, b) e0) (signed 64 n, t, r n room))
 form_takes room op a_sub_opcode r a k b e =
     let x = reads_ok (checked number_at sub_opcode_of) _ a (k, b) e in
     let n = checked_ok number_at sub_opcode_of a x.0 x.1 x.2 in
     let us = reads_ok (times_at (exactly_at 0x00 cause.ZeroByteExpected) x.0.zeros) _ x.1 (k, b) x.3 in
-    let t = times_takes (exactly_at 0x00 cause.ZeroByteExpected) (λ u. byte 0x00) (exactly_takes 0x00 cause.ZeroByteExpected) x.0.zeros x.1 us.0 us.1 us.2 in
+    let t = times_takes (exactly_at 0x00 cause.ZeroByteExpected) (λ u. byte 0x00)
+    (exactly_takes 0x00 cause.ZeroByteExpected) x.0.zeros x.1 us.0 us.1 us.2 in
     let first : Took a (number n.0) x.1 = number_takes a n.0 x.1 n.1 in
     let all = took_then a x.1 us.1 first t.0 in
     let is : prefixed_of n.0 ≡ Some x.0 = sub_opcode_found (prefixed_of n.0) a.place x.0 n.2 in
@@ -217,9 +227,12 @@ index_again make n a rest s = first_again _ number number_again a n rest s (λ b
 
 arg_again : (make : MemArg → Kind) (m : MemArg) → ReadAs (a_mem_arg make) (make m) (λ rest. number m.align (number m.offset rest))
 unfolding form_at
-arg_again make m a rest s = first_again _ (λ m rest. number m.align (number m.offset rest)) mem_arg_again a m rest s (λ b e t. (b, reads_again _ _ a m b _ e refl, t))
+arg_again make m a rest s =
+    first_again _ (λ m rest. number m.align (number m.offset rest)) mem_arg_again a m rest s
+    (λ b e t. (b, reads_again _ _ a m b _ e refl, t))
 
-labels_again : (make : List ℕ → ℕ → Kind) (ls : List ℕ) (d : ℕ) → ReadAs (labels make) (make ls d) (λ rest. vector number ls (number d rest))
+labels_again : (make : List ℕ → ℕ → Kind) (ls : List ℕ) (d : ℕ)
+    → ReadAs (labels make) (make ls d) (λ rest. vector number ls (number d rest))
 unfolding form_at
 labels_again make ls d a rest s =
     first_again _ (vector number) index_vector_again a ls (number d rest) s (λ b e t.
@@ -229,11 +242,14 @@ type_index_again : (make : ℕ → Kind) (n : ℕ) → ReadAs (a_type make) (mak
 unfolding form_at
 type_index_again make n a rest s =
     first_again _ number number_again a n (number 0 rest) s (λ b e t.
-    first_again _ (λ u. number 0) zero_again b tt rest t (λ b1 e1 t1. (b1, reads_again _ _ a n b _ e (reads_again _ _ b tt b1 _ e1 refl), t1)))
+    first_again _ (λ u. number 0) zero_again b tt rest t
+    (λ b1 e1 t1. (b1, reads_again _ _ a n b _ e (reads_again _ _ b tt b1 _ e1 refl), t1)))
 
 zero_byte_again : (k : Kind) → ReadAs (a_zero k) k (byte 0x00)
 unfolding form_at
-zero_byte_again k a rest s = first_again _ (λ u. byte 0x00) (exactly_again 0x00 cause.ZeroByteExpected) a tt rest s (λ b e t. (b, reads_again _ _ a tt b _ e refl, t))
+zero_byte_again k a rest s =
+    first_again _ (λ u. byte 0x00) (exactly_again 0x00 cause.ZeroByteExpected) a tt rest s
+    (λ b e t. (b, reads_again _ _ a tt b _ e refl, t))
 
 i32_again : (make : ℤ → Kind) (n : ℤ) → ReadAs (an_i32 make) (make n) (signed 32 n)
 unfolding form_at
@@ -250,7 +266,8 @@ prefixed_again r is a rest s =
     let n = number_again a r.sub_opcode (zero_bytes r.zeros rest) s in
     let us : List (Unit {0}) = replicate r.zeros tt in
     let many : length us ≡ r.zeros = length-replicate r.zeros tt in
-    let t = times_again (exactly_at 0x00 cause.ZeroByteExpected) (λ u. byte 0x00) (exactly_again 0x00 cause.ZeroByteExpected) r.zeros n.0 us rest many
+    let t = times_again (exactly_at 0x00 cause.ZeroByteExpected) (λ u. byte 0x00)
+    (exactly_again 0x00 cause.ZeroByteExpected) r.zeros n.0 us rest many
     (subst (λ (fields : Fields). SpelledAt fields n.0) (sym (each_zero us rest ∙ ap (λ k. zero_bytes k rest) many)) n.2) in (
       t.0,
       reads_again (checked number_at sub_opcode_of) _ a r n.0 _ (checked_again number_at sub_opcode_of a r.sub_opcode r n.0 n.1
@@ -301,7 +318,8 @@ form_again (Block r c e) f h = no_form _ f h
 form_again (Loop r c e) f h = no_form _ f h
 form_again (If r c o e) f h = no_form _ f h
 
-pub plain_fields : (room : ℕ) (k : Kind) (f : Form) (rest : Fields) → form_of k ≡ Some f → instr_fields room k rest ≡ byte (opcode_of k) (immediates k rest)
+pub plain_fields : (room : ℕ) (k : Kind) (f : Form) (rest : Fields) → form_of k ≡ Some f
+    → instr_fields room k rest ≡ byte (opcode_of k) (immediates k rest)
 plain_fields room Unreachable f rest e = refl
 plain_fields room Nop f rest e = refl
 plain_fields room Return f rest e = refl
@@ -340,7 +358,8 @@ plain_fields room (If r c o e) f rest h = no_form _ f h
 -- ---- the machine
 
 -- what is read is the last of the fields
-then_done : {A B : Type 0} (front : List Field) (read : Reader A) (f : A → B) → Follows front read → Follows front (reads read (λ x. done (f x)))
+then_done : {A B : Type 0} (front : List Field) (read : Reader A) (f : A → B) → Follows front read
+    → Follows front (reads read (λ x. done (f x)))
 then_done {A} {B} front read f h = subst (λ (fields : List Field). Follows fields (reads read (λ x. done (f x)))) (append-nil front)
     (follows_both front [] read (λ x. done (f x)) h (λ x. follows_none (f x)))
 
@@ -353,12 +372,19 @@ form_follows (labels make) =
     follows_both (table.vector of_indexes ∷ []) (index ∷ []) _ _ (vector_follows of_indexes number_at index_follows) (λ ls.
     follows_both (index ∷ []) [] _ _ index_follows (λ d. follows_none (make ls d)))
 form_follows a_sub_opcode =
-    follows_from (table.sub_opcode ∷ []) (λ r. times r.zeros (table.exactly 0x00 cause.ZeroByteExpected ∷ [])) (checked number_at sub_opcode_of) _
-    (follows_row table.sub_opcode (checked number_at sub_opcode_of) (λ r. times r.zeros (table.exactly 0x00 cause.ZeroByteExpected ∷ [])) (λ a outer fields. refl))
-    (λ r. then_done (times r.zeros (table.exactly 0x00 cause.ZeroByteExpected ∷ [])) (times_at (exactly_at 0x00 cause.ZeroByteExpected) r.zeros) (λ us. r.kind)
-    (times_follows (exactly_at 0x00 cause.ZeroByteExpected) (table.exactly 0x00 cause.ZeroByteExpected ∷ []) (exactly_follows 0x00 cause.ZeroByteExpected) r.zeros))
+    follows_from (table.sub_opcode ∷ []) (λ r. times r.zeros (table.exactly 0x00 cause.ZeroByteExpected ∷ []))
+    (checked number_at sub_opcode_of) _
+    (follows_row table.sub_opcode (checked number_at sub_opcode_of) (λ r. times r.zeros (table.exactly 0x00 cause.ZeroByteExpected ∷ []))
+    (λ a outer fields. refl))
+    (λ r. then_done (times r.zeros (table.exactly 0x00 cause.ZeroByteExpected ∷ []))
+    (times_at (exactly_at 0x00 cause.ZeroByteExpected) r.zeros) (λ us. r.kind)
+    (times_follows (exactly_at 0x00 cause.ZeroByteExpected) (table.exactly 0x00 cause.ZeroByteExpected ∷ [])
+    (exactly_follows 0x00 cause.ZeroByteExpected) r.zeros))
 form_follows (a_type make) =
-    follows_both (index ∷ []) (table.zero_number ∷ []) _ _ index_follows (λ n. follows_both (table.zero_number ∷ []) [] _ _ zero_follows (λ u. follows_none (make n)))
-form_follows (a_zero kind) = follows_both (table.exactly 0x00 cause.ZeroByteExpected ∷ []) [] _ _ (exactly_follows 0x00 cause.ZeroByteExpected) (λ u. follows_none kind)
+    follows_both (index ∷ []) (table.zero_number
+    ∷ []) _ _ index_follows (λ n. follows_both (table.zero_number ∷ []) [] _ _ zero_follows (λ u. follows_none (make n)))
+form_follows (a_zero kind) =
+    follows_both (table.exactly 0x00 cause.ZeroByteExpected ∷ []) [] _ _ (exactly_follows 0x00 cause.ZeroByteExpected)
+    (λ u. follows_none kind)
 form_follows (an_i32 make) = follows_both (table.signed32 ∷ []) [] _ _ signed32_follows (λ n. follows_none (make n))
 form_follows (an_i64 make) = follows_both (table.signed64 ∷ []) [] _ _ signed64_follows (λ n. follows_none (make n))

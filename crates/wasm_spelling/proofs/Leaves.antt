@@ -36,40 +36,52 @@ use Rattle.wasm_spelling.proofs.Runs.{Follows, follows_row, follows_from, runs_n
 pub place_takes : Takes place_at here
 place_takes a v b e =
     let same : (a.place, a) ≡ (v, b) = ok_is (a.place, a) (v, b) e in
-    subst (λ (x : ℕ × At). Took a (here x.0) x.1) same (record { taken = record { spelled = λ fields s. (refl, s); moved = refl; within = omega arith }; kept = refl })
+    subst (λ (x : ℕ × At). Took a (here x.0) x.1) same
+    (record { taken = record { spelled = λ fields s. (refl, s); moved = refl; within = omega arith }; kept = refl })
 
 pub place_again : Again place_at here
 place_again a v rest s = (a, ap (λ p. Ok (p, a)) s.0, s.1)
 
 -- ---- bytes
 
-pub byte_front : (place : ℕ) (left : List ℕ) (counts : Counts) (v : ℕ) (b : At) → byte_of place left counts ≡ Ok (v, b) → Front (record { place = place; left = left; counts = counts }) (v ∷ []) b
+pub byte_front : (place : ℕ) (left : List ℕ) (counts : Counts) (v : ℕ) (b : At) → byte_of place left counts ≡ Ok (v, b)
+    → Front (record { place = place; left = left; counts = counts }) (v ∷ []) b
 byte_front place [] counts v b e = not_ok _ (v, b) e
 byte_front place (x ∷ left) counts v b e =
-    let same : (x, record { place = place + 1; left = left; counts = counts }) ≡ (v, b) = ok_is (x, record { place = place + 1; left = left; counts = counts }) (v, b) e in
-    subst (λ (y : ℕ × At). Front (record { place = place; left = x ∷ left; counts = counts }) (y.0 ∷ []) y.1) same (record { bytes = refl; place = refl; kept = refl })
+    let same : (x, record { place = place + 1; left = left; counts = counts }) ≡ (v, b) =
+    ok_is (x, record { place = place + 1; left = left; counts = counts }) (v, b) e in
+    subst (λ (y : ℕ × At). Front (record { place = place; left = x ∷ left; counts = counts }) (y.0 ∷ []) y.1) same
+    (record { bytes = refl; place = refl; kept = refl })
 
 pub byte_takes : Takes byte_at byte
-byte_takes a v b e = took_front a b (v ∷ []) (byte v) (λ _ front. front ≡ v ∷ []) (λ fields place bytes t. t) (byte_front a.place a.left a.counts v b e) refl
+byte_takes a v b e =
+    took_front a b (v ∷ []) (byte v) (λ _ front. front ≡ v ∷ []) (λ fields place bytes t. t) (byte_front a.place a.left a.counts v b e) refl
 
 pub byte_again : Again byte_at byte
 byte_again a v rest (front, left, e, is, s) =
-    let bytes : a.left ≡ v ∷ left = e ∙ ap (λ (l : List ℕ). l ++ left) is in
-    (record { place = a.place + 1; left = left; counts = a.counts }, ap (λ (l : List ℕ). byte_of a.place l a.counts) bytes, subst (λ (l : List ℕ). Spelled rest (a.place + length l) left) is s)
+    let bytes : a.left ≡ v ∷ left = e ∙ ap (λ (l : List ℕ). l ++ left) is in (
+      record { place = a.place + 1; left = left; counts = a.counts },
+      ap (λ (l : List ℕ). byte_of a.place l a.counts) bytes,
+      subst (λ (l : List ℕ). Spelled rest (a.place + length l) left) is s,
+    )
 
 -- ---- numbers
 
-number_front : {N : Type 0} (a : At) (v : N) (b : At) (r : Result (N × ℕ) LebFault) → number_of a r ≡ Ok (v, b) → (k : ℕ) × (r ≡ Ok (v, k)) × (b ≡ moved k a)
+number_front : {N : Type 0} (a : At) (v : N) (b : At) (r : Result (N × ℕ) LebFault) → number_of a r ≡ Ok (v, b)
+    → (k : ℕ) × (r ≡ Ok (v, k)) × (b ≡ moved k a)
 number_front {N} a v b (Ok x) e =
     let same : (x.0, moved x.1 a) ≡ (v, b) = ok_is (x.0, moved x.1 a) (v, b) e in
     (x.1, ap (λ (y : N × At). Ok (y.0, x.1)) same, sym (ap (λ (y : N × At). y.1) same))
 number_front a v b (Err f) e = not_ok _ (v, b) e
 
 front_moved : (a : At) (k : ℕ) → k ≤ length a.left → Front a (take k a.left) (moved k a)
-front_moved a k le = record { bytes = sym (take-append-drop k a.left); place = ap (λ n. a.place + n) (sym (length-take-le k a.left le)); kept = refl }
+front_moved a k le =
+    record { bytes = sym (take-append-drop k a.left); place = ap (λ n. a.place + n) (sym (length-take-le k a.left le)); kept = refl }
 
-moved_front : (a : At) (front rest : List ℕ) → a.left ≡ front ++ rest → moved (length front) a ≡ record { place = a.place + length front; left = rest; counts = a.counts }
-moved_front a front rest e = λ i. record { place = a.place + length front; left = (ap (drop (length front)) e ∙ drop-append_seam front rest) i; counts = a.counts }
+moved_front : (a : At) (front rest : List ℕ) → a.left ≡ front ++ rest
+    → moved (length front) a ≡ record { place = a.place + length front; left = rest; counts = a.counts }
+moved_front a front rest e =
+    λ i. record { place = a.place + length front; left = (ap (drop (length front)) e ∙ drop-append_seam front rest) i; counts = a.counts }
 
 pub number_is : (a : At) (v : ℕ) (b : At) → number_at a ≡ Ok (v, b) → (front : List ℕ) × Front a front b × SpellsUnsigned 32 front v
 unfolding number_at
@@ -84,7 +96,8 @@ number_takes a v b e =
     took_front a b n.0 (number v) (λ _ front. SpellsUnsigned 32 front v) (λ fields place bytes t. t) n.1 n.2
 
 -- whatever is behind the number
-pub number_then : (a : At) (v : ℕ) (Q : ℕ → List ℕ → Type 0) → Then (λ _ front. SpellsUnsigned 32 front v) Q a.place a.left → (b : At) × (number_at a ≡ Ok (v, b)) × Q b.place b.left × (b.counts ≡ a.counts)
+pub number_then : (a : At) (v : ℕ) (Q : ℕ → List ℕ → Type 0) → Then (λ _ front. SpellsUnsigned 32 front v) Q a.place a.left
+    → (b : At) × (number_at a ≡ Ok (v, b)) × Q b.place b.left × (b.counts ≡ a.counts)
 unfolding number_at
 number_then a v Q (front, left, e, is, s) = (
   record { place = a.place + length front; left = left; counts = a.counts },
@@ -101,7 +114,9 @@ unfolding signed32_at
 signed32_takes a v b e =
     let n = number_front a v b (s32_of a.left) e in
     let s = s32_of-spelled a.left v n.0 n.1 in
-    subst (λ (c : At). Took a (signed 32 v) c) (sym n.2) (took_front a (moved n.0 a) (take n.0 a.left) (signed 32 v) (λ _ front. SpellsSigned 32 front v) (λ fields place bytes t. t) (front_moved a n.0 s.0) s.1)
+    subst (λ (c : At). Took a (signed 32 v) c) (sym n.2)
+    (took_front a (moved n.0 a) (take n.0 a.left) (signed 32 v) (λ _ front. SpellsSigned 32 front v) (λ fields place bytes t. t)
+    (front_moved a n.0 s.0) s.1)
 
 pub signed32_again : Again signed32_at (signed 32)
 unfolding signed32_at
@@ -116,7 +131,9 @@ unfolding signed64_at
 signed64_takes a v b e =
     let n = number_front a v b (s64_of a.left) e in
     let s = s64_of-spelled a.left v n.0 n.1 in
-    subst (λ (c : At). Took a (signed 64 v) c) (sym n.2) (took_front a (moved n.0 a) (take n.0 a.left) (signed 64 v) (λ _ front. SpellsSigned 64 front v) (λ fields place bytes t. t) (front_moved a n.0 s.0) s.1)
+    subst (λ (c : At). Took a (signed 64 v) c) (sym n.2)
+    (took_front a (moved n.0 a) (take n.0 a.left) (signed 64 v) (λ _ front. SpellsSigned 64 front v) (λ fields place bytes t. t)
+    (front_moved a n.0 s.0) s.1)
 
 pub signed64_again : Again signed64_at (signed 64)
 unfolding signed64_at
@@ -135,15 +152,19 @@ bytes_takes n a v b e = elim (chosen (ltb (length a.left) n) _ _ _ e) [
   | inr miss ↦
       let le : n ≤ length a.left = ltb-false (length a.left) n miss.0 in
       let same : (take n a.left, moved n a) ≡ (v, b) = ok_is (take n a.left, moved n a) (v, b) miss.1 in
-      subst (λ (x : List ℕ × At). Took a (text x.0) x.1 × (length x.0 ≡ n)) same
-      (took_front a (moved n a) (take n a.left) (text (take n a.left)) (λ _ front. front ≡ take n a.left) (λ fields place bytes t. t) (front_moved a n le) refl, length-take-le n a.left le)
+      subst (λ (x : List ℕ × At). Took a (text x.0) x.1 × (length x.0 ≡ n)) same (
+        took_front a (moved n a) (take n a.left) (text (take n a.left)) (λ _ front. front ≡ take n a.left) (λ fields place bytes t. t)
+            (front_moved a n le) refl,
+        length-take-le n a.left le,
+      )
 ]
 
 pub not_less : (m n : ℕ) (b : Bool) → ltb m n ≡ b → n ≤ m → b ≡ false
 not_less m n true e le = absurd (grind (arith, e, le))
 not_less m n false e le = refl
 
-pub bytes_again : (n : ℕ) (a : At) (v : List ℕ) (rest : Fields) → length v ≡ n → SpelledAt (text v rest) a → (b : At) × (bytes_at n a ≡ Ok (v, b)) × SpelledAt rest b
+pub bytes_again : (n : ℕ) (a : At) (v : List ℕ) (rest : Fields) → length v ≡ n → SpelledAt (text v rest) a
+    → (b : At) × (bytes_at n a ≡ Ok (v, b)) × SpelledAt rest b
 unfolding bytes_at
 bytes_again n a v rest size (front, left, e, is, s) =
     let bytes : a.left ≡ v ++ left = e ∙ ap (λ (l : List ℕ). l ++ left) is in
@@ -163,17 +184,20 @@ pub record Coded {A : Type 0} (look : ℕ → ℕ → Result A ReadFault) (code 
   pub from : (place b : ℕ) (v : A) → look place b ≡ Ok v → b ≡ code v
   pub to : (place : ℕ) (v : A) → look place (code v) ≡ Ok v
 
-pub coded_takes : {A : Type 0} (look : ℕ → ℕ → Result A ReadFault) (code : A → ℕ) → Coded look code → Takes (checked byte_at look) (λ v. byte (code v))
+pub coded_takes : {A : Type 0} (look : ℕ → ℕ → Result A ReadFault) (code : A → ℕ) → Coded look code
+    → Takes (checked byte_at look) (λ v. byte (code v))
 coded_takes look code c a v b e =
     let s = checked_ok byte_at look a v b e in
     subst (λ (x : ℕ). Took a (byte x) b) (c.from a.place s.0 v s.2) (byte_takes a s.0 b s.1)
 
-pub coded_again : {A : Type 0} (look : ℕ → ℕ → Result A ReadFault) (code : A → ℕ) → Coded look code → Again (checked byte_at look) (λ v. byte (code v))
+pub coded_again : {A : Type 0} (look : ℕ → ℕ → Result A ReadFault) (code : A → ℕ) → Coded look code
+    → Again (checked byte_at look) (λ v. byte (code v))
 coded_again look code c a v rest s =
     let b = byte_again a (code v) rest s in
     (b.0, checked_again byte_at look a (code v) v b.0 b.1 (c.to a.place v), b.2)
 
-pub either_way : {A X : Type 0} (b : Bool) (x y : Result A ReadFault) (v : A) → cond b x y ≡ Ok v → (b ≡ true → x ≡ Ok v → X) → (b ≡ false → y ≡ Ok v → X) → X
+pub either_way : {A X : Type 0} (b : Bool) (x y : Result A ReadFault) (v : A) → cond b x y ≡ Ok v → (b ≡ true → x ≡ Ok v → X)
+    → (b ≡ false → y ≡ Ok v → X) → X
 either_way true x y v e h m = h refl e
 either_way false x y v e h m = m refl e
 
@@ -229,7 +253,8 @@ kind_coded = record {
       either_way (eqb b 0x00) (yes kind.Func) _ v e (λ t x. eqb-true b 0x00 t ∙ ap export_code (ok_is kind.Func v x)) (λ _ e.
       either_way (eqb b 0x01) (yes kind.Table) _ v e (λ t x. eqb-true b 0x01 t ∙ ap export_code (ok_is kind.Table v x)) (λ _ e.
       either_way (eqb b 0x02) (yes kind.Memory) _ v e (λ t x. eqb-true b 0x02 t ∙ ap export_code (ok_is kind.Memory v x)) (λ _ e.
-      either_way (eqb b 0x03) (yes kind.Global) _ v e (λ t x. eqb-true b 0x03 t ∙ ap export_code (ok_is kind.Global v x)) (λ _ x. not_ok _ v x))));
+      either_way (eqb b 0x03) (yes kind.Global) _ v e (λ t x. eqb-true b 0x03 t ∙ ap export_code (ok_is kind.Global v x))
+      (λ _ x. not_ok _ v x))));
   to = λ place v. to place v;
 }
   where
@@ -331,7 +356,8 @@ utf8_takes n a v b e =
     (took_as (utf8 s.0) a b took.0 (λ fields y. (y.0, y.1, y.2, y.3, (t, y.4))), took.1))
     (λ _ x. not_ok _ v x)
 
-pub utf8_again : (n : ℕ) (a : At) (v : List ℕ) (rest : Fields) → length v ≡ n → SpelledAt (utf8 v rest) a → (b : At) × (utf8_at n a ≡ Ok (v, b)) × SpelledAt rest b
+pub utf8_again : (n : ℕ) (a : At) (v : List ℕ) (rest : Fields) → length v ≡ n → SpelledAt (utf8 v rest) a
+    → (b : At) × (utf8_at n a ≡ Ok (v, b)) × SpelledAt rest b
 unfolding utf8_at
 utf8_again n a v rest size s =
     let t = bytes_again n a v (provided (is_utf8 v) rest) size s in
@@ -354,7 +380,8 @@ any_name_again a v rest s =
 pub name_takes : Takes name_at name
 unfolding name_at
 name_takes a v b e =
-    first_taken (checked number_at (within most_name_bytes which.NameLength)) utf8_at (limited most_name_bytes) (limited_takes most_name_bytes which.NameLength) a (v, b) e (λ n0 n1 n2 n3.
+    first_taken (checked number_at (within most_name_bytes which.NameLength)) utf8_at (limited most_name_bytes)
+    (limited_takes most_name_bytes which.NameLength) a (v, b) e (λ n0 n1 n2 n3.
     let t = utf8_takes n0 n1 v b n3 in
     subst (λ (k : ℕ). Took a (λ rest. limited most_name_bytes k (utf8 v rest)) b) (sym t.1) (took_then a n1 b n2 t.0))
 
@@ -433,13 +460,16 @@ utf8_follows n = follows_row (table.utf8 n) (utf8_at n) none_more (λ a outer fi
 
 pub any_name_follows : Follows (table.any_name ∷ []) any_name_at
 unfolding row any_name_at
-any_name_follows = follows_from (table.any_name ∷ []) (λ n. table.utf8 n ∷ []) number_at utf8_at (follows_row table.any_name number_at (λ n. table.utf8 n ∷ []) (λ a outer fields. refl)) utf8_follows
+any_name_follows =
+    follows_from (table.any_name ∷ []) (λ n. table.utf8 n ∷ []) number_at utf8_at
+    (follows_row table.any_name number_at (λ n. table.utf8 n ∷ []) (λ a outer fields. refl)) utf8_follows
 
 pub name_follows : Follows (table.name ∷ []) name_at
 unfolding row name_at
 name_follows =
     follows_from (table.name ∷ []) (λ n. table.utf8 n ∷ []) (checked number_at (within most_name_bytes which.NameLength)) utf8_at
-    (follows_row table.name (checked number_at (within most_name_bytes which.NameLength)) (λ n. table.utf8 n ∷ []) (λ a outer fields. refl)) utf8_follows
+    (follows_row table.name (checked number_at (within most_name_bytes which.NameLength)) (λ n. table.utf8 n ∷ [])
+    (λ a outer fields. refl)) utf8_follows
 
 raw_follows : (n : ℕ) → Follows (table.raw_bytes n ∷ []) (bytes_at n)
 unfolding row
@@ -448,4 +478,5 @@ raw_follows n = follows_row (table.raw_bytes n) (bytes_at n) none_more (λ a out
 pub counted_bytes_follows : Follows (table.counted_bytes ∷ []) counted_bytes_at
 unfolding row counted_bytes_at
 counted_bytes_follows =
-    follows_from (table.counted_bytes ∷ []) (λ n. table.raw_bytes n ∷ []) number_at bytes_at (follows_row table.counted_bytes number_at (λ n. table.raw_bytes n ∷ []) (λ a outer fields. refl)) raw_follows
+    follows_from (table.counted_bytes ∷ []) (λ n. table.raw_bytes n ∷ []) number_at bytes_at
+    (follows_row table.counted_bytes number_at (λ n. table.raw_bytes n ∷ []) (λ a outer fields. refl)) raw_follows

@@ -217,7 +217,8 @@ taken_provided a b e = record { spelled = λ fields s. (e, s); moved = refl; wit
 same_number : (m n : ℕ) → eqb n m ≡ true → eqb m n ≡ true
 same_number m n e = eq-eqb m n (sym (eqb-true n m e))
 
-pub part_takes : (p : Part) (m : Module) (a : At) (t : Module) (b : At) → Ready p m a.counts → content_at p m a ≡ Ok (t, b) → PartRead p m t a b
+pub part_takes : (p : Part) (m : Module) (a : At) (t : Module) (b : At) → Ready p m a.counts → content_at p m a ≡ Ok (t, b)
+    → PartRead p m t a b
 unfolding content_at
 part_takes types m a t b r e =
     let x = reads_ok (vector_at of_types type_entry_at) _ a (t, b) e in
@@ -431,11 +432,16 @@ part_again exports m t a rest r as_many agrees s =
     (x.0, reads_again (vector_at of_exports export_entry_at) _ a t.exports x.0 _ x.1 refl, x.2)
 part_again start m t a rest r as_many agrees s = started t.start refl s
   where
-    started : (o : Option Start) → t.start ≡ o → SpelledAt (of.start_content o rest) a → (b : At) × (reads start_at (λ x b. Ok (record m { start = Some x }, b)) a ≡ Ok (put start t m, b)) × SpelledAt rest b
+    started : (o : Option Start) → t.start ≡ o → SpelledAt (of.start_content o rest) a
+        → (b : At) × (reads start_at (λ x b. Ok (record m { start = Some x }, b)) a ≡ Ok (put start t m, b)) × SpelledAt rest b
     started None is s = absurd cc
     started (Some x) is s =
-        let y = start_again a x rest s in
-        (y.0, reads_again start_at (λ x b. Ok (record m { start = Some x }, b)) a x y.0 _ y.1 (ap (λ (o : Option Start). Ok (record m { start = o }, y.0)) (sym is)), y.2)
+        let y = start_again a x rest s in (
+          y.0,
+          reads_again start_at (λ x b. Ok (record m { start = Some x }, b)) a x
+              y.0 _ y.1 (ap (λ (o : Option Start). Ok (record m { start = o }, y.0)) (sym is)),
+          y.2,
+        )
 part_again elements m t a rest r as_many agrees s =
     let x = elements_again a t.elements rest s in
     (x.0, reads_again (vector_at of_elements element_entry_at) _ a t.elements x.0 _ x.1 refl, x.2)
@@ -466,15 +472,22 @@ part_again segments m t a rest r as_many agrees s =
 pub part_follows : (p : Part) (m : Module) → Follows (content_of p) (content_at p m)
 unfolding content_at
 part_follows types m = follows_both (content_of types) [] _ _ types_follows (λ x. follows_none {A = Module} (record m { types = x }))
-part_follows imports m = follows_both (content_of imports) [] _ _ imports_follows (λ x. follows_none {A = Module} (record m { imports = x }))
-part_follows functions m = follows_both (content_of functions) [] _ _ functions_follows (λ x. follows_none {A = Module} (record m { funcs = x }))
+part_follows imports m =
+    follows_both (content_of imports) [] _ _ imports_follows (λ x. follows_none {A = Module} (record m { imports = x }))
+part_follows functions m =
+    follows_both (content_of functions) [] _ _ functions_follows (λ x. follows_none {A = Module} (record m { funcs = x }))
 part_follows tables m = follows_both (content_of tables) [] _ _ tables_follows (λ x. follows_none {A = Module} (record m { tables = x }))
-part_follows memories m = follows_both (content_of memories) [] _ _ memories_follows (λ x. follows_none {A = Module} (record m { memories = x }))
-part_follows globals m = follows_both (content_of globals) [] _ _ globals_follows (λ x. follows_none {A = Module} (record m { globals = x }))
-part_follows exports m = follows_both (content_of exports) [] _ _ exports_follows (λ x. follows_none {A = Module} (record m { exports = x }))
+part_follows memories m =
+    follows_both (content_of memories) [] _ _ memories_follows (λ x. follows_none {A = Module} (record m { memories = x }))
+part_follows globals m =
+    follows_both (content_of globals) [] _ _ globals_follows (λ x. follows_none {A = Module} (record m { globals = x }))
+part_follows exports m =
+    follows_both (content_of exports) [] _ _ exports_follows (λ x. follows_none {A = Module} (record m { exports = x }))
 part_follows start m = follows_both (content_of start) [] _ _ start_follows (λ x. follows_none {A = Module} (record m { start = Some x }))
-part_follows elements m = follows_both (content_of elements) [] _ _ elements_follows (λ x. follows_none {A = Module} (record m { elements = x }))
+part_follows elements m =
+    follows_both (content_of elements) [] _ _ elements_follows (λ x. follows_none {A = Module} (record m { elements = x }))
 part_follows data_count m = follows_both (content_of data_count) [] _ _ data_count_follows
     (λ x. follows_none {A = Module} (record m { data_count = Some x }))
 part_follows code m = follows_both (content_of code) [] _ _ bodies_follows (λ x. follows_none {A = Module} (record m { bodies = x }))
-part_follows segments m = follows_both (content_of segments) [] _ _ segments_follows (λ x. follows_none {A = Module} (record m { segments = x }))
+part_follows segments m =
+    follows_both (content_of segments) [] _ _ segments_follows (λ x. follows_none {A = Module} (record m { segments = x }))

@@ -78,7 +78,8 @@ id_is id p e =
     none_some : (A : Type 0) (p : Part) → ◌≡◌ {A = Option Part} None (Some p) → A
     none_some A p e = absurd cc
 
-    choose : {X : Type 0} (b : Bool) (q : Part) (more : Option Part) (p : Part) → cond b (Some q) more ≡ Some p → (b ≡ true → q ≡ p → X) → (more ≡ Some p → X) → X
+    choose : {X : Type 0} (b : Bool) (q : Part) (more : Option Part) (p : Part) → cond b (Some q) more ≡ Some p → (b ≡ true → q ≡ p → X)
+        → (more ≡ Some p → X) → X
     choose true q more p e h m = h refl cc
     choose false q more p e h m = m e
 
@@ -91,14 +92,23 @@ IdIs a a_custom b = Took a (byte 0x00) b × (length b.left < length a.left)
 IdIs a (a_part p) b = Taken a (byte (id_of p)) b × (a.counts.last_rank < rank_of p)
     × (b.counts ≡ record a.counts { last_rank = rank_of p }) × (length b.left < length a.left)
 
-front_taken : (place id : ℕ) (left : List ℕ) (c d : Counts) → Taken (record { place = place; left = id ∷ left; counts = c }) (byte id) (record { place = place + 1; left = left; counts = d })
+front_taken : (place id : ℕ) (left : List ℕ) (c d : Counts)
+    → Taken (record { place = place; left = id ∷ left; counts = c }) (byte id) (record { place = place + 1; left = left; counts = d })
 front_taken place id left c d = record { spelled = λ fields s. (id ∷ [], left, refl, refl, s); moved = omega arith; within = omega arith }
 
-begins_is : (place id : ℕ) (left : List ℕ) (c : Counts) (o : Option Part) (h : SectionId) (b : At) → part_of id ≡ o → section_begins place id left c o ≡ Ok (h, b) → IdIs (record { place = place; left = id ∷ left; counts = c }) h b
+begins_is : (place id : ℕ) (left : List ℕ) (c : Counts) (o : Option Part) (h : SectionId) (b : At) → part_of id ≡ o
+    → section_begins place id left c o ≡ Ok (h, b) → IdIs (record { place = place; left = id ∷ left; counts = c }) h b
 begins_is place id left c None h b o e =
-    either_way (eqb id 0) (yes (a_custom, record { place = place + 1; left = left; counts = c })) (malformed place cause.BadSectionId) (h, b) e
-    (λ t x. subst (λ (y : SectionId × At). IdIs (record { place = place; left = id ∷ left; counts = c }) y.0 y.1) (ok_is _ (h, b) x)
-    (record { taken = subst (λ n. Taken (record { place = place; left = id ∷ left; counts = c }) (byte n) (record { place = place + 1; left = left; counts = c })) (eqb-true id 0 t) (front_taken place id left c c); kept = refl }, omega arith))
+    either_way (eqb id 0) (yes (a_custom, record { place = place + 1; left = left; counts = c })) (malformed place cause.BadSectionId)
+    (h, b) e
+    (λ t x. subst (λ (y : SectionId × At). IdIs (record { place = place; left = id ∷ left; counts = c }) y.0 y.1) (ok_is _ (h, b) x) (
+      record {
+        taken = subst (λ n. Taken (record { place = place; left = id ∷ left; counts = c }) (byte n)
+            (record { place = place + 1; left = left; counts = c })) (eqb-true id 0 t) (front_taken place id left c c);
+        kept = refl;
+      },
+      omega arith,
+    ))
     (λ _ x. not_ok _ (h, b) x)
 begins_is place id left c (Some p) h b o e =
     let begun : At = record { place = place + 1; left = left; counts = record c { last_rank = rank_of p } } in
@@ -116,32 +126,47 @@ begins_is place id left c (Some p) h b o e =
     (λ _ y. not_ok _ (h, b) y))
     (λ _ x. not_ok _ (h, b) x)
 
-pub id_takes : (place : ℕ) (left : List ℕ) (c : Counts) (h : SectionId) (b : At) → section_id_of place left c ≡ Ok (h, b) → IdIs (record { place = place; left = left; counts = c }) h b
+pub id_takes : (place : ℕ) (left : List ℕ) (c : Counts) (h : SectionId) (b : At) → section_id_of place left c ≡ Ok (h, b)
+    → IdIs (record { place = place; left = left; counts = c }) h b
 id_takes place [] c h b e =
     either_way (bodies_done c && data_done c) (yes (no_section, record { place = place; left = []; counts = c }))
     (malformed place cause.CountDiffers) (h, b) e
-    (λ t x. subst (λ (y : SectionId × At). IdIs (record { place = place; left = []; counts = c }) y.0 y.1) (ok_is _ (h, b) x) (refl, t, refl))
+    (λ t x. subst (λ (y : SectionId × At). IdIs (record { place = place; left = []; counts = c }) y.0 y.1) (ok_is _ (h, b) x)
+    (refl, t, refl))
     (λ _ x. not_ok _ (h, b) x)
 id_takes place (id ∷ left) c h b e = begins_is place id left c (part_of id) h b refl e
 
 -- ---- custom sections
 
-custom_content_taken : (m : Module) (a : At) (t : Module) (b : At) → custom_content_at m a ≡ Ok (t, b) → (c : Custom) × Took a (λ rest. of.any_name c.name (text c.bytes rest)) b × (t ≡ m)
+custom_content_taken : (m : Module) (a : At) (t : Module) (b : At) → custom_content_at m a ≡ Ok (t, b)
+    → (c : Custom) × Took a (λ rest. of.any_name c.name (text c.bytes rest)) b × (t ≡ m)
 unfolding custom_content_at
 custom_content_taken m a t b e =
     let n = reads_ok any_name_at _ a (t, b) e in
     let r = reads_ok rest_at (λ bytes. λ b. Ok (m, b)) n.1 (t, b) n.3 in
     let took : Took n.1 (text r.0) r.1 = rest_taken n.1 r.0 r.1 r.2 in
-    let same : (m, r.1) ≡ (t, b) = ok_is (m, r.1) (t, b) r.3 in
-    (record { name = n.0; bytes = r.0 }, subst (λ (x : At). Took a (λ rest. of.any_name n.0 (text r.0 rest)) x) (ap (λ (y : Module × At). y.1) same) (took_then a n.1 r.1 (any_name_takes a n.0 n.1 n.2) took), sym (ap (λ (y : Module × At). y.0) same))
+    let same : (m, r.1) ≡ (t, b) = ok_is (m, r.1) (t, b) r.3 in (
+      record { name = n.0; bytes = r.0 },
+      subst (λ (x : At). Took a (λ rest. of.any_name n.0 (text r.0 rest)) x) (ap (λ (y : Module × At). y.1) same)
+          (took_then a n.1 r.1 (any_name_takes a n.0 n.1 n.2) took),
+      sym (ap (λ (y : Module × At). y.0) same),
+    )
   where
     rest_taken : (a : At) (v : List ℕ) (b : At) → rest_at a ≡ Ok (v, b) → Took a (text v) b
     rest_taken a v b e =
         let whole : Took a (text a.left) (record { place = a.place + length a.left; left = []; counts = a.counts }) =
-        record { taken = record { spelled = λ fields s. (a.left, [], sym (append-nil a.left), refl, s); moved = omega arith; within = omega arith }; kept = refl } in
+        record {
+          taken = record {
+            spelled = λ fields s. (a.left, [], sym (append-nil a.left), refl, s);
+            moved = omega arith;
+            within = omega arith;
+          };
+          kept = refl;
+        } in
         subst (λ (y : List ℕ × At). Took a (text y.0) y.1) (ok_is _ (v, b) e) whole
 
-pub custom_taken : (m : Module) (a : At) (t : Module) (b : At) → custom_at m a ≡ Ok (t, b) → (c : Custom) × Taken a (window (of.any_name c.name (text c.bytes finished))) b × (b.counts ≡ a.counts) × (t ≡ m)
+pub custom_taken : (m : Module) (a : At) (t : Module) (b : At) → custom_at m a ≡ Ok (t, b)
+    → (c : Custom) × Taken a (window (of.any_name c.name (text c.bytes finished))) b × (b.counts ≡ a.counts) × (t ≡ m)
 unfolding custom_at
 custom_taken m a t b e =
     let i = window_inside cause.SectionNotUsedUp (custom_content_at m) a t b e in
@@ -166,13 +191,16 @@ Kept last m t = (q : Part) → rank_of q ≤ last → Same q m t
 ends_spelled : (t : Module) (ps : List Part) (n : ℕ) → Rising n ps → ((q : Part) → n ≤ rank_of q → is_empty q t ≡ true) → (place : ℕ)
     → Spelled (sections ps t finished) place []
 ends_spelled t [] n r empty place = ([], refl)
-ends_spelled t (p ∷ ps) n r empty place = ([], inl (empty p (omega (arith, r.0)), ends_spelled t ps (suc n) r.1 (λ q le. empty q (omega (arith, le))) place))
+ends_spelled t (p ∷ ps) n r empty place =
+    ([], inl (empty p (omega (arith, r.0)), ends_spelled t ps (suc n) r.1 (λ q le. empty q (omega (arith, le))) place))
 
 -- a custom section in front
-customs_first : (rest : Fields) (a b : At) (c : Custom) → Taken a (custom c) b → SpelledAt (of.customs rest) b → SpelledAt (of.customs rest) a
+customs_first : (rest : Fields) (a b : At) (c : Custom) → Taken a (custom c) b → SpelledAt (of.customs rest) b
+    → SpelledAt (of.customs rest) a
 customs_first rest a b c t s = (c ∷ s.0, t.spelled (each custom s.0 rest) s.1)
 
-custom_first : (t : Module) (ps : List Part) (a b : At) (c : Custom) → Taken a (custom c) b → SpelledAt (sections ps t finished) b → SpelledAt (sections ps t finished) a
+custom_first : (t : Module) (ps : List Part) (a b : At) (c : Custom) → Taken a (custom c) b → SpelledAt (sections ps t finished) b
+    → SpelledAt (sections ps t finished) a
 custom_first t [] a b c took s = customs_first finished a b c took s
 custom_first t (p ∷ ps) a b c took s = customs_first (section p t (sections ps t finished)) a b c took s
 
@@ -183,11 +211,20 @@ skips : (t : Module) (p : Part) (a : At) (ps : List Part) (n : ℕ) → Rising n
     → SpelledAt (sections ps t finished) a
 skips t p a [] n r le empty s = absurd (omega (arith, r, le, (rank_above p).1))
 skips t p a (q ∷ qs) n r le empty s = elim (cases_lt n (rank_of p)) [
-  | inl less ↦ ([], inl (empty q (omega (arith, r.0)) (omega (arith, r.0, less)), skips t p a qs (suc n) r.1 (omega (arith, less)) (λ x l. empty x (omega (arith, l))) s))
+  | inl less ↦ (
+    [],
+    inl (
+      empty q (omega (arith, r.0)) (omega (arith, r.0, less)),
+      skips t p a qs (suc n) r.1 (omega (arith, less)) (λ x l. empty x (omega (arith, l))) s,
+    ),
+  )
   | inr more ↦
       let same : q ≡ p = ranks_differ q p (omega (arith, r.0, more, le)) in
-      let n_is : n ≡ rank_of p = omega (arith, more, le) in
-      ([], subst (λ (x : Part). SpelledAt (section x t (sections qs t finished)) a) (sym same) (s qs (subst (λ k. Rising (suc k) qs) n_is r.1)))
+      let n_is : n ≡ rank_of p = omega (arith, more, le) in (
+        [],
+        subst (λ (x : Part). SpelledAt (section x t (sections qs t finished)) a) (sym same)
+            (s qs (subst (λ k. Rising (suc k) qs) n_is r.1)),
+      )
 ]
 
 pub record SectionsTaken (last : ℕ) (m : Module) (a : At) (t : Module) : Type 0 where
@@ -220,7 +257,8 @@ at_end m a p clear none done = record {
   };
 }
 
-at_custom : (last : ℕ) (m : Module) (a d : At) (t : Module) (c : Custom) → Taken a (custom c) d → SectionsTaken last m d t → SectionsTaken last m a t
+at_custom : (last : ℕ) (m : Module) (a d : At) (t : Module) (c : Custom) → Taken a (custom c) d → SectionsTaken last m d t
+    → SectionsTaken last m a t
 at_custom last m a d t c took more = record
     { kept = more.kept; spelled = λ ps r. custom_first t ps a d c took (more.spelled ps r); adds_up = more.adds_up }
 
@@ -319,14 +357,18 @@ custom_follows : (m : Module) → Follows (size ∷ table.any_name ∷ table.any
 unfolding custom_at custom_content_at
 custom_follows m =
     window_follows cause.SectionNotUsedUp (table.any_name ∷ table.any_bytes ∷ []) (custom_content_at m)
-    (follows_both (table.any_name ∷ []) (table.any_bytes ∷ []) _ _ any_name_follows (λ name. follows_both (table.any_bytes ∷ []) [] _ _ rest_follows (λ bytes. follows_none m)))
+    (follows_both (table.any_name ∷ [])
+    (table.any_bytes ∷ []) _ _ any_name_follows (λ name. follows_both (table.any_bytes ∷ [])
+    [] _ _ rest_follows (λ bytes. follows_none m)))
     (λ a v b e. (custom_content_taken m a v b e).1.taken.moved)
 
 section_follows : (p : Part) (m : Module) → Follows (size ∷ (content_of p ++ used_up cause.SectionNotUsedUp ∷ [])) (part_at p m)
 unfolding part_at
-section_follows p m = window_follows cause.SectionNotUsedUp (content_of p) (content_at p m) (part_follows p m) (λ a v b e. (part_moves p m a v b e).1.moved)
+section_follows p m =
+    window_follows cause.SectionNotUsedUp (content_of p) (content_at p m) (part_follows p m) (λ a v b e. (part_moves p m a v b e).1.moved)
 
-pub section_shorter : (p : Part) (m : Module) (a : At) (v : Module) (b : At) → part_at p m a ≡ Ok (v, b) → (f : Fields → Fields) × Taken a f b
+pub section_shorter : (p : Part) (m : Module) (a : At) (v : Module) (b : At) → part_at p m a ≡ Ok (v, b)
+    → (f : Fields → Fields) × Taken a f b
 unfolding part_at
 section_shorter p m a v b e =
     let i = window_inside cause.SectionNotUsedUp (content_at p m) a v b e in
@@ -337,24 +379,33 @@ regrouped : (front : List Field) (u s : Field) (fields : List Field) → (front 
 regrouped front u s fields = append_assoc front (u ∷ s ∷ []) fields ∙ sym (append_assoc front (u ∷ []) (s ∷ fields))
 
 abbrev MoreFollow : ℕ → (Module → Reader Module) → Type 0
-MoreFollow k more = (m : Module) (a : At) → length a.left < k → (outer : List (List ℕ)) (fields : List Field) → Runs (state a outer (table.section ∷ fields)) (more m a >>= lands none_more outer fields)
+MoreFollow k more =
+    (m : Module) (a : At) → length a.left < k → (outer : List (List ℕ)) (fields : List Field)
+    → Runs (state a outer (table.section ∷ fields)) (more m a >>= lands none_more outer fields)
 
-after_follows : (k : ℕ) (more : Module → Reader Module) → MoreFollow k more → (m : Module) (a : At) → length a.left < suc k → (h : SectionId) (c : At) → IdIs a h c → (outer : List (List ℕ)) (fields : List Field)
+after_follows : (k : ℕ) (more : Module → Reader Module) → MoreFollow k more → (m : Module) (a : At) → length a.left < suc k
+    → (h : SectionId) (c : At) → IdIs a h c → (outer : List (List ℕ)) (fields : List Field)
     → Runs (state c outer (section_fields h ++ fields)) (after_id more m h c >>= lands none_more outer fields)
 after_follows k more h m a less no_section c is outer fields = runs_now _
 after_follows k more h m a less a_custom c is outer fields =
-    then_reads (state c outer (size ∷ table.any_name ∷ table.any_bytes ∷ used_up cause.SectionNotUsedUp ∷ table.section ∷ fields)) (custom_at m) more c none_more none_more outer (table.section ∷ fields) fields (custom_follows m c outer (table.section ∷ fields))
+    then_reads (state c outer (size ∷ table.any_name ∷ table.any_bytes ∷ used_up cause.SectionNotUsedUp ∷ table.section ∷ fields))
+    (custom_at m) more c none_more none_more outer (table.section ∷ fields) fields (custom_follows m c outer (table.section ∷ fields))
     (λ n d e. h n d (omega (arith, less, is.1, (custom_taken m c n d e).1.within)) outer fields)
 after_follows k more h m a less (a_part p) c is outer fields =
-    subst (λ (l : List Field). Runs (state c outer (size ∷ l)) (reads (part_at p m) more c >>= lands none_more outer fields)) (sym (regrouped (content_of p) (used_up cause.SectionNotUsedUp) table.section fields))
-    (then_reads (state c outer (size ∷ ((content_of p ++ used_up cause.SectionNotUsedUp ∷ []) ++ table.section ∷ fields))) (part_at p m) more c none_more none_more outer (table.section ∷ fields) fields (section_follows p m c outer (table.section ∷ fields))
+    subst (λ (l : List Field). Runs (state c outer (size ∷ l)) (reads (part_at p m) more c >>= lands none_more outer fields))
+    (sym (regrouped (content_of p) (used_up cause.SectionNotUsedUp) table.section fields))
+    (then_reads (state c outer (size ∷ ((content_of p ++ used_up cause.SectionNotUsedUp ∷ []) ++ table.section ∷ fields)))
+    (part_at p m) more c none_more none_more outer (table.section ∷ fields) fields
+    (section_follows p m c outer (table.section ∷ fields))
     (λ n d e. h n d (omega (arith, less, is.3, (section_shorter p m c n d e).1.within)) outer fields))
 
 sections_follow : (k : ℕ) → MoreFollow k (sections_at k)
 unfolding sections_at row
 sections_follow zero m a less outer fields = absurd (omega (arith, less))
 sections_follow (suc k) m a less outer fields =
-    then_reads (state a outer (table.section ∷ fields)) section_id_at (after_id (sections_at k) m) a section_fields none_more outer fields fields (follows_row table.section section_id_at section_fields (λ a outer fields. refl) a outer fields)
+    then_reads (state a outer (table.section ∷ fields)) section_id_at
+    (after_id (sections_at k) m) a section_fields none_more outer fields fields
+    (follows_row table.section section_id_at section_fields (λ a outer fields. refl) a outer fields)
     (λ h c e. after_follows k (sections_at k) (sections_follow k) m a less h c (id_takes a.place a.left a.counts h c e) outer fields)
 
 pub all_follows : (m : Module) → Follows (table.section ∷ []) (all_sections_at m)

@@ -117,16 +117,21 @@ part_kept (q ∷ ps) n r p t less = clear_keeps q p (cut ps t) t (differ (rank_o
 -- ---- a section's id
 
 -- a byte that is the id of a section
-id_begins : (place : ℕ) (left : List ℕ) (c : Counts) (id : ℕ) (b : At) → byte_of place left c ≡ Ok (id, b) → (section_id_of place left c ≡ section_begins place id b.left c (part_of id)) × (b ≡ record { place = place + 1; left = b.left; counts = c }) × (length b.left < length left)
+id_begins : (place : ℕ) (left : List ℕ) (c : Counts) (id : ℕ) (b : At) → byte_of place left c ≡ Ok (id, b)
+    → (section_id_of place left c ≡ section_begins place id b.left c (part_of id))
+    × (b ≡ record { place = place + 1; left = b.left; counts = c }) × (length b.left < length left)
 id_begins place [] c id b e = not_ok _ (id, b) e
 id_begins place (x ∷ left) c id b e =
     let same : (x, record { place = place + 1; left = left; counts = c }) ≡ (id, b) = ok_is _ (id, b) e in
-    subst (λ (y : ℕ × At). (section_id_of place (x ∷ left) c ≡ section_begins place y.0 y.1.left c (part_of y.0)) × (y.1 ≡ record { place = place + 1; left = y.1.left; counts = c }) × (length y.1.left < suc (length left))) same (refl, refl, omega arith)
+    subst (λ (y : ℕ × At). (section_id_of place (x ∷ left) c ≡ section_begins place y.0 y.1.left c (part_of y.0))
+    × (y.1 ≡ record { place = place + 1; left = y.1.left; counts = c }) × (length y.1.left < suc (length left))) same
+    (refl, refl, omega arith)
 
 abbrev found : SectionId → At → Result (SectionId × At) ReadFault
 found h b = Ok (h, b)
 
-custom_begins : (a b : At) → byte_at a ≡ Ok (0x00, b) → (section_id_at a ≡ found a_custom b) × (b.counts ≡ a.counts) × (length b.left < length a.left)
+custom_begins : (a b : At) → byte_at a ≡ Ok (0x00, b)
+    → (section_id_at a ≡ found a_custom b) × (b.counts ≡ a.counts) × (length b.left < length a.left)
 custom_begins a b e =
     let i = id_begins a.place a.left a.counts 0x00 b e in
     (i.0 ∙ ap (λ (x : At). found a_custom x) (sym i.1), ap (λ (x : At). x.counts) i.1, i.2)
@@ -153,10 +158,14 @@ part_begins p a b less done e =
 
 rest_again : (a : At) (v : List ℕ) → SpelledAt (text v finished) a → (b : At) × (rest_at a ≡ Ok (v, b)) × (b.left ≡ [])
 rest_again a v (front, left, e, is, none) =
-    let whole : a.left ≡ v = e ∙ ap (λ (l : List ℕ). front ++ l) none ∙ append-nil front ∙ is in
-    (record { place = a.place + length a.left; left = []; counts = a.counts }, ap (λ (l : List ℕ). Ok (l, record { place = a.place + length a.left; left = []; counts = a.counts })) whole, refl)
+    let whole : a.left ≡ v = e ∙ ap (λ (l : List ℕ). front ++ l) none ∙ append-nil front ∙ is in (
+      record { place = a.place + length a.left; left = []; counts = a.counts },
+      ap (λ (l : List ℕ). Ok (l, record { place = a.place + length a.left; left = []; counts = a.counts })) whole,
+      refl,
+    )
 
-custom_again : (m : Module) (a : At) (c : Custom) (rest : Fields) → SpelledAt (window (of.any_name c.name (text c.bytes finished)) rest) a → (b : At) × (custom_at m a ≡ Ok (m, b)) × SpelledAt rest b
+custom_again : (m : Module) (a : At) (c : Custom) (rest : Fields) → SpelledAt (window (of.any_name c.name (text c.bytes finished)) rest) a
+    → (b : At) × (custom_at m a ≡ Ok (m, b)) × SpelledAt rest b
 unfolding custom_at custom_content_at
 custom_again m a c rest s =
     let w = window_sealed a (of.any_name c.name (text c.bytes finished)) rest s in
@@ -164,18 +173,24 @@ custom_again m a c rest s =
     let r = rest_again n.0 c.bytes n.2 in (
       behind w.bytes w.start r.0,
       window_read cause.SectionNotUsedUp (custom_content_at m) a w.bytes w.start r.0 m w.number_is w.fits
-          (reads_again any_name_at _ (inner w.bytes w.start) c.name n.0 _ n.1 (reads_again rest_at (λ bytes. λ b. Ok (m, b)) n.0 c.bytes r.0 _ r.1 refl)) r.2,
+          (reads_again any_name_at _ (inner w.bytes w.start) c.name
+          n.0 _ n.1 (reads_again rest_at (λ bytes. λ b. Ok (m, b)) n.0 c.bytes r.0 _ r.1 refl)) r.2,
       w.after,
     )
 
 abbrev ReadsAll : ℕ → Module → Module → At → Type 0
 ReadsAll k m t a = (b : At) × (sections_at k m a ≡ Ok (t, b))
 
-then_all : (k : ℕ) (m n t : Module) (a : At) (h : SectionId) (c d : At) → section_id_at a ≡ Ok (h, c) → ((z : Result (Module × At) ReadFault) → sections_at k n d ≡ z → after_id (sections_at k) m h c ≡ z) → ReadsAll k n t d → ReadsAll (suc k) m t a
+then_all : (k : ℕ) (m n t : Module) (a : At) (h : SectionId) (c d : At) → section_id_at a ≡ Ok (h, c)
+    → ((z : Result (Module × At) ReadFault) → sections_at k n d ≡ z → after_id (sections_at k) m h c ≡ z) → ReadsAll k n t d
+    → ReadsAll (suc k) m t a
 unfolding sections_at
-then_all k m n t a h c d id go rest = (rest.0, reads_again section_id_at (after_id (sections_at k) m) a h c (Ok (t, rest.0)) id (go (Ok (t, rest.0)) rest.1))
+then_all k m n t a h c d id go rest =
+    (rest.0, reads_again section_id_at (after_id (sections_at k) m) a h c (Ok (t, rest.0)) id (go (Ok (t, rest.0)) rest.1))
 
-customs_again : (cs : List Custom) (rest : Fields) (m t : Module) (c : Counts) → ((k : ℕ) (b : At) → length b.left < k → b.counts ≡ c → SpelledAt rest b → ReadsAll k m t b) → (k : ℕ) (a : At) → length a.left < k → a.counts ≡ c → SpelledAt (each custom cs rest) a → ReadsAll k m t a
+customs_again : (cs : List Custom) (rest : Fields) (m t : Module) (c : Counts)
+    → ((k : ℕ) (b : At) → length b.left < k → b.counts ≡ c → SpelledAt rest b → ReadsAll k m t b) → (k : ℕ) (a : At) → length a.left < k
+    → a.counts ≡ c → SpelledAt (each custom cs rest) a → ReadsAll k m t a
 customs_again [] rest m t c h k a less same s = h k a less same s
 customs_again (x ∷ cs) rest m t c h zero a less same s = absurd (omega (arith, less))
 customs_again (x ∷ cs) rest m t c h (suc k) a less same s =
@@ -196,8 +211,12 @@ part_section_again p m t a rest r as_many agrees s =
     let w = window_sealed a (content p t finished) rest s in
     let counted = subst (λ (c : Counts). p ≡ segments → agrees_with c.data_count (length t.segments) ≡ true) (sym w.kept) agrees in
     let n = part_again p m t (inner w.bytes w.start) finished (subst (λ (c : Counts). Ready p m c) (sym w.kept) r) as_many counted
-    w.inside in
-    (behind w.bytes w.start n.0, window_read cause.SectionNotUsedUp (content_at p m) a w.bytes w.start n.0 (put p t m) w.number_is w.fits n.1 n.2, w.after)
+    w.inside in (
+      behind w.bytes w.start n.0,
+      window_read cause.SectionNotUsedUp (content_at p m) a w.bytes w.start n.0
+          (put p t m) w.number_is w.fits n.1 n.2,
+      w.after,
+    )
 
 done_by : (m : Module) (c : Counts) (b : Bool) → c.code_read ≡ b → Counted m c → length m.funcs ≡ length m.bodies → b || eqb c.functions 0
     ≡ true
@@ -219,8 +238,12 @@ not_data p less d = refl
 all_read : (k : ℕ) (t : Module) (a : At) → a.left ≡ [] → bodies_done a.counts && data_done a.counts ≡ true → ReadsAll (suc k) t t a
 unfolding sections_at
 all_read k t a none done =
-    let id : section_id_at a ≡ found no_section (record { place = a.place; left = []; counts = a.counts }) = ap (λ (l : List ℕ). section_id_of a.place l a.counts) none ∙ rw done refl in
-    (record { place = a.place; left = []; counts = a.counts }, reads_again section_id_at (after_id (sections_at k) t) a no_section (record { place = a.place; left = []; counts = a.counts }) _ id refl)
+    let id : section_id_at a ≡ found no_section (record { place = a.place; left = []; counts = a.counts }) =
+    ap (λ (l : List ℕ). section_id_of a.place l a.counts) none ∙ rw done refl in (
+      record { place = a.place; left = []; counts = a.counts },
+      reads_again section_id_at (after_id (sections_at k) t) a no_section
+          (record { place = a.place; left = []; counts = a.counts }) _ id refl,
+    )
 
 abbrev More : List Part → ℕ → Module → Type 0
 More ps n t = (k : ℕ) (b : At) → length b.left < k → Progress (cut ps t) b.counts → b.counts.last_rank < n
@@ -233,10 +256,12 @@ absent : (p : Part) (ps : List Part) (n : ℕ) (t : Module) → Rising n (p ∷ 
 absent p ps n t r more k b less pr last empty s =
     let same : Same p (cut ps t) t = part_kept ps (suc n) r.1 p t (omega (arith, r.0)) in
     let is : clear p (cut ps t) ≡ cut ps t = clear_empty p (cut ps t) (same_empty p (cut ps t) t same ∙ empty) in
-    subst (λ (x : Module). ReadsAll k x t b) (sym is) (more k b less (subst (λ (x : Module). Progress x b.counts) is pr) (omega (arith, last)) s)
+    subst (λ (x : Module). ReadsAll k x t b) (sym is)
+    (more k b less (subst (λ (x : Module). Progress x b.counts) is pr) (omega (arith, last)) s)
 
 -- what may stand behind the code section's place, where its id is read
-may_begin : (p : Part) (ps : List Part) (n : ℕ) (t : Module) → Rising n (p ∷ ps) → length t.funcs ≡ length t.bodies → (c : Counts) → Progress (cut (p ∷ ps) t) c → (not (eqb (id_of p) 11) || bodies_done c) ≡ true
+may_begin : (p : Part) (ps : List Part) (n : ℕ) (t : Module) → Rising n (p ∷ ps) → length t.funcs ≡ length t.bodies → (c : Counts)
+    → Progress (cut (p ∷ ps) t) c → (not (eqb (id_of p) 11) || bodies_done c) ≡ true
 may_begin p ps n t r as_many c pr = elim (cases_lt n 12) [
   | inl less ↦ not_data p (omega (arith, r.0, less)) (bodies_done c)
   | inr more ↦
@@ -273,7 +298,8 @@ present p ps n t r adds_up more (suc k) b less pr last s =
         let is : put p t m ≡ cut ps t = put_clear p t (cut ps t) (part_kept ps (suc n) r.1 p t (omega (arith, r.0))) in
         let read = section_read p m d (put p t m) e.0 b.counts pr before refl e.1 in
         let rest : ReadsAll k (put p t m) t e.0 = subst (λ (x : Module). ReadsAll k x t e.0) (sym is)
-        (more k e.0 (omega (arith, less, shorter, (section_shorter p m d (put p t m) e.0 e.1).1.within)) (subst (λ (x : Module). Progress x e.0.counts) is read.2) (omega (arith, read.3, r.0)) e.2) in
+        (more k e.0 (omega (arith, less, shorter, (section_shorter p m d (put p t m) e.0 e.1).1.within))
+        (subst (λ (x : Module). Progress x e.0.counts) is read.2) (omega (arith, read.3, r.0)) e.2) in
         then_all k m (put p t m) t b (a_part p) d e.0 id (λ z eq. reads_again (part_at p m) (sections_at k) d (put p t m) e.0 z e.1 eq) rest
 
 one_section : (p : Part) (ps : List Part) (n : ℕ) (t : Module) → Rising n (p ∷ ps) → AddsUp t → More ps (suc n) t → (k : ℕ) (b : At)

@@ -35,8 +35,13 @@ took_none a = record { taken = taken_none a; kept = refl }
 pub took_then : {f g : Fields → Fields} (a b c : At) → Took a f b → Took b g c → Took a (λ fields. f (g fields)) c
 took_then a b c t u = record { taken = taken_then a b c t.taken u.taken; kept = u.kept ∙ t.kept }
 
-pub took_as : {f : Fields → Fields} (g : Fields → Fields) (a b : At) → Took a f b → ((fields : Fields) → SpelledAt (f fields) a → SpelledAt (g fields) a) → Took a g b
-took_as {f} g a b t h = record { taken = record { spelled = λ fields s. h fields (t.taken.spelled fields s); moved = t.taken.moved; within = t.taken.within }; kept = t.kept }
+pub took_as : {f : Fields → Fields} (g : Fields → Fields) (a b : At) → Took a f b
+    → ((fields : Fields) → SpelledAt (f fields) a → SpelledAt (g fields) a) → Took a g b
+took_as {f} g a b t h =
+    record {
+      taken = record { spelled = λ fields s. h fields (t.taken.spelled fields s); moved = t.taken.moved; within = t.taken.within };
+      kept = t.kept;
+    }
 
 -- some bytes stand in front
 pub record Front (a : At) (front : List ℕ) (b : At) : Type 0 where
@@ -45,7 +50,8 @@ pub record Front (a : At) (front : List ℕ) (b : At) : Type 0 where
   pub kept : b.counts ≡ a.counts
 
 pub took_front : (a b : At) (front : List ℕ) (f : Fields → Fields) (P : ℕ → List ℕ → Type 0)
-    → ((fields : Fields) (place : ℕ) (bytes : List ℕ) → Then P (Spelled fields) place bytes → Spelled (f fields) place bytes) → Front a front b → P a.place front → Took a f b
+    → ((fields : Fields) (place : ℕ) (bytes : List ℕ) → Then P (Spelled fields) place bytes → Spelled (f fields) place bytes)
+    → Front a front b → P a.place front → Took a f b
 took_front a b front f P spelt t p = record {
   taken = record {
     spelled = λ fields s. spelt fields a.place a.left (front, b.left, t.bytes, p, subst (λ place. Spelled fields place b.left) t.place s);
@@ -64,14 +70,17 @@ abbrev pub Again : {A : Type 0} → Reader A → (A → Fields → Fields) → T
 Again {A} read fields = (a : At) (v : A) (rest : Fields) → SpelledAt (fields v rest) a → (b : At) × (read a ≡ Ok (v, b)) × SpelledAt rest b
 
 -- one reading after another: what the first took, and what is left to read
-pub first_taken : {A B C : Type 0} (r : Reader A) (k : A → Reader B) (fields : A → Fields → Fields) → Takes r fields → (a : At) (y : B × At) → reads r k a ≡ Ok y
+pub first_taken : {A B C : Type 0} (r : Reader A) (k : A → Reader B) (fields : A → Fields → Fields) → Takes r fields → (a : At) (y : B × At)
+    → reads r k a ≡ Ok y
     → ((x : A) (b : At) → Took a (fields x) b → k x b ≡ Ok y → C) → C
 first_taken r k fields takes a y e more = let s = reads_ok r k a y e in more s.0 s.1 (takes a s.0 s.1 s.2) s.3
 
 -- what is spelled first is read, and the rest stands behind it
-pub first_again : {A C : Type 0} (r : Reader A) (fields : A → Fields → Fields) → Again r fields → (a : At) (v : A) (rest : Fields) → SpelledAt (fields v rest) a
+pub first_again : {A C : Type 0} (r : Reader A) (fields : A → Fields → Fields) → Again r fields → (a : At) (v : A) (rest : Fields)
+    → SpelledAt (fields v rest) a
     → ((b : At) → r a ≡ Ok (v, b) → SpelledAt rest b → C) → C
 first_again r fields again a v rest s more = let t = again a v rest s in more t.0 t.1 t.2
 
-pub at_is : (a : At) (place : ℕ) (left : List ℕ) → a.place ≡ place → a.left ≡ left → a ≡ record { place = place; left = left; counts = a.counts }
+pub at_is : (a : At) (place : ℕ) (left : List ℕ) → a.place ≡ place → a.left ≡ left
+    → a ≡ record { place = place; left = left; counts = a.counts }
 at_is a place left p l = λ i. record { place = p i; left = l i; counts = a.counts }

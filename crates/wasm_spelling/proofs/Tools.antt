@@ -4,11 +4,13 @@ use Rattle.wasm_spelling.specs.declared.fault.ReadFault.{ReadFault}
 use Rattle.wasm_spelling.specs.At.{At}
 use Rattle.wasm_spelling.specs.Steps.{◌>>=◌, Reader, reads, checked}
 
-pub bind_ok : {A B : Type 0} (r : Result A ReadFault) (f : A → Result B ReadFault) (y : B) → (r >>= f) ≡ Ok y → (x : A) × (r ≡ Ok x) × (f x ≡ Ok y)
+pub bind_ok : {A B : Type 0} (r : Result A ReadFault) (f : A → Result B ReadFault) (y : B) → (r >>= f) ≡ Ok y
+    → (x : A) × (r ≡ Ok x) × (f x ≡ Ok y)
 bind_ok (Ok x) f y e = (x, refl, e)
 bind_ok (Err d) f y e = absurd cc
 
-pub bind_bind : {A B C : Type 0} (r : Result A ReadFault) (f : A → Result B ReadFault) (g : B → Result C ReadFault) → ((r >>= f) >>= g) ≡ (r >>= λ x. f x >>= g)
+pub bind_bind : {A B C : Type 0} (r : Result A ReadFault) (f : A → Result B ReadFault) (g : B → Result C ReadFault)
+    → ((r >>= f) >>= g) ≡ (r >>= λ x. f x >>= g)
 bind_bind (Ok x) f g = refl
 bind_bind (Err e) f g = refl
 
@@ -30,15 +32,18 @@ chosen true x y z e = inl (refl, e)
 chosen false x y z e = inr (refl, e)
 
 -- a reading of two parts gave a value
-pub reads_ok : {A B : Type 0} (r : Reader A) (k : A → Reader B) (a : At) (y : B × At) → reads r k a ≡ Ok y → (x : A) × (b : At) × (r a ≡ Ok (x, b)) × (k x b ≡ Ok y)
+pub reads_ok : {A B : Type 0} (r : Reader A) (k : A → Reader B) (a : At) (y : B × At) → reads r k a ≡ Ok y
+    → (x : A) × (b : At) × (r a ≡ Ok (x, b)) × (k x b ≡ Ok y)
 unfolding reads
 reads_ok {A} {B} r k a y e = let s = bind_ok (r a) (λ x. k x.0 x.1) y e in (s.0.0, s.0.1, s.1, s.2)
 
-pub reads_again : {A B : Type 0} (r : Reader A) (k : A → Reader B) (a : At) (x : A) (b : At) (z : Result (B × At) ReadFault) → r a ≡ Ok (x, b) → k x b ≡ z → reads r k a ≡ z
+pub reads_again : {A B : Type 0} (r : Reader A) (k : A → Reader B) (a : At) (x : A) (b : At) (z : Result (B × At) ReadFault)
+    → r a ≡ Ok (x, b) → k x b ≡ z → reads r k a ≡ z
 unfolding reads
 reads_again {A} {B} r k a x b z e f = ap (λ (y : Result (A × At) ReadFault). y >>= λ x. k x.0 x.1) e ∙ f
 
-pub checked_ok : {A B : Type 0} (r : Reader A) (look : ℕ → A → Result B ReadFault) (a : At) (v : B) (b : At) → checked r look a ≡ Ok (v, b) → (x : A) × (r a ≡ Ok (x, b)) × (look a.place x ≡ Ok v)
+pub checked_ok : {A B : Type 0} (r : Reader A) (look : ℕ → A → Result B ReadFault) (a : At) (v : B) (b : At) → checked r look a ≡ Ok (v, b)
+    → (x : A) × (r a ≡ Ok (x, b)) × (look a.place x ≡ Ok v)
 unfolding checked
 checked_ok {A} {B} r look a v b e =
     let s = bind_ok (r a) (λ x. look a.place x.0 >>= λ v. Ok (v, x.1)) (v, b) e in
@@ -46,7 +51,9 @@ checked_ok {A} {B} r look a v b e =
     let same : (t.0, s.0.1) ≡ (v, b) = ok_is (t.0, s.0.1) (v, b) t.2 in
     (s.0.0, s.1 ∙ ap (λ (c : B × At). Ok (s.0.0, c.1)) same, t.1 ∙ ap (λ (c : B × At). Ok c.0) same)
 
-pub checked_again : {A B : Type 0} (r : Reader A) (look : ℕ → A → Result B ReadFault) (a : At) (x : A) (v : B) (b : At) → r a ≡ Ok (x, b) → look a.place x ≡ Ok v → checked r look a ≡ Ok (v, b)
+pub checked_again : {A B : Type 0} (r : Reader A) (look : ℕ → A → Result B ReadFault) (a : At) (x : A) (v : B) (b : At) → r a ≡ Ok (x, b)
+    → look a.place x ≡ Ok v → checked r look a ≡ Ok (v, b)
 unfolding checked
 checked_again {A} {B} r look a x v b e f =
-    ap (λ (y : Result (A × At) ReadFault). y >>= λ x. look a.place x.0 >>= λ v. Ok (v, x.1)) e ∙ ap (λ (y : Result B ReadFault). y >>= λ v. Ok (v, b)) f
+    ap (λ (y : Result (A × At) ReadFault). y >>= λ x. look a.place x.0 >>= λ v. Ok (v, x.1)) e
+    ∙ ap (λ (y : Result B ReadFault). y >>= λ v. Ok (v, b)) f

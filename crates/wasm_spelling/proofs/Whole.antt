@@ -61,24 +61,37 @@ version_again a v rest s =
     (b3, reads_again _ _ a tt b0 _ e0 (reads_again _ _ b0 tt b1 _ e1 (reads_again _ _ b1 tt b2 _ e2 e3)), s3)))))
 
 abbrev magic_fields : List Field
-magic_fields = table.exactly 0x00 cause.BadMagic ∷ table.exactly 0x61 cause.BadMagic ∷ table.exactly 0x73 cause.BadMagic ∷ table.exactly 0x6D cause.BadMagic ∷ []
+magic_fields =
+    table.exactly 0x00 cause.BadMagic ∷ table.exactly 0x61 cause.BadMagic ∷ table.exactly 0x73 cause.BadMagic
+    ∷ table.exactly 0x6D cause.BadMagic ∷ []
 
 abbrev version_fields : List Field
-version_fields = table.exactly 0x01 cause.BadVersion ∷ table.exactly 0x00 cause.BadVersion ∷ table.exactly 0x00 cause.BadVersion ∷ table.exactly 0x00 cause.BadVersion ∷ []
+version_fields =
+    table.exactly 0x01 cause.BadVersion ∷ table.exactly 0x00 cause.BadVersion ∷ table.exactly 0x00 cause.BadVersion
+    ∷ table.exactly 0x00 cause.BadVersion ∷ []
 
 magic_follows : Follows magic_fields magic_at
 unfolding magic_at
 magic_follows =
-    follows_both (table.exactly 0x00 cause.BadMagic ∷ []) (table.exactly 0x61 cause.BadMagic ∷ table.exactly 0x73 cause.BadMagic ∷ table.exactly 0x6D cause.BadMagic ∷ []) _ _ (exactly_follows 0x00 cause.BadMagic) (λ u.
-    follows_both (table.exactly 0x61 cause.BadMagic ∷ []) (table.exactly 0x73 cause.BadMagic ∷ table.exactly 0x6D cause.BadMagic ∷ []) _ _ (exactly_follows 0x61 cause.BadMagic) (λ u.
-    follows_both (table.exactly 0x73 cause.BadMagic ∷ []) (table.exactly 0x6D cause.BadMagic ∷ []) _ _ (exactly_follows 0x73 cause.BadMagic) (λ u. exactly_follows 0x6D cause.BadMagic)))
+    follows_both (table.exactly 0x00 cause.BadMagic ∷ [])
+    (table.exactly 0x61 cause.BadMagic ∷ table.exactly 0x73 cause.BadMagic ∷ table.exactly 0x6D cause.BadMagic
+    ∷ []) _ _ (exactly_follows 0x00 cause.BadMagic) (λ u.
+    follows_both (table.exactly 0x61 cause.BadMagic ∷ [])
+    (table.exactly 0x73 cause.BadMagic ∷ table.exactly 0x6D cause.BadMagic ∷ []) _ _ (exactly_follows 0x61 cause.BadMagic) (λ u.
+    follows_both (table.exactly 0x73 cause.BadMagic ∷ []) (table.exactly 0x6D cause.BadMagic ∷ []) _ _ (exactly_follows 0x73 cause.BadMagic)
+    (λ u. exactly_follows 0x6D cause.BadMagic)))
 
 version_follows : Follows version_fields version_at
 unfolding version_at
 version_follows =
-    follows_both (table.exactly 0x01 cause.BadVersion ∷ []) (table.exactly 0x00 cause.BadVersion ∷ table.exactly 0x00 cause.BadVersion ∷ table.exactly 0x00 cause.BadVersion ∷ []) _ _ (exactly_follows 0x01 cause.BadVersion) (λ u.
-    follows_both (table.exactly 0x00 cause.BadVersion ∷ []) (table.exactly 0x00 cause.BadVersion ∷ table.exactly 0x00 cause.BadVersion ∷ []) _ _ (exactly_follows 0x00 cause.BadVersion) (λ u.
-    follows_both (table.exactly 0x00 cause.BadVersion ∷ []) (table.exactly 0x00 cause.BadVersion ∷ []) _ _ (exactly_follows 0x00 cause.BadVersion) (λ u. exactly_follows 0x00 cause.BadVersion)))
+    follows_both (table.exactly 0x01 cause.BadVersion ∷ [])
+    (table.exactly 0x00 cause.BadVersion ∷ table.exactly 0x00 cause.BadVersion ∷ table.exactly 0x00 cause.BadVersion
+    ∷ []) _ _ (exactly_follows 0x01 cause.BadVersion) (λ u.
+    follows_both (table.exactly 0x00 cause.BadVersion ∷ [])
+    (table.exactly 0x00 cause.BadVersion ∷ table.exactly 0x00 cause.BadVersion ∷ []) _ _ (exactly_follows 0x00 cause.BadVersion) (λ u.
+    follows_both (table.exactly 0x00 cause.BadVersion ∷ [])
+    (table.exactly 0x00 cause.BadVersion ∷ []) _ _ (exactly_follows 0x00 cause.BadVersion)
+    (λ u. exactly_follows 0x00 cause.BadVersion)))
 
 -- ---- what is read is spelled
 
@@ -118,10 +131,13 @@ file_takes bytes t e =
     whole t x.0.0 (ok_is x.0.0 t x.2) a m.1 v.1 mt vt (s.spelled parts (subst (λ n. Rising (suc n) parts) (sym last) rises))
     s.adds_up.as_many
   where
-    whole : (t u : Module) → u ≡ t → (a b c : At) → Took a (four 0x00 0x61 0x73 0x6D) b → Took b (four 0x01 0x00 0x00 0x00) c → SpelledAt (sections parts u finished) c → length u.funcs ≡ length u.bodies → Spelled (module_fields t) a.place a.left
+    whole : (t u : Module) → u ≡ t → (a b c : At) → Took a (four 0x00 0x61 0x73 0x6D) b → Took b (four 0x01 0x00 0x00 0x00) c
+        → SpelledAt (sections parts u finished) c → length u.funcs ≡ length u.bodies → Spelled (module_fields t) a.place a.left
     whole t u is a b c mt vt s as_many =
         subst (λ (x : Module). Spelled (module_fields x) a.place a.left) is
-        (mt.taken.spelled (four 0x01 0x00 0x00 0x00 (provided (eqb (length u.funcs) (length u.bodies)) (sections parts u finished))) (vt.taken.spelled (provided (eqb (length u.funcs) (length u.bodies)) (sections parts u finished)) (eq-eqb (length u.funcs) (length u.bodies) as_many, s)))
+        (mt.taken.spelled (four 0x01 0x00 0x00 0x00 (provided (eqb (length u.funcs) (length u.bodies)) (sections parts u finished)))
+        (vt.taken.spelled (provided (eqb (length u.funcs) (length u.bodies)) (sections parts u finished))
+        (eq-eqb (length u.funcs) (length u.bodies) as_many, s)))
 
 -- ---- what is spelled is read
 
@@ -137,14 +153,18 @@ file_again bytes t s =
     let all = sections_again parts 1 t rises (record { as_many = as_many; agrees = spelled_agrees t b1.place b1.left s1.1 })
     (suc (length b1.left)) b1 (omega arith) (nothing_read b1.counts counts_are)
     (omega (arith, ap (λ (c : Counts). c.last_rank) counts_are)) s1.1 in
-    ap (λ (r : Result (Module × At) ReadFault). r >>= tree_of) (reads_again magic_at _ a tt b0 _ e0 (reads_again version_at _ b0 tt b1 (Ok (t, all.0)) e1 all.1))))
+    ap (λ (r : Result (Module × At) ReadFault). r >>= tree_of)
+    (reads_again magic_at _ a tt b0 _ e0 (reads_again version_at _ b0 tt b1 (Ok (t, all.0)) e1 all.1))))
 
 -- ---- the machine
 
-module_follows : Follows (magic_fields ++ (version_fields ++ table.section ∷ [])) (λ a. reads magic_at (λ u. reads version_at (λ u. all_sections_at no_module)) a)
+module_follows : Follows (magic_fields ++ (version_fields ++ table.section ∷ []))
+    (λ a. reads magic_at (λ u. reads version_at (λ u. all_sections_at no_module)) a)
 module_follows =
-    follows_both magic_fields (version_fields ++ table.section ∷ []) magic_at (λ u. reads version_at (λ u. all_sections_at no_module)) magic_follows (λ u.
-    follows_both version_fields (table.section ∷ []) version_at (λ u. all_sections_at no_module) version_follows (λ u. all_follows no_module))
+    follows_both magic_fields (version_fields ++ table.section ∷ []) magic_at
+    (λ u. reads version_at (λ u. all_sections_at no_module)) magic_follows (λ u.
+    follows_both version_fields (table.section ∷ []) version_at (λ u. all_sections_at no_module) version_follows
+    (λ u. all_follows no_module))
 
 abbrev ends : Module × At → Result State ReadFault
 ends x = Ok (state x.1 [] [])
@@ -163,7 +183,8 @@ err_is : (g f : ReadFault) → bad_tree g ≡ bad_tree f → g ≡ f
 err_is g f e = cc
 
 -- a fault that reading gives is the first one
-stops : (bytes : List ℕ) (f : ReadFault) (r : Result (Module × At) ReadFault) → Runs (start_of bytes) (r >>= ends) → (r >>= tree_of) ≡ Err f → Upto bytes f
+stops : (bytes : List ℕ) (f : ReadFault) (r : Result (Module × At) ReadFault) → Runs (start_of bytes) (r >>= ends) → (r >>= tree_of) ≡ Err f
+    → Upto bytes f
 stops bytes f (Ok x) h e = absurd cc
 stops bytes f (Err g) h e = subst (λ k. Runs (start_of bytes) (Err k)) (err_is g f e) h
 
@@ -173,7 +194,8 @@ file_stops bytes f e = stops bytes f (module_at bytes) (runs bytes) e
 
 -- ---- one tree or one fault
 
-either_fault : (n m : ℕ) (x : Result State ReadFault) (f g : ReadFault) → ((t : State) → after n t ≡ Err f → after m t ≡ Err g → f ≡ g) → (x >>= after n) ≡ Err f → (x >>= after m) ≡ Err g → f ≡ g
+either_fault : (n m : ℕ) (x : Result State ReadFault) (f g : ReadFault) → ((t : State) → after n t ≡ Err f → after m t ≡ Err g → f ≡ g)
+    → (x >>= after n) ≡ Err f → (x >>= after m) ≡ Err g → f ≡ g
 either_fault n m (Ok t) f g h d e = h t d e
 either_fault n m (Err k) f g h d e = cc
 
@@ -192,7 +214,9 @@ unfolding after
 ended_stays zero a f e = absurd cc
 ended_stays (suc m) a f e = ended_stays m a f e
 
-either_end : (n m : ℕ) (x : Result State ReadFault) (a : At) (f : ReadFault) → ((t : State) → after n t ≡ Ok (state a [] []) → after m t ≡ Err f → ⊥) → (x >>= after n) ≡ Ok (state a [] []) → (x >>= after m) ≡ Err f → ⊥
+either_end : (n m : ℕ) (x : Result State ReadFault) (a : At) (f : ReadFault)
+    → ((t : State) → after n t ≡ Ok (state a [] []) → after m t ≡ Err f → ⊥) → (x >>= after n) ≡ Ok (state a [] [])
+    → (x >>= after m) ≡ Err f → ⊥
 either_end n m (Ok t) a f h d e = h t d e
 either_end n m (Err k) a f h d e = absurd cc
 
@@ -202,13 +226,15 @@ no_fault zero m s a f d e = ended_stays m a f (subst (λ t. after m t ≡ Err f)
 no_fault (suc n) zero s a f d e = absurd cc
 no_fault (suc n) (suc m) s a f d e = either_end n m (step s) a f (λ t. no_fault n m t a f) d e
 
-reaches : (bytes : List ℕ) (t : Module) (r : Result (Module × At) ReadFault) → Runs (start_of bytes) (r >>= ends) → (r >>= tree_of) ≡ Ok t → (a : At) × Runs (start_of bytes) (Ok (state a [] []))
+reaches : (bytes : List ℕ) (t : Module) (r : Result (Module × At) ReadFault) → Runs (start_of bytes) (r >>= ends) → (r >>= tree_of) ≡ Ok t
+    → (a : At) × Runs (start_of bytes) (Ok (state a [] []))
 reaches bytes t (Ok x) h e = (x.1, h)
 reaches bytes t (Err g) h e = absurd cc
 
 pub read_has_no_fault : (bytes : List ℕ) (t : Module) (f : ReadFault) → file_at bytes ≡ Ok t → Upto bytes f → ⊥
 unfolding file_at
-read_has_no_fault bytes t f is (m, e) = let r = reaches bytes t (module_at bytes) (runs bytes) is in no_fault r.1.0 m (start_of bytes) r.0 f r.1.1 e
+read_has_no_fault bytes t f is (m, e) =
+    let r = reaches bytes t (module_at bytes) (runs bytes) is in no_fault r.1.0 m (start_of bytes) r.0 f r.1.1 e
 
 pub not_both : (bytes : List ℕ) (t : Module) (f : ReadFault) → Spells t bytes → Upto bytes f → ⊥
 not_both bytes t f s u = read_has_no_fault bytes t f (file_again bytes t s.0) u
@@ -216,7 +242,8 @@ not_both bytes t f s u = read_has_no_fault bytes t f (file_again bytes t s.0) u
 pub one_tree : (bytes : List ℕ) (t u : Module) → Spells t bytes → Spells u bytes → t ≡ u
 one_tree bytes t u s v = ok_is t u (sym (file_again bytes t s.0) ∙ file_again bytes u v.0)
 
-either_read : (bytes : List ℕ) → length bytes ≤ most_module_bytes → (r : Result Module ReadFault) → file_at bytes ≡ r → ((t : Module) × Spells t bytes) ⊎ ((f : ReadFault) × Upto bytes f)
+either_read : (bytes : List ℕ) → length bytes ≤ most_module_bytes → (r : Result Module ReadFault) → file_at bytes ≡ r
+    → ((t : Module) × Spells t bytes) ⊎ ((f : ReadFault) × Upto bytes f)
 either_read bytes small (Ok t) e = inl (t, (file_takes bytes t e, small))
 either_read bytes small (Err f) e = inr (f, file_stops bytes f e)
 

@@ -135,7 +135,9 @@ among low high b = nat_le low b && nat_le b high
 -- floating-point instructions
 abbrev pub is_float : ℕ → Bool
 is_float b =
-    among 0x2A 0x2B b || (among 0x38 0x39 b || (among 0x43 0x44 b || (among 0x5B 0x66 b || (among 0x8B 0xA6 b || (among 0xA8 0xAB b || among 0xAE 0xBF b)))))
+    among 0x2A 0x2B b
+    || (among 0x38 0x39 b || (among 0x43 0x44 b
+    || (among 0x5B 0x66 b || (among 0x8B 0xA6 b || (among 0xA8 0xAB b || among 0xAE 0xBF b)))))
 
 -- what an opcode begins
 pub data Head : Type 0 where
@@ -188,7 +190,8 @@ run_count_at a = number_at a >>= more_locals a.place
 -- of bodies: as many as function entries
 abbrev pub bodies_counted : ℕ → ℕ × At → Result (ℕ × At) ReadFault
 bodies_counted place x =
-    if x.0 == x.1.counts.functions then Ok (x.0, record x.1 { counts = record x.1.counts { code_read = true } }) else malformed place cause.CountDiffers
+    if x.0 == x.1.counts.functions then Ok (x.0, record x.1 { counts = record x.1.counts { code_read = true } })
+    else malformed place cause.CountDiffers
 
 abbrev pub body_count_at : Reader ℕ
 body_count_at a = number_at a >>= bodies_counted a.place
@@ -259,7 +262,8 @@ section_begins place id left c (Some part) =
 -- the id of a section, or the end of the file
 abbrev pub section_id_of : ℕ → List ℕ → Counts → Result (SectionId × At) ReadFault
 section_id_of place [] c =
-    if bodies_done c && data_done c then Ok (no_section, record { place = place; left = []; counts = c }) else malformed place cause.CountDiffers
+    if bodies_done c && data_done c then Ok (no_section, record { place = place; left = []; counts = c })
+    else malformed place cause.CountDiffers
 section_id_of place (id ∷ left) c = section_begins place id left c (part_of id)
 
 abbrev pub section_id_at : Reader SectionId

@@ -19,8 +19,11 @@ abbrev dead : Code
 dead = code_from 0 (Block None (code_from 2 (Br 0 ∷ Binary I32 Add ∷ Drop ∷ [])) 6 ∷ [])
 
 pub dead_code : BodyHasType (context [] None) dead
-dead_code =
-    ([], ((I32 ∷ I32 ∷ [], (None, refl, ([], refl)), (I32 ∷ [], ([], refl, refl), ([], (I32, ([], refl, refl)), refl))), ([], refl, refl)), refl)
+dead_code = (
+  [],
+  ((I32 ∷ I32 ∷ [], (None, refl, ([], refl)), (I32 ∷ [], ([], refl, refl), ([], (I32, ([], refl, refl)), refl))), ([], refl, refl)),
+  refl,
+)
 
 abbrev one_sided : Code
 one_sided = code_from 33 (I32Const (pos 1) ∷ If (Some I32) (code_from 36 (I32Const (pos 5) ∷ [])) no_else 37 ∷ [])
@@ -30,8 +33,15 @@ one_sided_before zero le = closes [] (I32 ∷ [])
 one_sided_before (suc zero) le = (I32 ∷ [], ([], refl, refl), closes (I32 ∷ []) (I32 ∷ []))
 one_sided_before (suc (suc zero)) le =
     (I32 ∷ [], ([], refl, refl), (I32 ∷ [], (closes [] (I32 ∷ []), closes [] (I32 ∷ []), ([], refl, refl)), closes (I32 ∷ []) (I32 ∷ [])))
-one_sided_before (suc (suc (suc zero))) le =
-    (I32 ∷ [], ([], refl, refl), (I32 ∷ [], ((I32 ∷ [], ([], refl, refl), closes (I32 ∷ []) (I32 ∷ [])), closes [] (I32 ∷ []), ([], refl, refl)), closes (I32 ∷ []) (I32 ∷ [])))
+one_sided_before (suc (suc (suc zero))) le = (
+  I32 ∷ [],
+  ([], refl, refl),
+  (
+    I32 ∷ [],
+    ((I32 ∷ [], ([], refl, refl), closes (I32 ∷ []) (I32 ∷ [])), closes [] (I32 ∷ []), ([], refl, refl)),
+    closes (I32 ∷ []) (I32 ∷ []),
+  ),
+)
 one_sided_before (suc (suc (suc (suc j)))) le = absurd (omega (arith, le))
 
 one_sided_faulty : BodyHasType (context [] (Some I32)) (completed 4 one_sided) → ⊥

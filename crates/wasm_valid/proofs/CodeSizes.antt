@@ -4,9 +4,12 @@ use Rattle.wasm_tree.specs.declared.code.Instr.{Instr}
 use Rattle.wasm_tree.specs.Size.{code_size, kind_size}
 use Rattle.wasm_tree.specs.Views.{code_tree, kind_tree}
 
-pub instr_smaller : (items : List Instr) (i : ℕ) (x : Instr) → i < length items → x ≡ get_or items i x → kind_size (kind_tree x.kind) + 1 ≤ code_size (code_tree items)
+pub instr_smaller : (items : List Instr) (i : ℕ) (x : Instr) → i < length items → x ≡ get_or items i x
+    → kind_size (kind_tree x.kind) + 1 ≤ code_size (code_tree items)
 instr_smaller [] i x less is = absurd (omega (arith, less))
 instr_smaller (y ∷ items) zero x less is =
-    let e : kind_size (kind_tree x.kind) ≡ kind_size (kind_tree y.kind) = ap (λ (z : Instr). kind_size (kind_tree z.kind)) is in omega (arith, e)
+    let e : kind_size (kind_tree x.kind) ≡ kind_size (kind_tree y.kind) = ap (λ (z : Instr). kind_size (kind_tree z.kind)) is in
+    omega (arith, e)
 instr_smaller (y ∷ items) (suc i) x less is =
-    let h : kind_size (kind_tree x.kind) + 1 ≤ code_size (code_tree items) = instr_smaller items i x (omega (arith, less)) is in omega (arith, h)
+    let h : kind_size (kind_tree x.kind) + 1 ≤ code_size (code_tree items) = instr_smaller items i x (omega (arith, less)) is in
+    omega (arith, h)

@@ -2,6 +2,7 @@
 use Rattle.std.proofs.Common.{◌≡◌, ℕ, ◌+◌, ◌≤◌, ◌^◌, List, [], ◌∷◌, ◌++◌, Option, Some, None, Bool, true, false, refl, sym, subst, ap, ◌∙◌, rules, tests}
 use Rattle.std.specs.Prelude.{reverse, Ok, Err, nat_le, slice_get, ◌&&◌}
 use Rattle.std.specs.List.{AllByRecursion}
+use Rattle.w2c_base.proofs.Conjunctions.{both_hold}
 use Rattle.w2c_base.specs.declared.value.ValType.{ValType}
 use Rattle.w2c_base.specs.declared.value.ValType.TheVariants.{I32, I64}
 use Rattle.w2c_base.specs.declared.signature.FuncType.{FuncType}
@@ -34,9 +35,11 @@ Rule = Stack → Stack → Type 0
 -- Some: the operands behind show exactly the stacks that the rule reaches. None: it reaches none
 abbrev pub Exact : Operands → Option Operands → Rule → Type 0
 Exact s None T = (old new : Stack) → Shows s old → T old new → ⊥
-Exact s (Some s') T = (new : Stack) → (Shows s' new → (old : Stack) × Shows s old × T old new) × ((old : Stack) → Shows s old → T old new → Shows s' new)
+Exact s (Some s') T =
+    (new : Stack) → (Shows s' new → (old : Stack) × Shows s old × T old new) × ((old : Stack) → Shows s old → T old new → Shows s' new)
 
-exact_by : (s : Operands) (r : Option Operands) (T T' : Rule) → ((old new : Stack) → T old new → T' old new) → ((old new : Stack) → T' old new → T old new) → Exact s r T → Exact s r T'
+exact_by : (s : Operands) (r : Option Operands) (T T' : Rule) → ((old new : Stack) → T old new → T' old new)
+    → ((old new : Stack) → T' old new → T old new) → Exact s r T → Exact s r T'
 exact_by s None T T' f g h = λ old new sh w. h old new sh (g old new w)
 exact_by s (Some s') T T' f g h = λ new. (λ x. let a = (h new).0 x in (a.0, a.1, f a.0 new a.2), λ old sh w. (h new).1 old sh (g old new w))
 
@@ -58,7 +61,8 @@ both_leave : (t : ValType) (a : Stack) (s s' : Operands) (r : Option Operands) �
 both_leave t a s s' None h k = λ ts x. k ts ((h (a ++ ts)).1 x)
 both_leave t a s s' (Some s'') h k = λ ts. (λ x. (h (a ++ ts)).0 ((k ts).0 x), λ x. (k ts).1 ((h (a ++ ts)).1 x))
 
-first_leaves : (t : ValType) (a : Stack) (s : Operands) (r : Option Operands) → Left (t ∷ []) s r → ((s' : Operands) → Left a s' (pop_types a s')) → Left (t ∷ a) s (on_some r (pop_types a))
+first_leaves : (t : ValType) (a : Stack) (s : Operands) (r : Option Operands) → Left (t ∷ []) s r
+    → ((s' : Operands) → Left a s' (pop_types a s')) → Left (t ∷ a) s (on_some r (pop_types a))
 first_leaves t a s None h k = λ ts x. h (a ++ ts) x
 first_leaves t a s (Some s') h k = both_leave t a s s' (pop_types a s') h (k s')
 
@@ -88,7 +92,8 @@ some_stack (on x s) = let t = some_fit x in let r = some_stack s in (t.0 ∷ r.0
 abbrev Swaps : Stack → Stack → Rule
 Swaps a b old new = (rest : Stack) × (old ≡ a ++ rest) × (new ≡ b ++ rest)
 
-turn_from : (a b : Stack) (s : Operands) (r : Option Operands) → Left a s r → Exact s (on_some r (λ rest. Some (push_types b rest))) (Swaps a b)
+turn_from : (a b : Stack) (s : Operands) (r : Option Operands) → Left a s r
+    → Exact s (on_some r (λ rest. Some (push_types b rest))) (Swaps a b)
 turn_from a b s None h = λ old new sh w. h w.0 (subst (Shows s) w.1 sh)
 turn_from a b s (Some s') h = λ new. (
   λ x. let p = push_shown b s' new x in (a ++ p.0, (h p.0).0 p.2, (p.0, refl, p.1)),
@@ -96,9 +101,11 @@ turn_from a b s (Some s') h = λ new. (
 )
 
 turn_exact : (operands results : List ValType) (s : Operands) → Exact s (turn operands results s) (Turns operands results)
-turn_exact operands results s = turn_from (reverse operands) (reverse results) s (pop_types (reverse operands) s) (pops_leave (reverse operands) s)
+turn_exact operands results s =
+    turn_from (reverse operands) (reverse results) s (pop_types (reverse operands) s) (pops_leave (reverse operands) s)
 
-jump_from : (a : Stack) (s : Operands) (r : Option Operands) → Left a s r → Exact s (on_some r (λ rest. Some anything)) (λ old new. (rest : Stack) × (old ≡ a ++ rest))
+jump_from : (a : Stack) (s : Operands) (r : Option Operands) → Left a s r
+    → Exact s (on_some r (λ rest. Some anything)) (λ old new. (rest : Stack) × (old ≡ a ++ rest))
 jump_from a s None h = λ old new sh w. h w.0 (subst (Shows s) w.1 sh)
 jump_from a s (Some s') h = λ new. (λ x. let r = some_stack s' in (a ++ r.0, (h r.0).0 r.1, (r.0, refl)), λ old sh w. tt)
 
@@ -113,12 +120,15 @@ some_injective : {A : Type 0} (x y : A) → Some x ≡ Some y → x ≡ y
 some_injective x y e = cc
 
 -- an index that is looked up
-looked_up : {A : Type 0} (o : Option A) (f : A → Option Operands) (T : A → Rule) (s : Operands) → ((x : A) → Exact s (f x) (T x)) → Exact s (on_some o f) (λ old new. (x : A) × (o ≡ Some x) × T x old new)
+looked_up : {A : Type 0} (o : Option A) (f : A → Option Operands) (T : A → Rule) (s : Operands) → ((x : A) → Exact s (f x) (T x))
+    → Exact s (on_some o f) (λ old new. (x : A) × (o ≡ Some x) × T x old new)
 looked_up None f T s h = λ old new sh w. let e = w.1 in cc
-looked_up (Some x) f T s h = exact_by s (f x) (T x) _ (λ old new t. (x, refl, t)) (λ old new w. subst (λ y. T y old new) (sym (some_injective x w.0 w.1)) w.2) (h x)
+looked_up (Some x) f T s h =
+    exact_by s (f x) (T x) _ (λ old new t. (x, refl, t)) (λ old new w. subst (λ y. T y old new) (sym (some_injective x w.0 w.1)) w.2) (h x)
 
 -- a test
-tested : (b : Bool) (P : Type 0) → (P → b ≡ true) → (b ≡ true → P) → (s : Operands) (r : Option Operands) (T : Rule) → Exact s r T → Exact s (when b r) (λ old new. P × T old new)
+tested : (b : Bool) (P : Type 0) → (P → b ≡ true) → (b ≡ true → P) → (s : Operands) (r : Option Operands) (T : Rule) → Exact s r T
+    → Exact s (when b r) (λ old new. P × T old new)
 tested false P f g s r T h = λ old new sh w. let e = f w.0 in cc
 tested true P f g s r T h = exact_by s r T _ (λ old new t. (g refl, t)) (λ old new w. w.1) h
 
@@ -147,7 +157,8 @@ common_exact (Known I64) (Known I32) = λ u e f. cc
 abbrev TwoToOne : Rule
 TwoToOne old new = (t : ValType) × Turns (t ∷ t ∷ []) (t ∷ []) old new
 
-chosen_from : (x y : Operand) (s : Operands) (r : Option Operand) → Common x y r → Exact (on x (on y s)) (on_some r (λ z. Some (on z s))) TwoToOne
+chosen_from : (x y : Operand) (s : Operands) (r : Option Operand) → Common x y r
+    → Exact (on x (on y s)) (on_some r (λ z. Some (on z s))) TwoToOne
 chosen_from x y s None h = λ old new sh w. let p = subst (Shows (on x (on y s))) w.1.1 sh in h w.0 p.0 p.1.0
 chosen_from x y s (Some z) h = λ new. (
   go new,
@@ -168,7 +179,8 @@ chosen_exact anything = λ new. (go new, λ old sh w. subst (Shows (on Unknown a
     go [] k = absurd k
     go (t ∷ ts) k = (t ∷ t ∷ ts, tt, (t, (ts, refl, refl)))
 chosen_exact (on x nothing) = λ old new sh w. let p = subst (Shows (on x nothing)) w.1.1 sh in let e = p.1 in cc
-chosen_exact (on x anything) = λ new. (go new, λ old sh w. let p = subst (Shows (on x anything)) w.1.1 sh in subst (Shows (on x anything)) (sym w.1.2) (p.0, tt))
+chosen_exact (on x anything) =
+    λ new. (go new, λ old sh w. let p = subst (Shows (on x anything)) w.1.1 sh in subst (Shows (on x anything)) (sym w.1.2) (p.0, tt))
   where
     go : (new : Stack) → Shows (on x anything) new → (old : Stack) × Shows (on x anything) old × TwoToOne old new
     go [] k = absurd k
@@ -179,20 +191,18 @@ chosen_exact (on x (on y s)) = chosen_from x y s (common x y) (common_exact x y)
 abbrev After : ValType → Rule → Rule
 After t T old new = (rest : Stack) × (old ≡ t ∷ rest) × T rest new
 
-popped_from : (t : ValType) (s s' : Operands) (r : Option Operands) (T : Rule) → Left (t ∷ []) s (Some s') → Exact s' r T → Exact s r (After t T)
+popped_from : (t : ValType) (s s' : Operands) (r : Option Operands) (T : Rule) → Left (t ∷ []) s (Some s') → Exact s' r T
+    → Exact s r (After t T)
 popped_from t s s' None T h k = λ old new sh w. k w.0 new ((h w.0).1 (subst (Shows s) w.1 sh)) w.2
 popped_from t s s' (Some s'') T h k = λ new. (
   λ x. let a = (k new).0 x in (t ∷ a.0, (h a.0).0 a.1, (a.0, refl, a.2)),
   λ old sh w. (k new).1 w.0 ((h w.0).1 (subst (Shows s) w.1 sh)) w.2,
 )
 
-popped : (t : ValType) (s : Operands) (o : Option Operands) (f : Operands → Option Operands) (T : Rule) → Left (t ∷ []) s o → ((s' : Operands) → Exact s' (f s') T) → Exact s (on_some o f) (After t T)
+popped : (t : ValType) (s : Operands) (o : Option Operands) (f : Operands → Option Operands) (T : Rule) → Left (t ∷ []) s o
+    → ((s' : Operands) → Exact s' (f s') T) → Exact s (on_some o f) (After t T)
 popped t s None f T h k = λ old new sh w. h w.0 (subst (Shows s) w.1 sh)
 popped t s (Some s') f T h k = popped_from t s s' (f s') T h (k s')
-
-pub and_true : (a b : Bool) → (a && b) ≡ true → (a ≡ true) × (b ≡ true)
-and_true true b e = (refl, e)
-and_true false b e = cc
 
 is_label-eq : (o : Option (Option ValType)) (t : Option ValType) → is_label o t ≡ true → o ≡ Some t
 is_label-eq None t e = cc
@@ -206,11 +216,14 @@ AllLabels labels ks t = AllByRecursion (λ k. slice_get labels k ≡ Some t) ks
 
 all_labels-yes : (labels : Labels) (ks : List ℕ) (t : Option ValType) → AllLabels labels ks t → all_labels labels ks t ≡ true
 all_labels-yes labels [] t h = refl
-all_labels-yes labels (k ∷ ks) t h = ap (λ b. b && all_labels labels ks t) (is_label-yes (slice_get labels k) t h.0) ∙ all_labels-yes labels ks t h.1
+all_labels-yes labels (k ∷ ks) t h =
+    ap (λ b. b && all_labels labels ks t) (is_label-yes (slice_get labels k) t h.0) ∙ all_labels-yes labels ks t h.1
 
 all_labels-eq : (labels : Labels) (ks : List ℕ) (t : Option ValType) → all_labels labels ks t ≡ true → AllLabels labels ks t
 all_labels-eq labels [] t e = tt
-all_labels-eq labels (k ∷ ks) t e = let p = and_true (is_label (slice_get labels k) t) (all_labels labels ks t) e in (is_label-eq (slice_get labels k) t p.0, all_labels-eq labels ks t p.1)
+all_labels-eq labels (k ∷ ks) t e =
+    let p = both_hold (is_label (slice_get labels k) t) (all_labels labels ks t) e in
+    (is_label-eq (slice_get labels k) t p.0, all_labels-eq labels ks t p.1)
 
 le_true : (m n : ℕ) → m ≤ n → nat_le m n ≡ true
 le_true m n h = search (rules, tests)
@@ -233,28 +246,34 @@ br_exact : (c : Context) (labels : Labels) (k : ℕ) (s : Operands) → StepExac
 br_exact c labels k s = looked_up (slice_get labels k) _ (λ t. Leaves (values t)) s (λ t. jump_exact (values t) s)
 
 br_if_exact : (c : Context) (labels : Labels) (k : ℕ) (s : Operands) → StepExact c labels (BrIf k) s
-br_if_exact c labels k s = looked_up (slice_get labels k) _ (λ t. Turns (values t ++ I32 ∷ []) (values t)) s (λ t. turn_exact (values t ++ I32 ∷ []) (values t) s)
+br_if_exact c labels k s =
+    looked_up (slice_get labels k) _ (λ t. Turns (values t ++ I32 ∷ []) (values t)) s (λ t. turn_exact (values t ++ I32 ∷ []) (values t) s)
 
 br_table_exact : (c : Context) (labels : Labels) (ks : List ℕ) (k : ℕ) (s : Operands) → StepExact c labels (BrTable ks k) s
 br_table_exact c labels ks k s =
-    exact_by s _ (λ old new. (t : Option ValType) × (slice_get labels k ≡ Some t) × (AllLabels labels ks t × Leaves (values t ++ I32 ∷ []) old new)) (KindHasType c labels (BrTable ks k))
+    exact_by s _ (λ old new. (t : Option ValType) × (slice_get labels k ≡ Some t)
+    × (AllLabels labels ks t × Leaves (values t ++ I32 ∷ []) old new)) (KindHasType c labels (BrTable ks k))
     (λ old new w. (w.0, w.1, w.2.0, w.2.1)) (λ old new w. (w.0, w.1, (w.2, w.3)))
     (looked_up (slice_get labels k) _ (λ t old new. AllLabels labels ks t × Leaves (values t ++ I32 ∷ []) old new) s
-    (λ t. tested (all_labels labels ks t) (AllLabels labels ks t) (all_labels-yes labels ks t) (all_labels-eq labels ks t) s _ (Leaves (values t ++ I32 ∷ [])) (jump_exact (values t ++ I32 ∷ []) s)))
+    (λ t. tested (all_labels labels ks t) (AllLabels labels ks t) (all_labels-yes labels ks t)
+    (all_labels-eq labels ks t) s _ (Leaves (values t ++ I32 ∷ [])) (jump_exact (values t ++ I32 ∷ []) s)))
 
 call_exact : (c : Context) (labels : Labels) (f : ℕ) (s : Operands) → StepExact c labels (Call f) s
 call_exact c labels f s =
-    exact_by s _ (λ old new. (o : Option FuncType) × (slice_get c.funcs f ≡ Some o) × ((ty : FuncType) × (o ≡ Some ty) × Turns ty.params (values ty.result) old new)) (KindHasType c labels (Call f))
+    exact_by s _ (λ old new. (o : Option FuncType) × (slice_get c.funcs f ≡ Some o)
+    × ((ty : FuncType) × (o ≡ Some ty) × Turns ty.params (values ty.result) old new)) (KindHasType c labels (Call f))
     (λ old new w. (w.2.0, w.1 ∙ ap Some w.2.1, w.2.2)) (λ old new w. (Some w.0, w.1, (w.0, refl, w.2)))
     (looked_up (slice_get c.funcs f) _ (λ o old new. (ty : FuncType) × (o ≡ Some ty) × Turns ty.params (values ty.result) old new) s
     (λ o. looked_up o _ (λ ty. Turns ty.params (values ty.result)) s (λ ty. turn_exact ty.params (values ty.result) s)))
 
 call_indirect_exact : (c : Context) (labels : Labels) (x : ℕ) (s : Operands) → StepExact c labels (CallIndirect x) s
 call_indirect_exact c labels x s =
-    exact_by s _ (λ old new. (ty : FuncType) × (slice_get c.types x ≡ Some ty) × (HasTable c × Turns (ty.params ++ I32 ∷ []) (values ty.result) old new)) (KindHasType c labels (CallIndirect x))
+    exact_by s _ (λ old new. (ty : FuncType) × (slice_get c.types x ≡ Some ty)
+    × (HasTable c × Turns (ty.params ++ I32 ∷ []) (values ty.result) old new)) (KindHasType c labels (CallIndirect x))
     (λ old new w. (w.0, w.1, w.2.0, w.2.1)) (λ old new w. (w.0, w.1, (w.2, w.3)))
     (looked_up (slice_get c.types x) _ (λ ty old new. HasTable c × Turns (ty.params ++ I32 ∷ []) (values ty.result) old new) s
-    (λ ty. tested (has_table c) (HasTable c) (λ h. h) (λ h. h) s _ (Turns (ty.params ++ I32 ∷ []) (values ty.result)) (turn_exact (ty.params ++ I32 ∷ []) (values ty.result) s)))
+    (λ ty. tested (has_table c) (HasTable c) (λ h. h) (λ h. h) s _ (Turns (ty.params ++ I32 ∷ []) (values ty.result))
+    (turn_exact (ty.params ++ I32 ∷ []) (values ty.result) s)))
 
 local_get_exact : (c : Context) (labels : Labels) (x : ℕ) (s : Operands) → StepExact c labels (LocalGet x) s
 local_get_exact c labels x s = looked_up (slice_get c.locals x) _ (λ t. Turns [] (t ∷ [])) s (λ t. turn_exact [] (t ∷ []) s)
@@ -267,27 +286,33 @@ local_tee_exact c labels x s = looked_up (slice_get c.locals x) _ (λ t. Turns (
 
 global_get_exact : (c : Context) (labels : Labels) (x : ℕ) (s : Operands) → StepExact c labels (GlobalGet x) s
 global_get_exact c labels x s =
-    exact_by s _ (λ old new. (g : ValType × Bool) × (slice_get c.globals x ≡ Some g) × Turns [] (g.0 ∷ []) old new) (KindHasType c labels (GlobalGet x))
+    exact_by s _ (λ old new. (g : ValType × Bool) × (slice_get c.globals x ≡ Some g) × Turns [] (g.0 ∷ []) old new)
+    (KindHasType c labels (GlobalGet x))
     (λ old new w. (w.0.0, w.0.1, w.1, w.2)) (λ old new w. ((w.0, w.1), w.2, w.3))
     (looked_up (slice_get c.globals x) _ (λ g. Turns [] (g.0 ∷ [])) s (λ g. turn_exact [] (g.0 ∷ []) s))
 
 global_set_exact : (c : Context) (labels : Labels) (x : ℕ) (s : Operands) → StepExact c labels (GlobalSet x) s
 global_set_exact c labels x s =
-    exact_by s _ (λ old new. (g : ValType × Bool) × (slice_get c.globals x ≡ Some g) × ((g.1 ≡ true) × Turns (g.0 ∷ []) [] old new)) (KindHasType c labels (GlobalSet x))
+    exact_by s _ (λ old new. (g : ValType × Bool) × (slice_get c.globals x ≡ Some g) × ((g.1 ≡ true) × Turns (g.0 ∷ []) [] old new))
+    (KindHasType c labels (GlobalSet x))
     (λ old new w. (w.0.0, w.1 ∙ ap (λ b. Some (w.0.0, b)) w.2.0, w.2.1)) (λ old new w. ((w.0, true), w.1, (refl, w.2)))
     (looked_up (slice_get c.globals x) _ (λ g old new. (g.1 ≡ true) × Turns (g.0 ∷ []) [] old new) s
     (λ g. tested g.1 (g.1 ≡ true) (λ h. h) (λ h. h) s _ (Turns (g.0 ∷ []) []) (turn_exact (g.0 ∷ []) [] s)))
 
 -- an access of so many bytes
 access_exact : (c : Context) (ty : Typing) (align width : ℕ) (s : Operands)
-    → Exact s (when (has_memory c) (when (nat_le (2 ^ align) width) (turn_tabled ty s))) (λ old new. HasMemory c × (2 ^ align ≤ width) × TurnsAsTabled ty old new)
+    → Exact s (when (has_memory c) (when (nat_le (2 ^ align) width) (turn_tabled ty s)))
+    (λ old new. HasMemory c × (2 ^ align ≤ width) × TurnsAsTabled ty old new)
 access_exact c ty align width s =
-    exact_by s _ (λ old new. HasMemory c × ((2 ^ align ≤ width) × TurnsAsTabled ty old new)) (λ old new. HasMemory c × (2 ^ align ≤ width) × TurnsAsTabled ty old new)
+    exact_by s _ (λ old new. HasMemory c × ((2 ^ align ≤ width) × TurnsAsTabled ty old new))
+    (λ old new. HasMemory c × (2 ^ align ≤ width) × TurnsAsTabled ty old new)
     (λ old new w. (w.0, w.1.0, w.1.1)) (λ old new w. (w.0, (w.1, w.2)))
     (tested (has_memory c) (HasMemory c) (λ h. h) (λ h. h) s _ (λ old new. (2 ^ align ≤ width) × TurnsAsTabled ty old new)
-    (tested (nat_le (2 ^ align) width) (2 ^ align ≤ width) (le_true (2 ^ align) width) (true_le (2 ^ align) width) s _ (TurnsAsTabled ty) (tabled_exact ty s)))
+    (tested (nat_le (2 ^ align) width) (2 ^ align ≤ width) (le_true (2 ^ align) width) (true_le (2 ^ align) width) s _ (TurnsAsTabled ty)
+    (tabled_exact ty s)))
 
-memory_exact : (c : Context) (ty : Typing) (s : Operands) → Exact s (when (has_memory c) (turn_tabled ty s)) (λ old new. HasMemory c × TurnsAsTabled ty old new)
+memory_exact : (c : Context) (ty : Typing) (s : Operands)
+    → Exact s (when (has_memory c) (turn_tabled ty s)) (λ old new. HasMemory c × TurnsAsTabled ty old new)
 memory_exact c ty s = tested (has_memory c) (HasMemory c) (λ h. h) (λ h. h) s _ (TurnsAsTabled ty) (tabled_exact ty s)
 
 -- where a run went, if it was not refused
@@ -311,11 +336,13 @@ seq_from s s' None S T h k = λ old new sh w. k w.0 new ((h w.0).1 old sh w.1) w
 seq_from s s' (Some s'') S T h k = λ new.
     (λ x. let b = (k new).0 x in let a = (h b.0).0 b.1 in (a.0, a.1, (b.0, a.2, b.2)), λ old sh w. (k new).1 w.0 ((h w.0).1 old sh w.1) w.2)
 
-seq_exact : (s : Operands) (r : Ran) (f : Operands → Ran) (S T : Rule) → Exact s (went r) S → ((s' : Operands) → Exact s' (went (f s')) T) → Exact s (went (and_then r f)) (Joined S T)
+seq_exact : (s : Operands) (r : Ran) (f : Operands → Ran) (S T : Rule) → Exact s (went r) S → ((s' : Operands) → Exact s' (went (f s')) T)
+    → Exact s (went (and_then r f)) (Joined S T)
 seq_exact s (Err e) f S T h k = λ old new sh w. h old w.0 sh w.1
 seq_exact s (Ok s') f S T h k = seq_from s s' (went (f s')) S T h (k s')
 
-popped_ran : (t : ValType) (s : Operands) (e : Refusal) (o : Option Operands) (f : Operands → Ran) (T : Rule) → Left (t ∷ []) s o → ((s' : Operands) → Exact s' (went (f s')) T) → Exact s (went (and_then (or_refuse e o) f)) (After t T)
+popped_ran : (t : ValType) (s : Operands) (e : Refusal) (o : Option Operands) (f : Operands → Ran) (T : Rule) → Left (t ∷ []) s o
+    → ((s' : Operands) → Exact s' (went (f s')) T) → Exact s (went (and_then (or_refuse e o) f)) (After t T)
 popped_ran t s e None f T h k = λ old new sh w. h w.0 (subst (Shows s) w.1 sh)
 popped_ran t s e (Some s') f T h k = popped_from t s s' (went (f s')) T h (k s')
 
@@ -341,12 +368,14 @@ closed : (r : Option ValType) (s : Operands) → Decided (closes r s) (Shows s (
 closed None s = closed_from [] s (Some s) (pops_leave [] s)
 closed (Some t) s = closed_from (t ∷ []) s (pop_types (t ∷ []) s) (pops_leave (t ∷ []) s)
 
-ended_from : (f : Refusal) (r : Option ValType) (s : Operands) (o : Option Operands) (T : Rule) → Exact nothing (Some s) T → Decided o (Shows s (values r)) → Decided (went (or_refuse f o)) (T [] (values r))
+ended_from : (f : Refusal) (r : Option ValType) (s : Operands) (o : Option Operands) (T : Rule) → Exact nothing (Some s) T
+    → Decided o (Shows s (values r)) → Decided (went (or_refuse f o)) (T [] (values r))
 ended_from f r s None T h k = λ x. k ((h (values r)).1 [] refl x)
 ended_from f r s (Some s') T h k = let w = (h (values r)).0 k in subst (λ old. T old (values r)) w.1 w.2
 
 -- an end
-ended : (n e : ℕ) (r : Option ValType) (ran : Ran) (T : Rule) → Exact nothing (went ran) T → Decided (went (at_end n e r ran)) (T [] (values r))
+ended : (n e : ℕ) (r : Option ValType) (ran : Ran) (T : Rule) → Exact nothing (went ran) T
+    → Decided (went (at_end n e r ran)) (T [] (values r))
 ended n e r (Err f) T h = λ x. h [] (values r) refl x
 ended n e r (Ok s) T h = ended_from _ r s (closes r s) T h (closed r s)
 
@@ -354,53 +383,75 @@ decided_later : (n : ℕ) (ran : Ran) (P : Type 0) → Decided (went ran) P → 
 decided_later n (Ok s) P h = h
 decided_later n (Err f) P h = h
 
-guarded : (s : Operands) (ran : Ran) (P : Type 0) (f : Operands → Ran) (T : Rule) → Decided (went ran) P → ((s' : Operands) → Exact s (went (f s')) T) → Exact s (went (and_then ran f)) (λ old new. P × T old new)
+guarded : (s : Operands) (ran : Ran) (P : Type 0) (f : Operands → Ran) (T : Rule) → Decided (went ran) P
+    → ((s' : Operands) → Exact s (went (f s')) T) → Exact s (went (and_then ran f)) (λ old new. P × T old new)
 guarded s (Err e) P f T h k = λ old new sh w. h w.0
 guarded s (Ok s') P f T h k = exact_by s (went (f s')) T _ (λ old new t. (h, t)) (λ old new w. w.1) (k s')
 
 -- an instruction whose code inside ran so
-inside : (n m e : ℕ) (r : Option ValType) (ran : Ran) (T : Rule) → Exact nothing (went ran) T → Decided (went (later n (at_end m e r ran))) (T [] (values r))
+inside : (n m e : ℕ) (r : Option ValType) (ran : Ran) (T : Rule) → Exact nothing (went ran) T
+    → Decided (went (later n (at_end m e r ran))) (T [] (values r))
 inside n m e r ran T h = decided_later n (at_end m e r ran) (T [] (values r)) (ended m e r ran T h)
 
-block_exact : (s : Operands) (m e : ℕ) (r : Option ValType) (ran : Ran) (T : Rule) → Exact nothing (went ran) T → Exact s (went (and_then (later 1 (at_end m e r ran)) (λ _. Ok (give r s)))) (λ old new. T [] (values r) × Turns [] (values r) old new)
+block_exact : (s : Operands) (m e : ℕ) (r : Option ValType) (ran : Ran) (T : Rule) → Exact nothing (went ran) T
+    → Exact s (went (and_then (later 1 (at_end m e r ran)) (λ _. Ok (give r s)))) (λ old new. T [] (values r) × Turns [] (values r) old new)
 block_exact s m e r ran T h =
-    guarded s (later 1 (at_end m e r ran)) (T [] (values r)) (λ _. Ok (give r s)) (Turns [] (values r)) (inside 1 m e r ran T h) (λ s'. turn_exact [] (values r) s)
+    guarded s (later 1 (at_end m e r ran)) (T [] (values r)) (λ _. Ok (give r s)) (Turns [] (values r)) (inside 1 m e r ran T h)
+    (λ s'. turn_exact [] (values r) s)
 
 no_result_exact : (f : Refusal) (r : Option ValType) → Decided (went (or_refuse f (no_result r))) (r ≡ None)
 no_result_exact f None = refl
 no_result_exact f (Some t) = λ e. cc
 
-if_exact : (s : Operands) (f : Refusal) (l m e : ℕ) (r : Option ValType) (ran ran' : Ran) (T : Rule) (P : Type 0) → Exact nothing (went ran) T → Decided (went ran') P
-    → Exact s (went (and_then (or_refuse f (pop_type I32 s)) (λ s'. and_then (later 1 (at_end m e r ran)) (λ _. and_then (later l ran') (λ _. Ok (give r s'))))))
+if_exact : (s : Operands) (f : Refusal) (l m e : ℕ) (r : Option ValType) (ran ran' : Ran) (T : Rule) (P : Type 0)
+    → Exact nothing (went ran) T → Decided (went ran') P
+    → Exact s
+    (went (and_then (or_refuse f (pop_type I32 s))
+    (λ s'. and_then (later 1 (at_end m e r ran)) (λ _. and_then (later l ran') (λ _. Ok (give r s'))))))
     (λ old new. T [] (values r) × P × Turns (I32 ∷ []) (values r) old new)
 if_exact s f l m e r ran ran' T P h h' =
-    exact_by s (went (and_then (or_refuse f (pop_type I32 s)) (λ s'. and_then (later 1 (at_end m e r ran)) (λ _. and_then (later l ran') (λ _. Ok (give r s'))))))
-    (After I32 (λ old new. T [] (values r) × (P × Turns [] (values r) old new))) (λ old new. T [] (values r) × P × Turns (I32 ∷ []) (values r) old new)
+    exact_by s
+    (went (and_then (or_refuse f (pop_type I32 s))
+    (λ s'. and_then (later 1 (at_end m e r ran)) (λ _. and_then (later l ran') (λ _. Ok (give r s'))))))
+    (After I32 (λ old new. T [] (values r) × (P × Turns [] (values r) old new)))
+    (λ old new. T [] (values r) × P × Turns (I32 ∷ []) (values r) old new)
     (λ old new w. (w.2.0, w.2.1.0, (w.0, w.1, w.2.1.1.2 ∙ ap (λ rest. reverse (values r) ++ rest) (sym w.2.1.1.1))))
     (λ old new w. (w.2.0, w.2.1, (w.0, (w.1, (w.2.0, refl, w.2.2)))))
-    (popped_ran I32 s f (pop_type I32 s) (λ s'. and_then (later 1 (at_end m e r ran)) (λ _. and_then (later l ran') (λ _. Ok (give r s')))) (λ old new. T [] (values r) × (P × Turns [] (values r) old new)) (pop_leaves I32 s)
-    (λ s'. guarded s' (later 1 (at_end m e r ran)) (T [] (values r)) (λ _. and_then (later l ran') (λ _. Ok (give r s'))) (λ old new. P × Turns [] (values r) old new) (inside 1 m e r ran T h)
-    (λ _. guarded s' (later l ran') P (λ _. Ok (give r s')) (Turns [] (values r)) (decided_later l ran' P h') (λ _. turn_exact [] (values r) s'))))
+    (popped_ran I32 s f (pop_type I32 s) (λ s'. and_then (later 1 (at_end m e r ran)) (λ _. and_then (later l ran') (λ _. Ok (give r s'))))
+    (λ old new. T [] (values r) × (P × Turns [] (values r) old new)) (pop_leaves I32 s)
+    (λ s'. guarded s' (later 1 (at_end m e r ran)) (T [] (values r)) (λ _. and_then (later l ran') (λ _. Ok (give r s')))
+    (λ old new. P × Turns [] (values r) old new) (inside 1 m e r ran T h)
+    (λ _. guarded s' (later l ran') P (λ _. Ok (give r s')) (Turns [] (values r)) (decided_later l ran' P h')
+    (λ _. turn_exact [] (values r) s'))))
 
 -- an instruction that holds no code
 abbrev pub here : Context → Labels → ℕ → Kind → Refusal
 here c labels p kind = refusal 0 (record { place = p; cause = cause_of c labels kind })
 
-plain_exact : (c : Context) (labels : Labels) (p : ℕ) (kind : Kind) (s : Operands) → StepExact c labels kind s → Exact s (went (or_refuse (here c labels p kind) (step c labels kind s))) (KindHasType c labels kind)
+plain_exact : (c : Context) (labels : Labels) (p : ℕ) (kind : Kind) (s : Operands) → StepExact c labels kind s
+    → Exact s (went (or_refuse (here c labels p kind) (step c labels kind s))) (KindHasType c labels kind)
 plain_exact c labels p kind s h = went-or_refuse s (here c labels p kind) (step c labels kind s) (KindHasType c labels kind) h
 
 mutual
-  pub run_exact : (c : Context) (labels : Labels) (code : Code) (s : Operands) → Exact s (went (run c labels code s)) (HasType c labels code)
+  pub run_exact : (c : Context) (labels : Labels) (code : Code) (s : Operands)
+      → Exact s (went (run c labels code s)) (HasType c labels code)
   run_exact c labels end_code s = λ new. (λ x. (new, x, refl), λ old sh w. subst (Shows s) w sh)
   run_exact c labels (then_code p kind code) s =
-      seq_exact s (run_kind c labels p kind s) (λ s'. later (kind_token_count kind) (run c labels code s')) (KindHasType c labels kind) (HasType c labels code) (kind_exact c labels p kind s)
+      seq_exact s (run_kind c labels p kind s) (λ s'. later (kind_token_count kind) (run c labels code s')) (KindHasType c labels kind)
+      (HasType c labels code) (kind_exact c labels p kind s)
       (λ s'. went-later s' (kind_token_count kind) (run c labels code s') (HasType c labels code) (run_exact c labels code s'))
 
-  pub kind_exact : (c : Context) (labels : Labels) (p : ℕ) (kind : Kind) (s : Operands) → Exact s (went (run_kind c labels p kind s)) (KindHasType c labels kind)
-  kind_exact c labels p (Block t code e) s = block_exact s (token_count code) e t (run c (t ∷ labels) code nothing) (HasType c (t ∷ labels) code) (run_exact c (t ∷ labels) code nothing)
-  kind_exact c labels p (Loop t code e) s = block_exact s (token_count code) e t (run c (None ∷ labels) code nothing) (HasType c (None ∷ labels) code) (run_exact c (None ∷ labels) code nothing)
+  pub kind_exact : (c : Context) (labels : Labels) (p : ℕ) (kind : Kind) (s : Operands)
+      → Exact s (went (run_kind c labels p kind s)) (KindHasType c labels kind)
+  kind_exact c labels p (Block t code e) s =
+      block_exact s (token_count code) e t (run c (t ∷ labels) code nothing) (HasType c (t ∷ labels) code)
+      (run_exact c (t ∷ labels) code nothing)
+  kind_exact c labels p (Loop t code e) s =
+      block_exact s (token_count code) e t (run c (None ∷ labels) code nothing) (HasType c (None ∷ labels) code)
+      (run_exact c (None ∷ labels) code nothing)
   kind_exact c labels p (If t code otherwise e) s =
-      if_exact s _ (token_count code + 1) (token_count code) (first_end otherwise e) t (run c (t ∷ labels) code nothing) (run_else c (t ∷ labels) otherwise t e) (HasType c (t ∷ labels) code) (ElseHasType c (t ∷ labels) otherwise t)
+      if_exact s _ (token_count code + 1) (token_count code) (first_end otherwise e) t (run c (t ∷ labels) code nothing)
+      (run_else c (t ∷ labels) otherwise t e) (HasType c (t ∷ labels) code) (ElseHasType c (t ∷ labels) otherwise t)
       (run_exact c (t ∷ labels) code nothing) (else_exact c (t ∷ labels) otherwise t e)
   kind_exact c labels p Unreachable s = plain_exact c labels p Unreachable s (jump_exact [] s)
   kind_exact c labels p Return s = plain_exact c labels p Return s (jump_exact (values c.result) s)
@@ -416,18 +467,24 @@ mutual
   kind_exact c labels p (LocalTee x) s = plain_exact c labels p (LocalTee x) s (local_tee_exact c labels x s)
   kind_exact c labels p (GlobalGet x) s = plain_exact c labels p (GlobalGet x) s (global_get_exact c labels x s)
   kind_exact c labels p (GlobalSet x) s = plain_exact c labels p (GlobalSet x) s (global_set_exact c labels x s)
-  kind_exact c labels p (Load op arg) s = plain_exact c labels p (Load op arg) s (access_exact c (table_type (Load op arg)) arg.align (load_width op) s)
-  kind_exact c labels p (Store op arg) s = plain_exact c labels p (Store op arg) s (access_exact c (table_type (Store op arg)) arg.align (store_width op) s)
+  kind_exact c labels p (Load op arg) s =
+      plain_exact c labels p (Load op arg) s (access_exact c (table_type (Load op arg)) arg.align (load_width op) s)
+  kind_exact c labels p (Store op arg) s =
+      plain_exact c labels p (Store op arg) s (access_exact c (table_type (Store op arg)) arg.align (store_width op) s)
   kind_exact c labels p MemorySize s = plain_exact c labels p MemorySize s (memory_exact c (table_type MemorySize) s)
   kind_exact c labels p MemoryGrow s = plain_exact c labels p MemoryGrow s (memory_exact c (table_type MemoryGrow) s)
   kind_exact c labels p MemoryCopy s = plain_exact c labels p MemoryCopy s (memory_exact c (table_type MemoryCopy) s)
   kind_exact c labels p MemoryFill s = plain_exact c labels p MemoryFill s (memory_exact c (table_type MemoryFill) s)
   kind_exact c labels p kind s = plain_exact c labels p kind s (tabled_exact (table_type kind) s)
 
-  pub else_exact : (c : Context) (labels : Labels) (otherwise : Otherwise) (t : Option ValType) (e : ℕ) → Decided (went (run_else c labels otherwise t e)) (ElseHasType c labels otherwise t)
+  pub else_exact : (c : Context) (labels : Labels) (otherwise : Otherwise) (t : Option ValType) (e : ℕ)
+      → Decided (went (run_else c labels otherwise t e)) (ElseHasType c labels otherwise t)
   else_exact c labels no_else t e = no_result_exact _ t
-  else_exact c labels (else_code q code) t e = inside 1 (token_count code) e t (run c labels code nothing) (HasType c labels code) (run_exact c labels code nothing)
+  else_exact c labels (else_code q code) t e =
+      inside 1 (token_count code) e t (run c labels code nothing) (HasType c labels code) (run_exact c labels code nothing)
 
 -- a body is taken exactly where it has a typing
 pub check_exact : (c : Context) (code : Code) (e : ℕ) → Decided (went (check c code e)) (BodyHasType c code)
-check_exact c code e = ended (token_count code) e c.result (run c (c.result ∷ []) code nothing) (HasType c (c.result ∷ []) code) (run_exact c (c.result ∷ []) code nothing)
+check_exact c code e =
+    ended (token_count code) e c.result (run c (c.result ∷ []) code nothing) (HasType c (c.result ∷ []) code)
+    (run_exact c (c.result ∷ []) code nothing)

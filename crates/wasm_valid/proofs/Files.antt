@@ -10,7 +10,8 @@ use Rattle.wasm_valid.specs.Verdict.{Outcome, Verdict}
 use Rattle.wasm_valid.specs.FileVerdict.{FileVerdict, Unread, Read, IsVerdictOn}
 use Rattle.wasm_valid.proofs.Verdicts.{some_verdict, one_verdict}
 
-by_reading : (bytes : List ℕ) → ((tree : Module) × Spells tree bytes) ⊎ ((fault : ReadFault) × Upto bytes fault) → (verdict : FileVerdict) × IsVerdictOn bytes verdict
+by_reading : (bytes : List ℕ) → ((tree : Module) × Spells tree bytes) ⊎ ((fault : ReadFault) × Upto bytes fault)
+    → (verdict : FileVerdict) × IsVerdictOn bytes verdict
 by_reading bytes (inl m) = let said = some_verdict m.0 in (Read m.0 said.0, (m.1, said.1))
 by_reading bytes (inr f) = (Unread f.0, f.1)
 
@@ -21,7 +22,8 @@ same_tree : (tree other : Module) (a b : Outcome) → tree ≡ other → Verdict
 same_tree tree other a b e h k =
     ap (λ t. Read t a) e ∙ ap (Read other) (one_verdict other a b (subst (λ t. Verdict t a) e h) k)
 
-pub one_file_verdict : (bytes : List ℕ) (verdict other : FileVerdict) → IsVerdictOn bytes verdict → IsVerdictOn bytes other → verdict ≡ other
+pub one_file_verdict : (bytes : List ℕ) (verdict other : FileVerdict) → IsVerdictOn bytes verdict → IsVerdictOn bytes other
+    → verdict ≡ other
 one_file_verdict bytes (Unread f) (Unread g) h k = ap Unread (one_first bytes f g h k)
 one_file_verdict bytes (Unread f) (Read t a) h k = absurd (not_both bytes t f k.0 h)
 one_file_verdict bytes (Read t a) (Unread f) h k = absurd (not_both bytes t f h.0 k)

@@ -44,18 +44,24 @@ mutual
   length-tokens : (c : Context) (labels : Labels) (code : Code) → length (tokens c labels code) ≡ token_count code
   length-tokens c labels end_code = refl
   length-tokens c labels (then_code p kind code) =
-      length-both (kind_tokens c labels p kind) (tokens c labels code) (kind_token_count kind) (token_count code) (length-kind c labels p kind) (length-tokens c labels code)
+      length-both (kind_tokens c labels p kind) (tokens c labels code) (kind_token_count kind) (token_count code)
+      (length-kind c labels p kind) (length-tokens c labels code)
 
   length-kind : (c : Context) (labels : Labels) (p : ℕ) (kind : Kind) → length (kind_tokens c labels p kind) ≡ kind_token_count kind
-  length-kind c labels p (Block t code e) = length-block (plain_token p) (plain_token e) (tokens c (t ∷ labels) code) (token_count code) (length-tokens c (t ∷ labels) code)
-  length-kind c labels p (Loop t code e) = length-block (plain_token p) (plain_token e) (tokens c (None ∷ labels) code) (token_count code) (length-tokens c (None ∷ labels) code)
+  length-kind c labels p (Block t code e) =
+      length-block (plain_token p) (plain_token e) (tokens c (t ∷ labels) code) (token_count code) (length-tokens c (t ∷ labels) code)
+  length-kind c labels p (Loop t code e) =
+      length-block (plain_token p) (plain_token e) (tokens c (None ∷ labels) code) (token_count code) (length-tokens c (None ∷ labels) code)
   length-kind c labels p (If t code otherwise e) =
-      length-if (plain_token p) (plain_token e) (tokens c (t ∷ labels) code) (else_tokens c (t ∷ labels) otherwise) (token_count code) (else_token_count otherwise) (length-tokens c (t ∷ labels) code) (length-else c (t ∷ labels) otherwise)
+      length-if (plain_token p) (plain_token e) (tokens c (t ∷ labels) code) (else_tokens c (t ∷ labels) otherwise) (token_count code)
+      (else_token_count otherwise) (length-tokens c (t ∷ labels) code) (length-else c (t ∷ labels) otherwise)
   length-kind c labels p kind = refl
 
-  length-else : (c : Context) (labels : Labels) (otherwise : Otherwise) → length (else_tokens c labels otherwise) ≡ else_token_count otherwise
+  length-else : (c : Context) (labels : Labels) (otherwise : Otherwise)
+      → length (else_tokens c labels otherwise) ≡ else_token_count otherwise
   length-else c labels no_else = refl
-  length-else c labels (else_code q code) = let e : length (tokens c labels code) ≡ token_count code = length-tokens c labels code in omega (arith, e)
+  length-else c labels (else_code q code) =
+      let e : length (tokens c labels code) ≡ token_count code = length-tokens c labels code in omega (arith, e)
 
 -- a refusal's token stands in this list
 abbrev Placed : List Fault → Ran → Type 0
@@ -79,35 +85,47 @@ placed_later n ts us (Ok s) e h = tt
 placed_later n ts us (Err f) e h = get_behind ts us (f.token + n) f.token (omega (arith, e)) ∙ h
 
 -- code and the `end` or `else` behind it
-placed_end : (ts others : List Fault) (n e : ℕ) (r : Option ValType) (ran : Ran) → length ts ≡ n → Placed ts ran → Placed (ts ++ plain_token e ∷ others) (at_end n e r ran)
+placed_end : (ts others : List Fault) (n e : ℕ) (r : Option ValType) (ran : Ran) → length ts ≡ n → Placed ts ran
+    → Placed (ts ++ plain_token e ∷ others) (at_end n e r ran)
 placed_end ts others n e r ran same h =
     placed_then (ts ++ plain_token e ∷ others) ran _ (placed_front ts (plain_token e ∷ others) ran h)
-    (λ s. placed_refuse (ts ++ plain_token e ∷ others) (refusal n (plain_token e)) (closes r s) (get_behind ts (plain_token e ∷ others) n 0 (omega (arith, same))))
+    (λ s. placed_refuse (ts ++ plain_token e ∷ others) (refusal n (plain_token e)) (closes r s)
+    (get_behind ts (plain_token e ∷ others) n 0 (omega (arith, same))))
 
-placed_block : (ts : List Fault) (t : Fault) (n e : ℕ) (r : Option ValType) (s : Operands) (ran : Ran) → length ts ≡ n → Placed ts ran → Placed (t ∷ (ts ++ plain_token e ∷ [])) (and_then (later 1 (at_end n e r ran)) (λ _. Ok (give r s)))
+placed_block : (ts : List Fault) (t : Fault) (n e : ℕ) (r : Option ValType) (s : Operands) (ran : Ran) → length ts ≡ n → Placed ts ran
+    → Placed (t ∷ (ts ++ plain_token e ∷ [])) (and_then (later 1 (at_end n e r ran)) (λ _. Ok (give r s)))
 placed_block ts t n e r s ran same h =
     placed_then (t ∷ (ts ++ plain_token e ∷ [])) (later 1 (at_end n e r ran)) (λ _. Ok (give r s))
     (placed_later 1 (t ∷ []) (ts ++ plain_token e ∷ []) (at_end n e r ran) refl (placed_end ts [] n e r ran same h)) (λ _. tt)
 
 -- `us` are the tokens behind the first branch, of which the first is its `end` or `else`
-placed_if : (ts us others : List Fault) (p n e : ℕ) (r : Option ValType) (s : Operands) (ran ran' : Ran) → us ≡ plain_token e ∷ others → length ts ≡ n → Placed ts ran → Placed us ran'
-    → Placed (plain_token p ∷ (ts ++ us)) (and_then (or_refuse (refusal 0 (plain_token p)) (pop_type I32 s)) (λ s'. and_then (later 1 (at_end n e r ran)) (λ _. and_then (later (n + 1) ran') (λ _. Ok (give r s')))))
+placed_if : (ts us others : List Fault) (p n e : ℕ) (r : Option ValType) (s : Operands) (ran ran' : Ran) → us ≡ plain_token e ∷ others
+    → length ts ≡ n → Placed ts ran → Placed us ran'
+    → Placed (plain_token p ∷ (ts ++ us))
+    (and_then (or_refuse (refusal 0 (plain_token p)) (pop_type I32 s))
+    (λ s'. and_then (later 1 (at_end n e r ran)) (λ _. and_then (later (n + 1) ran') (λ _. Ok (give r s')))))
 placed_if ts us others p n e r s ran ran' front same h h' =
-    placed_then (plain_token p ∷ (ts ++ us)) (or_refuse (refusal 0 (plain_token p)) (pop_type I32 s)) _ (placed_refuse (plain_token p ∷ (ts ++ us)) (refusal 0 (plain_token p)) (pop_type I32 s) refl)
+    placed_then (plain_token p ∷ (ts ++ us))
+    (or_refuse (refusal 0 (plain_token p)) (pop_type I32 s)) _ (placed_refuse (plain_token p ∷ (ts ++ us)) (refusal 0 (plain_token p))
+    (pop_type I32 s) refl)
     (λ s'. placed_then (plain_token p ∷ (ts ++ us)) (later 1 (at_end n e r ran)) (λ _. and_then (later (n + 1) ran') (λ _. Ok (give r s')))
-    (placed_later 1 (plain_token p ∷ []) (ts ++ us) (at_end n e r ran) refl (subst (λ l. Placed (ts ++ l) (at_end n e r ran)) (sym front) (placed_end ts others n e r ran same h)))
+    (placed_later 1 (plain_token p ∷ []) (ts ++ us) (at_end n e r ran) refl
+    (subst (λ l. Placed (ts ++ l) (at_end n e r ran)) (sym front) (placed_end ts others n e r ran same h)))
     (λ _. placed_then (plain_token p ∷ (ts ++ us)) (later (n + 1) ran') (λ _. Ok (give r s'))
     (placed_later (n + 1) (plain_token p ∷ ts) us ran' (omega (arith, same)) h') (λ _. tt)))
 
-placed_plain : (c : Context) (labels : Labels) (p : ℕ) (kind : Kind) (s : Operands) → Placed (record { place = p; cause = cause_of c labels kind } ∷ []) (or_refuse (here c labels p kind) (step c labels kind s))
-placed_plain c labels p kind s = placed_refuse (record { place = p; cause = cause_of c labels kind } ∷ []) (here c labels p kind) (step c labels kind s) refl
+placed_plain : (c : Context) (labels : Labels) (p : ℕ) (kind : Kind) (s : Operands)
+    → Placed (record { place = p; cause = cause_of c labels kind } ∷ []) (or_refuse (here c labels p kind) (step c labels kind s))
+placed_plain c labels p kind s =
+    placed_refuse (record { place = p; cause = cause_of c labels kind } ∷ []) (here c labels p kind) (step c labels kind s) refl
 
 -- the tokens behind a first branch, but for the first
 abbrev behind_first : Context → Labels → Otherwise → ℕ → List Fault
 behind_first c labels no_else e = []
 behind_first c labels (else_code q code) e = tokens c labels code ++ plain_token e ∷ []
 
-first_behind : (c : Context) (labels : Labels) (otherwise : Otherwise) (e : ℕ) → else_tokens c labels otherwise ++ plain_token e ∷ [] ≡ plain_token (first_end otherwise e) ∷ behind_first c labels otherwise e
+first_behind : (c : Context) (labels : Labels) (otherwise : Otherwise) (e : ℕ)
+    → else_tokens c labels otherwise ++ plain_token e ∷ [] ≡ plain_token (first_end otherwise e) ∷ behind_first c labels otherwise e
 first_behind c labels no_else e = refl
 first_behind c labels (else_code q code) e = refl
 
@@ -115,29 +133,40 @@ mutual
   run_placed : (c : Context) (labels : Labels) (code : Code) (s : Operands) → Placed (tokens c labels code) (run c labels code s)
   run_placed c labels end_code s = tt
   run_placed c labels (then_code p kind code) s =
-      placed_then (kind_tokens c labels p kind ++ tokens c labels code) (run_kind c labels p kind s) (λ s'. later (kind_token_count kind) (run c labels code s'))
+      placed_then (kind_tokens c labels p kind ++ tokens c labels code) (run_kind c labels p kind s)
+      (λ s'. later (kind_token_count kind) (run c labels code s'))
       (placed_front (kind_tokens c labels p kind) (tokens c labels code) (run_kind c labels p kind s) (kind_placed c labels p kind s))
-      (λ s'. placed_later (kind_token_count kind) (kind_tokens c labels p kind) (tokens c labels code) (run c labels code s') (length-kind c labels p kind) (run_placed c labels code s'))
+      (λ s'. placed_later (kind_token_count kind) (kind_tokens c labels p kind) (tokens c labels code) (run c labels code s')
+      (length-kind c labels p kind) (run_placed c labels code s'))
 
-  kind_placed : (c : Context) (labels : Labels) (p : ℕ) (kind : Kind) (s : Operands) → Placed (kind_tokens c labels p kind) (run_kind c labels p kind s)
+  kind_placed : (c : Context) (labels : Labels) (p : ℕ) (kind : Kind) (s : Operands)
+      → Placed (kind_tokens c labels p kind) (run_kind c labels p kind s)
   kind_placed c labels p (Block t code e) s =
-      placed_block (tokens c (t ∷ labels) code) (plain_token p) (token_count code) e t s (run c (t ∷ labels) code nothing) (length-tokens c (t ∷ labels) code) (run_placed c (t ∷ labels) code nothing)
+      placed_block (tokens c (t ∷ labels) code) (plain_token p) (token_count code) e t s (run c (t ∷ labels) code nothing)
+      (length-tokens c (t ∷ labels) code) (run_placed c (t ∷ labels) code nothing)
   kind_placed c labels p (Loop t code e) s =
-      placed_block (tokens c (None ∷ labels) code) (plain_token p) (token_count code) e t s (run c (None ∷ labels) code nothing) (length-tokens c (None ∷ labels) code) (run_placed c (None ∷ labels) code nothing)
+      placed_block (tokens c (None ∷ labels) code) (plain_token p) (token_count code) e t s (run c (None ∷ labels) code nothing)
+      (length-tokens c (None ∷ labels) code) (run_placed c (None ∷ labels) code nothing)
   kind_placed c labels p (If t code otherwise e) s =
-      placed_if (tokens c (t ∷ labels) code) (else_tokens c (t ∷ labels) otherwise ++ plain_token e ∷ []) (behind_first c (t ∷ labels) otherwise e) p (token_count code) (first_end otherwise e) t s
-      (run c (t ∷ labels) code nothing) (run_else c (t ∷ labels) otherwise t e) (first_behind c (t ∷ labels) otherwise e) (length-tokens c (t ∷ labels) code) (run_placed c (t ∷ labels) code nothing) (else_placed c (t ∷ labels) otherwise t e)
+      placed_if (tokens c (t ∷ labels) code) (else_tokens c (t ∷ labels) otherwise ++ plain_token e ∷ [])
+      (behind_first c (t ∷ labels) otherwise e) p (token_count code) (first_end otherwise e) t s
+      (run c (t ∷ labels) code nothing) (run_else c (t ∷ labels) otherwise t e) (first_behind c (t ∷ labels) otherwise e)
+      (length-tokens c (t ∷ labels) code) (run_placed c (t ∷ labels) code nothing) (else_placed c (t ∷ labels) otherwise t e)
   kind_placed c labels p kind s = placed_plain c labels p kind s
 
-  else_placed : (c : Context) (labels : Labels) (otherwise : Otherwise) (t : Option ValType) (e : ℕ) → Placed (else_tokens c labels otherwise ++ plain_token e ∷ []) (run_else c labels otherwise t e)
+  else_placed : (c : Context) (labels : Labels) (otherwise : Otherwise) (t : Option ValType) (e : ℕ)
+      → Placed (else_tokens c labels otherwise ++ plain_token e ∷ []) (run_else c labels otherwise t e)
   else_placed c labels no_else t e = placed_refuse (plain_token e ∷ []) (refusal 0 (plain_token e)) (no_result t) refl
   else_placed c labels (else_code q code) t e =
-      placed_later 1 (plain_token q ∷ []) (tokens c labels code ++ plain_token e ∷ []) (at_end (token_count code) e t (run c labels code nothing)) refl
-      (placed_end (tokens c labels code) [] (token_count code) e t (run c labels code nothing) (length-tokens c labels code) (run_placed c labels code nothing))
+      placed_later 1 (plain_token q ∷ []) (tokens c labels code ++ plain_token e ∷ [])
+      (at_end (token_count code) e t (run c labels code nothing)) refl
+      (placed_end (tokens c labels code) [] (token_count code) e t (run c labels code nothing) (length-tokens c labels code)
+      (run_placed c labels code nothing))
 
 check_placed : (c : Context) (body : BodyEntry) → Placed (body_tokens c body) (check c body.code body.end_place)
 check_placed c body =
-    placed_end (tokens c (c.result ∷ []) body.code) [] (token_count body.code) body.end_place c.result (run c (c.result ∷ []) body.code nothing)
+    placed_end (tokens c (c.result ∷ []) body.code) [] (token_count body.code) body.end_place c.result
+    (run c (c.result ∷ []) body.code nothing)
     (length-tokens c (c.result ∷ []) body.code) (run_placed c (c.result ∷ []) body.code nothing)
 
 -- what goes has a typing, and what stops has none
@@ -156,12 +185,17 @@ Tells c body (Err f) = FirstBodyFault c body f.fault
 
 module _ (c : Context) (body : BodyEntry) where
   cut_typed : (k : ℕ) → Goes (check c (completed k body.code) body.end_place) → BodyHasType c (completed k body.code)
-  cut_typed k g = goes_typed (BodyHasType c (completed k body.code)) (check c (completed k body.code) body.end_place) (check_exact c (completed k body.code) body.end_place) g
+  cut_typed k g =
+      goes_typed (BodyHasType c (completed k body.code)) (check c (completed k body.code) body.end_place)
+      (check_exact c (completed k body.code) body.end_place) g
 
   cut_untyped : (k : ℕ) → Stops (check c (completed k body.code) body.end_place) → BodyHasType c (completed k body.code) → ⊥
-  cut_untyped k g = stops_untyped (BodyHasType c (completed k body.code)) (check c (completed k body.code) body.end_place) (check_exact c (completed k body.code) body.end_place) g
+  cut_untyped k g =
+      stops_untyped (BodyHasType c (completed k body.code)) (check c (completed k body.code) body.end_place)
+      (check_exact c (completed k body.code) body.end_place) g
 
-  tells : (r : Ran) → Decided (went r) (BodyHasType c body.code) → Below (token_count body.code + 1) r → Placed (body_tokens c body) r → ((k : ℕ) → k ≤ token_count body.code → Follows Goes k r (check c (completed k body.code) body.end_place)) → Tells c body r
+  tells : (r : Ran) → Decided (went r) (BodyHasType c body.code) → Below (token_count body.code + 1) r → Placed (body_tokens c body) r
+      → ((k : ℕ) → k ≤ token_count body.code → Follows Goes k r (check c (completed k body.code) body.end_place)) → Tells c body r
   tells (Ok s) d b p h = d
   tells (Err f) d b p h = record {
     k = f.token;
@@ -170,24 +204,29 @@ module _ (c : Context) (body : BodyEntry) where
     faulty = ⊎_elim
         (λ (lt : f.token < token_count body.code). cut_untyped (suc f.token) ((h (suc f.token) (omega (arith, lt))).1 (omega arith)))
         (λ (ge : token_count body.code ≤ f.token). let last : f.token ≡ token_count body.code = omega (arith, b, ge) in
-        subst (λ n. BodyHasType c (completed (suc n) body.code) → ⊥) (sym last) (subst (λ is. BodyHasType c is → ⊥) (sym (body_whole body.code)) d))
+        subst (λ n. BodyHasType c (completed (suc n) body.code) → ⊥) (sym last)
+        (subst (λ is. BodyHasType c is → ⊥) (sym (body_whole body.code)) d))
         (cases_lt f.token (token_count body.code));
   }
 
 -- the checker decides typing, and gives the first fault
 pub check_tells : (c : Context) (body : BodyEntry) → Tells c body (check c body.code body.end_place)
 check_tells c body =
-    tells c body (check c body.code body.end_place) (check_exact c body.code body.end_place) (check_below c body.code body.end_place) (check_placed c body) (λ k le. check_follows k c body.code body.end_place le)
+    tells c body (check c body.code body.end_place) (check_exact c body.code body.end_place) (check_below c body.code body.end_place)
+    (check_placed c body) (λ k le. check_follows k c body.code body.end_place le)
 
 -- a body that has a typing has no first fault
 pub exclusive : (c : Context) (body : BodyEntry) (t : Fault) → BodyHasType c body.code → FirstBodyFault c body t → ⊥
-exclusive c body t h f = go (check c body.code body.end_place) (check_exact c body.code body.end_place) (λ k le. check_follows k c body.code body.end_place le)
+exclusive c body t h f =
+    go (check c body.code body.end_place) (check_exact c body.code body.end_place) (λ k le. check_follows k c body.code body.end_place le)
   where
-    go : (r : Ran) → Decided (went r) (BodyHasType c body.code) → ((k : ℕ) → k ≤ token_count body.code → Follows Goes k r (check c (completed k body.code) body.end_place)) → ⊥
+    go : (r : Ran) → Decided (went r) (BodyHasType c body.code)
+        → ((k : ℕ) → k ≤ token_count body.code → Follows Goes k r (check c (completed k body.code) body.end_place)) → ⊥
     go (Err g) d follows = d h
     go (Ok s) d follows = ⊎_elim
         (λ (lt : f.k < token_count body.code). f.faulty (cut_typed c body (suc f.k) (follows (suc f.k) (omega (arith, lt)))))
-        (λ (ge : token_count body.code ≤ f.k). f.faulty (subst (BodyHasType c) (sym (completed_whole (suc f.k) body.code (omega (arith, ge)))) h))
+        (λ (ge : token_count body.code ≤ f.k). f.faulty (subst (BodyHasType c)
+        (sym (completed_whole (suc f.k) body.code (omega (arith, ge)))) h))
         (cases_lt f.k (token_count body.code))
 
 -- there is one first fault at most

@@ -20,7 +20,8 @@ infixr 5 ◌then◌
   kept = second.kept ∙ ap (λ found. entered found ys) first.kept ∙ sym (entered-append a xs ys);
 }
 
-both : {A : Type 0} (f : A → List Fault) (xs ys : List A) (a b : Option Fault) → Enters a (flat_map f xs ++ flat_map f ys) b → Enters a (flat_map f (xs ++ ys)) b
+both : {A : Type 0} (f : A → List Fault) (xs ys : List A) (a b : Option Fault) → Enters a (flat_map f xs ++ flat_map f ys) b
+    → Enters a (flat_map f (xs ++ ys)) b
 both f xs ys a b e = record { kept = e.kept ∙ ap (entered a) (sym (flat_map-append f xs ys)) }
 
 pub all_rows : (m : Module) (a b c d e f g h i j k l n o p : Option Fault)
@@ -40,6 +41,7 @@ pub all_rows : (m : Module) (a b c d e f g h i j k l n o p : Option Fault)
     → Enters o (unknown_elements m) p
     → Enters a (module_faults m) p
 unfolding module_faults
-all_rows m a b c d e f g h i j k l n o p types tables memories table_sizes memory_sizes pages constants globals mismatches exports names start segments elements =
+all_rows m a b c d e f g h i j k l n o p types tables memories table_sizes memory_sizes pages constants globals mismatches exports names
+    start segments elements =
     types then (tables then memories) then both min_above_max (table_space m) (memory_space m) d f (table_sizes then memory_sizes)
     then pages then constants then globals then mismatches then exports then names then start then segments then elements

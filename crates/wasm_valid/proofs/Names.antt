@@ -56,7 +56,8 @@ at_place name k x keys more Greater same e =
     swap true false c = refl
     swap false b c = refl
 
-is_among-insert : (name : List ℕ) (keys : List (Bor (List ℕ))) (k : Bor (List ℕ)) → is_among name (insert_key name_cmp keys k) ≡ (bytes_eq k.now name || is_among name keys)
+is_among-insert : (name : List ℕ) (keys : List (Bor (List ℕ))) (k : Bor (List ℕ))
+    → is_among name (insert_key name_cmp keys k) ≡ (bytes_eq k.now name || is_among name keys)
 is_among-insert name [] k = refl
 is_among-insert name (x ∷ keys) k =
     at_place name k x keys (insert_key name_cmp keys k) (name_cmp k x) (exact_bytes k.now x.now) (is_among-insert name keys k)
@@ -99,10 +100,13 @@ pub next_export : (before after whole : Option Fault) (exports : List Export) (i
     → entered before (duplicate_exports (take i exports) (drop i exports)) ≡ whole
     → entered after (duplicate_exports (take (i + 1) exports) (drop (i + 1) exports)) ≡ whole
 next_export before after whole exports i e is_new less read known new so_far =
-    ap (λ found. entered found (duplicate_exports (take (i + 1) exports) (drop (i + 1) exports))) (new ∙ ap (λ b. entered before (fault_if b e.name_place cause.DuplicateExport)) known)
+    ap (λ found. entered found (duplicate_exports (take (i + 1) exports) (drop (i + 1) exports)))
+    (new ∙ ap (λ b. entered before (fault_if b e.name_place cause.DuplicateExport)) known)
     ∙ (ap (λ n. entered (entered before (fault_of e)) (duplicate_exports (take n exports) (drop n exports))) (add-one i)
-    ∙ ap (λ xs. entered (entered before (fault_of e)) (duplicate_exports xs (drop (suc i) exports))) (take-suc exports i e less ∙ ap (λ x. take i exports ++ x ∷ []) (sym read))
-    ∙ sym (ap (λ xs. entered before (duplicate_exports (take i exports) xs)) (drop-cons exports i e less ∙ ap (λ x. x ∷ drop (suc i) exports) (sym read))
+    ∙ ap (λ xs. entered (entered before (fault_of e)) (duplicate_exports xs (drop (suc i) exports)))
+    (take-suc exports i e less ∙ ap (λ x. take i exports ++ x ∷ []) (sym read))
+    ∙ sym (ap (λ xs. entered before (duplicate_exports (take i exports) xs))
+    (drop-cons exports i e less ∙ ap (λ x. x ∷ drop (suc i) exports) (sym read))
     ∙ entered-append before (fault_of e) (duplicate_exports (take i exports ++ e ∷ []) (drop (suc i) exports)))
     ∙ so_far)
   where

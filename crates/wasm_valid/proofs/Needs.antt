@@ -49,7 +49,8 @@ pub plain_by_row : (c : Context) (labels : Labels) (k : RustKind) (result : Resu
     → ((i : ℕ) → k ≡ kind.CallIndirect i → ⊥) → (k ≡ kind.Drop → ⊥) → (k ≡ kind.Select → ⊥) → ((i : ℕ) → k ≡ kind.LocalGet i → ⊥)
     → ((i : ℕ) → k ≡ kind.LocalSet i → ⊥) → ((i : ℕ) → k ≡ kind.LocalTee i → ⊥) → ((i : ℕ) → k ≡ kind.GlobalGet i → ⊥)
     → ((i : ℕ) → k ≡ kind.GlobalSet i → ⊥)
-    → Plain result (row_step c (kind_tree k) s) (row_cause c (kind_tree k)) new → Plain result (step c labels (kind_tree k) s) (cause_of c labels (kind_tree k)) new
+    → Plain result (row_step c (kind_tree k) s) (row_cause c (kind_tree k)) new
+    → Plain result (step c labels (kind_tree k) s) (cause_of c labels (kind_tree k)) new
 plain_by_row c labels kind.Unreachable result s new a _ _ _ _ _ _ _ _ _ _ _ _ _ p = absurd (a refl)
 plain_by_row c labels (kind.Br i) result s new _ a _ _ _ _ _ _ _ _ _ _ _ _ p = absurd (a i refl)
 plain_by_row c labels (kind.BrIf i) result s new _ _ a _ _ _ _ _ _ _ _ _ _ _ p = absurd (a i refl)

@@ -15,11 +15,13 @@ drop_push (suc n) [] x le = absurd (omega (arith, le))
 drop_push (suc n) (y ∷ xs) x le = drop_push n xs x (omega (arith, le))
 
 -- one more operand above the first n
-pub shown_push : (n : ℕ) (xs ys : List Operand) (x : Operand) (s : Operands) → n ≤ length xs → ys ≡ xs ++ x ∷ [] → pile (drop n ys) s ≡ on x (pile (drop n xs) s)
+pub shown_push : (n : ℕ) (xs ys : List Operand) (x : Operand) (s : Operands) → n ≤ length xs → ys ≡ xs ++ x ∷ []
+    → pile (drop n ys) s ≡ on x (pile (drop n xs) s)
 shown_push n xs ys x s le e = ap (λ zs. pile (drop n zs) s) e ∙ ap (λ zs. pile zs s) (drop_push n xs x le) ∙ pile_push (drop n xs) x s
 
 -- one less, where there are more than n
-pub shown_pop : (n : ℕ) (xs ys : List Operand) (x : Operand) (s : Operands) → n < length xs → xs ≡ ys ++ x ∷ [] → popped (pile (drop n xs) s) ≡ Some (x, pile (drop n ys) s)
+pub shown_pop : (n : ℕ) (xs ys : List Operand) (x : Operand) (s : Operands) → n < length xs → xs ≡ ys ++ x ∷ []
+    → popped (pile (drop n xs) s) ≡ Some (x, pile (drop n ys) s)
 shown_pop n xs ys x s less e =
     let one : length (ys ++ x ∷ []) ≡ length ys + 1 = length_push ys in
     let same : length xs ≡ length (ys ++ x ∷ []) = ap length e in

@@ -21,7 +21,8 @@ use Rattle.wasm_valid.specs.Shown.{Steps}
 use Rattle.wasm_valid.specs.Plain.{Plain}
 use Rattle.wasm_valid.specs.RanTo.{RanTo, all_placed, run_block, run_branches}
 
-pub placed_ran : (result : Result Unit Stop) (went : Option Operands) (cause : ValidCause) (place : ℕ) (new : Operands) → Plain result went cause new
+pub placed_ran : (result : Result Unit Stop) (went : Option Operands) (cause : ValidCause) (place : ℕ) (new : Operands)
+    → Plain result went cause new
     → RanTo (all_placed result place) (or_refuse (refusal 0 (record { place = place; cause = cause })) went) new
 placed_ran (Ok u) went cause place new p = ap (or_refuse (refusal 0 (record { place = place; cause = cause }))) p
 placed_ran (Err (stop.Cause k)) went cause place new p = (
@@ -33,14 +34,16 @@ placed_ran (Err stop.Memory) went cause place new p = tt
 
 -- an instruction that holds no code
 pub plain_ran : (c : Context) (labels : Labels) (place : ℕ) (k : RustKind) (result : Result Unit Stop) (s new : Operands)
-    → ((r : Option ValType) (code : Code) (e : ℕ) → k ≡ kind.Block r code e → ⊥) → ((r : Option ValType) (code : Code) (e : ℕ) → k ≡ kind.Loop r code e → ⊥)
+    → ((r : Option ValType) (code : Code) (e : ℕ) → k ≡ kind.Block r code e → ⊥)
+    → ((r : Option ValType) (code : Code) (e : ℕ) → k ≡ kind.Loop r code e → ⊥)
     → ((r : Option ValType) (code : Code) (o : Option ElsePart) (e : ℕ) → k ≡ kind.If r code o e → ⊥)
     → Plain result (step c labels (kind_tree k) s) (cause_of c labels (kind_tree k)) new
     → RanTo (all_placed result place) (run_kind c labels place (kind_tree k) s) new
 plain_ran c labels place (kind.Block r code e) result s new nb nl ni p = absurd (nb r code e refl)
 plain_ran c labels place (kind.Loop r code e) result s new nb nl ni p = absurd (nl r code e refl)
 plain_ran c labels place (kind.If r code o e) result s new nb nl ni p = absurd (ni r code o e refl)
-plain_ran c labels place k result s new nb nl ni p = placed_ran result (step c labels (kind_tree k) s) (cause_of c labels (kind_tree k)) place new p
+plain_ran c labels place k result s new nb nl ni p =
+    placed_ran result (step c labels (kind_tree k) s) (cause_of c labels (kind_tree k)) place new p
 
 pub placed_kept : (result : Result Unit Stop) (place : ℕ) (P Q : Type 0) → OnOk result P → (P → Q) → OnOk (all_placed result place) Q
 placed_kept (Ok u) place P Q p f = f p
@@ -58,7 +61,8 @@ no_else_refused c labels (Some v) u code None e is te h = (
       ∙ ap (λ (n : ℕ). Err (refusal n (plain_token e))) (let z : 0 + (token_count code + 1) ≡ token_count code + 1 = omega arith in z),
 )
 
-went_on : (result : Result Unit Stop) (place : ℕ) (u : Unit) (went : Option Operands) (new : Operands) → Ok u ≡ all_placed result place → Steps result went new → went ≡ Some new
+went_on : (result : Result Unit Stop) (place : ℕ) (u : Unit) (went : Option Operands) (new : Operands) → Ok u ≡ all_placed result place
+    → Steps result went new → went ≡ Some new
 went_on (Ok v) place u went new e h = h
 went_on (Err s) place u went new e h = absurd (let f : ⊥ = cc in f)
 
@@ -67,15 +71,18 @@ both_refused (Ok s') b f s h = ap (λ (r : Ran). and_then r (λ _. Ok s)) h
 both_refused (Err g) b f s h = h
 
 -- an `if` of which a branch is refused
-pub if_refused : (c : Context) (labels : Labels) (place : ℕ) (t : Option ValType) (code : Code) (o : Otherwise) (e : ℕ) (popped : Result Unit Stop) (u : Unit) (s s' x y : Operands)
-    → (r : ValidRefusal) → Ok u ≡ all_placed popped place → Steps popped (pop_type I32 s) s' → RanTo {A = Unit} (Err r) (run_branches c labels t code o e) x
+pub if_refused : (c : Context) (labels : Labels) (place : ℕ) (t : Option ValType) (code : Code) (o : Otherwise) (e : ℕ)
+    (popped : Result Unit Stop) (u : Unit) (s s' x y : Operands)
+    → (r : ValidRefusal) → Ok u ≡ all_placed popped place → Steps popped (pop_type I32 s) s'
+    → RanTo {A = Unit} (Err r) (run_branches c labels t code o e) x
     → RanTo {A = Unit} (Err r) (run_kind c labels place (If t code o e) s) y
 if_refused c labels place t code o e popped u s s' x y Memory ok h p = tt
 if_refused c labels place t code o e popped u s s' x y (Invalid at cause) ok h p =
     let first : Ran = later 1 (run_block c labels t t (first_end o e) code) in
     let second : Ran = later (token_count code + 1) (run_else c (t ∷ labels) o t e) in (
       p.0,
-      ap (λ (w : Option Operands). and_then (or_refuse (refusal 0 (plain_token place)) w) (λ s''. and_then first (λ _. and_then second (λ _. Ok (give t s'')))))
+      ap (λ (w : Option Operands). and_then (or_refuse (refusal 0 (plain_token place)) w)
+          (λ s''. and_then first (λ _. and_then second (λ _. Ok (give t s'')))))
           (went_on popped place u (pop_type I32 s) s' ok h)
           ∙ both_refused first second (refusal p.0 (record { place = at; cause = cause })) (give t s') p.1,
     )

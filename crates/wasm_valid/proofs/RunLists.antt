@@ -21,9 +21,11 @@ later_later m n (Err f) = ap (λ (k : ℕ). Err (refusal k f.fault)) (add_assoc 
 
 rest_of : (c : Context) (labels : Labels) (items : List Instr) (i : ℕ) (x : Instr) (s : Operands) → i < length items → x ≡ get_or items i x
     → run c labels (code_tree (drop i items)) s
-    ≡ and_then (run_kind c labels x.place (kind_tree x.kind) s) (λ s'. later (kind_token_count (kind_tree x.kind)) (run c labels (code_tree (drop (i + 1) items)) s'))
+    ≡ and_then (run_kind c labels x.place (kind_tree x.kind) s)
+    (λ s'. later (kind_token_count (kind_tree x.kind)) (run c labels (code_tree (drop (i + 1) items)) s'))
 rest_of c labels items i x s less is =
-    ap (λ (rest : List Instr). run c labels (code_tree rest) s) (drop_more items i x less ∙ ap (λ (y : Instr). y ∷ drop (i + 1) items) (sym is))
+    ap (λ (rest : List Instr). run c labels (code_tree rest) s)
+    (drop_more items i x less ∙ ap (λ (y : Instr). y ∷ drop (i + 1) items) (sym is))
 
 -- one more was run. It stood under labels that are the same
 pub run_more : (c : Context) (labels now : Labels) (items : List Instr) (i : ℕ) (x : Instr) (s s' : Operands) (whole : Ran) (before : ℕ)
@@ -33,7 +35,8 @@ pub run_more : (c : Context) (labels now : Labels) (items : List Instr) (i : ℕ
 run_more c labels now items i x s s' whole before less is h same went =
     let count = kind_token_count (kind_tree x.kind) in
     let rest : Ran = run c labels (code_tree (drop (i + 1) items)) s' in
-    let one : run_kind c labels x.place (kind_tree x.kind) s ≡ Ok s' = ap (λ (l : Labels). run_kind c l x.place (kind_tree x.kind) s) (sym same) ∙ went in (
+    let one : run_kind c labels x.place (kind_tree x.kind) s ≡ Ok s' =
+    ap (λ (l : Labels). run_kind c l x.place (kind_tree x.kind) s) (sym same) ∙ went in (
       count + before,
       h
           ∙ ap (later before)
@@ -43,12 +46,14 @@ run_more c labels now items i x s s' whole before less is h same went =
     )
 
 -- one more was refused
-pub run_refused : (c : Context) (labels now : Labels) (items : List Instr) (i : ℕ) (x : Instr) (s : Operands) (whole : Ran) (before token : ℕ) (fault : Fault)
+pub run_refused : (c : Context) (labels now : Labels) (items : List Instr) (i : ℕ) (x : Instr) (s : Operands) (whole : Ran)
+    (before token : ℕ) (fault : Fault)
     → i < length items → x ≡ get_or items i x → whole ≡ later before (run c labels (code_tree (drop i items)) s) → now ≡ labels
     → run_kind c now x.place (kind_tree x.kind) s ≡ Err (refusal token fault) → (n : ℕ) × (whole ≡ Err (refusal n fault))
 run_refused c labels now items i x s whole before token fault less is h same refused =
     let count = kind_token_count (kind_tree x.kind) in
-    let one : run_kind c labels x.place (kind_tree x.kind) s ≡ Err (refusal token fault) = ap (λ (l : Labels). run_kind c l x.place (kind_tree x.kind) s) (sym same) ∙ refused in (
+    let one : run_kind c labels x.place (kind_tree x.kind) s ≡ Err (refusal token fault) =
+    ap (λ (l : Labels). run_kind c l x.place (kind_tree x.kind) s) (sym same) ∙ refused in (
       token + before,
       h
           ∙ ap (later before)
@@ -59,10 +64,12 @@ run_refused c labels now items i x s whole before token fault less is h same ref
 -- all were run
 pub run_all : (c : Context) (labels : Labels) (items : List Instr) (i : ℕ) (s : Operands) (whole : Ran) (before : ℕ) → length items ≤ i
     → whole ≡ later before (run c labels (code_tree (drop i items)) s) → whole ≡ Ok s
-run_all c labels items i s whole before past h = h ∙ ap (λ (rest : List Instr). later before (run c labels (code_tree rest) s)) (drop_all i items past)
+run_all c labels items i s whole before past h =
+    h ∙ ap (λ (rest : List Instr). later before (run c labels (code_tree rest) s)) (drop_all i items past)
 
 -- what is answered where one more was refused
-pub list_refused : (c : Context) (labels now : Labels) (items : List Instr) (i : ℕ) (x : Instr) (s t u : Operands) (whole : Ran) (before : ℕ) (r : ValidRefusal)
+pub list_refused : (c : Context) (labels now : Labels) (items : List Instr) (i : ℕ) (x : Instr) (s t u : Operands) (whole : Ran)
+    (before : ℕ) (r : ValidRefusal)
     → i < length items → x ≡ get_or items i x → whole ≡ later before (run c labels (code_tree (drop i items)) s) → now ≡ labels
     → RanTo {A = Unit} (Err r) (run_kind c now x.place (kind_tree x.kind) s) t → RanTo {A = Unit} (Err r) whole u
 list_refused c labels now items i x s t u whole before Memory less is h same refused = tt

@@ -8,13 +8,15 @@ use Rattle.wasm_tree.specs.Views.{code_tree, kind_tree}
 use Rattle.wasm_valid.specs.ModuleFaults.{shape_of, neither}
 
 -- two instructions or more are no expression of one
-two_instructions : (globals : List (ValType × Bool)) (p q : ℕ) (k l : Kind) (code : Code) → shape_of globals (then_code p k (then_code q l code)) ≡ neither
+two_instructions : (globals : List (ValType × Bool)) (p q : ℕ) (k l : Kind) (code : Code)
+    → shape_of globals (then_code p k (then_code q l code)) ≡ neither
 two_instructions globals p q (I32Const n) l code = refl
 two_instructions globals p q (I64Const n) l code = refl
 two_instructions globals p q (GlobalGet i) l code = refl
 two_instructions globals p q _ l code = refl
 
-pub more_than_one : (globals : List (ValType × Bool)) (instrs : List Instr) (code : Code) → 2 ≤ length instrs → code_tree instrs ≡ code → neither ≡ shape_of globals code
+pub more_than_one : (globals : List (ValType × Bool)) (instrs : List Instr) (code : Code) → 2 ≤ length instrs → code_tree instrs ≡ code
+    → neither ≡ shape_of globals code
 more_than_one globals [] code more e = absurd (omega (arith, more))
 more_than_one globals (i ∷ []) code more e = absurd (omega (arith, more))
 more_than_one globals (i ∷ j ∷ instrs) code more e =

@@ -45,7 +45,8 @@ Behind outside m bodies faults = (of_bodies : List Fault) × FaultsOfBodies m bo
 abbrev Says : List Fault → Module → Bodies → Outcome → Type 0
 Says outside m bodies outcome = (faults : List Fault) × Behind outside m bodies faults × (outcome ≡ outcome_of (first_fault faults))
 
-one_behind : (outside : List Fault) (m : Module) (bodies : Bodies) (a b : List Fault) → Behind outside m bodies a → Behind outside m bodies b → a ≡ b
+one_behind : (outside : List Fault) (m : Module) (bodies : Bodies) (a b : List Fault) → Behind outside m bodies a
+    → Behind outside m bodies b → a ≡ b
 one_behind outside m bodies a b h k = h.2 ∙ ap (λ x. outside ++ x) (one_of_bodies m bodies h.0 k.0 h.1 k.1) ∙ sym k.2
 
 some_said : (outside : List Fault) (m : Module) (bodies : Bodies) → (outcome : Outcome) × Says outside m bodies outcome
@@ -93,8 +94,10 @@ right_empty (x ∷ xs) ys e = cc
 no_fault_bodies : (m : Module) (bodies : Bodies) (faults : List Fault) → faults ≡ [] → FaultsOfBodies m bodies faults → AreTyped m bodies
 no_fault_bodies m [] faults e h = tt
 no_fault_bodies m (b ∷ bodies) faults e h =
-    let none : h.0 ++ h.1 ≡ [] = sym h.4 ∙ e in
-    (no_fault_body (body_context m b.0 b.1) b.1 h.0 (left_empty h.0 h.1 none) h.2, no_fault_bodies m bodies h.1 (right_empty h.0 h.1 none) h.3)
+    let none : h.0 ++ h.1 ≡ [] = sym h.4 ∙ e in (
+      no_fault_body (body_context m b.0 b.1) b.1 h.0 (left_empty h.0 h.1 none) h.2,
+      no_fault_bodies m bodies h.1 (right_empty h.0 h.1 none) h.3,
+    )
 
 no_first : (faults : List Fault) → Accepted ≡ outcome_of (first_fault faults) → faults ≡ []
 no_first [] e = refl

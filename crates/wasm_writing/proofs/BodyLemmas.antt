@@ -18,7 +18,8 @@ use Rattle.wasm_writing.proofs.Lists.{puts_both, puts_same}
 
 -- ---- runs
 
-runs-append : (l a : ℕ) (xs ys : List Run) (rest : Fields) → runs l a (xs ++ ys) rest ≡ runs l a xs (runs (l + locals_of xs) (a + locals_of xs) ys rest)
+runs-append : (l a : ℕ) (xs ys : List Run) (rest : Fields)
+    → runs l a (xs ++ ys) rest ≡ runs l a xs (runs (l + locals_of xs) (a + locals_of xs) ys rest)
 runs-append l a [] ys rest =
     let same : (n : ℕ) → n ≡ n + 0 = λ n. omega arith in
     ap (λ n. runs n a ys rest) (same l) ∙ ap (λ n. runs (l + 0) n ys rest) (same a)
@@ -27,7 +28,8 @@ runs-append l a (x ∷ xs) ys rest =
     let next = runs-append (l + x.count) (a + x.count) xs ys rest
     ∙ ap (λ n. runs (l + x.count) (a + x.count) xs (runs n (a + x.count + locals_of xs) ys rest)) (more l)
     ∙ ap (λ n. runs (l + x.count) (a + x.count) xs (runs (l + (x.count + locals_of xs)) n ys rest)) (more a) in
-    ap (λ (f : Fields). number x.count (provided (nat_le (l + x.count) most_locals) (provided (nat_le (a + x.count) most_all_locals) (value_type x.ty f)))) next
+    ap (λ (f : Fields). number x.count
+    (provided (nat_le (l + x.count) most_locals) (provided (nat_le (a + x.count) most_all_locals) (value_type x.ty f)))) next
 
 locals_of-append : (xs ys : List Run) → locals_of (xs ++ ys) ≡ locals_of xs + locals_of ys
 locals_of-append [] ys = omega arith
@@ -36,43 +38,56 @@ locals_of-append (x ∷ xs) ys = omega (arith, locals_of-append xs ys)
 grown : {A : Type 0} (xs : List A) (i : ℕ) (x : A) → i < length xs → x ≡ get_or xs i x → take (i + 1) xs ≡ take i xs ++ x ∷ []
 grown {A} xs i x less is = take_more xs i x less ∙ ap (λ (y : A). take i xs ++ y ∷ []) (sym is)
 
-pub locals_more : (xs : List Run) (i : ℕ) (x : Run) → i < length xs → x ≡ get_or xs i x → locals_of (take (i + 1) xs) ≡ locals_of (take i xs) + x.count
+pub locals_more : (xs : List Run) (i : ℕ) (x : Run) → i < length xs → x ≡ get_or xs i x
+    → locals_of (take (i + 1) xs) ≡ locals_of (take i xs) + x.count
 locals_more xs i x less is = ap locals_of (grown xs i x less is) ∙ locals_of-append (take i xs) (x ∷ []) ∙ omega arith
 
 -- one run, where so many locals stand before it
 abbrev run_fields : (l a : ℕ) → Run → Fields → Fields
-run_fields l a x rest = number x.count (provided (nat_le (l + x.count) most_locals) (provided (nat_le (a + x.count) most_all_locals) (value_type x.ty rest)))
+run_fields l a x rest =
+    number x.count (provided (nat_le (l + x.count) most_locals) (provided (nat_le (a + x.count) most_all_locals) (value_type x.ty rest)))
 
-pub runs_more : (before locals : ℕ) (xs : List Run) (i : ℕ) (x : Run) (a b c d : Draft) → i < length xs → x ≡ get_or xs i x → locals ≡ locals_of (take i xs) → locals + x.count ≤ most_locals → before + locals + x.count ≤ most_all_locals
-    → Puts (runs 0 before (take i xs)) a b → Puts (number x.count) b c → Puts (value_type x.ty) c d → Puts (runs 0 before (take (i + 1) xs)) a d
+pub runs_more : (before locals : ℕ) (xs : List Run) (i : ℕ) (x : Run) (a b c d : Draft) → i < length xs → x ≡ get_or xs i x
+    → locals ≡ locals_of (take i xs) → locals + x.count ≤ most_locals → before + locals + x.count ≤ most_all_locals
+    → Puts (runs 0 before (take i xs)) a b → Puts (number x.count) b c → Puts (value_type x.ty) c d
+    → Puts (runs 0 before (take (i + 1) xs)) a d
 runs_more before locals xs i x a b c d less is sum low all p q r =
     let n = 0 + locals_of (take i xs) in
     let m = before + locals_of (take i xs) in
     let one : Puts (run_fields n m x) b d =
-    puts_both (number x.count) (λ rest. provided (nat_le (n + x.count) most_locals) (provided (nat_le (m + x.count) most_all_locals) (value_type x.ty rest))) b c d q
-    (puts_if (nat_le (n + x.count) most_locals) (λ rest. provided (nat_le (m + x.count) most_all_locals) (value_type x.ty rest)) c d (le-leb (n + x.count) most_locals (omega (arith, low, sum)))
-    (puts_if (nat_le (m + x.count) most_all_locals) (value_type x.ty) c d (le-leb (m + x.count) most_all_locals (omega (arith, all, sum))) r)) in
+    puts_both (number x.count) (λ rest. provided (nat_le (n + x.count) most_locals)
+    (provided (nat_le (m + x.count) most_all_locals) (value_type x.ty rest))) b c d q
+    (puts_if (nat_le (n + x.count) most_locals) (λ rest. provided (nat_le (m + x.count) most_all_locals) (value_type x.ty rest)) c d
+    (le-leb (n + x.count) most_locals (omega (arith, low, sum)))
+    (puts_if (nat_le (m + x.count) most_all_locals) (value_type x.ty) c d
+    (le-leb (m + x.count) most_all_locals (omega (arith, all, sum))) r)) in
     puts_same (λ rest. runs 0 before (take i xs) (run_fields n m x rest)) (runs 0 before (take (i + 1) xs)) a d
     (λ rest. sym (ap (λ (l : List Run). runs 0 before l rest) (grown xs i x less is) ∙ runs-append 0 before (take i xs) (x ∷ []) rest))
     (puts_both (runs 0 before (take i xs)) (run_fields n m x) a b d p one)
 
 split_at : {A : Type 0} (xs : List A) (i : ℕ) (x : A) → i < length xs → x ≡ get_or xs i x → xs ≡ take i xs ++ x ∷ drop (i + 1) xs
 split_at {A} xs i x less is =
-    sym (take-append-drop i xs) ∙ ap (λ (l : List A). take i xs ++ l) (rw (add-one, drop-cons xs i x) (ap (λ (y : A). y ∷ drop (suc i) xs) (sym is)))
+    sym (take-append-drop i xs) ∙ ap (λ (l : List A). take i xs ++ l)
+    (rw (add-one, drop-cons xs i x) (ap (λ (y : A). y ∷ drop (suc i) xs) (sym is)))
 
-too_many : (n m : ℕ) (x : Run) (f : Fields) → (n + x.count ≤ most_locals → m + x.count ≤ most_all_locals → ⊥) → (bytes : List ℕ) → SpelledAside (provided (nat_le (n + x.count) most_locals) (provided (nat_le (m + x.count) most_all_locals) f)) bytes → ⊥
+too_many : (n m : ℕ) (x : Run) (f : Fields) → (n + x.count ≤ most_locals → m + x.count ≤ most_all_locals → ⊥) → (bytes : List ℕ)
+    → SpelledAside (provided (nat_le (n + x.count) most_locals) (provided (nat_le (m + x.count) most_all_locals) f)) bytes → ⊥
 unfolding SpelledBy
 too_many n m x f none bytes s = none (leb-true (n + x.count) most_locals s.0) (leb-true (m + x.count) most_all_locals s.1.0)
 
-pub runs_refused : (before locals : ℕ) (xs : List Run) (i : ℕ) (x : Run) (a b c d : Draft) → i < length xs → x ≡ get_or xs i x → locals ≡ locals_of (take i xs) → (locals + x.count ≤ most_locals → before + locals + x.count ≤ most_all_locals → ⊥)
+pub runs_refused : (before locals : ℕ) (xs : List Run) (i : ℕ) (x : Run) (a b c d : Draft) → i < length xs → x ≡ get_or xs i x
+    → locals ≡ locals_of (take i xs) → (locals + x.count ≤ most_locals → before + locals + x.count ≤ most_all_locals → ⊥)
     → Puts (runs 0 before (take i xs)) a b → Puts (number x.count) b c → Refuses c d → Puts (runs 0 before xs) a d
 runs_refused before locals xs i x a b c d less is sum none p q r =
     let n = 0 + locals_of (take i xs) in
     let m = before + locals_of (take i xs) in
     let back = drop (i + 1) xs in
     let inner : Fields → Fields = λ rest. value_type x.ty (runs (n + x.count) (m + x.count) back rest) in
-    let tests : Fields → Fields = λ rest. provided (nat_le (n + x.count) most_locals) (provided (nat_le (m + x.count) most_all_locals) (inner rest)) in
-    let stops : Puts tests c d = puts_none tests c d (λ rest bytes _ s. too_many n m x (inner rest) (λ l h. none (omega (arith, l, sum)) (omega (arith, h, sum))) bytes s) r in
+    let tests : Fields → Fields =
+    λ rest. provided (nat_le (n + x.count) most_locals) (provided (nat_le (m + x.count) most_all_locals) (inner rest)) in
+    let stops : Puts tests c d =
+    puts_none tests c d (λ rest bytes _ s. too_many n m x (inner rest)
+    (λ l h. none (omega (arith, l, sum)) (omega (arith, h, sum))) bytes s) r in
     puts_same (λ rest. runs 0 before (take i xs) (number x.count (tests rest))) (runs 0 before xs) a d
     (λ rest. sym (ap (λ (l : List Run). runs 0 before l rest) (split_at xs i x less is) ∙ runs-append 0 before (take i xs) (x ∷ back) rest))
     (puts_both (runs 0 before (take i xs)) (λ rest. number x.count (tests rest)) a b d p (puts_both (number x.count) tests b c d q stops))
@@ -94,15 +109,18 @@ all_of-append : (xs ys : List BodyEntry) → all_of (xs ++ ys) ≡ all_of xs + a
 all_of-append [] ys = omega arith
 all_of-append (x ∷ xs) ys = omega (arith, all_of-append xs ys)
 
-pub all_more : (xs : List BodyEntry) (i : ℕ) (x : BodyEntry) → i < length xs → x ≡ get_or xs i x → all_of (take (i + 1) xs) ≡ all_of (take i xs) + locals_of x.runs
+pub all_more : (xs : List BodyEntry) (i : ℕ) (x : BodyEntry) → i < length xs → x ≡ get_or xs i x
+    → all_of (take (i + 1) xs) ≡ all_of (take i xs) + locals_of x.runs
 all_more xs i x less is = ap all_of (grown xs i x less is) ∙ all_of-append (take i xs) (x ∷ []) ∙ omega arith
 
-pub bodies_more : (all : ℕ) (xs : List BodyEntry) (i : ℕ) (x : BodyEntry) (a b c : Draft) → i < length xs → x ≡ get_or xs i x → all ≡ all_of (take i xs)
+pub bodies_more : (all : ℕ) (xs : List BodyEntry) (i : ℕ) (x : BodyEntry) (a b c : Draft) → i < length xs → x ≡ get_or xs i x
+    → all ≡ all_of (take i xs)
     → Puts (bodies 0 (take i xs)) a b → Puts (window (body_content all x finished)) b c → Puts (bodies 0 (take (i + 1) xs)) a c
 bodies_more all xs i x a b c less is sum p q =
     let from : all ≡ 0 + all_of (take i xs) = omega (arith, sum) in
     let one = subst (λ n. Puts (window (body_content n x finished)) b c) from q in
-    puts_same (λ rest. bodies 0 (take i xs) (window (body_content (0 + all_of (take i xs)) x finished) rest)) (bodies 0 (take (i + 1) xs)) a c
+    puts_same (λ rest. bodies 0 (take i xs) (window (body_content (0 + all_of (take i xs)) x finished) rest))
+    (bodies 0 (take (i + 1) xs)) a c
     (λ rest. sym (ap (λ (l : List BodyEntry). bodies 0 l rest) (grown xs i x less is) ∙ bodies-append 0 (take i xs) (x ∷ []) rest))
     (puts_both (bodies 0 (take i xs)) (window (body_content (0 + all_of (take i xs)) x finished)) a b c p one)
 
@@ -120,14 +138,16 @@ puts_more front back a (Stopped stop) p h = (
     any written room f g Unformed h = absurd h.goes_on
     any written room f g Memory h = record { goes_on = h.goes_on }
 
-pub bodies_stopped : (all : ℕ) (xs : List BodyEntry) (i : ℕ) (x : BodyEntry) (a b c : Draft) → i < length xs → x ≡ get_or xs i x → all ≡ all_of (take i xs)
+pub bodies_stopped : (all : ℕ) (xs : List BodyEntry) (i : ℕ) (x : BodyEntry) (a b c : Draft) → i < length xs → x ≡ get_or xs i x
+    → all ≡ all_of (take i xs)
     → Puts (bodies 0 (take i xs)) a b → Puts (window (body_content all x finished)) b c → HasStopped c → Puts (bodies 0 xs) a c
 bodies_stopped all xs i x a b c less is sum p q stop =
     let n = 0 + all_of (take i xs) in
     let from : all ≡ n = omega (arith, sum) in
     let one = subst (λ n. Puts (window (body_content n x finished)) b c) from q in
     let back = drop (i + 1) xs in
-    puts_same (λ rest. bodies 0 (take i xs) (window (body_content n x finished) (bodies (n + locals_of x.runs) back rest))) (bodies 0 xs) a c
+    puts_same (λ rest. bodies 0 (take i xs) (window (body_content n x finished) (bodies (n + locals_of x.runs) back rest)))
+    (bodies 0 xs) a c
     (λ rest. sym (ap (λ (l : List BodyEntry). bodies 0 l rest) (split_at xs i x less is) ∙ bodies-append 0 (take i xs) (x ∷ back) rest))
     (puts_both (bodies 0 (take i xs)) (λ rest. window (body_content n x finished) (bodies (n + locals_of x.runs) back rest)) a b c p
     (puts_more (window (body_content n x finished)) (bodies (n + locals_of x.runs) back) b c one stop))

@@ -37,7 +37,8 @@ both_data_count_part t =
 both_code_part : (t : Module) → Both (content code t) (content code (bare_module t))
 both_code_part t =
     subst (λ n. Both (content code t) (λ x. number n (bodies 0 (map bare_body t.bodies) x))) (sym (length-bare bare_body t.bodies))
-    (both_then (number (length t.bodies)) (number (length t.bodies)) (bodies 0 t.bodies) (bodies 0 (map bare_body t.bodies)) (both_self (number (length t.bodies)) _ (keeps_number (length t.bodies))) (both_bodies 0 t.bodies))
+    (both_then (number (length t.bodies)) (number (length t.bodies)) (bodies 0 t.bodies) (bodies 0 (map bare_body t.bodies))
+    (both_self (number (length t.bodies)) _ (keeps_number (length t.bodies))) (both_bodies 0 t.bodies))
 
 both_part : (part : Part) (t : Module) → Both (content part t) (content part (bare_module t))
 both_part types t = both_vector bare_type type_entry both_type t.types
@@ -77,48 +78,64 @@ empty_bare segments t = ap (λ n. nat_eq n 0) (length-bare bare_segment t.segmen
 
 same_fields : (f g f' g' : Fields → Fields) → ((x : Fields) → f x ≡ f' x) → ((x : Fields) → g x ≡ g' x) → Both f g → Both f' g'
 same_fields f g f' g' e d b = (
-  (λ rest other go bytes s. subst (λ x. SpelledAside x bytes) (d other) (b.0 rest other go bytes (subst (λ x. SpelledAside x bytes) (sym (e rest)) s))),
-  (λ rest other go bytes s. subst (λ x. SpelledAside x bytes) (e other) (b.1 rest other go bytes (subst (λ x. SpelledAside x bytes) (sym (d rest)) s))),
+  (λ rest other go bytes s. subst (λ x. SpelledAside x bytes) (d other)
+      (b.0 rest other go bytes (subst (λ x. SpelledAside x bytes) (sym (e rest)) s))),
+  (λ rest other go bytes s. subst (λ x. SpelledAside x bytes) (e other)
+      (b.1 rest other go bytes (subst (λ x. SpelledAside x bytes) (sym (d rest)) s))),
 )
 
 both_filled : (t : Module) (part : Part) → Both (filled t part) (filled (bare_module t) part)
 both_filled t part = elim (cases_Bool (is_empty part t)) [
-  | inl empty ↦ same_fields (λ x. x) (λ x. x) (filled t part) (filled (bare_module t) part) (λ x. sym (filled-empty t part x empty)) (λ x. sym (filled-empty (bare_module t) part x (empty_bare part t ∙ empty))) both_none
+  | inl empty ↦ same_fields (λ x. x) (λ x. x) (filled t part) (filled (bare_module t) part) (λ x. sym (filled-empty t part x empty))
+      (λ x. sym (filled-empty (bare_module t) part x (empty_bare part t ∙ empty))) both_none
   | inr full ↦
       let f : Fields → Fields = λ x. byte (id_of part) (window (content part t finished) x) in
       let g : Fields → Fields = λ x. byte (id_of part) (window (content part (bare_module t) finished) x) in
-      same_fields f g (filled t part) (filled (bare_module t) part) (λ x. sym (filled-full t part x full)) (λ x. sym (filled-full (bare_module t) part x (empty_bare part t ∙ full)))
-      (both_then (byte (id_of part)) (byte (id_of part)) (window (content part t finished)) (window (content part (bare_module t) finished)) (both_self (byte (id_of part)) _ (keeps_byte (id_of part)))
+      same_fields f g (filled t part) (filled (bare_module t) part) (λ x. sym (filled-full t part x full))
+      (λ x. sym (filled-full (bare_module t) part x (empty_bare part t ∙ full)))
+      (both_then (byte (id_of part)) (byte (id_of part)) (window (content part t finished)) (window (content part (bare_module t) finished))
+      (both_self (byte (id_of part)) _ (keeps_byte (id_of part)))
       (both_window (content part t) (content part (bare_module t)) (both_part part t)))
 ]
 
 both_parts : (t : Module) (ps : List Part) → Both (each (filled t) ps) (each (filled (bare_module t)) ps)
 both_parts t [] = both_none
-both_parts t (part ∷ ps) = both_then (filled t part) (filled (bare_module t) part) (each (filled t) ps) (each (filled (bare_module t)) ps) (both_filled t part) (both_parts t ps)
+both_parts t (part ∷ ps) =
+    both_then (filled t part) (filled (bare_module t) part) (each (filled t) ps) (each (filled (bare_module t)) ps) (both_filled t part)
+    (both_parts t ps)
 
 start_of_file : Fields → Fields
 start_of_file rest = magic (version rest)
 
 four : (a b c d : ℕ) → Keeps (λ x. byte a (byte b (byte c (byte d x))))
-four a b c d = keeps_both (byte a) (λ x. byte b (byte c (byte d x))) (keeps_byte a) (keeps_both (byte b) (λ x. byte c (byte d x)) (keeps_byte b) (keeps_both (byte c) (byte d) (keeps_byte c) (keeps_byte d)))
+four a b c d =
+    keeps_both (byte a) (λ x. byte b (byte c (byte d x))) (keeps_byte a)
+    (keeps_both (byte b) (λ x. byte c (byte d x)) (keeps_byte b) (keeps_both (byte c) (byte d) (keeps_byte c) (keeps_byte d)))
 
 both_start_of_file : Both start_of_file start_of_file
 unfolding start_of_file
-both_start_of_file = both_then magic magic version version (both_self magic _ (four 0x00 0x61 0x73 0x6D)) (both_self version _ (four 0x01 0x00 0x00 0x00))
+both_start_of_file =
+    both_then magic magic version version (both_self magic _ (four 0x00 0x61 0x73 0x6D)) (both_self version _ (four 0x01 0x00 0x00 0x00))
 
-counts_bare : (t : Module) → nat_eq (length (map bare_func t.funcs)) (length (map bare_body t.bodies)) ≡ nat_eq (length t.funcs) (length t.bodies)
-counts_bare t = ap (λ n. nat_eq n (length (map bare_body t.bodies))) (length-bare bare_func t.funcs) ∙ ap (λ n. nat_eq (length t.funcs) n) (length-bare bare_body t.bodies)
+counts_bare : (t : Module) → nat_eq (length (map bare_func t.funcs)) (length (map bare_body t.bodies))
+    ≡ nat_eq (length t.funcs) (length t.bodies)
+counts_bare t =
+    ap (λ n. nat_eq n (length (map bare_body t.bodies))) (length-bare bare_func t.funcs)
+    ∙ ap (λ n. nat_eq (length t.funcs) n) (length-bare bare_body t.bodies)
 
 both_short : (t : Module) → Both (short_fields t) (short_fields (bare_module t))
 unfolding start_of_file
 both_short t =
     let count = nat_eq (length t.funcs) (length t.bodies) in
     subst (λ b. Both (short_fields t) (λ x. start_of_file (provided b (each (filled (bare_module t)) parts x)))) (sym (counts_bare t))
-    (both_then start_of_file start_of_file (λ x. provided count (each (filled t) parts x)) (λ x. provided count (each (filled (bare_module t)) parts x)) both_start_of_file
-    (both_then (provided count) (provided count) (each (filled t) parts) (each (filled (bare_module t)) parts) (both_self (provided count) _ (keeps_provided count)) (both_parts t parts)))
+    (both_then start_of_file start_of_file (λ x. provided count (each (filled t) parts x))
+    (λ x. provided count (each (filled (bare_module t)) parts x)) both_start_of_file
+    (both_then (provided count) (provided count) (each (filled t) parts) (each (filled (bare_module t)) parts)
+    (both_self (provided count) _ (keeps_provided count)) (both_parts t parts)))
 
 -- a file of a module's spells its short fields with the places aside, in no more bytes
-pub short_of_file : (t : Module) (bytes : List ℕ) → SpellsAside t bytes → (short : List ℕ) × SpelledAside (short_fields t finished) short × (length short ≤ length bytes) × (length bytes ≤ most_module_bytes)
+pub short_of_file : (t : Module) (bytes : List ℕ) → SpellsAside t bytes
+    → (short : List ℕ) × SpelledAside (short_fields t finished) short × (length short ≤ length bytes) × (length bytes ≤ most_module_bytes)
 short_of_file t bytes (u, same, (s, small)) =
     let r = short_aside_of u bytes (spelled_aside (module_fields u) 0 bytes s) in
     let of_bare = (both_short u).0 finished finished (λ b h. h) r.0 r.1 in

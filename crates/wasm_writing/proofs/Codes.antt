@@ -32,7 +32,8 @@ puts_here place fields a b p = (
 )
 
 -- no block may be opened
-pub no_room : (room : ℕ) (fields : Fields → Fields) → room ≡ 0 → (rest : Fields) (bytes : List ℕ) → length bytes ≤ most_module_bytes → SpelledAside (provided (nat_lt 0 room) (fields rest)) bytes → ⊥
+pub no_room : (room : ℕ) (fields : Fields → Fields) → room ≡ 0 → (rest : Fields) (bytes : List ℕ) → length bytes ≤ most_module_bytes
+    → SpelledAside (provided (nat_lt 0 room) (fields rest)) bytes → ⊥
 unfolding SpelledBy
 no_room zero fields e rest bytes _ s = differ s.0
   where
@@ -40,7 +41,8 @@ no_room zero fields e rest bytes _ s = differ s.0
     differ e = cc
 no_room (suc room) fields e rest bytes _ s = omega (arith, e)
 
-pub puts_no_room : (room : ℕ) (front back : Fields → Fields) (a b c : Draft) → room ≡ 0 → Puts front a b → Refuses b c → Puts (λ rest. front (provided (nat_lt 0 room) (back rest))) a c
+pub puts_no_room : (room : ℕ) (front back : Fields → Fields) (a b c : Draft) → room ≡ 0 → Puts front a b → Refuses b c
+    → Puts (λ rest. front (provided (nat_lt 0 room) (back rest))) a c
 puts_no_room room front back a b c e p r =
     puts_both front (λ rest. provided (nat_lt 0 room) (back rest)) a b c p
     (puts_none (λ rest. provided (nat_lt 0 room) (back rest)) b c (no_room room back e) r)
@@ -49,17 +51,23 @@ some_room : (room : ℕ) → (room ≡ 0 → ⊥) → nat_lt 0 room ≡ true
 some_room room n = lt-ltb 0 room (omega (arith, n))
 
 -- a block may be opened
-puts_room : (room : ℕ) (fields : Fields → Fields) (a b : Draft) → (room ≡ 0 → ⊥) → Puts fields a b → Puts (λ rest. provided (nat_lt 0 room) (fields rest)) a b
+puts_room : (room : ℕ) (fields : Fields → Fields) (a b : Draft) → (room ≡ 0 → ⊥) → Puts fields a b
+    → Puts (λ rest. provided (nat_lt 0 room) (fields rest)) a b
 puts_room room fields a b n p = puts_if (nat_lt 0 room) fields a b (some_room room n) p
 
-pub puts_block : (room opcode : ℕ) (ty : Option ValType) (code : Code) (end_place : ℕ) (a b c d e : Draft) → (room ≡ 0 → ⊥) → Puts (byte opcode) a b → Puts (byte (block_type_code ty)) b c → Puts (code_fields (room - 1) code) c d → Puts (byte 0x0B) d e → Puts (block_fields room opcode ty code end_place) a e
+pub puts_block : (room opcode : ℕ) (ty : Option ValType) (code : Code) (end_place : ℕ) (a b c d e : Draft) → (room ≡ 0 → ⊥)
+    → Puts (byte opcode) a b → Puts (byte (block_type_code ty)) b c → Puts (code_fields (room - 1) code) c d → Puts (byte 0x0B) d e
+    → Puts (block_fields room opcode ty code end_place) a e
 puts_block room opcode ty code end_place a b c d e n first head inside last =
     let close = puts_both (code_fields (room - 1) code) (end_byte end_place) c d e inside (puts_here end_place (byte 0x0B) d e last) in
     let body = puts_both (byte (block_type_code ty)) (λ rest. code_fields (room - 1) code (end_byte end_place rest)) b c e head close in
-    puts_both (byte opcode) (λ rest. provided (nat_lt 0 room) (byte (block_type_code ty) (code_fields (room - 1) code (end_byte end_place rest)))) a b e first
+    puts_both (byte opcode) (λ rest. provided (nat_lt 0 room)
+    (byte (block_type_code ty) (code_fields (room - 1) code (end_byte end_place rest)))) a b e first
     (puts_room room (λ rest. byte (block_type_code ty) (code_fields (room - 1) code (end_byte end_place rest))) b e n body)
 
-pub puts_branches : (room : ℕ) (ty : Option ValType) (code other : Code) (else_place end_place : ℕ) (a b c d e f g : Draft) → (room ≡ 0 → ⊥) → Puts (byte 0x04) a b → Puts (byte (block_type_code ty)) b c → Puts (code_fields (room - 1) code) c d → Puts (byte 0x05) d e → Puts (code_fields (room - 1) other) e f → Puts (byte 0x0B) f g → Puts (if_fields room ty code other else_place end_place) a g
+pub puts_branches : (room : ℕ) (ty : Option ValType) (code other : Code) (else_place end_place : ℕ) (a b c d e f g : Draft) → (room ≡ 0 → ⊥)
+    → Puts (byte 0x04) a b → Puts (byte (block_type_code ty)) b c → Puts (code_fields (room - 1) code) c d → Puts (byte 0x05) d e
+    → Puts (code_fields (room - 1) other) e f → Puts (byte 0x0B) f g → Puts (if_fields room ty code other else_place end_place) a g
 puts_branches room ty code other else_place end_place a b c d e f g n first head inside middle second last =
     let closed : Fields → Fields = λ rest. code_fields (room - 1) other (end_byte end_place rest) in
     let halved : Fields → Fields = λ rest. here else_place (byte 0x05 (closed rest)) in
@@ -67,7 +75,8 @@ puts_branches room ty code other else_place end_place a b c d e f g n first head
     let half = puts_here else_place (λ rest. byte 0x05 (closed rest)) d g (puts_both (byte 0x05) closed d e g middle close) in
     let whole = puts_both (code_fields (room - 1) code) halved c d g inside half in
     let body = puts_both (byte (block_type_code ty)) (λ rest. code_fields (room - 1) code (halved rest)) b c g head whole in
-    puts_both (byte 0x04) (λ rest. provided (nat_lt 0 room) (byte (block_type_code ty) (code_fields (room - 1) code (halved rest)))) a b g first
+    puts_both (byte 0x04) (λ rest. provided (nat_lt 0 room) (byte (block_type_code ty) (code_fields (room - 1) code (halved rest)))) a b g
+    first
     (puts_room room (λ rest. byte (block_type_code ty) (code_fields (room - 1) code (halved rest))) b g n body)
 
 -- an instruction that is no block
@@ -132,11 +141,15 @@ puts_access room k o arg a b c e p q =
 
 -- ---- lists
 
-instrs-append : (room : ℕ) (xs ys : List Instr) (rest : Fields) → code_fields room (code_tree (xs ++ ys)) rest ≡ code_fields room (code_tree xs) (code_fields room (code_tree ys) rest)
+instrs-append : (room : ℕ) (xs ys : List Instr) (rest : Fields)
+    → code_fields room (code_tree (xs ++ ys)) rest ≡ code_fields room (code_tree xs) (code_fields room (code_tree ys) rest)
 instrs-append room [] ys rest = refl
-instrs-append room (x ∷ xs) ys rest = ap (λ (f : Fields). here x.place (instr_fields room (kind_tree x.kind) f)) (instrs-append room xs ys rest)
+instrs-append room (x ∷ xs) ys rest =
+    ap (λ (f : Fields). here x.place (instr_fields room (kind_tree x.kind) f)) (instrs-append room xs ys rest)
 
-pub instrs_more : (room : ℕ) (xs : List Instr) (i : ℕ) (x : Instr) (a b c : Draft) → i < length xs → x ≡ get_or xs i x → Puts (code_fields room (code_tree (take i xs))) a b → Puts (instr_fields room (kind_tree x.kind)) b c → Puts (code_fields room (code_tree (take (i + 1) xs))) a c
+pub instrs_more : (room : ℕ) (xs : List Instr) (i : ℕ) (x : Instr) (a b c : Draft) → i < length xs → x ≡ get_or xs i x
+    → Puts (code_fields room (code_tree (take i xs))) a b → Puts (instr_fields room (kind_tree x.kind)) b c
+    → Puts (code_fields room (code_tree (take (i + 1) xs))) a c
 instrs_more room xs i x a b c less is p q =
     let grown : take (i + 1) xs ≡ take i xs ++ x ∷ [] = take_more xs i x less ∙ ap (λ (y : Instr). take i xs ++ y ∷ []) (sym is) in
     let one : Fields → Fields = λ rest. here x.place (instr_fields room (kind_tree x.kind) rest) in

@@ -12,7 +12,8 @@ use Rattle.wasm_writing.proofs.Fills.{Fills, Keeps, Like, fills_after, fills_as,
 pub keeps_immediates : (k : Kind) → Keeps (immediates k)
 keeps_immediates (Br label) = keeps_number label
 keeps_immediates (BrIf label) = keeps_number label
-keeps_immediates (BrTable labels default) = keeps_both (vector number labels) (number default) (keeps_vector number keeps_number labels) (keeps_number default)
+keeps_immediates (BrTable labels default) =
+    keeps_both (vector number labels) (number default) (keeps_vector number keeps_number labels) (keeps_number default)
 keeps_immediates (Call func) = keeps_number func
 keeps_immediates (CallIndirect type_index) = keeps_both (number type_index) (number 0) (keeps_number type_index) (keeps_number 0)
 keeps_immediates (LocalGet index) = keeps_number index
@@ -43,62 +44,107 @@ keeps_head room opcode ty =
     (keeps_both (provided (nat_lt 0 room)) (byte (block_type_code ty)) (keeps_provided (nat_lt 0 room)) (keeps_byte (block_type_code ty)))
 
 -- what closes a block, and the code behind it
-fills_closed : (e : ℕ) (after : Fields → Fields) (room : ℕ) (c : Code) → Fills {R = Like bare_code c} (code_fields room c) (λ r. code_fields room r.0) → Fills {R = ℕ × Like bare_code c} (λ x. end_byte e (code_fields room c x)) (λ r x. end_byte r.0 (code_fields room r.1.0 x))
+fills_closed : (e : ℕ) (after : Fields → Fields) (room : ℕ) (c : Code)
+    → Fills {R = Like bare_code c} (code_fields room c) (λ r. code_fields room r.0)
+    → Fills {R = ℕ × Like bare_code c} (λ x. end_byte e (code_fields room c x)) (λ r x. end_byte r.0 (code_fields room r.1.0 x))
 fills_closed e after room c h =
-    fills_here e (λ x. byte 0x0B (code_fields room c x)) (λ r x. byte 0x0B (code_fields room r.0 x)) (fills_after (byte 0x0B) (code_fields room c) (λ r. code_fields room r.0) (keeps_byte 0x0B) h)
+    fills_here e (λ x. byte 0x0B (code_fields room c x)) (λ r x. byte 0x0B (code_fields room r.0 x))
+    (fills_after (byte 0x0B) (code_fields room c) (λ r. code_fields room r.0) (keeps_byte 0x0B) h)
 
 -- a block of one piece of code, and the code behind it
 abbrev One : Code → Code → Type 0
 One b c = ℕ × (Like bare_code b × (ℕ × Like bare_code c))
 
-fills_one : (place room opcode : ℕ) (ty : Option ValType) (b : Code) (e : ℕ) (c : Code) → Fills {R = Like bare_code b} (code_fields (room - 1) b) (λ r. code_fields (room - 1) r.0) → Fills {R = Like bare_code c} (code_fields room c) (λ r. code_fields room r.0)
-    → Fills {R = One b c} (λ x. here place (head room opcode ty (code_fields (room - 1) b (end_byte e (code_fields room c x))))) (λ r x. here r.0 (head room opcode ty (code_fields (room - 1) r.1.0.0 (end_byte r.1.1.0 (code_fields room r.1.1.1.0 x)))))
+fills_one : (place room opcode : ℕ) (ty : Option ValType) (b : Code) (e : ℕ) (c : Code)
+    → Fills {R = Like bare_code b} (code_fields (room - 1) b) (λ r. code_fields (room - 1) r.0)
+    → Fills {R = Like bare_code c} (code_fields room c) (λ r. code_fields room r.0)
+    → Fills {R = One b c} (λ x. here place (head room opcode ty (code_fields (room - 1) b (end_byte e (code_fields room c x)))))
+    (λ r x. here r.0 (head room opcode ty (code_fields (room - 1) r.1.0.0 (end_byte r.1.1.0 (code_fields room r.1.1.1.0 x)))))
 fills_one place room opcode ty b e c h k =
     let closed = fills_closed e (λ x. x) room c k in
-    let body = fills_both (code_fields (room - 1) b) (λ r. code_fields (room - 1) r.0) (λ x. end_byte e (code_fields room c x)) (λ r x. end_byte r.0 (code_fields room r.1.0 x)) h closed in
-    let headed = fills_after (head room opcode ty) (λ x. code_fields (room - 1) b (end_byte e (code_fields room c x))) (λ r x. code_fields (room - 1) r.0.0 (end_byte r.1.0 (code_fields room r.1.1.0 x))) (keeps_head room opcode ty) body in
-    fills_here place (λ x. head room opcode ty (code_fields (room - 1) b (end_byte e (code_fields room c x)))) (λ r x. head room opcode ty (code_fields (room - 1) r.0.0 (end_byte r.1.0 (code_fields room r.1.1.0 x)))) headed
+    let body =
+    fills_both (code_fields (room - 1) b) (λ r. code_fields (room - 1) r.0) (λ x. end_byte e (code_fields room c x))
+    (λ r x. end_byte r.0 (code_fields room r.1.0 x)) h closed in
+    let headed =
+    fills_after (head room opcode ty) (λ x. code_fields (room - 1) b (end_byte e (code_fields room c x)))
+    (λ r x. code_fields (room - 1) r.0.0 (end_byte r.1.0 (code_fields room r.1.1.0 x))) (keeps_head room opcode ty) body in
+    fills_here place (λ x. head room opcode ty (code_fields (room - 1) b (end_byte e (code_fields room c x))))
+    (λ r x. head room opcode ty (code_fields (room - 1) r.0.0 (end_byte r.1.0 (code_fields room r.1.1.0 x)))) headed
 
 -- an if with both branches, and the code behind it
 abbrev Two : Code → Code → Code → Type 0
 Two b d c = ℕ × (Like bare_code b × (ℕ × (Like bare_code d × (ℕ × Like bare_code c))))
 
-fills_two : (place room : ℕ) (ty : Option ValType) (b : Code) (q : ℕ) (d : Code) (e : ℕ) (c : Code) → Fills {R = Like bare_code b} (code_fields (room - 1) b) (λ r. code_fields (room - 1) r.0) → Fills {R = Like bare_code d} (code_fields (room - 1) d) (λ r. code_fields (room - 1) r.0) → Fills {R = Like bare_code c} (code_fields room c) (λ r. code_fields room r.0)
-    → Fills {R = Two b d c} (λ x. here place (head room 0x04 ty (code_fields (room - 1) b (here q (byte 0x05 (code_fields (room - 1) d (end_byte e (code_fields room c x)))))))
-    ) (λ r x. here r.0 (head room 0x04 ty (code_fields (room - 1) r.1.0.0 (here r.1.1.0 (byte 0x05 (code_fields (room - 1) r.1.1.1.0.0 (end_byte r.1.1.1.1.0 (code_fields room r.1.1.1.1.1.0 x))))))))
+fills_two : (place room : ℕ) (ty : Option ValType) (b : Code) (q : ℕ) (d : Code) (e : ℕ) (c : Code)
+    → Fills {R = Like bare_code b} (code_fields (room - 1) b) (λ r. code_fields (room - 1) r.0)
+    → Fills {R = Like bare_code d} (code_fields (room - 1) d) (λ r. code_fields (room - 1) r.0)
+    → Fills {R = Like bare_code c} (code_fields room c) (λ r. code_fields room r.0)
+    → Fills {R = Two b d c}
+    (λ x. here place
+    (head room 0x04 ty (code_fields (room - 1) b (here q (byte 0x05 (code_fields (room - 1) d (end_byte e (code_fields room c x)))))))
+    ) (λ r x. here r.0
+    (head room 0x04 ty (code_fields (room - 1) r.1.0.0
+    (here r.1.1.0 (byte 0x05 (code_fields (room - 1) r.1.1.1.0.0 (end_byte r.1.1.1.1.0 (code_fields room r.1.1.1.1.1.0 x))))))))
 fills_two place room ty b q d e c h i k =
     let closed = fills_closed e (λ x. x) room c k in
-    let second = fills_both (code_fields (room - 1) d) (λ r. code_fields (room - 1) r.0) (λ x. end_byte e (code_fields room c x)) (λ r x. end_byte r.0 (code_fields room r.1.0 x)) i closed in
-    let middle = fills_here q (λ x. byte 0x05 (code_fields (room - 1) d (end_byte e (code_fields room c x)))) (λ r x. byte 0x05 (code_fields (room - 1) r.0.0 (end_byte r.1.0 (code_fields room r.1.1.0 x))))
-    (fills_after (byte 0x05) (λ x. code_fields (room - 1) d (end_byte e (code_fields room c x))) (λ r x. code_fields (room - 1) r.0.0 (end_byte r.1.0 (code_fields room r.1.1.0 x))) (keeps_byte 0x05) second) in
-    let body = fills_both (code_fields (room - 1) b) (λ r. code_fields (room - 1) r.0) (λ x. here q (byte 0x05 (code_fields (room - 1) d (end_byte e (code_fields room c x))))) (λ r x. here r.0 (byte 0x05 (code_fields (room - 1) r.1.0.0 (end_byte r.1.1.0 (code_fields room r.1.1.1.0 x))))) h middle in
-    let headed = fills_after (head room 0x04 ty) (λ x. code_fields (room - 1) b (here q (byte 0x05 (code_fields (room - 1) d (end_byte e (code_fields room c x)))))) (λ r x. code_fields (room - 1) r.0.0 (here r.1.0 (byte 0x05 (code_fields (room - 1) r.1.1.0.0 (end_byte r.1.1.1.0 (code_fields room r.1.1.1.1.0 x)))))) (keeps_head room 0x04 ty) body in
-    fills_here place (λ x. head room 0x04 ty (code_fields (room - 1) b (here q (byte 0x05 (code_fields (room - 1) d (end_byte e (code_fields room c x))))))) (λ r x. head room 0x04 ty (code_fields (room - 1) r.0.0 (here r.1.0 (byte 0x05 (code_fields (room - 1) r.1.1.0.0 (end_byte r.1.1.1.0 (code_fields room r.1.1.1.1.0 x))))))) headed
+    let second =
+    fills_both (code_fields (room - 1) d) (λ r. code_fields (room - 1) r.0) (λ x. end_byte e (code_fields room c x))
+    (λ r x. end_byte r.0 (code_fields room r.1.0 x)) i closed in
+    let middle =
+    fills_here q (λ x. byte 0x05 (code_fields (room - 1) d (end_byte e (code_fields room c x))))
+    (λ r x. byte 0x05 (code_fields (room - 1) r.0.0 (end_byte r.1.0 (code_fields room r.1.1.0 x))))
+    (fills_after (byte 0x05) (λ x. code_fields (room - 1) d (end_byte e (code_fields room c x)))
+    (λ r x. code_fields (room - 1) r.0.0 (end_byte r.1.0 (code_fields room r.1.1.0 x))) (keeps_byte 0x05) second) in
+    let body =
+    fills_both (code_fields (room - 1) b) (λ r. code_fields (room - 1) r.0)
+    (λ x. here q (byte 0x05 (code_fields (room - 1) d (end_byte e (code_fields room c x)))))
+    (λ r x. here r.0 (byte 0x05 (code_fields (room - 1) r.1.0.0 (end_byte r.1.1.0 (code_fields room r.1.1.1.0 x))))) h middle in
+    let headed =
+    fills_after (head room 0x04 ty) (λ x. code_fields (room - 1) b
+    (here q (byte 0x05 (code_fields (room - 1) d (end_byte e (code_fields room c x))))))
+    (λ r x. code_fields (room - 1) r.0.0
+    (here r.1.0 (byte 0x05 (code_fields (room - 1) r.1.1.0.0 (end_byte r.1.1.1.0 (code_fields room r.1.1.1.1.0 x))))))
+    (keeps_head room 0x04 ty) body in
+    fills_here place
+    (λ x. head room 0x04 ty (code_fields (room - 1) b
+    (here q (byte 0x05 (code_fields (room - 1) d (end_byte e (code_fields room c x)))))))
+    (λ r x. head room 0x04 ty (code_fields (room - 1) r.0.0
+    (here r.1.0 (byte 0x05 (code_fields (room - 1) r.1.1.0.0 (end_byte r.1.1.1.0 (code_fields room r.1.1.1.1.0 x))))))) headed
 
 plain : (k : Kind) (place : ℕ) (room : ℕ) (c : Code) → Fills {R = Like bare_code c} (code_fields room c) (λ r. code_fields room r.0)
-    → Fills {R = ℕ × Like bare_code c} (λ x. here place (byte (opcode_of k) (immediates k (code_fields room c x)))) (λ r x. here r.0 (byte (opcode_of k) (immediates k (code_fields room r.1.0 x))))
+    → Fills {R = ℕ × Like bare_code c} (λ x. here place (byte (opcode_of k) (immediates k (code_fields room c x))))
+    (λ r x. here r.0 (byte (opcode_of k) (immediates k (code_fields room r.1.0 x))))
 plain k place room c h =
-    fills_here place (λ x. byte (opcode_of k) (immediates k (code_fields room c x))) (λ r x. byte (opcode_of k) (immediates k (code_fields room r.0 x)))
-    (fills_after (byte (opcode_of k)) (λ x. immediates k (code_fields room c x)) (λ r x. immediates k (code_fields room r.0 x)) (keeps_byte (opcode_of k))
+    fills_here place (λ x. byte (opcode_of k) (immediates k (code_fields room c x)))
+    (λ r x. byte (opcode_of k) (immediates k (code_fields room r.0 x)))
+    (fills_after (byte (opcode_of k)) (λ x. immediates k (code_fields room c x)) (λ r x. immediates k (code_fields room r.0 x))
+    (keeps_byte (opcode_of k))
     (fills_after (immediates k) (code_fields room c) (λ r. code_fields room r.0) (keeps_immediates k) h))
 
-with_block : (make : Code → ℕ → Kind) (kind : Code → Kind) → ((b : Code) (e : ℕ) (c : Code) (place : ℕ) → bare_code (then_code place (make b e) c) ≡ then_code 0 (kind (bare_code b)) (bare_code c)) → (place e : ℕ) (b c : Code) → One b c → Like bare_code (then_code place (make b e) c)
+with_block : (make : Code → ℕ → Kind) (kind : Code → Kind)
+    → ((b : Code) (e : ℕ) (c : Code) (place : ℕ)
+    → bare_code (then_code place (make b e) c) ≡ then_code 0 (kind (bare_code b)) (bare_code c)) → (place e : ℕ) (b c : Code) → One b c
+    → Like bare_code (then_code place (make b e) c)
 with_block make kind is place e b c r = (
   then_code r.0 (make r.1.0.0 r.1.1.0) r.1.1.1.0,
-  is r.1.0.0 r.1.1.0 r.1.1.1.0 r.0 ∙ ap (λ d. then_code 0 (kind d) (bare_code r.1.1.1.0)) r.1.0.1 ∙ ap (λ d. then_code 0 (kind (bare_code b)) d) r.1.1.1.1 ∙ sym (is b e c place),
+  is r.1.0.0 r.1.1.0 r.1.1.1.0 r.0 ∙ ap (λ d. then_code 0 (kind d) (bare_code r.1.1.1.0)) r.1.0.1
+      ∙ ap (λ d. then_code 0 (kind (bare_code b)) d) r.1.1.1.1 ∙ sym (is b e c place),
 )
 
 pub fills_code : (room : ℕ) (c : Code) → Fills {R = Like bare_code c} (code_fields room c) (λ r. code_fields room r.0)
 unfolding head with_block
 fills_code room end_code = fills_none (λ r. code_fields room r.0) (end_code, refl) (λ x. refl)
 fills_code room (then_code place (Block ty b e) c) =
-    fills_as (code_fields room (then_code place (Block ty b e) c)) _ (λ r. code_fields room r.0) (with_block (Block ty) (λ d. Block ty d 0) (λ b e c p. refl) place e b c) (λ r x. refl)
+    fills_as (code_fields room (then_code place (Block ty b e) c)) _ (λ r. code_fields room r.0)
+    (with_block (Block ty) (λ d. Block ty d 0) (λ b e c p. refl) place e b c) (λ r x. refl)
     (fills_one place room 0x02 ty b e c (fills_code (room - 1) b) (fills_code room c))
 fills_code room (then_code place (Loop ty b e) c) =
-    fills_as (code_fields room (then_code place (Loop ty b e) c)) _ (λ r. code_fields room r.0) (with_block (Loop ty) (λ d. Loop ty d 0) (λ b e c p. refl) place e b c) (λ r x. refl)
+    fills_as (code_fields room (then_code place (Loop ty b e) c)) _ (λ r. code_fields room r.0)
+    (with_block (Loop ty) (λ d. Loop ty d 0) (λ b e c p. refl) place e b c) (λ r x. refl)
     (fills_one place room 0x03 ty b e c (fills_code (room - 1) b) (fills_code room c))
 fills_code room (then_code place (If ty b no_else e) c) =
-    fills_as (code_fields room (then_code place (If ty b no_else e) c)) _ (λ r. code_fields room r.0) (with_block (λ b. If ty b no_else) (λ d. If ty d no_else 0) (λ b e c p. refl) place e b c) (λ r x. refl)
+    fills_as (code_fields room (then_code place (If ty b no_else e) c)) _ (λ r. code_fields room r.0)
+    (with_block (λ b. If ty b no_else) (λ d. If ty d no_else 0) (λ b e c p. refl) place e b c) (λ r x. refl)
     (fills_one place room 0x04 ty b e c (fills_code (room - 1) b) (fills_code room c))
 fills_code room (then_code place (If ty b (else_code q d) e) c) =
     fills_as (code_fields room (then_code place (If ty b (else_code q d) e) c)) _ (λ r. code_fields room r.0) two (λ r x. refl)
@@ -112,9 +158,11 @@ fills_code room (then_code place (If ty b (else_code q d) e) c) =
           ∙ ap (λ x. then_code 0 (If ty (bare_code b) (else_code 0 (bare_code d)) 0) x) r.1.1.1.1.1.1,
     )
 fills_code room (then_code place k c) =
-    fills_as (code_fields room (then_code place k c)) _ (λ r. code_fields room r.0) (λ r. (then_code r.0 k r.1.0, ap (λ d. then_code 0 k d) r.1.1)) (λ r x. refl)
+    fills_as (code_fields room (then_code place k c)) _ (λ r. code_fields room r.0)
+    (λ r. (then_code r.0 k r.1.0, ap (λ d. then_code 0 k d) r.1.1)) (λ r x. refl)
     (plain k place room c (fills_code room c))
 
 -- an expression, whose end is not kept
 pub fills_expression : (c : Code) → Fills {R = Like bare_code c} (expression c) (λ r. expression r.0)
-fills_expression c = fills_before (code_fields most_blocks c) (λ r. code_fields most_blocks r.0) (byte 0x0B) (fills_code most_blocks c) (keeps_byte 0x0B)
+fills_expression c =
+    fills_before (code_fields most_blocks c) (λ r. code_fields most_blocks r.0) (byte 0x0B) (fills_code most_blocks c) (keeps_byte 0x0B)

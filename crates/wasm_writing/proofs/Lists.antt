@@ -14,7 +14,8 @@ puts_both front back a b c p q = (
   (λ s. q.2 (p.2 s)),
 )
 
-pub each-append : {A : Type 0} (fields : A → Fields → Fields) (xs ys : List A) (rest : Fields) → each fields (xs ++ ys) rest ≡ each fields xs (each fields ys rest)
+pub each-append : {A : Type 0} (fields : A → Fields → Fields) (xs ys : List A) (rest : Fields)
+    → each fields (xs ++ ys) rest ≡ each fields xs (each fields ys rest)
 each-append fields [] ys rest = refl
 each-append fields (x ∷ xs) ys rest = ap (fields x) (each-append fields xs ys rest)
 
@@ -26,7 +27,8 @@ puts_same front back a b same p = (
   p.2,
 )
 
-pub each_more : {A : Type 0} (fields : A → Fields → Fields) (xs : List A) (i : ℕ) (x : A) (a b c : Draft) → i < length xs → x ≡ get_or xs i x → Puts (each fields (take i xs)) a b → Puts (fields x) b c → Puts (each fields (take (i + 1) xs)) a c
+pub each_more : {A : Type 0} (fields : A → Fields → Fields) (xs : List A) (i : ℕ) (x : A) (a b c : Draft) → i < length xs
+    → x ≡ get_or xs i x → Puts (each fields (take i xs)) a b → Puts (fields x) b c → Puts (each fields (take (i + 1) xs)) a c
 each_more {A} fields xs i x a b c less is p q =
     let grown : take (i + 1) xs ≡ take i xs ++ x ∷ [] = take_more xs i x less ∙ ap (λ (y : A). take i xs ++ y ∷ []) (sym is) in
     puts_same (λ rest. each fields (take i xs) (fields x rest)) (each fields (take (i + 1) xs)) a c

@@ -15,7 +15,8 @@ use Rattle.wasm_writing.specs.Drafts.{Completes, Fits, Makes, Puts, Refuses, Tak
 -- the piece is the shortest spelling of a field
 pub record IsField (field : Fields → Fields) (piece : List ℕ) : Type 0 where
   pub short : (rest : Fields) (bytes : List ℕ) → SpelledShort rest bytes → SpelledShort (field rest) (piece ++ bytes)
-  pub least : (rest : Fields) (bytes : List ℕ) → SpelledAside (field rest) bytes → (back : List ℕ) × (length piece + length back ≤ length bytes) × SpelledAside rest back
+  pub least : (rest : Fields) (bytes : List ℕ) → SpelledAside (field rest) bytes
+      → (back : List ℕ) × (length piece + length back ≤ length bytes) × SpelledAside rest back
 
 -- the piece is put behind a draft that goes on
 pub puts_piece : (field : Fields → Fields) (piece : List ℕ) (old new : Draft) → IsField field piece → AreBytes piece → Takes piece old new
@@ -48,15 +49,31 @@ puts_piece field piece old new f are t = (makes old new t, fits old new t, small
     same_flag : (written : Bool) → written ≡ false → written ≡ true → ⊥
     same_flag written a b = cc
 
-    fits : (old new : Draft) → Takes piece old new → (written : Bool) (room : ℕ) (rest : Fields) → Fits written room old (field rest) → Fits written room new rest
+    fits : (old new : Draft) → Takes piece old new → (written : Bool) (room : ℕ) (rest : Fields) → Fits written room old (field rest)
+        → Fits written room new rest
     fits (Counted n) (Counted m) t written room rest h =
         let w = h.goes_on.1 in
         let l = f.least rest w.rest w.spelled in
-        record { goes_on = (h.goes_on.0, record { rest = l.0; spelled = l.2; within = omega (arith, l.1, w.within, t.0); small = w.small }) }
+        record {
+          goes_on = (
+            h.goes_on.0,
+            record { rest = l.0; spelled = l.2; within = omega (arith, l.1, w.within, t.0); small = w.small },
+          );
+        }
     fits (Written a) (Written b) t written room rest h =
         let w = h.goes_on.1 in
         let l = f.least rest w.rest w.spelled in
-        record { goes_on = (h.goes_on.0, record { rest = l.0; spelled = l.2; within = omega (arith, l.1, w.within, ap length t.0, length-append a piece); small = w.small }) }
+        record {
+          goes_on = (
+            h.goes_on.0,
+            record {
+              rest = l.0;
+              spelled = l.2;
+              within = omega (arith, l.1, w.within, ap length t.0, length-append a piece);
+              small = w.small;
+            },
+          );
+        }
     fits (Counted n) (Written b) t written room rest h = absurd t
     fits (Written a) (Counted m) t written room rest h = absurd t
     fits (Counted n) (Stopped Unformed) t written room rest h =
@@ -81,7 +98,9 @@ puts_piece field piece old new f are t = (makes old new t, fits old new t, small
     small (Stopped stop) new t s = subst (λ d. size_of d ≤ most_module_bytes) (sym t) (omega arith)
 
 -- nothing spells the field
-pub puts_none : (field : Fields → Fields) (old new : Draft) → ((rest : Fields) (bytes : List ℕ) → length bytes ≤ most_module_bytes → SpelledAside (field rest) bytes → ⊥) → Refuses old new → Puts field old new
+pub puts_none : (field : Fields → Fields) (old new : Draft)
+    → ((rest : Fields) (bytes : List ℕ) → length bytes ≤ most_module_bytes → SpelledAside (field rest) bytes → ⊥) → Refuses old new
+    → Puts field old new
 puts_none field old new none t = (makes old t, fits old t, small old t)
   where
     makes : (old : Draft) → Refuses old new → (file : List ℕ) (rest : Fields) → Makes file new rest → Makes file old (field rest)
@@ -89,7 +108,8 @@ puts_none field old new none t = (makes old t, fits old t, small old t)
     makes (Written a) t file rest h = absurd (subst (λ d. Completes d h.rest file) t h.completes)
     makes (Stopped stop) t file rest h = absurd (subst (λ d. Completes d h.rest file) t h.completes)
 
-    fits : (old : Draft) → Refuses old new → (written : Bool) (room : ℕ) (rest : Fields) → Fits written room old (field rest) → Fits written room new rest
+    fits : (old : Draft) → Refuses old new → (written : Bool) (room : ℕ) (rest : Fields) → Fits written room old (field rest)
+        → Fits written room new rest
     fits (Counted n) t written room rest h = let w = h.goes_on.1 in absurd (none rest w.rest (omega (arith, w.within, w.small)) w.spelled)
     fits (Written a) t written room rest h = let w = h.goes_on.1 in absurd (none rest w.rest (omega (arith, w.within, w.small)) w.spelled)
     fits (Stopped Unformed) t written room rest h = absurd h.goes_on
@@ -129,17 +149,25 @@ signed_field width n piece i = record {
 }
 
 -- what has a spelling where other fields have one no longer fits wherever these do
-pub fits_as : (front back : Fields) → ((bytes : List ℕ) → SpelledAside front bytes → (other : List ℕ) × SpelledAside back other × (length other ≤ length bytes)) → (written : Bool) (room : ℕ) (draft : Draft) → Fits written room draft front → Fits written room draft back
-fits_as front back same written room (Counted n) h = let w = h.goes_on.1 in let o = same w.rest w.spelled in record { goes_on = (h.goes_on.0, record { rest = o.0; spelled = o.1; within = omega (arith, o.2, w.within); small = w.small }) }
-fits_as front back same written room (Written a) h = let w = h.goes_on.1 in let o = same w.rest w.spelled in record { goes_on = (h.goes_on.0, record { rest = o.0; spelled = o.1; within = omega (arith, o.2, w.within); small = w.small }) }
+pub fits_as : (front back : Fields)
+    → ((bytes : List ℕ) → SpelledAside front bytes → (other : List ℕ) × SpelledAside back other × (length other ≤ length bytes))
+    → (written : Bool) (room : ℕ) (draft : Draft) → Fits written room draft front → Fits written room draft back
+fits_as front back same written room (Counted n) h =
+    let w = h.goes_on.1 in let o = same w.rest w.spelled in
+    record { goes_on = (h.goes_on.0, record { rest = o.0; spelled = o.1; within = omega (arith, o.2, w.within); small = w.small }) }
+fits_as front back same written room (Written a) h =
+    let w = h.goes_on.1 in let o = same w.rest w.spelled in
+    record { goes_on = (h.goes_on.0, record { rest = o.0; spelled = o.1; within = omega (arith, o.2, w.within); small = w.small }) }
 fits_as front back same written room (Stopped Unformed) h = absurd h.goes_on
 fits_as front back same written room (Stopped Memory) h = record { goes_on = h.goes_on }
 
-pub fits_here : (written : Bool) (room : ℕ) (draft : Draft) (place : ℕ) (rest : Fields) → Fits written room draft (here place rest) → Fits written room draft rest
+pub fits_here : (written : Bool) (room : ℕ) (draft : Draft) (place : ℕ) (rest : Fields) → Fits written room draft (here place rest)
+    → Fits written room draft rest
 unfolding SpelledBy
 fits_here written room draft place rest h = fits_as (here place rest) rest (λ bytes s. (bytes, s, omega arith)) written room draft h
 
-pub fits_provided : (written : Bool) (room : ℕ) (draft : Draft) (b : Bool) (rest : Fields) → Fits written room draft (provided b rest) → Fits written room draft rest
+pub fits_provided : (written : Bool) (room : ℕ) (draft : Draft) (b : Bool) (rest : Fields) → Fits written room draft (provided b rest)
+    → Fits written room draft rest
 unfolding SpelledBy
 fits_provided written room draft b rest h = fits_as (provided b rest) rest (λ bytes s. (bytes, s.1, omega arith)) written room draft h
 
@@ -159,7 +187,8 @@ does_not_hold rest bytes _ s = differ s.0
     differ : false ≡ true → ⊥
     differ e = cc
 
-pub too_large : (n : ℕ) → 2 ^ 32 ≤ n → (rest : Fields) (bytes : List ℕ) → length bytes ≤ most_module_bytes → SpelledAside (number n rest) bytes → ⊥
+pub too_large : (n : ℕ) → 2 ^ 32 ≤ n → (rest : Fields) (bytes : List ℕ) → length bytes ≤ most_module_bytes
+    → SpelledAside (number n rest) bytes → ⊥
 unfolding SpelledBy
 too_large n large rest bytes _ s = omega (arith, large, s.3.fits)
 
@@ -175,7 +204,8 @@ makes_here file draft place rest h = record {
 }
 
 -- fields behind a condition that holds
-pub puts_if : (b : Bool) (fields : Fields → Fields) (old new : Draft) → b ≡ true → Puts fields old new → Puts (λ rest. provided b (fields rest)) old new
+pub puts_if : (b : Bool) (fields : Fields → Fields) (old new : Draft) → b ≡ true → Puts fields old new
+    → Puts (λ rest. provided b (fields rest)) old new
 unfolding SpelledBy
 puts_if b fields old new e p = (
   (λ file rest h. let m = p.0 file rest h in record {

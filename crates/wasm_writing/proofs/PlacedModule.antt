@@ -20,16 +20,24 @@ use Rattle.wasm_writing.proofs.PartLemmas.{filled-empty, filled-full}
 abbrev Alike : Part → Module → Type 0
 Alike part t = (u : Module) × (bare_module u ≡ bare_module t) × (is_empty part u ≡ is_empty part t)
 
-fills_short : {A : Type 0} (most : ℕ) (bare : A → A) (fields : A → Fields → Fields) → ((v : A) → Fills {R = Like bare v} (fields v) (λ r. fields r.0)) → (vs : List A) → Fills {R = Likes bare vs} (short_vector most fields vs) (λ r. short_vector most fields r.0)
+fills_short : {A : Type 0} (most : ℕ) (bare : A → A) (fields : A → Fields → Fields)
+    → ((v : A) → Fills {R = Like bare v} (fields v) (λ r. fields r.0)) → (vs : List A)
+    → Fills {R = Likes bare vs} (short_vector most fields vs) (λ r. short_vector most fields r.0)
 fills_short {A} most bare fields h vs =
-    fills_as (short_vector most fields vs) (λ r x. number (length vs) (provided (nat_le (length vs) most) (each fields r.0 x))) (λ r. short_vector most fields r.0) (λ r. r)
+    fills_as (short_vector most fields vs) (λ r x. number (length vs) (provided (nat_le (length vs) most) (each fields r.0 x)))
+    (λ r. short_vector most fields r.0) (λ r. r)
     (λ r x. ap (λ n. number n (provided (nat_le n most) (each fields r.0 x))) (sym r.2))
     (fills_after (number (length vs)) (λ x. provided (nat_le (length vs) most) (each fields vs x)) _ (keeps_number (length vs))
-    (fills_after (provided (nat_le (length vs) most)) (each fields vs) (λ r. each fields r.0) (keeps_provided (nat_le (length vs) most)) (fills_each bare fields h vs)))
+    (fills_after (provided (nat_le (length vs) most)) (each fields vs) (λ r. each fields r.0) (keeps_provided (nat_le (length vs) most))
+    (fills_each bare fields h vs)))
 
-fills_start_content : (s : Option Start) → Fills {R = (u : Option Start) × (bare_start u ≡ bare_start s) × (is_none u ≡ is_none s)} (start_content s) (λ r. start_content r.0)
-fills_start_content None = fills_as (provided false) (λ _. provided false) (λ r. start_content r.0) (λ _. (None, refl, refl)) (λ r x. refl) (keeps_provided false)
-fills_start_content (Some s) = fills_as (start_content (Some s)) _ (λ r. start_content r.0) (λ r. (Some (record s { place = r.0 }), refl, refl)) (λ r x. refl) (fills_start s)
+fills_start_content : (s : Option Start)
+    → Fills {R = (u : Option Start) × (bare_start u ≡ bare_start s) × (is_none u ≡ is_none s)} (start_content s) (λ r. start_content r.0)
+fills_start_content None =
+    fills_as (provided false) (λ _. provided false) (λ r. start_content r.0) (λ _. (None, refl, refl)) (λ r x. refl) (keeps_provided false)
+fills_start_content (Some s) =
+    fills_as (start_content (Some s)) _ (λ r. start_content r.0) (λ r. (Some (record s { place = r.0 }), refl, refl)) (λ r x. refl)
+    (fills_start s)
 
 abbrev LikeCount : Option DataCount → Type 0
 LikeCount d = (e : Option DataCount) × (bare_data_count e ≡ bare_data_count d) × (is_none e ≡ is_none d)
@@ -47,43 +55,52 @@ fills_data_count (Some d) found =
 
 fills_code_content : (t : Module) → Fills {R = Likes bare_body t.bodies} (content code t) (λ r x. number (length r.0) (bodies 0 r.0 x))
 fills_code_content t =
-    fills_as (content code t) (λ r x. number (length t.bodies) (bodies 0 r.0 x)) _ (λ r. r) (λ r x. ap (λ n. number n (bodies 0 r.0 x)) (sym r.2))
-    (fills_after (number (length t.bodies)) (bodies 0 t.bodies) (λ r. bodies 0 r.0) (keeps_number (length t.bodies)) (fills_bodies 0 t.bodies))
+    fills_as (content code t) (λ r x. number (length t.bodies) (bodies 0 r.0 x)) _ (λ r. r)
+    (λ r x. ap (λ n. number n (bodies 0 r.0 x)) (sym r.2))
+    (fills_after (number (length t.bodies)) (bodies 0 t.bodies) (λ r. bodies 0 r.0) (keeps_number (length t.bodies))
+    (fills_bodies 0 t.bodies))
 
 fills_types_part : (t : Module) → Fills {R = Alike types t} (content types t) (λ r. content types r.0)
 fills_types_part t =
     fills_as (content types t) _ (λ r. content types r.0)
-    (λ r. (record t { types = r.0 }, ap (λ l. record (bare_module t) { types = l }) r.1, ap (λ n. nat_eq n 0) r.2)) (λ r x. refl) (fills_vector bare_type type_entry fills_type t.types)
+    (λ r. (record t { types = r.0 }, ap (λ l. record (bare_module t) { types = l }) r.1, ap (λ n. nat_eq n 0) r.2)) (λ r x. refl)
+    (fills_vector bare_type type_entry fills_type t.types)
 
 fills_imports_part : (t : Module) → Fills {R = Alike imports t} (content imports t) (λ r. content imports r.0)
 fills_imports_part t =
     fills_as (content imports t) _ (λ r. content imports r.0)
-    (λ r. (record t { imports = r.0 }, ap (λ l. record (bare_module t) { imports = l }) r.1, ap (λ n. nat_eq n 0) r.2)) (λ r x. refl) (fills_vector bare_import import_entry fills_import t.imports)
+    (λ r. (record t { imports = r.0 }, ap (λ l. record (bare_module t) { imports = l }) r.1, ap (λ n. nat_eq n 0) r.2)) (λ r x. refl)
+    (fills_vector bare_import import_entry fills_import t.imports)
 
 fills_functions_part : (t : Module) → Fills {R = Alike functions t} (content functions t) (λ r. content functions r.0)
 fills_functions_part t =
     fills_as (content functions t) _ (λ r. content functions r.0)
-    (λ r. (record t { funcs = r.0 }, ap (λ l. record (bare_module t) { funcs = l }) r.1, ap (λ n. nat_eq n 0) r.2)) (λ r x. refl) (fills_short most_functions bare_func func_entry fills_func t.funcs)
+    (λ r. (record t { funcs = r.0 }, ap (λ l. record (bare_module t) { funcs = l }) r.1, ap (λ n. nat_eq n 0) r.2)) (λ r x. refl)
+    (fills_short most_functions bare_func func_entry fills_func t.funcs)
 
 fills_tables_part : (t : Module) → Fills {R = Alike tables t} (content tables t) (λ r. content tables r.0)
 fills_tables_part t =
     fills_as (content tables t) _ (λ r. content tables r.0)
-    (λ r. (record t { tables = r.0 }, ap (λ l. record (bare_module t) { tables = l }) r.1, ap (λ n. nat_eq n 0) r.2)) (λ r x. refl) (fills_vector bare_limits_entry table_entry fills_table t.tables)
+    (λ r. (record t { tables = r.0 }, ap (λ l. record (bare_module t) { tables = l }) r.1, ap (λ n. nat_eq n 0) r.2)) (λ r x. refl)
+    (fills_vector bare_limits_entry table_entry fills_table t.tables)
 
 fills_memories_part : (t : Module) → Fills {R = Alike memories t} (content memories t) (λ r. content memories r.0)
 fills_memories_part t =
     fills_as (content memories t) _ (λ r. content memories r.0)
-    (λ r. (record t { memories = r.0 }, ap (λ l. record (bare_module t) { memories = l }) r.1, ap (λ n. nat_eq n 0) r.2)) (λ r x. refl) (fills_vector bare_limits_entry memory_entry fills_memory t.memories)
+    (λ r. (record t { memories = r.0 }, ap (λ l. record (bare_module t) { memories = l }) r.1, ap (λ n. nat_eq n 0) r.2)) (λ r x. refl)
+    (fills_vector bare_limits_entry memory_entry fills_memory t.memories)
 
 fills_globals_part : (t : Module) → Fills {R = Alike globals t} (content globals t) (λ r. content globals r.0)
 fills_globals_part t =
     fills_as (content globals t) _ (λ r. content globals r.0)
-    (λ r. (record t { globals = r.0 }, ap (λ l. record (bare_module t) { globals = l }) r.1, ap (λ n. nat_eq n 0) r.2)) (λ r x. refl) (fills_vector bare_global global_entry fills_global t.globals)
+    (λ r. (record t { globals = r.0 }, ap (λ l. record (bare_module t) { globals = l }) r.1, ap (λ n. nat_eq n 0) r.2)) (λ r x. refl)
+    (fills_vector bare_global global_entry fills_global t.globals)
 
 fills_exports_part : (t : Module) → Fills {R = Alike exports t} (content exports t) (λ r. content exports r.0)
 fills_exports_part t =
     fills_as (content exports t) _ (λ r. content exports r.0)
-    (λ r. (record t { exports = r.0 }, ap (λ l. record (bare_module t) { exports = l }) r.1, ap (λ n. nat_eq n 0) r.2)) (λ r x. refl) (fills_vector bare_export export_entry fills_export t.exports)
+    (λ r. (record t { exports = r.0 }, ap (λ l. record (bare_module t) { exports = l }) r.1, ap (λ n. nat_eq n 0) r.2)) (λ r x. refl)
+    (fills_vector bare_export export_entry fills_export t.exports)
 
 fills_start_part : (t : Module) → Fills {R = Alike start t} (content start t) (λ r. content start r.0)
 fills_start_part t =
@@ -93,7 +110,8 @@ fills_start_part t =
 fills_elements_part : (t : Module) → Fills {R = Alike elements t} (content elements t) (λ r. content elements r.0)
 fills_elements_part t =
     fills_as (content elements t) _ (λ r. content elements r.0)
-    (λ r. (record t { elements = r.0 }, ap (λ l. record (bare_module t) { elements = l }) r.1, ap (λ n. nat_eq n 0) r.2)) (λ r x. refl) (fills_vector bare_element element_entry fills_element t.elements)
+    (λ r. (record t { elements = r.0 }, ap (λ l. record (bare_module t) { elements = l }) r.1, ap (λ n. nat_eq n 0) r.2)) (λ r x. refl)
+    (fills_vector bare_element element_entry fills_element t.elements)
 
 fills_data_count_part : (t : Module) → Fills {R = Alike data_count t} (content data_count t) (λ r. content data_count r.0)
 fills_data_count_part t =
@@ -104,12 +122,14 @@ fills_data_count_part t =
 fills_code_part : (t : Module) → Fills {R = Alike code t} (content code t) (λ r. content code r.0)
 fills_code_part t =
     fills_as (content code t) _ (λ r. content code r.0)
-    (λ r. (record t { bodies = r.0 }, ap (λ l. record (bare_module t) { bodies = l }) r.1, ap (λ n. nat_eq n 0) r.2)) (λ r x. refl) (fills_code_content t)
+    (λ r. (record t { bodies = r.0 }, ap (λ l. record (bare_module t) { bodies = l }) r.1, ap (λ n. nat_eq n 0) r.2)) (λ r x. refl)
+    (fills_code_content t)
 
 fills_segments_part : (t : Module) → Fills {R = Alike segments t} (content segments t) (λ r. content segments r.0)
 fills_segments_part t =
     fills_as (content segments t) _ (λ r. content segments r.0)
-    (λ r. (record t { segments = r.0 }, ap (λ l. record (bare_module t) { segments = l }) r.1, ap (λ n. nat_eq n 0) r.2)) (λ r x. refl) (fills_vector bare_segment segment_entry fills_segment t.segments)
+    (λ r. (record t { segments = r.0 }, ap (λ l. record (bare_module t) { segments = l }) r.1, ap (λ n. nat_eq n 0) r.2)) (λ r x. refl)
+    (fills_vector bare_segment segment_entry fills_segment t.segments)
 
 -- the sections from one on
 abbrev from_segments : List Part
@@ -150,7 +170,9 @@ from_types = types ∷ from_imports
 
 -- these sections, placed
 abbrev Placed : List Part → Module → Type 0
-Placed ps t = (place : ℕ) (bytes : List ℕ) → SpelledAside (each (filled t) ps finished) bytes → (u : Module) × (bare_module u ≡ bare_module t) × Spelled (sections ps u finished) place bytes
+Placed ps t =
+    (place : ℕ) (bytes : List ℕ) → SpelledAside (each (filled t) ps finished) bytes
+    → (u : Module) × (bare_module u ≡ bare_module t) × Spelled (sections ps u finished) place bytes
 
 -- how an entry list of one module goes into another, and what that leaves alone
 record PutsPart (part : Part) (ps : List Part) (put : Module → Module → Module) : Type 0 where
@@ -160,10 +182,13 @@ record PutsPart (part : Part) (ps : List Part) (put : Module → Module → Modu
   bare : (v u : Module) → bare_module (put v u) ≡ put (bare_module v) (bare_module u)
   same : (m : Module) → put m m ≡ m
 
-bare_put : (part : Part) (ps : List Part) (put : Module → Module → Module) → PutsPart part ps put → (t v u : Module) → bare_module v ≡ bare_module t → bare_module u ≡ bare_module t → bare_module (put v u) ≡ bare_module t
-bare_put part ps put p t v u a b = p.bare v u ∙ ap (λ m. put m (bare_module u)) a ∙ ap (λ m. put (bare_module t) m) b ∙ p.same (bare_module t)
+bare_put : (part : Part) (ps : List Part) (put : Module → Module → Module) → PutsPart part ps put → (t v u : Module)
+    → bare_module v ≡ bare_module t → bare_module u ≡ bare_module t → bare_module (put v u) ≡ bare_module t
+bare_put part ps put p t v u a b =
+    p.bare v u ∙ ap (λ m. put m (bare_module u)) a ∙ ap (λ m. put (bare_module t) m) b ∙ p.same (bare_module t)
 
-placed_part : (part : Part) (ps : List Part) (put : Module → Module → Module) (t : Module) → PutsPart part ps put → Fills {R = Alike part t} (content part t) (λ r. content part r.0) → Placed ps t → Placed (part ∷ ps) t
+placed_part : (part : Part) (ps : List Part) (put : Module → Module → Module) (t : Module) → PutsPart part ps put
+    → Fills {R = Alike part t} (content part t) (λ r. content part r.0) → Placed ps t → Placed (part ∷ ps) t
 placed_part part ps put t p law next place bytes s = elim (cases_Bool (is_empty part t)) [
   | inl empty ↦
       let u = next place bytes (subst (λ f. SpelledAside f bytes) (filled-empty t part (each (filled t) ps finished) empty) s) in
@@ -172,7 +197,9 @@ placed_part part ps put t p law next place bytes s = elim (cases_Bool (is_empty 
       (w, bare_put part ps put p t t u.0 refl u.1, ([], inl (p.its_emptiness t u.0 ∙ empty, rest)))
   | inr full ↦
       let s' = subst (λ f. SpelledAside f bytes) (filled-full t part (each (filled t) ps finished) full) s in
-      let a = fills_after (byte (id_of part)) (window (content part t finished)) (λ r. window (content part r.0 finished)) (keeps_byte (id_of part)) (fills_window (content part t) (λ r. content part r.0) law) place bytes (each (filled t) ps finished) s' in
+      let a = fills_after (byte (id_of part)) (window (content part t finished)) (λ r. window (content part r.0 finished))
+      (keeps_byte (id_of part)) (fills_window (content part t) (λ r. content part r.0) law) place bytes
+      (each (filled t) ps finished) s' in
       let v = a.result in
       let u = next (place + length a.front) a.back a.behind in
       let w = put v.0 u.0 in
@@ -259,15 +286,46 @@ placed_types t = placed_part types from_imports (λ v u. record u { types = v.ty
 
 -- ---- whole modules
 
-same_counts : (t u : Module) → bare_module u ≡ bare_module t → nat_eq (length u.funcs) (length u.bodies) ≡ nat_eq (length t.funcs) (length t.bodies)
+same_counts : (t u : Module) → bare_module u ≡ bare_module t
+    → nat_eq (length u.funcs) (length u.bodies) ≡ nat_eq (length t.funcs) (length t.bodies)
 same_counts t u e =
-    let funcs : length u.funcs ≡ length t.funcs = sym (length-bare bare_func u.funcs) ∙ ap (λ (m : Module). length m.funcs) e ∙ length-bare bare_func t.funcs in
-    let codes : length u.bodies ≡ length t.bodies = sym (length-bare bare_body u.bodies) ∙ ap (λ (m : Module). length m.bodies) e ∙ length-bare bare_body t.bodies in
+    let funcs : length u.funcs ≡ length t.funcs =
+    sym (length-bare bare_func u.funcs) ∙ ap (λ (m : Module). length m.funcs) e ∙ length-bare bare_func t.funcs in
+    let codes : length u.bodies ≡ length t.bodies =
+    sym (length-bare bare_body u.bodies) ∙ ap (λ (m : Module). length m.bodies) e ∙ length-bare bare_body t.bodies in
     ap (λ n. nat_eq n (length u.bodies)) funcs ∙ ap (λ n. nat_eq (length t.funcs) n) codes
 
 -- what spells the short fields of a module with the places aside spells a module that is the same but for places
-pub placed_module : (t : Module) (bytes : List ℕ) → SpelledAside (short_fields t finished) bytes → (u : Module) × SameApartFromPlaces t u × Spelled (module_fields u) 0 bytes
+pub placed_module : (t : Module) (bytes : List ℕ) → SpelledAside (short_fields t finished) bytes
+    → (u : Module) × SameApartFromPlaces t u × Spelled (module_fields u) 0 bytes
 unfolding SpelledBy
-placed_module t bytes (a, b, e0, p0, (c, d, e1, p1, (f, g, e2, p2, (h, i, e3, p3, (j, k, e4, p4, (l, m, e5, p5, (n, o, e6, p6, (q, r, e7, p7, (same, s))))))))) =
-    let u = placed_types t (0 + length a + length c + length f + length h + length j + length l + length n + length q) r s in
-    (u.0, sym u.1, (a, b, e0, p0, (c, d, e1, p1, (f, g, e2, p2, (h, i, e3, p3, (j, k, e4, p4, (l, m, e5, p5, (n, o, e6, p6, (q, r, e7, p7, (same_counts t u.0 u.1 ∙ same, u.2))))))))))
+placed_module t bytes (
+  a,
+  b,
+  e0,
+  p0,
+  (c, d, e1, p1, (f, g, e2, p2, (h, i, e3, p3, (j, k, e4, p4, (l, m, e5, p5, (n, o, e6, p6, (q, r, e7, p7, (same, s)))))))),
+) =
+    let u = placed_types t (0 + length a + length c + length f + length h + length j + length l + length n + length q) r s in (
+      u.0,
+      sym u.1,
+      (
+        a,
+        b,
+        e0,
+        p0,
+        (
+          c,
+          d,
+          e1,
+          p1,
+          (
+            f,
+            g,
+            e2,
+            p2,
+            (h, i, e3, p3, (j, k, e4, p4, (l, m, e5, p5, (n, o, e6, p6, (q, r, e7, p7, (same_counts t u.0 u.1 ∙ same, u.2)))))),
+          ),
+        ),
+      ),
+    )

@@ -27,7 +27,8 @@ counted_is_formed t n p =
     let c = counted_inside (short_fields t) n p small in
     (c.0, c.3, short_file_spells t c.0 c.1 (omega (arith, c.2, small)))
 
-pub formed_is_counted : (t : Module) (draft : Draft) → Puts (short_fields t) (Counted 0) draft → ((n : ℕ) → draft ≡ Counted n → ⊥) → IsFormed t → ⊥
+pub formed_is_counted : (t : Module) (draft : Draft) → Puts (short_fields t) (Counted 0) draft → ((n : ℕ) → draft ≡ Counted n → ⊥)
+    → IsFormed t → ⊥
 formed_is_counted t draft p n (bytes, are, s) =
     let r = short_of_file t bytes s in
     not_counted (short_fields t) draft r.0 p n r.1 (omega (arith, r.2, r.3))
@@ -42,8 +43,10 @@ written_is_short t bytes p =
 pub written_is_small : (t : Module) (bytes : List ℕ) → Puts (short_fields t) (Written []) (Written bytes) → length bytes ≤ most_module_bytes
 written_is_small t bytes p = p.2 (omega arith)
 
-pub written_is_least : (t : Module) (bytes other : List ℕ) → Puts (short_fields t) (Written []) (Written bytes) → SpellsAside t other → length bytes ≤ length other
+pub written_is_least : (t : Module) (bytes other : List ℕ) → Puts (short_fields t) (Written []) (Written bytes) → SpellsAside t other
+    → length bytes ≤ length other
 written_is_least t bytes other p s =
     let r = short_of_file t other s in
-    let h = p.1 true (length other) finished (record { goes_on = (refl, record { rest = r.0; spelled = r.1; within = omega (arith, r.2); small = r.3 }) }) in
+    let h = p.1 true (length other) finished
+    (record { goes_on = (refl, record { rest = r.0; spelled = r.1; within = omega (arith, r.2); small = r.3 }) }) in
     omega (arith, h.goes_on.1.within)

@@ -17,14 +17,23 @@ use Rattle.wasm_writing.proofs.Pieces.{puts_none}
 use Rattle.wasm_writing.proofs.Shorts.{short_aside}
 
 -- as many bytes can spell a number that is not greater
-smaller : (n m : ℕ) (bytes : List ℕ) → m ≤ n → SpellsUnsigned 32 bytes n → (other : List ℕ) × SpellsUnsigned 32 other m × (length other ≤ length bytes)
+smaller : (n m : ℕ) (bytes : List ℕ) → m ≤ n → SpellsUnsigned 32 bytes n
+    → (other : List ℕ) × SpellsUnsigned 32 other m × (length other ≤ length bytes)
 smaller n m bytes le s =
     let k = length bytes in
     let some : 0 < k = IsNumberRun-some bytes s.run in
     let below : seven_bit_sum bytes < 2 ^ (7 * k) = seven_bit_sum-below bytes in
     let o = shortest_unsigned (7 * k) m (omega (arith, some)) (omega (arith, le, s.value, below)) in
-    let short : length o.0 ≤ k = omega (arith, o.1.spells.short) in
-    (o.0, record { run = o.1.spells.run; short = omega (arith, short, s.short); value = o.1.spells.value; fits = omega (arith, le, s.fits) }, short)
+    let short : length o.0 ≤ k = omega (arith, o.1.spells.short) in (
+      o.0,
+      record {
+        run = o.1.spells.run;
+        short = omega (arith, short, s.short);
+        value = o.1.spells.value;
+        fits = omega (arith, le, s.fits);
+      },
+      short,
+    )
 
 -- ---- drafts that go on and drafts that have stopped
 
@@ -34,14 +43,16 @@ Going written draft =
     ((room : ℕ) (fields : Fields) → Fits written room draft fields → IsWithin room (size_of draft) fields)
     × ((room : ℕ) (fields : Fields) → IsWithin room (size_of draft) fields → Fits written room draft fields)
 
-cases_of : (written : Bool) (room : ℕ) (draft : Draft) (fields : Fields) → Fits written room draft fields → Going written draft ⊎ ((room : ℕ) (fields : Fields) → Fits written room draft fields)
+cases_of : (written : Bool) (room : ℕ) (draft : Draft) (fields : Fields) → Fits written room draft fields
+    → Going written draft ⊎ ((room : ℕ) (fields : Fields) → Fits written room draft fields)
 cases_of written room (Counted n) fields h = inl ((λ r f k. k.goes_on.1), (λ r f k. record { goes_on = (h.goes_on.0, k) }))
 cases_of written room (Written a) fields h = inl ((λ r f k. k.goes_on.1), (λ r f k. record { goes_on = (h.goes_on.0, k) }))
 cases_of written room (Stopped Unformed) fields h = absurd h.goes_on
 cases_of written room (Stopped Memory) fields h = inr (λ r f. record { goes_on = h.goes_on })
 
 -- what was put before it stopped is all that is put
-pub puts_stopped : (fields more : Fields → Fields) (old mid new : Draft) → Puts fields old mid → HasStopped mid → Puts more mid new → Puts fields old new
+pub puts_stopped : (fields more : Fields → Fields) (old mid new : Draft) → Puts fields old mid → HasStopped mid → Puts more mid new
+    → Puts fields old new
 puts_stopped fields more old (Counted n) new p stop q = absurd stop
 puts_stopped fields more old (Written a) new p stop q = absurd stop
 puts_stopped fields more old (Stopped stop) new p _ q = (
@@ -56,9 +67,11 @@ puts_stopped fields more old (Stopped stop) new p _ q = (
 
 -- ---- the size that was counted is the least
 
-least_inside : (fields : Fields → Fields) (m : ℕ) (bytes : List ℕ) → Puts fields (Counted 0) (Counted m) → SpelledAside (fields finished) bytes → length bytes ≤ most_module_bytes → m ≤ length bytes
+least_inside : (fields : Fields → Fields) (m : ℕ) (bytes : List ℕ) → Puts fields (Counted 0) (Counted m)
+    → SpelledAside (fields finished) bytes → length bytes ≤ most_module_bytes → m ≤ length bytes
 least_inside fields m bytes p s small =
-    let h = p.1 false (length bytes) finished (record { goes_on = (refl, record { rest = bytes; spelled = s; within = omega arith; small = small }) }) in
+    let h = p.1 false (length bytes) finished
+    (record { goes_on = (refl, record { rest = bytes; spelled = s; within = omega arith; small = small }) }) in
     omega (arith, h.goes_on.1.within)
 
 abbrev behind : List ℕ → Fields
@@ -72,7 +85,9 @@ record Parts (room size m : ℕ) (inside rest : Fields) : Type 0 where
   after_spelled : SpelledAside rest after
   within : IsWithin room size (number m (behind (content ++ after)))
 
-parts_of : (room size m : ℕ) (inside rest : Fields) → ((bytes : List ℕ) → SpelledAside inside bytes → length bytes ≤ most_module_bytes → m ≤ length bytes) → IsWithin room size (window inside rest) → Parts room size m inside rest
+parts_of : (room size m : ℕ) (inside rest : Fields)
+    → ((bytes : List ℕ) → SpelledAside inside bytes → length bytes ≤ most_module_bytes → m ≤ length bytes)
+    → IsWithin room size (window inside rest) → Parts room size m inside rest
 unfolding SpelledBy
 parts_of room size m inside rest least w =
     let s = w.spelled.1 in
@@ -93,19 +108,33 @@ parts_of room size m inside rest least w =
       within = record {
         rest = o.0 ++ ((content ++ after) ++ []);
         spelled = (o.0, (content ++ after) ++ [], refl, o.1, (content ++ after, [], refl, refl, refl));
-        within = omega (arith, w.within, first, second, o.2, length-append o.0 ((content ++ after) ++ []), length-append (content ++ after) [], length-append content after);
+        within =
+            omega (
+              arith,
+              w.within,
+              first,
+              second,
+              o.2,
+              length-append o.0 ((content ++ after) ++ []),
+              length-append (content ++ after) [],
+              length-append content after,
+            );
         small = w.small;
       };
     }
 
-window_fits : (fields : Fields → Fields) (m : ℕ) (old mid new : Draft) → Puts fields (Counted 0) (Counted m) → Puts (number m) old mid → Puts fields mid new → (written : Bool) (room : ℕ) (rest : Fields) → Fits written room old (window (fields finished) rest) → Fits written room new rest
+window_fits : (fields : Fields → Fields) (m : ℕ) (old mid new : Draft) → Puts fields (Counted 0) (Counted m) → Puts (number m) old mid
+    → Puts fields mid new → (written : Bool) (room : ℕ) (rest : Fields) → Fits written room old (window (fields finished) rest)
+    → Fits written room new rest
 unfolding SpelledBy
 window_fits fields m old mid new counted size put written room rest h = elim (cases_of written room old (window (fields finished) rest) h) [
-  | inl going ↦ behind_size (parts_of room (size_of old) m (fields finished) rest (λ bytes s small. least_inside fields m bytes counted s small) (going.0 room (window (fields finished) rest) h)) going
+  | inl going ↦ behind_size (parts_of room (size_of old) m (fields finished) rest
+      (λ bytes s small. least_inside fields m bytes counted s small) (going.0 room (window (fields finished) rest) h)) going
   | inr any ↦ put.1 written room rest (size.1 written room (fields rest) (any room (number m (fields rest))))
 ]
   where
-    at_end : (p : Parts room (size_of old) m (fields finished) rest) → size_of mid + (length p.content + length p.after) ≤ room → room ≤ most_module_bytes → Fits written (size_of mid + length p.content) new finished → Fits written room new rest
+    at_end : (p : Parts room (size_of old) m (fields finished) rest) → size_of mid + (length p.content + length p.after) ≤ room
+        → room ≤ most_module_bytes → Fits written (size_of mid + length p.content) new finished → Fits written room new rest
     at_end p within small h = elim (cases_of written (size_of mid + length p.content) new finished h) [
       | inl going ↦ let e = going.0 (size_of mid + length p.content) finished h in
           going.1 room rest (record { rest = p.after; spelled = p.after_spelled; within = omega (arith, e.within, within); small = small })
@@ -120,11 +149,13 @@ window_fits fields m old mid new counted size put written room rest h = elim (ca
           | inl on ↦
               let k = on.0 room next there in
               let taken : length k.rest ≡ length p.content + length p.after =
-              ap length k.spelled.2 ∙ length-append k.spelled.0 k.spelled.1 ∙ omega (arith, ap length k.spelled.3, ap length k.spelled.4, length-append p.content p.after) in
+              ap length k.spelled.2 ∙ length-append k.spelled.0 k.spelled.1
+              ∙ omega (arith, ap length k.spelled.3, ap length k.spelled.4, length-append p.content p.after) in
               let within : size_of mid + (length p.content + length p.after) ≤ room = omega (arith, k.within, taken) in
               at_end p within k.small
               (put.1 written (size_of mid + length p.content) finished
-              (on.1 (size_of mid + length p.content) (fields finished) (record { rest = p.content; spelled = p.content_spelled; within = omega arith; small = omega (arith, within, k.small) })))
+              (on.1 (size_of mid + length p.content) (fields finished)
+              (record { rest = p.content; spelled = p.content_spelled; within = omega arith; small = omega (arith, within, k.small) })))
           | inr any ↦ put.1 written room rest (any room (fields rest))
         ]
 
@@ -134,18 +165,21 @@ window_fits fields m old mid new counted size put written room rest h = elim (ca
 abbrev Opens : Bool → Draft → Type 0
 Opens written draft = (room : ℕ) (fields : Fields) → IsWithin room (size_of draft) fields → Fits written room draft fields
 
-opens : (draft : Draft) (bytes file : List ℕ) → Completes draft bytes file → (written : Bool) × Opens written draft × (size_of draft + length bytes ≡ length file)
+opens : (draft : Draft) (bytes file : List ℕ) → Completes draft bytes file
+    → (written : Bool) × Opens written draft × (size_of draft + length bytes ≡ length file)
 opens (Counted n) bytes file c = (false, (λ r f k. record { goes_on = (refl, k) }), c)
 opens (Written a) bytes file c = (true, (λ r f k. record { goes_on = (refl, k) }), sym (length-append a bytes) ∙ ap length c)
 opens (Stopped stop) bytes file c = absurd c
 
-within_room : (written : Bool) (room : ℕ) (draft : Draft) (fields : Fields) (bytes file : List ℕ) → Completes draft bytes file → Fits written room draft fields → size_of draft ≤ room
+within_room : (written : Bool) (room : ℕ) (draft : Draft) (fields : Fields) (bytes file : List ℕ) → Completes draft bytes file
+    → Fits written room draft fields → size_of draft ≤ room
 within_room written room (Counted n) fields bytes file c h = omega (arith, h.goes_on.1.within)
 within_room written room (Written a) fields bytes file c h = omega (arith, h.goes_on.1.within)
 within_room written room (Stopped stop) fields bytes file c h = absurd c
 
 -- the file so far
-kept : (draft : Draft) (bytes file : List ℕ) → Completes draft bytes file → (so_far : List ℕ) × Completes draft [] so_far × (length so_far ≡ size_of draft)
+kept : (draft : Draft) (bytes file : List ℕ) → Completes draft bytes file
+    → (so_far : List ℕ) × Completes draft [] so_far × (length so_far ≡ size_of draft)
 kept (Counted n) bytes file c = let l = length-take-le n file (omega (arith, c)) in (take n file, omega (arith, l), l)
 kept (Written a) bytes file c = (a, append-nil a, refl)
 kept (Stopped stop) bytes file c = absurd c
@@ -153,9 +187,12 @@ kept (Stopped stop) bytes file c = absurd c
 unlike : (b : Bool) → b ≡ false → b ≡ true → ⊥
 unlike b e f = cc
 
-joins : (written : Bool) (r s : ℕ) (f g : Fields) (mid new : Draft) (content after so_far file : List ℕ) → Fits written r mid f → Fits written s new g → Completes mid content so_far → Completes new [] so_far → Completes new after file → Completes mid (content ++ after) file
+joins : (written : Bool) (r s : ℕ) (f g : Fields) (mid new : Draft) (content after so_far file : List ℕ) → Fits written r mid f
+    → Fits written s new g → Completes mid content so_far → Completes new [] so_far → Completes new after file
+    → Completes mid (content ++ after) file
 joins written r s f g (Counted n) (Counted k) content after so_far file h i a b c = omega (arith, a, b, c, length-append content after)
-joins written r s f g (Written n) (Written k) content after so_far file h i a b c = sym (append_assoc n content after) ∙ ap (λ l. l ++ after) (a ∙ sym b ∙ append-nil k) ∙ c
+joins written r s f g (Written n) (Written k) content after so_far file h i a b c =
+    sym (append_assoc n content after) ∙ ap (λ l. l ++ after) (a ∙ sym b ∙ append-nil k) ∙ c
 joins written r s f g (Counted n) (Written k) content after so_far file h i a b c = absurd (unlike written h.goes_on.0 i.goes_on.0)
 joins written r s f g (Written n) (Counted k) content after so_far file h i a b c = absurd (unlike written i.goes_on.0 h.goes_on.0)
 joins written r s f g (Stopped stop) new content after so_far file h i a b c = absurd a
@@ -177,20 +214,35 @@ counted_inside fields m p small =
     (h.rest, h.spelled, omega (arith, h.completes, l), h.are_bytes)
 
 -- the bytes that were put are as many as were counted
-same_length : (fields : Fields → Fields) (m : ℕ) (mid new : Draft) (content after so_far file : List ℕ) → m ≤ most_module_bytes → Puts fields (Counted 0) (Counted m) → Puts fields mid new → SpelledShort (fields finished) content → Completes mid content so_far → Completes new [] so_far → Completes new after file → length file ≤ most_module_bytes → (length content ≡ m) × Completes mid (content ++ after) file
+same_length : (fields : Fields → Fields) (m : ℕ) (mid new : Draft) (content after so_far file : List ℕ) → m ≤ most_module_bytes
+    → Puts fields (Counted 0) (Counted m) → Puts fields mid new → SpelledShort (fields finished) content → Completes mid content so_far
+    → Completes new [] so_far → Completes new after file → length file ≤ most_module_bytes
+    → (length content ≡ m) × Completes mid (content ++ after) file
 same_length fields m mid new content after so_far file fits_m counted put spelled a b c small =
     let o = opens mid content so_far a in
     let e = opens new [] so_far b in
     let f = opens new after file c in
     let most : size_of mid + length content ≤ most_module_bytes = omega (arith, o.2, e.2, f.2, small) in
-    let low : m ≤ length content = least_inside fields m content counted (short_aside (fields finished) content spelled) (omega (arith, most)) in
+    let low : m ≤ length content =
+    least_inside fields m content counted (short_aside (fields finished) content spelled) (omega (arith, most)) in
     let i = counted_inside fields m counted fits_m in
-    let there = o.1 (size_of mid + m) (fields finished) (record { rest = i.0; spelled = short_aside (fields finished) i.0 i.1; within = omega (arith, i.2); small = omega (arith, most, low) }) in
+    let there =
+    o.1 (size_of mid + m) (fields finished)
+    (record {
+      rest = i.0;
+      spelled = short_aside (fields finished) i.0 i.1;
+      within = omega (arith, i.2);
+      small = omega (arith, most, low);
+    }) in
     let behind_it = put.1 o.0 (size_of mid + m) finished there in
-    let high : size_of new ≤ size_of mid + m = within_room o.0 (size_of mid + m) new finished [] so_far b behind_it in
-    (omega (arith, low, high, o.2, e.2), joins o.0 (size_of mid + m) (size_of mid + m) (fields finished) finished mid new content after so_far file there behind_it a b c)
+    let high : size_of new ≤ size_of mid + m = within_room o.0 (size_of mid + m) new finished [] so_far b behind_it in (
+      omega (arith, low, high, o.2, e.2),
+      joins o.0 (size_of mid + m) (size_of mid + m) (fields finished) finished mid new content after so_far file there behind_it a b c,
+    )
 
-window_makes : (fields : Fields → Fields) (m : ℕ) (old mid new : Draft) → m ≤ most_module_bytes → Puts fields (Counted 0) (Counted m) → Puts (number m) old mid → Puts fields mid new → (file : List ℕ) (rest : Fields) → Makes file new rest → Makes file old (window (fields finished) rest)
+window_makes : (fields : Fields → Fields) (m : ℕ) (old mid new : Draft) → m ≤ most_module_bytes → Puts fields (Counted 0) (Counted m)
+    → Puts (number m) old mid → Puts fields mid new → (file : List ℕ) (rest : Fields) → Makes file new rest
+    → Makes file old (window (fields finished) rest)
 unfolding SpelledBy
 window_makes fields m old mid new fits_m counted size put file rest h =
     let k = kept new h.rest file h.completes in
@@ -226,8 +278,11 @@ window_makes fields m old mid new fits_m counted size put file rest h =
     bytes content after c d = all_append (λ b. b < 256) (content ++ after) [] (all_append (λ b. b < 256) content after c d) tt
 
 -- nothing was counted, since nothing within the limit spells the content
-pub not_counted : (fields : Fields → Fields) (counted : Draft) (bytes : List ℕ) → Puts fields (Counted 0) counted → ((n : ℕ) → counted ≡ Counted n → ⊥) → SpelledAside (fields finished) bytes → length bytes ≤ most_module_bytes → ⊥
-not_counted fields counted bytes p n s small = none counted n (p.1 false (length bytes) finished (record { goes_on = (refl, record { rest = bytes; spelled = s; within = omega arith; small = small }) }))
+pub not_counted : (fields : Fields → Fields) (counted : Draft) (bytes : List ℕ) → Puts fields (Counted 0) counted
+    → ((n : ℕ) → counted ≡ Counted n → ⊥) → SpelledAside (fields finished) bytes → length bytes ≤ most_module_bytes → ⊥
+not_counted fields counted bytes p n s small =
+    none counted n (p.1 false (length bytes) finished
+    (record { goes_on = (refl, record { rest = bytes; spelled = s; within = omega arith; small = small }) }))
   where
     differ : false ≡ true → ⊥
     differ e = cc
@@ -243,20 +298,26 @@ refused (Counted n) mid r = subst HasStopped (sym r) tt
 refused (Written a) mid r = subst HasStopped (sym r) tt
 refused (Stopped stop) mid r = subst HasStopped (sym r) tt
 
-no_window : (fields : Fields → Fields) (counted : Draft) → Puts fields (Counted 0) counted → ((n : ℕ) → counted ≡ Counted n → ⊥) → (rest : Fields) (bytes : List ℕ) → length bytes ≤ most_module_bytes → SpelledAside (window (fields finished) rest) bytes → ⊥
+no_window : (fields : Fields → Fields) (counted : Draft) → Puts fields (Counted 0) counted → ((n : ℕ) → counted ≡ Counted n → ⊥)
+    → (rest : Fields) (bytes : List ℕ) → length bytes ≤ most_module_bytes → SpelledAside (window (fields finished) rest) bytes → ⊥
 unfolding SpelledBy
 no_window fields counted p n rest bytes small s =
     let f = s.1 in
     let t = f.4 in
-    not_counted fields counted t.0 p n t.3.1 (omega (arith, small, ap length f.2, length-append f.0 f.1, ap length t.2, length-append t.0 t.1))
+    not_counted fields counted t.0 p n t.3.1
+    (omega (arith, small, ap length f.2, length-append f.0 f.1, ap length t.2, length-append t.0 t.1))
 
-not_known : (fields : Fields → Fields) (counted old mid new : Draft) → Puts fields (Counted 0) counted → ((n : ℕ) → counted ≡ Counted n → ⊥) → Refuses old mid → Puts fields mid new → Puts (window (fields finished)) old new
+not_known : (fields : Fields → Fields) (counted old mid new : Draft) → Puts fields (Counted 0) counted → ((n : ℕ) → counted ≡ Counted n → ⊥)
+    → Refuses old mid → Puts fields mid new → Puts (window (fields finished)) old new
 not_known fields counted old mid new p n r put =
-    puts_stopped (window (fields finished)) fields old mid new (puts_none (window (fields finished)) old mid (no_window fields counted p n) r) (refused old mid r) put
+    puts_stopped (window (fields finished)) fields old mid new
+    (puts_none (window (fields finished)) old mid (no_window fields counted p n) r) (refused old mid r) put
 
-pub puts_window : (fields : Fields → Fields) (counted old mid new : Draft) → Puts fields (Counted 0) counted → PutsSize counted old mid → Puts fields mid new → Puts (window (fields finished)) old new
+pub puts_window : (fields : Fields → Fields) (counted old mid new : Draft) → Puts fields (Counted 0) counted → PutsSize counted old mid
+    → Puts fields mid new → Puts (window (fields finished)) old new
 puts_window fields (Counted m) old mid new counted size put =
     let fits_m : m ≤ most_module_bytes = counted.2 (omega arith) in
     (window_makes fields m old mid new fits_m counted size put, window_fits fields m old mid new counted size put, (λ s. put.2 (size.2 s)))
 puts_window fields (Written a) old mid new counted size put = not_known fields (Written a) old mid new counted (λ n e. absurd cc) size put
-puts_window fields (Stopped stop) old mid new counted size put = not_known fields (Stopped stop) old mid new counted (λ n e. absurd cc) size put
+puts_window fields (Stopped stop) old mid new counted size put =
+    not_known fields (Stopped stop) old mid new counted (λ n e. absurd cc) size put

@@ -20,7 +20,8 @@ SpelledBy Unsigned Signed (text t fields) bytes = Next (λ front. front ≡ t) (
 SpelledBy Unsigned Signed (here q fields) bytes = SpelledBy Unsigned Signed fields bytes
 SpelledBy Unsigned Signed (provided b fields) bytes = IsTrue b × SpelledBy Unsigned Signed fields bytes
 SpelledBy Unsigned Signed (window inside fields) bytes =
-    (size : ℕ) × Next (λ front. Unsigned front size) (Next (λ front. (length front ≡ size) × SpelledBy Unsigned Signed inside front) (SpelledBy Unsigned Signed fields)) bytes
+    (size : ℕ) × Next (λ front. Unsigned front size)
+    (Next (λ front. (length front ≡ size) × SpelledBy Unsigned Signed inside front) (SpelledBy Unsigned Signed fields)) bytes
 SpelledBy Unsigned Signed (either fields others) bytes = SpelledBy Unsigned Signed fields bytes ⊎ SpelledBy Unsigned Signed others bytes
 SpelledBy Unsigned Signed (for_some choice) bytes = (customs : List Custom) × SpelledBy Unsigned Signed (choice customs) bytes
 

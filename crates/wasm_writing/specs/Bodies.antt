@@ -7,4 +7,5 @@ use Rattle.wasm_spelling.specs.Limits.{most_blocks}
 
 -- where so many locals stand in bodies before it
 abbrev pub body_content : ℕ → BodyEntry → Fields → Fields
-body_content all_locals b rest = number (length b.runs) (runs 0 all_locals b.runs (code_fields most_blocks b.code (end_byte b.end_place rest)))
+body_content all_locals b rest =
+    number (length b.runs) (runs 0 all_locals b.runs (code_fields most_blocks b.code (end_byte b.end_place rest)))

@@ -35,7 +35,8 @@ long_enough n is =
     let high = h.1 in
     (grind (arith, nat_tests, low), grind (arith, nat_tests, high))
 
-of_module : (name filename : Option (List ℕ)) (c : Command) → option_map script.Module (module_with name filename) ≡ Some c → HasModuleName c
+of_module : (name filename : Option (List ℕ)) (c : Command)
+    → option_map script.Module (module_with name filename) ≡ Some c → HasModuleName c
 of_module (Some name) (Some filename) c is = by (is_module_name name) refl is
   where
     by : (b : Bool) → is_module_name name ≡ b

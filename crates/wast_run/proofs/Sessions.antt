@@ -190,7 +190,8 @@ module _ {H : Type 0} (m : HostModule H) (before s : State H) (no_hosts : before
   }
 
   pub inits_stop : (k : ℕ) → ((rest : List SymbolCall) → IsLast o rest
-      → IsOutcome o (Init k) s.journal (events_in s.journal) (objects_of s) (c_run (program_of m before) rest before.steps (replies_in s.journal)))
+      → IsOutcome o (Init k) s.journal (events_in s.journal) (objects_of s)
+      (c_run (program_of m before) rest before.steps (replies_in s.journal)))
       → (stop : Outcome) → stop_in o ≡ Some stop → (rest : List SymbolCall)
       → StopsAt stop 0 (run_of m before rest)
   inits_stop k ran stop e rest = subst (λ y. StopsAt y 0 (run_of m before rest)) (stop_is o stop e) (record {

@@ -44,7 +44,8 @@ abbrev pub lines_before : List Word → List Command → List ℕ
 lines_before words [] = report_of words
 lines_before words (command ∷ rest) = lines_of words
 
--- The text is a part of the report on commands, whose words are timely: a prefix of the lines of the first of them, or of all and the last line.
+-- The text is a part of the report on commands, whose words are timely: a prefix of the lines of the first of them, or of all and
+-- the last line.
 pub record IsPart (contents : Contents) (steps : ℕ) (commands : List Command) (text : List ℕ) : Type 0 where
   pub front : List Command
   pub rest : List Command

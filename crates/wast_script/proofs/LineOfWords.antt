@@ -26,7 +26,8 @@ unfolding line_of
 no_line words some = ap (λ (none : Bool). if none then line_in (matches_of wast_run words) else None) some
 
 -- what a parse by such a command comes to
-module _ {T : Type 0} (words : List (List ℕ)) (app : App) (r : Result T Error) (same : app ≡ wast_run) (fails : FailsBy (fault_of app words) r) where
+module _ {T : Type 0} (words : List (List ℕ)) (app : App) (r : Result T Error) (same : app ≡ wast_run)
+    (fails : FailsBy (fault_of app words) r) where
   pub line_parsed : (m : T) (rows : List Row) → r ≡ Ok m → rows ≡ matches_of app words → line_of words ≡ line_in rows
   line_parsed m rows is matched =
       line_is words rows (ap (λ a. fault_of a words) (sym same) ∙ no_fault (fault_of app words) r m is fails)

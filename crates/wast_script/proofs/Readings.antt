@@ -19,7 +19,8 @@ none_some {A = A} a o none is = let both : ◌≡◌ {A = Option A} None (Some a
 one_json : (text : List ℕ) (d e : Data) → IsJson text d → IsJson text e → d ≡ e
 one_json text d e is other = one_some d e _ is.1 other.1
 
-same_objects : (d e : Data) (objects others : List Data) → d ≡ e → objects_in d ≡ Some objects → objects_in e ≡ Some others → objects ≡ others
+same_objects : (d e : Data) (objects others : List Data) → d ≡ e → objects_in d ≡ Some objects → objects_in e ≡ Some others
+    → objects ≡ others
 same_objects d e objects others same is other = one_some objects others (objects_in d) is (ap objects_in same ∙ other)
 
 -- where each item gives something, none gives nothing

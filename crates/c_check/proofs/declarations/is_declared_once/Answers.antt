@@ -21,7 +21,8 @@ returns-in-Some c =
     let found : named (name_of item) (by_names items) ≡ Some first = ap (λ n. named n (by_names items)) (sym c.name_of-name.ensures)
     ∙ sym (c.requires.first n) ∙ sym (ap (option_map (λ (i : Bor Item). item_of i.now)) c.in-Some.ensures) in
     c.may_both_stand.ensures
-    ∙ ap (λ b. are_alike first item && not (b && has_body item)) (c.has.ensures ∙ c.requires.defined n ∙ ap (λ n. list_any (bytes_eq n) (defined_of items)) c.name_of-name.ensures)
+    ∙ ap (λ b. are_alike first item && not (b && has_body item))
+    (c.has.ensures ∙ c.requires.defined n ∙ ap (λ n. list_any (bytes_eq n) (defined_of items)) c.name_of-name.ensures)
     ∙ sym (first_named item items first c.requires.kept found)
 
 pub returns-in-None : goal.returns-in-None

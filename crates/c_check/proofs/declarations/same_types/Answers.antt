@@ -10,14 +10,16 @@ returns-then-a-b c = same_never (λ (p : tree.Param). p.0) c.args.a.now c.args.b
 pub loop-i-preserved : goal.loop-i-preserved
 loop-i-preserved c =
     let within : c.loop-i.i < length c.args.b.now = omega arith in
-    same_more (λ (p : tree.Param). p.0) c.args.a.now c.args.b.now c.loop-i.i c.index-a-i.result c.index-b-i.result c.loop-i-test.true c.index-a-i.is within c.index-b-i.is _
+    same_more (λ (p : tree.Param). p.0) c.args.a.now c.args.b.now c.loop-i.i c.index-a-i.result c.index-b-i.result c.loop-i-test.true
+    c.index-a-i.is within c.index-b-i.is _
     (ap (λ (p : tree.Param). same_type c.index-a-i.result.0 p.0) c.index-b-i.is ∙ sym c.same_type.ensures
     ∙ c.if-not-same_type.false) c.loop-i.invariant
 
 pub returns-then-not-same_type : goal.returns-then-not-same_type
 returns-then-not-same_type c =
     let within : c.loop-i.i < length c.args.b.now = omega arith in
-    same_stops (λ (p : tree.Param). p.0) c.args.a.now c.args.b.now c.loop-i.i c.index-a-i.result c.index-b-i.result c.loop-i-test.true c.index-a-i.is within c.index-b-i.is _
+    same_stops (λ (p : tree.Param). p.0) c.args.a.now c.args.b.now c.loop-i.i c.index-a-i.result c.index-b-i.result c.loop-i-test.true
+    c.index-a-i.is within c.index-b-i.is _
     (ap (λ (p : tree.Param). same_type c.index-a-i.result.0 p.0) c.index-b-i.is ∙ sym c.same_type.ensures
     ∙ c.if-not-same_type.true) c.loop-i.invariant
 

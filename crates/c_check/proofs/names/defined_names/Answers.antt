@@ -5,8 +5,10 @@ use Rattle.c_check.proofs.names.defined_names.Goals as goal
 
 pub loop-item-preserved : goal.loop-item-preserved
 loop-item-preserved c =
-    knows_put item_of defined_name c.args.items.now c.loop-item.item-index c.item-item.result c.loop-item-test.true c.item-item.is c.loop-item.set c.put.new.set _
+    knows_put item_of defined_name c.args.items.now c.loop-item.item-index c.item-item.result c.loop-item-test.true c.item-item.is
+    c.loop-item.set c.put.new.set _
     (c.defined_name.ensures) c.in_ok-put.ensures c.loop-item.invariant
 
 pub returns : goal.returns
-returns c = knows_all item_of defined_name c.args.items.now c.loop-item.item-index c.loop-item.set c.loop-item-test.false c.loop-item.invariant
+returns c =
+    knows_all item_of defined_name c.args.items.now c.loop-item.item-index c.loop-item.set c.loop-item-test.false c.loop-item.invariant

@@ -22,8 +22,10 @@ loop-i-preserved c =
     let n = c.name_at-name.result.now in
     let less : c.loop-i.i - 1 ≤ length c.args.own.now = omega arith in (
       less,
-      distinct_more names c.loop-i.i (c.loop-i.i - 1) n c.name_at-name.ensures next (c.if-has.ensures ∙ c.loop-i.invariant.2 n) c.loop-i.invariant.1,
-      knows_before names c.loop-i.i (c.loop-i.i - 1) n c.name_at-name.ensures next c.loop-i.behind c.enter.new.self tt c.in_ok-enter.ensures c.loop-i.invariant.2,
+      distinct_more names c.loop-i.i (c.loop-i.i - 1) n c.name_at-name.ensures next
+          (c.if-has.ensures ∙ c.loop-i.invariant.2 n) c.loop-i.invariant.1,
+      knows_before names c.loop-i.i (c.loop-i.i - 1) n c.name_at-name.ensures next c.loop-i.behind c.enter.new.self tt c.in_ok-enter.ensures
+          c.loop-i.invariant.2,
     )
 
 pub returns-then-has : goal.returns-then-has

@@ -21,5 +21,6 @@ returns c =
     let f = func_of c.args.f.now in
     let b = body_of c.args.body.now in
     c.in_ok-found.ensures
-    ∙ ap (λ s. first_in_stmts s c.args.i 0) (c.new-scope.ensures ∙ ap (λ n. record { declared = take n unit; func = f; body = b }) c.requires.count)
+    ∙ ap (λ s. first_in_stmts s c.args.i 0)
+    (c.new-scope.ensures ∙ ap (λ n. record { declared = take n unit; func = f; body = b }) c.requires.count)
     ∙ body_some unit c.args.i f b (ap maybe_body_of c.requires.body)

@@ -12,7 +12,8 @@ broken_in_function-requires c = c.requires
 
 pub returns-in-Some : goal.returns-in-Some
 returns-in-Some c =
-    subst (λ (t : tree.Item). IfOk c.broken_in_function.result (λ r. option_map broken_at r ≡ first_in_body (map item_of c.args.file.now.items.now) c.args.i t))
+    subst (λ (t : tree.Item). IfOk c.broken_in_function.result
+    (λ r. option_map broken_at r ≡ first_in_body (map item_of c.args.file.now.items.now) c.args.i t))
     (is_function (item_of c.args.item.now) (func_of c.in-Some.f.now) c.in-Some.ensures) c.broken_in_function.ensures
 
 pub returns-in-None : goal.returns-in-None

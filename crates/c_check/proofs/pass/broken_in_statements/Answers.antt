@@ -10,7 +10,8 @@ use Rattle.c_check.proofs.Onward.{stmts_end, stmts_more, stmts_stop}
 use Rattle.c_check.proofs.pass.broken_in_statements.Goals as goal
 
 pub stmt_rule-requires-clause-labels : goal.stmt_rule-requires-clause-labels
-stmt_rule-requires-clause-labels c q = c.in_ok-labels.ensures q ∙ ap (λ (ys : List Stmt). list_any (bytes_eq q) (labels_of (map stmt_of ys))) c.as_slice-stmts.ensures
+stmt_rule-requires-clause-labels c q =
+    c.in_ok-labels.ensures q ∙ ap (λ (ys : List Stmt). list_any (bytes_eq q) (labels_of (map stmt_of ys))) c.as_slice-stmts.ensures
 
 pub stmt_rule-requires-clause-earlier : goal.stmt_rule-requires-clause-earlier
 stmt_rule-requires-clause-earlier c q =
@@ -22,7 +23,8 @@ stmt_rule-requires-clause-earlier c q =
 pub returns-in-Some : goal.returns-in-Some
 returns-in-Some c =
     stmts_stop (scope_of c.args.s.now) c.as_slice-stmts.result.now
-    (ap (map stmt_of) (sym c.as_slice-stmts.ensures)) c.args.item c.loop-i.i _ c.index-stmts-i.result c.loop-i-test.true c.index-stmts-i.is c.in-Some.rule
+    (ap (map stmt_of) (sym c.as_slice-stmts.ensures)) c.args.item c.loop-i.i _ c.index-stmts-i.result c.loop-i-test.true c.index-stmts-i.is
+    c.in-Some.rule
     (sym c.in_ok-rule.ensures ∙ c.in-Some.is) c.loop-i.invariant.0
 
 pub loop-i-preserved : goal.loop-i-preserved
@@ -32,7 +34,8 @@ loop-i-preserved c =
       stmts_more (scope_of c.args.s.now) stmts (ap (map stmt_of)
           (sym c.as_slice-stmts.ensures)) c.args.item c.loop-i.i _ x c.loop-i-test.true c.index-stmts-i.is (sym c.in_ok-rule.ensures
           ∙ c.in-None.is) c.loop-i.invariant.0,
-      knows_put stmt_of label_of stmts c.loop-i.i x c.loop-i-test.true c.index-stmts-i.is c.loop-i.earlier c.put.new.set _ c.label_name.ensures c.in_ok-put-in-None.ensures c.loop-i.invariant.1,
+      knows_put stmt_of label_of stmts c.loop-i.i x c.loop-i-test.true c.index-stmts-i.is c.loop-i.earlier
+          c.put.new.set _ c.label_name.ensures c.in_ok-put-in-None.ensures c.loop-i.invariant.1,
       c.loop-i.invariant.2,
     )
 
@@ -40,4 +43,5 @@ pub returns : goal.returns
 returns c =
     let stmts = c.as_slice-stmts.result.now in
     let k : length (map stmt_of stmts) ≡ length stmts = simp length-map in
-    stmts_end (scope_of c.args.s.now) stmts (ap (map stmt_of) (sym c.as_slice-stmts.ensures)) c.args.item c.loop-i.i _ (omega arith) c.loop-i.invariant.0
+    stmts_end (scope_of c.args.s.now) stmts
+    (ap (map stmt_of) (sym c.as_slice-stmts.ensures)) c.args.item c.loop-i.i _ (omega arith) c.loop-i.invariant.0

@@ -42,8 +42,10 @@ loop-i-preserved c =
     let file = c.loop-i.progress.file in
     let same = c.in_ok-progress-2.ensures.items ∙ c.loop-i.invariant.1 in (
       items_more xs c.loop-i.i _ x c.loop-i-test.true c.index-items-i.is
-          (breaks_there xs file.items.now c.loop-i.i file.count x _ _ c.loop-i.invariant.1 c.loop-i.invariant.2 c.in_ok-rule.ensures c.in-None.is)
-          (ap (option_map broken_at) (sym c.in-None-2.is) ∙ c.in_ok-broken.ensures ∙ ap (λ (ys : List Item). first_in_body (map item_of ys) c.loop-i.i (item_of x)) same)
+          (breaks_there xs file.items.now c.loop-i.i file.count x _ _ c.loop-i.invariant.1 c.loop-i.invariant.2 c.in_ok-rule.ensures
+          c.in-None.is)
+          (ap (option_map broken_at) (sym c.in-None-2.is) ∙ c.in_ok-broken.ensures
+          ∙ ap (λ (ys : List Item). first_in_body (map item_of ys) c.loop-i.i (item_of x)) same)
           c.loop-i.invariant.0,
       same,
       c.in_ok-progress-2.ensures.count ∙ ap (λ n. n + 1) c.loop-i.invariant.2,

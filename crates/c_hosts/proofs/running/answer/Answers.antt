@@ -22,7 +22,8 @@ returns-in_default-clause-ran g c =
         answered = ap (λ h. h.list.items) no.1;
       },
       λ names p later told linked are stored.
-          not_offered g.H.HostModule p c.args.hosts.now.list.items c.args.call are (machine_in names (trail_before [] later told) c.args.thread.now)
+          not_offered g.H.HostModule p c.args.hosts.now.list.items c.args.call are
+          (machine_in names (trail_before [] later told) c.args.thread.now)
           (waiting_in names p c.args.thread.now.top ∷ below_in names p c.args.thread.now.below.items) no.0
           ∙ ap (λ trail. Stops (machine_in names trail c.args.thread.now) Stuck) (sym (behind_none later told)),
     )

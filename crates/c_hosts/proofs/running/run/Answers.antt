@@ -11,7 +11,8 @@ returns-in-Err-clause-wanting g c =
       ran.0,
       record {
         written = ap (λ h. h.journal) c.in-Err.ensures.wanting ∙ ran.1.written;
-        answered = subst (λ hosts. Answered g.H.HostModule c.args.hosts.now.list.items ran.0 hosts.list.items) (sym c.in-Err.ensures.wanting)
+        answered =
+            subst (λ hosts. Answered g.H.HostModule c.args.hosts.now.list.items ran.0 hosts.list.items) (sym c.in-Err.ensures.wanting)
             ran.1.answered;
       },
       runs_part g.H.HostModule c.args.units.now c.args.types.now c.args.hosts.now.list.items c.args.thread.now c.args.steps.now
@@ -23,7 +24,8 @@ returns-in-Some-clause-ran g c =
     let ran = c.loop-steps.invariant.ran in
     let one = c.in-Ok.ensures.ran in (
       ran.0 ++ one.0,
-      asks_on g.H.HostModule c.args.hosts.now.list.items c.args.hosts.now.journal ran.0 c.loop-steps.hosts.list.items c.loop-steps.hosts.journal one.0
+      asks_on g.H.HostModule c.args.hosts.now.list.items c.args.hosts.now.journal ran.0 c.loop-steps.hosts.list.items
+          c.loop-steps.hosts.journal one.0
           c.statement.new.hosts.list.items c.statement.new.hosts.journal ran.1 one.1,
       subst (λ e. Runs g.H.HostModule c.args.units.now c.args.types.now c.args.hosts.now.list.items c.args.thread.now
           (c.args.steps.now - (c.loop-steps.steps - 1)) (ran.0 ++ one.0) e c.statement.new.thread) c.in-Some.is
@@ -43,7 +45,8 @@ loop-steps-preserved g c =
       stored = λ names s. c.in-Ok.ensures.stored names (c.loop-steps.invariant.stored names s);
       ran = (
         ran.0 ++ one.0,
-        asks_on g.H.HostModule c.args.hosts.now.list.items c.args.hosts.now.journal ran.0 c.loop-steps.hosts.list.items c.loop-steps.hosts.journal one.0
+        asks_on g.H.HostModule c.args.hosts.now.list.items c.args.hosts.now.journal ran.0 c.loop-steps.hosts.list.items
+            c.loop-steps.hosts.journal one.0
             c.statement.new.hosts.list.items c.statement.new.hosts.journal ran.1 one.1,
         subst (λ e. Runs g.H.HostModule c.args.units.now c.args.types.now c.args.hosts.now.list.items c.args.thread.now
             (c.args.steps.now - (c.loop-steps.steps - 1)) (ran.0 ++ one.0) e c.statement.new.thread) c.in-None.is

@@ -7,4 +7,5 @@ pub returns : goal.returns
 returns c =
     let n = c.run_len-n.result in
     let e = past_is is_digit c.args.bytes.now n c.run_len-n.ensures.within c.run_len-n.ensures.taken in
-    c.number_token.ensures ∙ ap (λ d. number_token d c.split_at.result.1.now) (c.split_at.ensures.front ∙ c.run_len-n.ensures.taken) ∙ ap (λ d. number_token (run is_digit c.args.bytes.now) d) (c.split_at.ensures.back ∙ sym e)
+    c.number_token.ensures ∙ ap (λ d. number_token d c.split_at.result.1.now) (c.split_at.ensures.front ∙ c.run_len-n.ensures.taken)
+    ∙ ap (λ d. number_token (run is_digit c.args.bytes.now) d) (c.split_at.ensures.back ∙ sym e)

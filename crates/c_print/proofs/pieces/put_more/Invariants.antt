@@ -7,4 +7,5 @@ use Rattle.c_print.proofs.pieces.put_more.Given as goal
 
 abbrev pub invariant-loop-piece : goal.invariant-loop-piece
 invariant-loop-piece g l =
-    printed_onto l.page (each (λ x. Fixed tok.Comma ∷ g.T.Piece.tokens x) (drop l.piece-index l.pieces)) ≡ printed_onto l.fn.page (each (λ x. Fixed tok.Comma ∷ g.T.Piece.tokens x) l.pieces)
+    printed_onto l.page (each (λ x. Fixed tok.Comma ∷ g.T.Piece.tokens x) (drop l.piece-index l.pieces))
+    ≡ printed_onto l.fn.page (each (λ x. Fixed tok.Comma ∷ g.T.Piece.tokens x) l.pieces)

@@ -16,13 +16,17 @@ pub returns-in_err-ctype-clause-reads : goal.returns-in_err-ctype-clause-reads
 returns-in_err-ctype-clause-reads c =
     let p = err_from_is_err_and c.from_residual-in_err-ctype.result c.from_residual-in_err-ctype.ensures.1 in
     let on : is_comma (next_kind c.more.cursor) ≡ true = search rules in
-    rw (p.1, p.2) (λ other. left_fails is_comma next_type c.more.types c.more.cursor c.in_err-ctype.field-0.0 (more_types c.args.first c.args.cursor.now) on (c.in_err-ctype.ensures.reads other) c.more.invariant.1)
+    rw (p.1, p.2) (λ other. left_fails is_comma next_type c.more.types c.more.cursor c.in_err-ctype.field-0.0
+    (more_types c.args.first c.args.cursor.now) on (c.in_err-ctype.ensures.reads other) c.more.invariant.1)
 
 pub more-preserved : goal.more-preserved
 more-preserved c =
     let on : is_comma (next_kind c.more.cursor) ≡ true = search rules in
-    let e : c.push-in-more.new.self ≡ c.more.types ++ c.in_ok-ctype.ctype ∷ [] = c.in_ok-push-2.ensures.ok in
-    (omega arith, rw e (left_more is_comma next_type c.more.types c.more.cursor c.next_type.new.cursor c.in_ok-ctype.ctype (more_types c.args.first c.args.cursor.now) on c.in_ok-ctype.ensures.reads c.in_ok-ctype.ensures.shorter c.more.invariant.1))
+    let e : c.push-in-more.new.self ≡ c.more.types ++ c.in_ok-ctype.ctype ∷ [] = c.in_ok-push-2.ensures.ok in (
+      omega arith,
+      rw e (left_more is_comma next_type c.more.types c.more.cursor c.next_type.new.cursor c.in_ok-ctype.ctype
+          (more_types c.args.first c.args.cursor.now) on c.in_ok-ctype.ensures.reads c.in_ok-ctype.ensures.shorter c.more.invariant.1),
+    )
 
 pub returns-clause-reads : goal.returns-clause-reads
 returns-clause-reads c =

@@ -16,13 +16,17 @@ pub returns-in_err-local-clause-reads : goal.returns-in_err-local-clause-reads
 returns-in_err-local-clause-reads c =
     let p = err_from_is_err_and c.from_residual.result c.from_residual.ensures.1 in
     let on : begins_type (next_kind c.more.cursor) ≡ true = search rules in
-    rw (p.1, p.2) (λ other. left_fails begins_type declaration c.more.locals c.more.cursor c.in_err-local.field-0.0 (declarations c.args.cursor.now) on (c.in_err-local.ensures.reads other) c.more.invariant.1)
+    rw (p.1, p.2) (λ other. left_fails begins_type declaration c.more.locals c.more.cursor c.in_err-local.field-0.0
+    (declarations c.args.cursor.now) on (c.in_err-local.ensures.reads other) c.more.invariant.1)
 
 pub more-preserved : goal.more-preserved
 more-preserved c =
     let on : begins_type (next_kind c.more.cursor) ≡ true = search rules in
-    let e : c.push.new.self ≡ c.more.locals ++ c.in_ok-local.local ∷ [] = c.in_ok-push.ensures.ok in
-    (omega arith, rw e (left_more begins_type declaration c.more.locals c.more.cursor c.declaration.new.cursor c.in_ok-local.local (declarations c.args.cursor.now) on c.in_ok-local.ensures.reads c.in_ok-local.ensures.shorter c.more.invariant.1))
+    let e : c.push.new.self ≡ c.more.locals ++ c.in_ok-local.local ∷ [] = c.in_ok-push.ensures.ok in (
+      omega arith,
+      rw e (left_more begins_type declaration c.more.locals c.more.cursor c.declaration.new.cursor c.in_ok-local.local
+          (declarations c.args.cursor.now) on c.in_ok-local.ensures.reads c.in_ok-local.ensures.shorter c.more.invariant.1),
+    )
 
 pub returns-clause-reads : goal.returns-clause-reads
 returns-clause-reads c =

@@ -15,13 +15,17 @@ pub returns-in_err-case-clause-reads : goal.returns-in_err-case-clause-reads
 returns-in_err-case-clause-reads c =
     let p = err_from_is_err_and c.from_residual.result c.from_residual.ensures.1 in
     let on : is_case (next_kind c.more.cursor) ≡ true = search rules in
-    rw (p.1, p.2) (λ other. left_fails is_case one_case c.more.cases c.more.cursor c.in_err-case.field-0.0 (cases c.args.cursor.now) on (c.in_err-case.ensures.reads other) c.more.invariant.1)
+    rw (p.1, p.2) (λ other. left_fails is_case one_case c.more.cases c.more.cursor c.in_err-case.field-0.0 (cases c.args.cursor.now) on
+    (c.in_err-case.ensures.reads other) c.more.invariant.1)
 
 pub more-preserved : goal.more-preserved
 more-preserved c =
     let on : is_case (next_kind c.more.cursor) ≡ true = search rules in
-    let e : c.push.new.self ≡ c.more.cases ++ c.in_ok-case.case ∷ [] = c.in_ok-push.ensures.ok in
-    (omega arith, rw e (left_more is_case one_case c.more.cases c.more.cursor c.one_case.new.cursor c.in_ok-case.case (cases c.args.cursor.now) on c.in_ok-case.ensures.reads c.in_ok-case.ensures.shorter c.more.invariant.1))
+    let e : c.push.new.self ≡ c.more.cases ++ c.in_ok-case.case ∷ [] = c.in_ok-push.ensures.ok in (
+      omega arith,
+      rw e (left_more is_case one_case c.more.cases c.more.cursor c.one_case.new.cursor c.in_ok-case.case
+          (cases c.args.cursor.now) on c.in_ok-case.ensures.reads c.in_ok-case.ensures.shorter c.more.invariant.1),
+    )
 
 pub returns-clause-reads : goal.returns-clause-reads
 returns-clause-reads c =

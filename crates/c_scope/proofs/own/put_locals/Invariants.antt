@@ -3,4 +3,5 @@ use Rattle.c_scope.specs.Own.{variable_pair, locals_of}
 use Rattle.c_scope.proofs.own.put_locals.Given as goal
 
 abbrev pub invariant-loop-local : goal.invariant-loop-local
-invariant-loop-local l = map variable_pair l.all.items ++ locals_of (drop l.local-index l.locals) ≡ map variable_pair l.fn.all.items ++ locals_of l.locals
+invariant-loop-local l =
+    map variable_pair l.all.items ++ locals_of (drop l.local-index l.locals) ≡ map variable_pair l.fn.all.items ++ locals_of l.locals

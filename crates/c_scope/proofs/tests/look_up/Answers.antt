@@ -10,4 +10,11 @@ pub new-scope-requires : goal.new-scope-requires
 new-scope-requires c q =
     let f = func_of c.args.f.now in
     c.in_ok-table.ensures q ∙ ap (named q) (ap (map variable_pair) c.as_slice.ensures.value ∙ c.in_ok-own.ensures)
-    ∙ ap (λ (b : Option Body). named q (body_variables (record { is_static = f.is_static; result = f.result; name = f.name; params = f.params; body = maybe_body_of b }))) c.requires
+    ∙ ap (λ (b : Option Body). named q
+    (body_variables (record {
+      is_static = f.is_static;
+      result = f.result;
+      name = f.name;
+      params = f.params;
+      body = maybe_body_of b;
+    }))) c.requires

@@ -1,11 +1,12 @@
 use Rattle.std.proofs.Common.{◌≡◌, ◌&&◌, ◌||◌, not, bytes_eq, Bool, true, false, List, [], ◌∷◌, refl, ap, ◌∙◌}
 use Rattle.std.specs.Prelude.{codes}
 use Rattle.std.specs.List.{list_all}
+use Rattle.w2c_base.proofs.Conjunctions.{both_hold}
 use Rattle.c_tree.specs.Tree as tree
 use Rattle.c_tree.specs.Scope.{Name, name_of, is_among}
 use Rattle.c_trim.specs.Trim.{TellsNeeded, IsNeeded, external_names, item_functions, leads, names}
 use Rattle.c_trim.specs.Samples as sample
-use Rattle.c_trim.proofs.Lists.{and_both, and_false, not_true, by_test}
+use Rattle.c_trim.proofs.Lists.{and_false, not_true, by_test}
 use Rattle.c_trim.proofs.cases.trimmed_cases.Goals as goal
 
 module _ (unit : List tree.Item) (needed : Name → Bool) (tells : TellsNeeded unit needed) where
@@ -30,7 +31,7 @@ module _ (unit : List tree.Item) (needed : Name → Bool) (tells : TellsNeeded u
   none_names : (y x : Name) (items : List tree.Item) → is_unnamed x items ≡ true → names items y x ≡ false
   none_names y x [] e = refl
   none_names y x (item ∷ items) e =
-      let two = and_both (not (is_among x (item_functions item))) (is_unnamed x items) e in
+      let two = both_hold (not (is_among x (item_functions item))) (is_unnamed x items) e in
       λ i. and_false (bytes_eq (name_of item) y) (is_among x (item_functions item)) (not_true (is_among x (item_functions item)) two.0) i
       || none_names y x items two.1 i
 

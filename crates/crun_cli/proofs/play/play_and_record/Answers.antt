@@ -25,8 +25,10 @@ returns-in-Ok-filled-clause-ran g c =
     let ran = c.in-Ok.ensures.ran in
     record {
       run = ran.run;
-      filled_is = subst (λ asks. IsFilled g.H.HostModule e.hosts asks c.args.journal c.in-Ok-filled.journal) (c.journal.ensures ∙ sym ran.asks_are)
-          (is_filled g.H.HostModule e.hosts c.args.journal c.in-Ok-filled.journal c.journal.result.now c.requires.blank c.in-Ok-filled.ensures);
+      filled_is =
+          subst (λ asks. IsFilled g.H.HostModule e.hosts asks c.args.journal c.in-Ok-filled.journal) (c.journal.ensures ∙ sym ran.asks_are)
+          (is_filled g.H.HostModule e.hosts c.args.journal c.in-Ok-filled.journal c.journal.result.now c.requires.blank
+          c.in-Ok-filled.ensures);
     }
 
 pub returns-in-Err-filled-clause-part : goal.returns-in-Err-filled-clause-part

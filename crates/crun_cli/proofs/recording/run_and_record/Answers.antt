@@ -20,8 +20,10 @@ returns-in-Ok-write_journal-clause-ran g c =
     let texts = c.args.inputs.now.units.items in
     let text = c.args.inputs.now.calls in
     let task = c.in-Ok.task in
-    let job = subst (λ hs. IsTextsJob line (symbols_of (hosts_of m hs)) texts text (job_of task)) c.as_slice.ensures.value c.in-Ok.ensures.task in
-    let blank = subst (λ hs. IsBlankFor m hs line.journal c.in-Ok-blank_journal.journal) c.as_slice-2.ensures.value c.in-Ok-blank_journal.ensures in
+    let job =
+    subst (λ hs. IsTextsJob line (symbols_of (hosts_of m hs)) texts text (job_of task)) c.as_slice.ensures.value c.in-Ok.ensures.task in
+    let blank =
+    subst (λ hs. IsBlankFor m hs line.journal c.in-Ok-blank_journal.journal) c.as_slice-2.ensures.value c.in-Ok-blank_journal.ensures in
     whole_run m hosts line texts text (outside g.F.Files g.O.Sink c.args.files.now c.args.out.now)
     (outside g.F.Files g.O.Sink c.write_journal.new.files c.play.new.out) (map unit_of task.linked.0) (calls_seen task.calls.items)
     task.steps task.shows_state job c.in-Ok-play.played.status c.in-Ok-blank_journal.journal c.in-Ok-play.played.journal
@@ -35,8 +37,10 @@ returns-in-Err-Failed-write_journal-clause-stop g c =
     let texts = c.args.inputs.now.units.items in
     let text = c.args.inputs.now.calls in
     let task = c.in-Ok.task in
-    let job = subst (λ hs. IsTextsJob line (symbols_of (hosts_of m hs)) texts text (job_of task)) c.as_slice.ensures.value c.in-Ok.ensures.task in
-    let blank = subst (λ hs. IsBlankFor m hs line.journal c.in-Ok-blank_journal.journal) c.as_slice-2.ensures.value c.in-Ok-blank_journal.ensures in
+    let job =
+    subst (λ hs. IsTextsJob line (symbols_of (hosts_of m hs)) texts text (job_of task)) c.as_slice.ensures.value c.in-Ok.ensures.task in
+    let blank =
+    subst (λ hs. IsBlankFor m hs line.journal c.in-Ok-blank_journal.journal) c.as_slice-2.ensures.value c.in-Ok-blank_journal.ensures in
     let part = journal_part m hosts line texts text (outside g.F.Files g.O.Sink c.args.files.now c.args.out.now)
     (outside g.F.Files g.O.Sink c.write_journal.new.files c.play.new.out) (map unit_of task.linked.0) (calls_seen task.calls.items)
     task.steps task.shows_state job c.in-Ok-play.played.status c.in-Ok-blank_journal.journal c.in-Ok-play.played.journal
@@ -51,8 +55,10 @@ returns-in-Err-Memory-write_journal-clause-stop g c =
     let texts = c.args.inputs.now.units.items in
     let text = c.args.inputs.now.calls in
     let task = c.in-Ok.task in
-    let job = subst (λ hs. IsTextsJob line (symbols_of (hosts_of m hs)) texts text (job_of task)) c.as_slice.ensures.value c.in-Ok.ensures.task in
-    let blank = subst (λ hs. IsBlankFor m hs line.journal c.in-Ok-blank_journal.journal) c.as_slice-2.ensures.value c.in-Ok-blank_journal.ensures in
+    let job =
+    subst (λ hs. IsTextsJob line (symbols_of (hosts_of m hs)) texts text (job_of task)) c.as_slice.ensures.value c.in-Ok.ensures.task in
+    let blank =
+    subst (λ hs. IsBlankFor m hs line.journal c.in-Ok-blank_journal.journal) c.as_slice-2.ensures.value c.in-Ok-blank_journal.ensures in
     inr (journal_part m hosts line texts text (outside g.F.Files g.O.Sink c.args.files.now c.args.out.now)
     (outside g.F.Files g.O.Sink c.write_journal.new.files c.play.new.out) (map unit_of task.linked.0) (calls_seen task.calls.items)
     task.steps task.shows_state job c.in-Ok-play.played.status c.in-Ok-blank_journal.journal c.in-Ok-play.played.journal

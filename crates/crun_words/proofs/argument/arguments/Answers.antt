@@ -21,7 +21,8 @@ returns-in_default-clause-none c = λ values are.
     let within : k < length params = omega (arith, c.loop-k.invariant.each, c.loop-k-test.true) in
     no_argument params numbers values k ty number c.loop-k.invariant.some
     (slice_get-get_or params k Void within) (slice_get-get_or numbers k 0 c.loop-k-test.true)
-    (subst (λ (found : Option Value). IfNone found ((value : Value) → IsArgument ty number value → ⊥)) c.in_default.is c.argument.ensures.none) are
+    (subst (λ (found : Option Value). IfNone found ((value : Value) → IsArgument ty number value → ⊥)) c.in_default.is
+    c.argument.ensures.none) are
 
 pub loop-k-preserved : goal.loop-k-preserved
 loop-k-preserved c =

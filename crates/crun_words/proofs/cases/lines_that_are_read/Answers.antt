@@ -5,22 +5,51 @@ use Rattle.crun_words.specs.CommandLine.{line_of, merges, runs, trims}
 use Rattle.crun_words.proofs.cases.lines_that_are_read.Goals as goal
 
 in_order_is : line_of (codes "--steps" ∷ codes "100" ∷ codes "--calls" ∷ codes "c" ∷ codes "u.c" ∷ [])
-    ≡ Some (runs (record { steps = 100; calls = codes "c"; shows_state = false; journal = None; replayed = None; units = codes "u.c" ∷ [] }))
+    ≡ Some (runs (record {
+      steps = 100;
+      calls = codes "c";
+      shows_state = false;
+      journal = None;
+      replayed = None;
+      units = codes "u.c" ∷ [];
+    }))
 unfolding values_of clap_on_literals
 in_order_is = refl
 
 other_order_is : line_of (codes "a.c" ∷ codes "--state" ∷ codes "--calls=-c" ∷ codes "--steps=007" ∷ codes "--" ∷ codes "-b.c" ∷ [])
-    ≡ Some (runs (record { steps = 7; calls = codes "-c"; shows_state = true; journal = None; replayed = None; units = codes "a.c" ∷ codes "-b.c" ∷ [] }))
+    ≡ Some (runs (record {
+      steps = 7;
+      calls = codes "-c";
+      shows_state = true;
+      journal = None;
+      replayed = None;
+      units = codes "a.c" ∷ codes "-b.c" ∷ [];
+    }))
 unfolding values_of clap_on_literals
 other_order_is = refl
 
 most_steps_is : line_of (codes "--steps" ∷ codes "18446744073709551615" ∷ codes "--calls" ∷ codes "c" ∷ codes "u.c" ∷ [])
-    ≡ Some (runs (record { steps = 18446744073709551615; calls = codes "c"; shows_state = false; journal = None; replayed = None; units = codes "u.c" ∷ [] }))
+    ≡ Some (runs (record {
+      steps = 18446744073709551615;
+      calls = codes "c";
+      shows_state = false;
+      journal = None;
+      replayed = None;
+      units = codes "u.c" ∷ [];
+    }))
 unfolding values_of clap_on_literals
 most_steps_is = refl
 
-with_journals_is : line_of (codes "--record" ∷ codes "new" ∷ codes "--steps=1" ∷ codes "u.c" ∷ codes "--replay=old" ∷ codes "--calls=c" ∷ [])
-    ≡ Some (runs (record { steps = 1; calls = codes "c"; shows_state = false; journal = Some (codes "new"); replayed = Some (codes "old"); units = codes "u.c" ∷ [] }))
+with_journals_is : line_of (codes "--record" ∷ codes "new" ∷ codes "--steps=1" ∷ codes "u.c" ∷ codes "--replay=old" ∷ codes "--calls=c"
+    ∷ [])
+    ≡ Some (runs (record {
+      steps = 1;
+      calls = codes "c";
+      shows_state = false;
+      journal = Some (codes "new");
+      replayed = Some (codes "old");
+      units = codes "u.c" ∷ [];
+    }))
 unfolding values_of clap_on_literals
 with_journals_is = refl
 

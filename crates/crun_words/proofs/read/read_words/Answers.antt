@@ -22,7 +22,8 @@ returns-in-Ok-clause-line c =
     let rows : rows_of (found_of c.in-Ok.matches) ≡ matches_of crun words =
     (c.in-Ok.ensures.matches (ap is_simple app ∙ is_read)).0 ∙ ap (λ (a : App). matches_of a words) app in
     let same : line_of words ≡ line_of_values (values_in (rows_of (found_of c.in-Ok.matches))) = line_is words _ none rows in
-    told_of_equal c.line_of_matches.result seen_line (line_of words) (line_of_values (values_in (rows_of (found_of c.in-Ok.matches)))) same c.line_of_matches.ensures.line
+    told_of_equal c.line_of_matches.result seen_line (line_of words)
+    (line_of_values (values_in (rows_of (found_of c.in-Ok.matches)))) same c.line_of_matches.ensures.line
 
 pub returns-in-Ok-clause-usage : goal.returns-in-Ok-clause-usage
 returns-in-Ok-clause-usage c usage =
@@ -40,7 +41,9 @@ pub returns-in-Err-clause-usage : goal.returns-in-Err-clause-usage
 returns-in-Err-clause-usage c usage =
     let words = texts c.args.words.now in
     let app : app_of c.in_ok-command.command ≡ crun = search rules in
-    let other : kind_of c.in-Err.error ≡ OutOfMemory → ⊥ = c.refusal.ensures.usage (same_error {T = Line} (c.refusal.result) no_line.Usage usage) in
+    let other : kind_of c.in-Err.error ≡ OutOfMemory → ⊥ =
+    c.refusal.ensures.usage (same_error {T = Line} (c.refusal.result) no_line.Usage usage) in
     let some : is_empty (fault_of (app_of c.in_ok-command.command) words) ≡ false =
-    some_fault _ c.try_get_matches_from.result c.in-Err.error c.in-Err.is other (c.try_get_matches_from.ensures.kinds (ap is_simple_and_free app ∙ is_exact)) in
+    some_fault _ c.try_get_matches_from.result c.in-Err.error c.in-Err.is other
+    (c.try_get_matches_from.ensures.kinds (ap is_simple_and_free app ∙ is_exact)) in
     none_read words (ap (λ (a : App). is_empty (fault_of a words)) (sym app) ∙ some)

@@ -14,6 +14,7 @@ pub returns-else-sum-bits-eq0 : goal.returns-else-sum-bits-eq0
 returns-else-sum-bits-eq0 c =
     let k = c.args.count in let s = c.args.sum in
     let high : 2 ^ (7 * k - 1) ≤ s =
-    elim (cases_lt s (2 ^ (7 * k - 1))) [ inl less ↦ absurd (c.if-sum-bits-eq0.false (below-div_zero s (2 ^ (7 * k - 1)) less)) | inr more ↦ more ] in
+    elim (cases_lt s (2 ^ (7 * k - 1)))
+    [ inl less ↦ absurd (c.if-sum-bits-eq0.false (below-div_zero s (2 ^ (7 * k - 1)) less)) | inr more ↦ more ] in
     negated (2 ^ (7 * k)) s _ (one_shl (7 * k) 128 (omega arith)) (pow_mono {i = 7 * k} {j = 70} (omega arith)) (omega arith)
     ∙ sym (signed_sum-high k s high)

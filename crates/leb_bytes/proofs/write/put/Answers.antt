@@ -32,5 +32,6 @@ returns-clause-run c =
     let at : l.i ≡ j = omega arith in
     let holds : Holds p j l.out = subst (λ i. Holds p i l.out) at l.invariant.holds in
     let n : suc j ≡ c.args.count = omega (arith, c.requires.some) in
-    let r : IsRunOf (suc j) (take (suc j) (set l.out j (p / 2 ^ (7 * j)))) p = Holds-last p j l.out (omega (arith, l.invariant.length, c.requires.most)) (shr_below p 7 (7 * j) fits) holds in
+    let r : IsRunOf (suc j) (take (suc j) (set l.out j (p / 2 ^ (7 * j)))) p =
+    Holds-last p j l.out (omega (arith, l.invariant.length, c.requires.most)) (shr_below p 7 (7 * j) fits) holds in
     subst (λ k. IsRunOf k (take k (set l.out j (p / 2 ^ (7 * j)))) p) n r

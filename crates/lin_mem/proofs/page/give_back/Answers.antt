@@ -19,5 +19,6 @@ loop-i-preserved c =
     let lt : i < length cs = omega (arith, full.0) in
     record {
       at = c.read-byte.ensures.slots.0 ∙ c.loop-i.invariant.at;
-      emptied = begun-more None cs c.loop-i.cells.slots c.read-byte.new.self.slots i lt c.loop-i.invariant.emptied c.read-byte.ensures.slots.1;
+      emptied =
+          begun-more None cs c.loop-i.cells.slots c.read-byte.new.self.slots i lt c.loop-i.invariant.emptied c.read-byte.ensures.slots.1;
     }

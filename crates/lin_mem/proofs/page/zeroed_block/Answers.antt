@@ -20,7 +20,8 @@ returns-clause-cells c =
     let cs = c.in_ok-base.cells.slots in
     let long : length cs ≡ n = ap length c.in_ok-base.ensures.1 ∙ length-same n none in
     let end : c.loop-i.i ≡ n = omega arith in
-    let is : c.loop-i.cells.slots ≡ replicate n (Some 0) = c.loop-i.invariant.filled ∙ ap (λ i. replicate i (Some 0) ++ drop i cs) end ∙ begun-all (Some 0) cs n long in
+    let is : c.loop-i.cells.slots ≡ replicate n (Some 0) =
+    c.loop-i.invariant.filled ∙ ap (λ i. replicate i (Some 0) ++ drop i cs) end ∙ begun-all (Some 0) cs n long in
     (c.loop-i.invariant.at ∙ c.in_ok-base.ensures.0, subst (λ l. IsFull l n) (sym is) (full-same n 0).0)
 
 pub returns-clause-zero : goal.returns-clause-zero
@@ -29,5 +30,6 @@ returns-clause-zero c =
     let cs = c.in_ok-base.cells.slots in
     let long : length cs ≡ n = ap length c.in_ok-base.ensures.1 ∙ length-same n none in
     let end : c.loop-i.i ≡ n = omega arith in
-    let is : c.loop-i.cells.slots ≡ replicate n (Some 0) = c.loop-i.invariant.filled ∙ ap (λ i. replicate i (Some 0) ++ drop i cs) end ∙ begun-all (Some 0) cs n long in
+    let is : c.loop-i.cells.slots ≡ replicate n (Some 0) =
+    c.loop-i.invariant.filled ∙ ap (λ i. replicate i (Some 0) ++ drop i cs) end ∙ begun-all (Some 0) cs n long in
     subst (All (λ (b : ℕ). b ≡ 0)) (sym (ap somes is ∙ (full-same n 0).1)) (All-zeros n)

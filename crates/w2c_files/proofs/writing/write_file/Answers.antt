@@ -33,7 +33,8 @@ loop-rest-preserved g c =
         held.0 ++ c.split_at.result.0.now,
         held.1 ∙ ap (λ (l : List ℕ). held.0 ++ l) split ∙ sym (append_assoc held.0 c.split_at.result.0.now c.split_at.result.1.now),
         put_more (files.told c.args.files.now) (files.told c.loop-rest.files) (files.told c.put.new.self)
-            (files.current c.loop-rest.files) name held.0 c.split_at.result.0.now held.2 c.loop-rest.invariant.current c.in_ok-put.ensures.written,
+            (files.current c.loop-rest.files) name held.0 c.split_at.result.0.now held.2 c.loop-rest.invariant.current
+            c.in_ok-put.ensures.written,
       );
       current = search rules;
       reads = search rules;

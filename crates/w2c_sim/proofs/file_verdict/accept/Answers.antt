@@ -8,4 +8,5 @@ returns-clause-accepted c = accepted_is_given c.args.bytes.now c.valid_module.re
 
 pub returns-clause-given : goal.returns-clause-given
 returns-clause-given c = refused_is_given c.args.bytes.now c.valid_module.result
-    (λ m. IsVerdictOn c.args.bytes.now (Read m Accepted)) (λ m found. (m, found)) c.valid_module.ensures.found c.valid_module.ensures.refused
+    (λ m. IsVerdictOn c.args.bytes.now (Read m Accepted))
+    (λ m found. (m, found)) c.valid_module.ensures.found c.valid_module.ensures.refused

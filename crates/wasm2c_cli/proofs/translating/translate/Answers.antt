@@ -50,8 +50,10 @@ returns-clause-stop g c =
     writing_stops names targets (files.told c.args.files.now) (files.told c.read_modules.new.files)
     c.in-Ok.sources.items c.in-Ok.ensures.told c.in-Ok.ensures.read modules taken (files.told c.write_modules.new.files)
     (files.read_faults c.args.files.now) (files.read_faults c.write_modules.new.files) (files.write_faults c.args.files.now)
-    (files.write_faults c.read_modules.new.files) (files.write_faults c.write_modules.new.files) (files.fault_name c.write_modules.new.files)
+    (files.write_faults c.read_modules.new.files) (files.write_faults c.write_modules.new.files)
+    (files.fault_name c.write_modules.new.files)
     c.in-Err-write_modules.stop c.in-Ok.ensures.writes
     (subst (λ l. StopsWriting (files.told c.read_modules.new.files) (files.told c.write_modules.new.files) (files_of targets l)
-    (files.write_faults c.read_modules.new.files) (files.write_faults c.write_modules.new.files) (files.fault_name c.write_modules.new.files)
+    (files.write_faults c.read_modules.new.files) (files.write_faults c.write_modules.new.files)
+    (files.fault_name c.write_modules.new.files)
     c.in-Err-write_modules.stop) seen-2 c.in-Err-write_modules.ensures.stop)

@@ -13,7 +13,8 @@ returns-in-Translate-clause-stop g c =
     let is : seen_line c.args.line.now ≡ translate t = search rules in
     let why : StopsTranslating (inputs_of (translate t)) (targets_of (translate t)) (files.told c.args.files.now)
     (files.told c.translate.new.files) (files.read_faults c.args.files.now) (files.read_faults c.translate.new.files)
-    (files.write_faults c.args.files.now) (files.write_faults c.translate.new.files) (files.fault_name c.translate.new.files) c.in-Err.stop =
+    (files.write_faults c.args.files.now) (files.write_faults c.translate.new.files)
+    (files.fault_name c.translate.new.files) c.in-Err.stop =
     search rules in
     rw is (translation_stops (files.told c.args.files.now) (files.told c.translate.new.files) (files.read_faults c.args.files.now)
     (files.read_faults c.translate.new.files) (files.write_faults c.args.files.now) (files.write_faults c.translate.new.files)

@@ -38,7 +38,8 @@ loop-k-preserved g c =
     let at' = module_at ms c.loop-k.k m (omega (arith, c.requires.many)) c.index-modules-k.is in
     let many : length ms ≡ length (seen_targets ts) = omega (arith, c.requires.many, length-targets ts) in
     record {
-      whole = one_more (seen_targets ts) ms c.loop-k.k (seen_target t) m at at' many (files.told c.args.files.now) (files.told c.loop-k.files)
+      whole = one_more (seen_targets ts) ms c.loop-k.k (seen_target t) m at at' many (files.told c.args.files.now)
+          (files.told c.loop-k.files)
           (files.told c.write_module.new.files) c.loop-k.invariant.whole (search rules);
       names = named_more (seen_targets ts) c.loop-k.k (seen_target t) at c.loop-k.invariant.names (search rules);
       reads = search rules;

@@ -10,4 +10,5 @@ returns c =
     let same : old ≡ out = search rules in
     let len : string_len c.in_ok-name.name ≡ length old = search rules in
     let is : string_bytes c.push.new.self ≡ string_bytes c.pop.new.self ++ 104 ∷ [] = search rules in
-    header_name_is out old (string_bytes c.pop.new.self) (string_bytes c.push.new.self) (string_len c.in_ok-name.name) c.requires same len c.pop.ensures.ascii_bytes is
+    header_name_is out old (string_bytes c.pop.new.self) (string_bytes c.push.new.self)
+    (string_len c.in_ok-name.name) c.requires same len c.pop.ensures.ascii_bytes is

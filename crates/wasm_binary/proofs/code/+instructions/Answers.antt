@@ -10,30 +10,37 @@ use Rattle.wasm_binary.proofs.Items.{Ahead, at_start, goes_on, stops, is_done, s
 use Rattle.wasm_binary.proofs.code.+instructions.Goals as goal
 
 pub instructions-loop-code-init : goal.instructions-loop-code-init
-instructions-loop-code-init t c = subst (λ (code : Code). Ahead c.args.room c.args.may_else code (at c.args.rest) (code_at c.args.room c.args.may_else (at c.args.rest))) (sym c.new-code.ensures) (at_start c.args.room c.args.may_else (at c.args.rest))
+instructions-loop-code-init t c =
+    subst (λ (code : Code). Ahead c.args.room c.args.may_else code (at c.args.rest) (code_at c.args.room c.args.may_else (at c.args.rest)))
+    (sym c.new-code.ensures) (at_start c.args.room c.args.may_else (at c.args.rest))
 
 pub instructions-returns-in_err-item : goal.instructions-returns-in_err-item
 instructions-returns-in_err-item t c =
     let l = c.loop-code in
     let p = err_from_is_err_and c.from_residual.result c.from_residual.ensures.1 in
-    rw (p.1, p.2) (stops c.args.room c.args.may_else l.code (at l.ahead) c.in_err-item.field-0.0 (code_at c.args.room c.args.may_else (at c.args.rest)) c.in_err-item.ensures l.invariant)
+    rw (p.1, p.2) (stops c.args.room c.args.may_else l.code (at l.ahead) c.in_err-item.field-0.0
+    (code_at c.args.room c.args.may_else (at c.args.rest)) c.in_err-item.ensures l.invariant)
 
 pub instructions-returns-in-Closed : goal.instructions-returns-in-Closed
 instructions-returns-in-Closed t c =
     let l = c.loop-code in
-    is_done c.args.room c.args.may_else l.code (at l.ahead) (ender_of c.in-Closed.ender) (at c.in_ok-item.after) (code_at c.args.room c.args.may_else (at c.args.rest)) (c.in_ok-item.ensures ∙ ap (λ (i : Item). Ok (item_of i, at c.in_ok-item.after)) c.in-Closed.is) l.invariant
+    is_done c.args.room c.args.may_else l.code (at l.ahead) (ender_of c.in-Closed.ender) (at c.in_ok-item.after)
+    (code_at c.args.room c.args.may_else (at c.args.rest))
+    (c.in_ok-item.ensures ∙ ap (λ (i : Item). Ok (item_of i, at c.in_ok-item.after)) c.in-Closed.is) l.invariant
 
 pub instructions-loop-code-smaller : goal.instructions-loop-code-smaller
 instructions-loop-code-smaller t c =
     let l = c.loop-code in
-    shorter c.args.room c.args.may_else (at l.ahead) (instr_tree c.in-One.instr) (at c.in_ok-item.after) (c.in_ok-item.ensures ∙ ap (λ (i : Item). Ok (item_of i, at c.in_ok-item.after)) c.in-One.is)
+    shorter c.args.room c.args.may_else (at l.ahead) (instr_tree c.in-One.instr) (at c.in_ok-item.after)
+    (c.in_ok-item.ensures ∙ ap (λ (i : Item). Ok (item_of i, at c.in_ok-item.after)) c.in-One.is)
 
 pub instructions-loop-code-preserved : goal.instructions-loop-code-preserved
 instructions-loop-code-preserved t c =
     let l = c.loop-code in
     let total = code_at c.args.room c.args.may_else (at c.args.rest) in
     subst (λ (code : Code). Ahead c.args.room c.args.may_else code (at c.in_ok-item.after) total) (sym c.in_ok-push-in-One.ensures.ok)
-    (goes_on c.args.room c.args.may_else l.code (at l.ahead) (instr_tree c.in-One.instr) (at c.in_ok-item.after) total (c.in_ok-item.ensures ∙ ap (λ (i : Item). Ok (item_of i, at c.in_ok-item.after)) c.in-One.is) l.invariant)
+    (goes_on c.args.room c.args.may_else l.code (at l.ahead) (instr_tree c.in-One.instr) (at c.in_ok-item.after) total
+    (c.in_ok-item.ensures ∙ ap (λ (i : Item). Ok (item_of i, at c.in_ok-item.after)) c.in-One.is) l.invariant)
 
 pub next_item-returns-in_err-opcode : goal.next_item-returns-in_err-opcode
 next_item-returns-in_err-opcode t c =
@@ -41,33 +48,51 @@ next_item-returns-in_err-opcode t c =
     rw (p.1, p.2) (byte_fails c.args.room c.args.may_else (at c.args.rest) c.in_err-opcode.field-0.0 c.in_err-opcode.ensures)
 
 pub next_item-returns-then-opcode-eq11 : goal.next_item-returns-then-opcode-eq11
-next_item-returns-then-opcode-eq11 t c = end_item c.args.room c.args.may_else (at c.args.rest) c.in_ok-opcode.opcode (at c.in_ok-opcode.rest) c.in_ok-opcode.ensures c.if-opcode-eq11.true
+next_item-returns-then-opcode-eq11 t c =
+    end_item c.args.room c.args.may_else (at c.args.rest) c.in_ok-opcode.opcode
+    (at c.in_ok-opcode.rest) c.in_ok-opcode.ensures c.if-opcode-eq11.true
 
 pub next_item-returns-then-is_else : goal.next_item-returns-then-is_else
-next_item-returns-then-is_else t c = else_item c.args.room c.args.may_else (at c.args.rest) c.in_ok-opcode.opcode (at c.in_ok-opcode.rest) c.in_ok-opcode.ensures (sym c.is_else.ensures ∙ c.if-is_else.true)
+next_item-returns-then-is_else t c =
+    else_item c.args.room c.args.may_else (at c.args.rest) c.in_ok-opcode.opcode (at c.in_ok-opcode.rest) c.in_ok-opcode.ensures
+    (sym c.is_else.ensures ∙ c.if-is_else.true)
 
 pub next_item-returns-then-room-eq0 : goal.next_item-returns-then-room-eq0
 next_item-returns-then-room-eq0 t c =
-    no_room c.args.room c.args.may_else (at c.args.rest) c.in_ok-opcode.opcode (head_of_opener c.in-Some.opener) (at c.in_ok-opcode.rest) c.in_ok-opcode.ensures (opens_as c.in_ok-opcode.opcode (head_of_opener c.in-Some.opener) c.in-Some.ensures) c.if-room-eq0.true
+    no_room c.args.room c.args.may_else (at c.args.rest) c.in_ok-opcode.opcode (head_of_opener c.in-Some.opener)
+    (at c.in_ok-opcode.rest) c.in_ok-opcode.ensures
+    (opens_as c.in_ok-opcode.opcode (head_of_opener c.in-Some.opener) c.in-Some.ensures) c.if-room-eq0.true
 
 pub next_item-returns-in_err-kind-in-Some : goal.next_item-returns-in_err-kind-in-Some
 next_item-returns-in_err-kind-in-Some t c =
     let p = err_from_is_err_and c.from_residual-in_err-kind-in-Some.result c.from_residual-in_err-kind-in-Some.ensures.1 in
-    let item = block_item c.args.room c.args.may_else (at c.args.rest) c.in_ok-opcode.opcode (head_of_opener c.in-Some.opener) (at c.in_ok-opcode.rest) c.in_ok-opcode.ensures (opens_as c.in_ok-opcode.opcode (head_of_opener c.in-Some.opener) c.in-Some.ensures) (omega (arith, c.if-room-eq0.false)) in
+    let item =
+    block_item c.args.room c.args.may_else (at c.args.rest) c.in_ok-opcode.opcode (head_of_opener c.in-Some.opener)
+    (at c.in_ok-opcode.rest) c.in_ok-opcode.ensures (opens_as c.in_ok-opcode.opcode (head_of_opener c.in-Some.opener) c.in-Some.ensures)
+    (omega (arith, c.if-room-eq0.false)) in
     rw (p.1, p.2) (fails_as_item c.args.rest.place _ c.in_err-kind-in-Some.field-0.0 _ item c.in_err-kind-in-Some.ensures)
 
 pub next_item-returns-in_ok-kind-in-Some : goal.next_item-returns-in_ok-kind-in-Some
 next_item-returns-in_ok-kind-in-Some t c =
-    let item = block_item c.args.room c.args.may_else (at c.args.rest) c.in_ok-opcode.opcode (head_of_opener c.in-Some.opener) (at c.in_ok-opcode.rest) c.in_ok-opcode.ensures (opens_as c.in_ok-opcode.opcode (head_of_opener c.in-Some.opener) c.in-Some.ensures) (omega (arith, c.if-room-eq0.false)) in
+    let item =
+    block_item c.args.room c.args.may_else (at c.args.rest) c.in_ok-opcode.opcode (head_of_opener c.in-Some.opener)
+    (at c.in_ok-opcode.rest) c.in_ok-opcode.ensures (opens_as c.in_ok-opcode.opcode (head_of_opener c.in-Some.opener) c.in-Some.ensures)
+    (omega (arith, c.if-room-eq0.false)) in
     as_one_item c.args.rest.place _ (kind_tree c.in_ok-kind-in-Some.kind) (at c.in_ok-kind-in-Some.rest) _ item c.in_ok-kind-in-Some.ensures
 
 pub next_item-returns-in_err-kind-in-None : goal.next_item-returns-in_err-kind-in-None
 next_item-returns-in_err-kind-in-None t c =
     let p = err_from_is_err_and c.from_residual-in_err-kind-in-None.result c.from_residual-in_err-kind-in-None.ensures.1 in
-    let item = plain_item c.args.room c.args.may_else (at c.args.rest) c.in_ok-opcode.opcode (at c.in_ok-opcode.rest) c.in_ok-opcode.ensures c.if-opcode-eq11.false (sym c.is_else.ensures ∙ c.if-is_else.false) (opens_none c.in_ok-opcode.opcode c.in-None.ensures) in
+    let item =
+    plain_item c.args.room c.args.may_else (at c.args.rest) c.in_ok-opcode.opcode
+    (at c.in_ok-opcode.rest) c.in_ok-opcode.ensures c.if-opcode-eq11.false (sym c.is_else.ensures ∙ c.if-is_else.false)
+    (opens_none c.in_ok-opcode.opcode c.in-None.ensures) in
     rw (p.1, p.2) (fails_as_item c.args.rest.place _ c.in_err-kind-in-None.field-0.0 _ item c.in_err-kind-in-None.ensures)
 
 pub next_item-returns-in_ok-kind-in-None : goal.next_item-returns-in_ok-kind-in-None
 next_item-returns-in_ok-kind-in-None t c =
-    let item = plain_item c.args.room c.args.may_else (at c.args.rest) c.in_ok-opcode.opcode (at c.in_ok-opcode.rest) c.in_ok-opcode.ensures c.if-opcode-eq11.false (sym c.is_else.ensures ∙ c.if-is_else.false) (opens_none c.in_ok-opcode.opcode c.in-None.ensures) in
+    let item =
+    plain_item c.args.room c.args.may_else (at c.args.rest) c.in_ok-opcode.opcode
+    (at c.in_ok-opcode.rest) c.in_ok-opcode.ensures c.if-opcode-eq11.false (sym c.is_else.ensures ∙ c.if-is_else.false)
+    (opens_none c.in_ok-opcode.opcode c.in-None.ensures) in
     as_one_item c.args.rest.place _ (kind_tree c.in_ok-kind-in-None.kind) (at c.in_ok-kind-in-None.rest) _ item c.in_ok-kind-in-None.ensures

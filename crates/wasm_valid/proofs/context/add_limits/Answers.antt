@@ -6,5 +6,9 @@ use Rattle.wasm_valid.proofs.context.add_limits.Goals as goal
 
 pub returns : goal.returns
 returns c =
-    let all = items_from_extend c.extend.result c.extend.ensures.ran (YieldsList-from_map _ (λ t. t.limits) (YieldsList-at c.map.ensures.source (YieldsList-from_slice c.args.entries.now c.iter.ensures.rest)) c.map.ensures.closure (λ x r q k. search rules)) in
+    let all =
+    items_from_extend c.extend.result c.extend.ensures.ran
+    (YieldsList-from_map _ (λ t. t.limits)
+    (YieldsList-at c.map.ensures.source (YieldsList-from_slice c.args.entries.now c.iter.ensures.rest)) c.map.ensures.closure
+    (λ x r q k. search rules)) in
     search rules

@@ -12,6 +12,7 @@ loop-export-preserved c =
           c.loop-export-test.true c.export-item.is c.as_slice.ensures c.in_ok-is_new.ensures.keys (so_far.names name);
       found = next_export c.loop-export.first.found c.enter_if.new.self.found _ c.args.exports.now i e c.in_ok-is_new.is_new
           c.loop-export-test.true c.export-item.is
-          (known_name c.in_ok-is_new.is_new keys c.as_slice.result e.name _ c.in_ok-is_new.ensures.added c.as_slice.ensures (so_far.names e.name))
+          (known_name c.in_ok-is_new.is_new keys c.as_slice.result e.name _ c.in_ok-is_new.ensures.added c.as_slice.ensures
+          (so_far.names e.name))
           c.enter_if.ensures so_far.found;
     }

@@ -9,5 +9,6 @@ use Rattle.wasm_valid.proofs.rows.enter_func_types.Given as goal
 
 abbrev pub invariant-loop-func : goal.invariant-loop-func
 invariant-loop-func l =
-    entered l.first.found (flat_map (λ f. fault_if (is_none (type_in l.m f.type_index)) f.place causes.UnknownType) (drop l.func-index l.m.funcs))
+    entered l.first.found (flat_map (λ f. fault_if (is_none (type_in l.m f.type_index)) f.place causes.UnknownType)
+    (drop l.func-index l.m.funcs))
     ≡ entered l.initial.first.found (flat_map (λ f. fault_if (is_none (type_in l.m f.type_index)) f.place causes.UnknownType) l.m.funcs)

@@ -8,5 +8,7 @@ use Rattle.wasm_valid.proofs.rows.enter_unknown_elements.Given as goal
 
 abbrev pub invariant-loop-element : goal.invariant-loop-element
 invariant-loop-element l =
-    entered l.first.found (flat_map (λ e. flat_map (λ f. fault_if (is_out (func_space l.m) f.index) f.place causes.UnknownFunction) e.funcs) (drop l.element-index l.m.elements))
-    ≡ entered l.initial.first.found (flat_map (λ e. flat_map (λ f. fault_if (is_out (func_space l.m) f.index) f.place causes.UnknownFunction) e.funcs) l.m.elements)
+    entered l.first.found (flat_map (λ e. flat_map (λ f. fault_if (is_out (func_space l.m) f.index) f.place causes.UnknownFunction) e.funcs)
+    (drop l.element-index l.m.elements))
+    ≡ entered l.initial.first.found
+    (flat_map (λ e. flat_map (λ f. fault_if (is_out (func_space l.m) f.index) f.place causes.UnknownFunction) e.funcs) l.m.elements)

@@ -8,5 +8,7 @@ use Rattle.wasm_valid.proofs.rows.enter_unknown_tables.Given as goal
 
 abbrev pub invariant-loop-element : goal.invariant-loop-element
 invariant-loop-element l =
-    entered l.first.found (flat_map (λ e. fault_if (is_no_first (table_space l.m) e.table) e.place causes.UnknownTable) (drop l.element-index l.m.elements))
-    ≡ entered l.initial.first.found (flat_map (λ e. fault_if (is_no_first (table_space l.m) e.table) e.place causes.UnknownTable) l.m.elements)
+    entered l.first.found (flat_map (λ e. fault_if (is_no_first (table_space l.m) e.table) e.place causes.UnknownTable)
+    (drop l.element-index l.m.elements))
+    ≡ entered l.initial.first.found (flat_map (λ e. fault_if (is_no_first (table_space l.m) e.table) e.place causes.UnknownTable)
+    l.m.elements)

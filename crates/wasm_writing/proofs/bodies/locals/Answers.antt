@@ -13,7 +13,8 @@ unfolding none
 returns-then-run-locals-clause-puts c =
     let l = c.loop-run in
     let runs = c.args.runs.now in
-    runs_refused c.args.before l.locals runs l.run-index (get_or runs l.run-index none) _ _ _ _ c.loop-run-test.true (any_other runs l.run-index none c.loop-run-test.true) l.invariant.sum
+    runs_refused c.args.before l.locals runs l.run-index
+    (get_or runs l.run-index none) _ _ _ _ c.loop-run-test.true (any_other runs l.run-index none c.loop-run-test.true) l.invariant.sum
     (λ low all. elim c.then-run-locals.branch [
       | then-run-locals-via-then-run-locals w ↦ omega (arith, low, w.if-run-locals.true)
       | then-run-locals-via-else-run-locals+then-run-before w ↦ omega (arith, all, w.if-run-before.true)

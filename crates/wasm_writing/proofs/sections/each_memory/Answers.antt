@@ -15,5 +15,6 @@ loop-memory-preserved c =
     let l = c.loop-memory in
     let entries = c.args.memories.now in
     let entry = get_or entries l.memory-index none in
-    each_more memory_entry entries l.memory-index entry _ _ _ c.loop-memory-test.true (any_other entries l.memory-index none c.loop-memory-test.true) l.invariant
+    each_more memory_entry entries l.memory-index
+    entry _ _ _ c.loop-memory-test.true (any_other entries l.memory-index none c.loop-memory-test.true) l.invariant
     (puts_here entry.place (memory_type entry.limits) _ _ c.memory_type.ensures)

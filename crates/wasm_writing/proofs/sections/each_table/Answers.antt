@@ -15,5 +15,6 @@ loop-table-preserved c =
     let l = c.loop-table in
     let entries = c.args.tables.now in
     let entry = get_or entries l.table-index none in
-    each_more table_entry entries l.table-index entry _ _ _ c.loop-table-test.true (any_other entries l.table-index none c.loop-table-test.true) l.invariant
+    each_more table_entry entries l.table-index
+    entry _ _ _ c.loop-table-test.true (any_other entries l.table-index none c.loop-table-test.true) l.invariant
     (puts_here entry.place (table_type entry.limits) _ _ c.table_type.ensures)

@@ -10,5 +10,6 @@ returns-then-is_empty c = puts_empty c.args.m.now (part_of c.args.part) _ (sym c
 
 pub returns : goal.returns
 returns c =
-    puts_full c.args.m.now (part_of c.args.part) c.content.new.draft _ _ _ _ (sym c.is_empty.ensures ∙ c.if-is_empty.false) c.content.ensures
+    puts_full c.args.m.now (part_of c.args.part)
+    c.content.new.draft _ _ _ _ (sym c.is_empty.ensures ∙ c.if-is_empty.false) c.content.ensures
     (subst (λ b. Puts (byte b) c.args.draft.now c.byte.new.self) c.id.ensures c.byte.ensures) c.size.ensures c.content-2.ensures

@@ -56,7 +56,8 @@ loop-index-preserved g c =
       few = counted_few (is_ok c.in-Ok.word) c.loop-index.ok c.counted-ok.result k c.counted-ok.ensures c.loop-index.invariant.few;
       behind = λ m tells.
           subst (λ front. IsBehind m c.args.steps front (setting_of c.tell_command.new.stage) (out.told c.args.out.now)
-          (out.told c.tell_command.new.out) c.counted-ok.result) (sym (mapped_next seen_command commands k item lt c.index-commands-index.is))
+          (out.told c.tell_command.new.out) c.counted-ok.result)
+          (sym (mapped_next seen_command commands k item lt c.index-commands-index.is))
           (behind_more m c.args.steps k (take k (seen_commands commands)) (seen_command item) c.in-Ok.word
           (setting_of c.loop-index.stage) (setting_of c.tell_command.new.stage)
           (out.told c.args.out.now) (out.told c.loop-index.out) (out.told c.tell_command.new.out) c.loop-index.ok c.counted-ok.result
@@ -71,5 +72,6 @@ returns-clause-behind g c = λ m tells.
     let past : length (seen_commands commands) ≤ k = omega (arith, c.loop-index-test.false, length-map commands seen_command) in (
       setting_of c.loop-index.stage,
       subst (λ front. IsBehind m c.args.steps front (setting_of c.loop-index.stage) (g.O.Sink.told c.args.out.now)
-          (g.O.Sink.told c.loop-index.out) c.loop-index.ok) (take_all k (seen_commands commands) past) (c.loop-index.invariant.behind m tells),
+          (g.O.Sink.told c.loop-index.out) c.loop-index.ok) (take_all k (seen_commands commands) past)
+          (c.loop-index.invariant.behind m tells),
     )

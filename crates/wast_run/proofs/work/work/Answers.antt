@@ -44,7 +44,8 @@ returns-clause-stop g c =
     (g.O.Sink.told c.args.out.now) (g.O.Sink.told c.report_commands.new.out)
     (g.O.Sink.faults c.args.out.now) (g.O.Sink.faults c.report_commands.new.out) (reason_of c.in-Err-report_commands.stop))
     c.script_in.ensures.told
-    (subst (λ items. StopsReport (files.told c.script_in.new.files) line.steps (seen_commands items) (files.read_faults c.script_in.new.files)
+    (subst (λ items. StopsReport (files.told c.script_in.new.files) line.steps (seen_commands items)
+    (files.read_faults c.script_in.new.files)
     (files.read_faults c.report_commands.new.files) (files.fault_name c.report_commands.new.files)
     (g.O.Sink.told c.args.out.now) (g.O.Sink.told c.report_commands.new.out)
     (g.O.Sink.faults c.args.out.now) (g.O.Sink.faults c.report_commands.new.out) (reason_of c.in-Err-report_commands.stop))
@@ -60,7 +61,8 @@ returns-in-Ok-report_commands-clause-reported g c = λ m tells.
     let job : Tells told (λ m. IsJob words m (Reports line.steps commands)) =
     λ m tells. let s = c.in-Ok-script_in.ensures.script m tells in
     job_of_text words line c.in-Ok.ensures.line told m s.0 (Reports line.steps commands) s.1 (s.2, refl) in
-    reports words line c.in-Ok.ensures.line told commands job m tells (g.O.Sink.told c.args.out.now) (g.O.Sink.told c.report_commands.new.out)
+    reports words line c.in-Ok.ensures.line told commands job m tells (g.O.Sink.told c.args.out.now)
+    (g.O.Sink.told c.report_commands.new.out)
     c.in-Ok-report_commands.all_ok c.status_for.result
     (subst (λ items. HasReported m line.steps (seen_commands items) (g.O.Sink.told c.args.out.now) (g.O.Sink.told c.report_commands.new.out)
     c.in-Ok-report_commands.all_ok) c.as_slice.ensures.value

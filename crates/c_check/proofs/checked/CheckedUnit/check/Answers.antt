@@ -16,7 +16,8 @@ use Rattle.c_check.proofs.checked.CheckedUnit.check.Goals as goal
 found : (u ys : List Item) (o r : Option Broken) → ys ≡ u → option_map broken_at o ≡ first_in_items (map item_of ys) 0 → o ≡ r
     → first_broken (map item_of u) ≡ option_map broken_at r
 found u ys o r same e is =
-    sym (whole_unit (map item_of u)) ∙ ap (λ (zs : List Item). first_in_items (map item_of zs) 0) (sym same) ∙ sym e ∙ ap (option_map broken_at) is
+    sym (whole_unit (map item_of u)) ∙ ap (λ (zs : List Item). first_in_items (map item_of zs) 0) (sym same) ∙ sym e
+    ∙ ap (option_map broken_at) is
 
 pub returns-in-Some-clause-rule : goal.returns-in-Some-clause-rule
 returns-in-Some-clause-rule c =

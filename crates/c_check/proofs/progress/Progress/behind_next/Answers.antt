@@ -23,7 +23,8 @@ invariant_of-result c =
       names_known = λ q. s.names_known q ∙ ap (λ (ys : List Item). list_any (bytes_eq q) (names_of (map item_of ys))) (sym same);
       defined_known = λ q. s.defined_known q ∙ ap (λ (ys : List Item). list_any (bytes_eq q) (defined_of (map item_of ys))) (sym same);
       earlier_known = λ q.
-          knows_put item_of defined_name xs i x c.requires.room c.requires.next s.earlier.defined c.put.new.set _ c.defined_name.ensures c.in_ok-put.ensures s.earlier_known q
+          knows_put item_of defined_name xs i x c.requires.room c.requires.next s.earlier.defined
+          c.put.new.set _ c.defined_name.ensures c.in_ok-put.ensures s.earlier_known q
           ∙ ap (λ (items : List tree.Item). list_any (bytes_eq q) (defined_of items)) front;
       kept = ap none_clash (sym front) ∙ none_clash_next xs i x c.requires.room c.requires.next c.requires.kept s.kept;
     }
@@ -34,6 +35,7 @@ returns-clause-first c q =
     let xs = s.file.items.now in
     let i = s.file.count in
     finds_next item_of by_name (λ
-    (i : Bor Item). item_of i.now) xs i c.args.item.now c.requires.room c.requires.next s.earlier.first c.enter_first.new.first c.in_ok-enter_first.ensures c.requires.found q
+    (i : Bor Item). item_of i.now) xs i c.args.item.now c.requires.room c.requires.next s.earlier.first c.enter_first.new.first
+    c.in_ok-enter_first.ensures c.requires.found q
     ∙ ap (λ (items : List tree.Item). named q (by_names items))
     (taken xs c.in_ok-file.file.items.now i c.in_ok-file.file.count c.in_ok-file.ensures.items c.in_ok-file.ensures.count)

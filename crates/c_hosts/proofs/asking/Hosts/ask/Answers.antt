@@ -19,10 +19,13 @@ pub returns-clause-asked : goal.returns-clause-asked
 returns-clause-asked g c =
     let offer = c.offers.ensures.yes c.if-not-offers.false in
     let args = c.last_args.ensures c.args.self.now.journal (asked c.args.call reply.Trap) c.in_ok-open.ensures.ok in
-    let there = host_there g.H.HostModule c.args.self.now.list.items c.args.call offer.0 c.index_mut.result.now offer.1.0 c.index_mut.ensures.value in (
+    let there =
+    host_there g.H.HostModule c.args.self.now.list.items c.args.call offer.0 c.index_mut.result.now offer.1.0
+    c.index_mut.ensures.value in (
       offer.0,
       offer.1,
-      function_of_it g.H.HostModule c.args.self.now.list.items c.args.call offer.0 c.index_mut.result.now offer.1.0 c.index_mut.ensures.value
+      function_of_it g.H.HostModule c.args.self.now.list.items c.args.call offer.0 c.index_mut.result.now offer.1.0
+          c.index_mut.ensures.value
           (λ f. IsReply f c.call-reply.result) c.call-reply.ensures.value,
       record {
         old = c.index_mut.result.now;

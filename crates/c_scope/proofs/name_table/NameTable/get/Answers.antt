@@ -4,4 +4,5 @@ use Rattle.c_scope.proofs.NameTables.{found}
 use Rattle.c_scope.proofs.name_table.NameTable.get.Goals as goal
 
 pub returns : goal.returns
-returns g c = c.get.ensures.value ∙ found (λ k. k.items) c.args.name.now c.self.inside.entries.entries ∙ ap (named c.args.name.now) c.self.view_is
+returns g c =
+    c.get.ensures.value ∙ found (λ k. k.items) c.args.name.now c.self.inside.entries.entries ∙ ap (named c.args.name.now) c.self.view_is

@@ -9,4 +9,5 @@ pub returns-in-Some : goal.returns-in-Some
 returns-in-Some c = found_left c.args.name.now (functions_of (declared c.args.self.now.file.now)) primitives _ c.in-Some.ensures
 
 pub returns-in-None : goal.returns-in-None
-returns-in-None c = c.runtime_function.ensures ∙ found_right c.args.name.now (functions_of (declared c.args.self.now.file.now)) primitives c.in-None.ensures
+returns-in-None c =
+    c.runtime_function.ensures ∙ found_right c.args.name.now (functions_of (declared c.args.self.now.file.now)) primitives c.in-None.ensures

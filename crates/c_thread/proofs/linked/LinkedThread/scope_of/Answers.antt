@@ -24,5 +24,6 @@ returns c names p trail rest own objects stored =
       store = record { ref_ptr = it; now = t.store };
     } in
     sees names p trail scope (at_rest (running_in names p t.top) rest) (names_at (items_at p t.top.unit) t.top.item) refl
-    (ap (held_vars names (names_at (items_at p t.top.unit) t.top.item)) (sym c.as_slice.ensures.value)) (ap unit_of c.unit.ensures ∙ sym own)
+    (ap (held_vars names (names_at (items_at p t.top.unit) t.top.item)) (sym c.as_slice.ensures.value))
+    (ap unit_of c.unit.ensures ∙ sym own)
     finds objects stored

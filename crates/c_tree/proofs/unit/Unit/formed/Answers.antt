@@ -10,5 +10,9 @@ use Rattle.c_tree.proofs.unit.Unit.formed.Goals as goal
 pub returns : goal.returns
 returns c =
     let test : c.all_formed.result ≡ list_all (item_formed 100) (unit_of c.args.self.now) =
-    c.all_formed.ensures ∙ ap (list_all (λ i. item_formed 100 (item_of i))) (c.as_slice.ensures ∙ c.self.view_is) ∙ sym (list_all_map (item_formed 100) item_of c.args.self.now) in
-    (λ is. formed (unit_of c.args.self.now) (unit_tells (unit_of c.args.self.now) (sym test ∙ is)), λ is. test ∙ unit_passes (unit_of c.args.self.now) (well_formed (unit_of c.args.self.now) is))
+    c.all_formed.ensures ∙ ap (list_all (λ i. item_formed 100 (item_of i))) (c.as_slice.ensures ∙ c.self.view_is)
+    ∙ sym (list_all_map (item_formed 100) item_of c.args.self.now) in (
+      λ is. formed (unit_of c.args.self.now) (unit_tells (unit_of c.args.self.now) (sym test ∙ is)),
+      λ is. test
+          ∙ unit_passes (unit_of c.args.self.now) (well_formed (unit_of c.args.self.now) is),
+    )

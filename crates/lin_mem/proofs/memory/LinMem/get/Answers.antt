@@ -16,7 +16,8 @@ returns-else-out-room c =
     let front : p + length (take room out) - p ≡ room = omega (arith, length-take-le room out (omega (arith, less))) in
     let one : first ≡ take room (drop at bytes) =
     c.read_page-else-out-room.ensures ∙ ap (λ n. take n (drop p bytes)) front ∙ ap (λ k. take room (drop k bytes)) place in
-    let long : length first ≡ room = ap length one ∙ length-take-le room (drop at bytes) (omega (arith, length-drop at bytes, c.requires.within, less)) in
+    let long : length first ≡ room =
+    ap length one ∙ length-take-le room (drop at bytes) (omega (arith, length-drop at bytes, c.requires.within, less)) in
     let xs = first ++ drop room out in
     let q = 65536 * (at / 65536 + 1) + 0 in
     let next : q ≡ at + room = omega arith in

@@ -13,8 +13,10 @@ returns-else-bytes-room-clause-written c =
     let place : 65536 * (at / 65536) + at % 65536 ≡ at = omega arith in
     let front : length (take room bs) ≡ room = length-take-le room bs (omega (arith, less)) in
     let next : 65536 * (at / 65536 + 1) + 0 ≡ at + length (take room bs) = omega (arith, front) in
-    let rest : take (length bs - room) (drop room bs) ≡ drop room bs = take_all (length bs - room) (drop room bs) (omega (arith, length-drop room bs)) in
-    let one : first.bytes ≡ with_bytes m.bytes at (take room bs) = ap (λ l. l.bytes) c.write_page-else-bytes-room.ensures ∙ ap (λ k. with_bytes m.bytes k (take room bs)) place in
+    let rest : take (length bs - room) (drop room bs) ≡ drop room bs =
+    take_all (length bs - room) (drop room bs) (omega (arith, length-drop room bs)) in
+    let one : first.bytes ≡ with_bytes m.bytes at (take room bs) =
+    ap (λ l. l.bytes) c.write_page-else-bytes-room.ensures ∙ ap (λ k. with_bytes m.bytes k (take room bs)) place in
     let two = with_bytes-twice m.bytes at (take room bs) (drop room bs) (omega (arith, front, length-drop room bs, c.requires.within)) in
     let whole : with_bytes first.bytes (65536 * (at / 65536 + 1) + 0) (take (length bs - room) (drop room bs)) ≡ with_bytes m.bytes at bs =
     ap (λ k. with_bytes first.bytes k (take (length bs - room) (drop room bs))) next

@@ -15,7 +15,8 @@ put-requires c =
     let ps = c.self.inside.pages.items in
     let e : length (concat ps) ≡ length c.args.self.now.bytes = ap (λ m. length m.bytes) c.self.view_is in
     let lt : c.args.page < length ps = omega (arith, length-concat 65536 ps c.self.invariant.0, e) in
-    let size : length c.index_mut.result.now ≡ 65536 = ap length c.index_mut.ensures.value ∙ c.self.invariant.0 c.args.page c.index_mut.result.now lt in
+    let size : length c.index_mut.result.now ≡ 65536 =
+    ap length c.index_mut.ensures.value ∙ c.self.invariant.0 c.args.page c.index_mut.result.now lt in
     omega (arith, size)
 
 pub returns : goal.returns

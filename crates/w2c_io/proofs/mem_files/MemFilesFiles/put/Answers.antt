@@ -11,9 +11,19 @@ returns-in_err-name-clause-part c =
 pub returns-in_err-grow-clause-part : goal.returns-in_err-grow-clause-part
 returns-in_err-grow-clause-part c =
     let p = err_from_is_err_and c.from_residual-in_err-grow.result c.from_residual-in_err-grow.ensures.1 in
-    rw p.1 ([], (c.args.piece.now, refl), (λ i. Some (c.in_err-grow.ensures.err i)) ∙ nothing_grown c.args.self.now.is_open c.args.self.now.entries.items c.requires)
+    rw p.1 (
+      [],
+      (c.args.piece.now, refl),
+      (λ i. Some (c.in_err-grow.ensures.err i))
+          ∙ nothing_grown c.args.self.now.is_open c.args.self.now.entries.items c.requires,
+    )
 
 pub returns-in_err-grow-2-clause-part : goal.returns-in_err-grow-2-clause-part
 returns-in_err-grow-2-clause-part c =
     let p = err_from_is_err_and c.from_residual-in_err-grow-2.result c.from_residual-in_err-grow-2.ensures.1 in
-    rw p.1 ([], (c.args.piece.now, refl), (λ i. Some (c.in_err-grow-2.ensures.err i)) ∙ nothing_grown c.args.self.now.is_open c.args.self.now.entries.items c.requires)
+    rw p.1 (
+      [],
+      (c.args.piece.now, refl),
+      (λ i. Some (c.in_err-grow-2.ensures.err i))
+          ∙ nothing_grown c.args.self.now.is_open c.args.self.now.entries.items c.requires,
+    )

@@ -6,4 +6,9 @@ use Rattle.w2c_io.proofs.sure_files.SureFilesFiles.put.Goals as goal
 pub returns-in_err-grow-clause-part : goal.returns-in_err-grow-clause-part
 returns-in_err-grow-clause-part c =
     let p = err_from_is_err_and c.from_residual.result c.from_residual.ensures.1 in
-    rw p.1 ([], (c.args.piece.now, refl), (λ i. Some (c.in_err-grow.ensures.err i)) ∙ nothing_grown c.args.self.now.is_open c.args.self.now.entries.items c.requires)
+    rw p.1 (
+      [],
+      (c.args.piece.now, refl),
+      (λ i. Some (c.in_err-grow.ensures.err i))
+          ∙ nothing_grown c.args.self.now.is_open c.args.self.now.entries.items c.requires,
+    )

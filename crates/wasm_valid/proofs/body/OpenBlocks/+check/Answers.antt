@@ -19,14 +19,20 @@ use Rattle.wasm_valid.proofs.body.OpenBlocks.+check.Goals as goal
 
 pub branches-returns-in-Some-outcome-clause-step : goal.branches-returns-in-Some-outcome-clause-step
 branches-returns-in-Some-outcome-clause-step t c =
-    no_else_refused (seen c.args.around.now) (labels_of c.args.self.now) c.args.outcome c.in-Some-outcome.field-0 c.args.code.now c.args.otherwise.now
+    no_else_refused (seen c.args.around.now)
+    (labels_of c.args.self.now) c.args.outcome c.in-Some-outcome.field-0 c.args.code.now c.args.otherwise.now
     c.args.end_place c.in-None.is c.in-Some-outcome.is
-    (subst (λ (b : Block). run_block (seen c.args.around.now) (labels_of c.args.self.now) b.label b.result b.end_place c.args.code.now ≡ Ok nothing)
+    (subst (λ (b : Block). run_block (seen c.args.around.now) (labels_of c.args.self.now) b.label b.result b.end_place c.args.code.now
+    ≡ Ok nothing)
     c.new.ensures c.in_ok-block-in-None.ensures.step)
 
 pub code-loop-instr-init : goal.code-loop-instr-init
 code-loop-instr-init t c = record {
-  ran = (0, later_none (run (seen c.args.around.now) (labels_of c.args.self.now) (code_tree c.as_slice-instr-items.result.now) (shown c.args.self.now.operands)));
+  ran = (
+    0,
+    later_none (run (seen c.args.around.now) (labels_of c.args.self.now) (code_tree c.as_slice-instr-items.result.now)
+        (shown c.args.self.now.operands)),
+  );
   stays = search rules;
 }
 
@@ -34,7 +40,8 @@ pub code-instr-requires : goal.code-instr-requires
 code-instr-requires t c =
     let smaller : kind_size (kind_tree c.instr-item.result.kind) + 1 ≤ code_size (code_tree c.as_slice-instr-items.result.now) =
     instr_smaller c.as_slice-instr-items.result.now c.loop-instr.instr-index c.instr-item.result c.loop-instr-test.true c.instr-item.is in
-    let same : code_size (code_tree c.as_slice-instr-items.result.now) ≡ code_size c.args.code.now = ap code_size c.as_slice-instr-items.ensures in
+    let same : code_size (code_tree c.as_slice-instr-items.result.now) ≡ code_size c.args.code.now =
+    ap code_size c.as_slice-instr-items.ensures in
     (omega (arith, smaller, same, c.decreases), tt)
 
 pub code-returns-in_err-instr-clause-step : goal.code-returns-in_err-instr-clause-step
@@ -42,10 +49,12 @@ code-returns-in_err-instr-clause-step t c =
     let i = c.loop-instr.invariant in
     let p = err_from_is_err_and c.from_residual.result c.from_residual.ensures.1 in
     rw (p.1, p.2)
-    (subst (λ (code : Code). RanTo {A = Unit} (Err c.in_err-instr.field-0.0) (run (seen c.args.around.now) (labels_of c.args.self.now) code (shown c.args.self.now.operands)) (shown c.instr.new.self.operands))
+    (subst (λ (code : Code). RanTo {A = Unit} (Err c.in_err-instr.field-0.0)
+    (run (seen c.args.around.now) (labels_of c.args.self.now) code (shown c.args.self.now.operands)) (shown c.instr.new.self.operands))
     c.as_slice-instr-items.ensures
     (list_refused (seen c.args.around.now) (labels_of c.args.self.now) (labels_of c.loop-instr.self) c.as_slice-instr-items.result.now
-    c.loop-instr.instr-index c.instr-item.result (shown c.loop-instr.self.operands) (shown c.instr.new.self.operands) (shown c.instr.new.self.operands) _ i.ran.0 c.in_err-instr.field-0.0
+    c.loop-instr.instr-index c.instr-item.result (shown c.loop-instr.self.operands) (shown c.instr.new.self.operands)
+    (shown c.instr.new.self.operands) _ i.ran.0 c.in_err-instr.field-0.0
     c.loop-instr-test.true c.instr-item.is i.ran.1 (ap reverse i.stays.labels) c.in_err-instr.ensures.step))
 
 pub code-loop-instr-preserved : goal.code-loop-instr-preserved
@@ -61,7 +70,8 @@ code-loop-instr-preserved t c =
 pub code-returns-clause-step : goal.code-returns-clause-step
 code-returns-clause-step t c =
     let i = c.loop-instr.invariant in
-    ap (λ (code : Code). run (seen c.args.around.now) (labels_of c.args.self.now) code (shown c.args.self.now.operands)) (sym c.as_slice-instr-items.ensures)
+    ap (λ (code : Code). run (seen c.args.around.now) (labels_of c.args.self.now) code (shown c.args.self.now.operands))
+    (sym c.as_slice-instr-items.ensures)
     ∙ run_all (seen c.args.around.now) (labels_of c.args.self.now) c.as_slice-instr-items.result.now c.loop-instr.instr-index
     (shown c.loop-instr.self.operands) _ i.ran.0 c.loop-instr-test.false i.ran.1
 
@@ -71,25 +81,33 @@ instr-returns-in_err-branches-in-If-clause-step t c =
     let r = c.in_err-branches-in-If.field-0.0 in
     let p = err_from_is_err_and c.from_residual-in_err-branches-in-If.result c.from_residual-in_err-branches-in-If.ensures.1 in
     rw (p.1, p.2)
-    (subst (λ (k : RustKind). RanTo {A = Unit} (Err r) (run_kind (seen c.args.around.now) (labels_of c.args.self.now) c.args.instr.now.place (kind_tree k) (shown c.args.self.now.operands)) (shown c.branches.new.self.operands))
+    (subst (λ (k : RustKind). RanTo {A = Unit} (Err r)
+    (run_kind (seen c.args.around.now) (labels_of c.args.self.now) c.args.instr.now.place (kind_tree k)
+    (shown c.args.self.now.operands)) (shown c.branches.new.self.operands))
     (sym i.is)
-    (if_refused (seen c.args.around.now) (labels_of c.args.self.now) c.args.instr.now.place i.outcome i.code (otherwise_tree i.otherwise) i.end_place
+    (if_refused (seen c.args.around.now) (labels_of c.args.self.now) c.args.instr.now.place i.outcome i.code
+    (otherwise_tree i.otherwise) i.end_place
     c.pop_type.result tt (shown c.args.self.now.operands) (shown c.pop_type.new.self) nothing (shown c.branches.new.self.operands)
     r c.in_ok-at_place-in-If.ensures c.pop_type.ensures.step c.in_err-branches-in-If.ensures.step))
 
 pub instr-returns-in_default : goal.instr-returns-in_default
 instr-returns-in_default t c =
     let d = c.in_default in
-    let step : Plain c.plain.result (step (seen c.args.around.now) (labels_of c.args.self.now) (kind_tree c.args.instr.now.kind) (shown c.args.self.now.operands))
+    let step : Plain c.plain.result (step (seen c.args.around.now) (labels_of c.args.self.now) (kind_tree c.args.instr.now.kind)
+    (shown c.args.self.now.operands))
     (cause_of (seen c.args.around.now) (labels_of c.args.self.now) (kind_tree c.args.instr.now.kind)) (shown c.plain.new.operands) =
-    subst (λ (labels : List (Option ValType)). Does (seen c.args.around.now) labels (kind_tree c.args.instr.now.kind) c.plain.result c.args.self.now.operands c.plain.new.operands)
+    subst (λ (labels : List (Option ValType)). Does (seen c.args.around.now) labels
+    (kind_tree c.args.instr.now.kind) c.plain.result c.args.self.now.operands c.plain.new.operands)
     c.as_slice.ensures.value c.plain.ensures.step in
     record {
-      step = subst (λ (r : Result Unit ValidRefusal). RanTo r (run_kind (seen c.args.around.now) (labels_of c.args.self.now) c.args.instr.now.place (kind_tree c.args.instr.now.kind) (shown c.args.self.now.operands)) (shown c.plain.new.operands))
+      step = subst (λ (r : Result Unit ValidRefusal). RanTo r
+          (run_kind (seen c.args.around.now) (labels_of c.args.self.now) c.args.instr.now.place (kind_tree c.args.instr.now.kind)
+          (shown c.args.self.now.operands)) (shown c.plain.new.operands))
           (sym c.at_place-in_default.ensures)
           (plain_ran (seen c.args.around.now) (labels_of c.args.self.now) c.args.instr.now.place c.args.instr.now.kind c.plain.result
           (shown c.args.self.now.operands) (shown c.plain.new.operands) d.not-Block d.not-Loop d.not-If step);
-      kept = subst (λ (r : Result Unit ValidRefusal). OnOk r (Stays c.args.self.now record { operands = c.plain.new.operands; labels = c.args.self.now.labels }))
+      kept = subst (λ (r : Result Unit ValidRefusal). OnOk r
+          (Stays c.args.self.now record { operands = c.plain.new.operands; labels = c.args.self.now.labels }))
           (sym c.at_place-in_default.ensures)
           (placed_kept c.plain.result c.args.instr.now.place _ _ c.plain.ensures.kept (λ h. record { labels = refl; operands = h }));
     }

@@ -26,6 +26,7 @@ abbrev pub invariant-code-loop-instr : goal.invariant-code-loop-instr
 invariant-code-loop-instr l = record {
   ran : (before : ℕ) × (
       run (seen l.fn.around) (labels_of l.initial.self) (code_tree l.instr-items) (shown l.initial.self.operands)
-      ≡ later before (run (seen l.fn.around) (labels_of l.initial.self) (code_tree (drop l.instr-index l.instr-items)) (shown l.self.operands)));
+      ≡ later before (run (seen l.fn.around) (labels_of l.initial.self) (code_tree (drop l.instr-index l.instr-items))
+      (shown l.self.operands)));
   stays : Stays l.initial.self l.self;
 }

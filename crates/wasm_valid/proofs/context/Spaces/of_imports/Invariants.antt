@@ -9,6 +9,8 @@ invariant-loop-import l = record {
   types : l.spaces.types.now ≡ l.m.types;
   funcs : l.spaces.funcs.items ++ flat_map func_of_import (drop l.import-index l.import-items) ≡ flat_map func_of_import l.m.imports;
   tables : l.spaces.tables.items ++ flat_map table_of_import (drop l.import-index l.import-items) ≡ flat_map table_of_import l.m.imports;
-  memories : l.spaces.memories.items ++ flat_map memory_of_import (drop l.import-index l.import-items) ≡ flat_map memory_of_import l.m.imports;
-  globals : l.spaces.globals.items ++ flat_map global_of_import (drop l.import-index l.import-items) ≡ flat_map global_of_import l.m.imports;
+  memories : l.spaces.memories.items ++ flat_map memory_of_import (drop l.import-index l.import-items)
+      ≡ flat_map memory_of_import l.m.imports;
+  globals : l.spaces.globals.items ++ flat_map global_of_import (drop l.import-index l.import-items)
+      ≡ flat_map global_of_import l.m.imports;
 }

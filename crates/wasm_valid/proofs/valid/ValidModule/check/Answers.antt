@@ -13,7 +13,8 @@ returns-in-None-clause-valid c = valid c.args.m (subst (λ found. Verdict c.args
 
 pub returns-in-None-clause-first_only : goal.returns-in-None-clause-first_only
 returns-in-None-clause-first_only c fault v wanted =
-    absurd (no_fault c.args.m fault v (valid c.args.m (subst (λ found. Verdict c.args.m (outcome_of found)) c.in-None.is c.in_ok-fault.ensures)))
+    absurd (no_fault c.args.m fault v
+    (valid c.args.m (subst (λ found. Verdict c.args.m (outcome_of found)) c.in-None.is c.in_ok-fault.ensures)))
 
 pub returns-in-Some-clause-only : goal.returns-in-Some-clause-only
 returns-in-Some-clause-only c h wanted =
