@@ -271,7 +271,8 @@ def generated(*words):
 
 for n in (1, 2, 1001, 20000):
     size = generated(n).split(":")[1].strip()
-    Row(f"generated module of {n}", "gen").wasm2c(f"--gen {n} -o g.c", 0, f"wasm2c: gen {n}: {size} bytes, {n} functions")
+    if n < 20000:
+        Row(f"generated module of {n}", "gen").wasm2c(f"--gen {n} -o g.c", 0, f"wasm2c: gen {n}: {size} bytes, {n} functions")
     Row(f"generated module of {n}, run", "gen", "linked").wasm2c(
         f"--gen {n} -o g.c", 0, f"wasm2c: gen {n}: {size} bytes, {n} functions").calls(
         "g.c", 0, ["gen run 0"], f"call 1 = i32:{generated('--run', n, 0)}")

@@ -1,8 +1,8 @@
 #!/bin/sh
 # programs.sh [FEATURE...]: runs the rows of programs.py that need these features alone by the top calls of wasm2c, crun and wast_run, over
 # files and streams in memory, and compares what they say with what programs.py says. It proves nothing: the interpreter of
-# `rt try` runs them, in a temporary folder, over copies of the crates in which the programs are made libraries. Takes a
-# few minutes.
+# `rt try` runs them, in a temporary folder, over copies of the crates in which the programs are made libraries. Takes ten
+# minutes.
 set -e
 here=$(cd "$(dirname "$0")" && pwd)
 top=$(cd "$here/../.." && pwd)
