@@ -1,8 +1,8 @@
 # programs.py stdin|stdout FEATURE...: rows of command lines of wasm2c, crun and wast_run, and what must be said of each, for
 # crates/program_rows. A row stands where the features that it needs are named: `linked` (crun runs units of any module, one
-# or several), `state`, `words` (options in any order), `set` (--dir), `gen`, `wast` (scripts of assertions). What must be said
-# is written here by hand, or computed as the standard has it. The programs have no part in it, but for the texts of two units, which
-# are those that crates/translation_rows has.
+# or several), `state`, `words` (options in any order), `set` (--dir), `gen`, `wast` (scripts of assertions), `large` (what takes a
+# minute or more). What must be said is written here by hand, or computed as the standard has it. The programs have no part in it, but
+# for the texts of two units, which are those that crates/translation_rows has.
 import json
 import subprocess
 import sys
@@ -273,7 +273,7 @@ for n in (1, 2, 1001, 20000):
     size = generated(n).split(":")[1].strip()
     if n < 20000:
         Row(f"generated module of {n}", "gen").wasm2c(f"--gen {n} -o g.c", 0, f"wasm2c: gen {n}: {size} bytes, {n} functions")
-    Row(f"generated module of {n}, run", "gen", "linked").wasm2c(
+    Row(f"generated module of {n}, run", "gen", "linked", *(["large"] if n == 20000 else [])).wasm2c(
         f"--gen {n} -o g.c", 0, f"wasm2c: gen {n}: {size} bytes, {n} functions").calls(
         "g.c", 0, ["gen run 0"], f"call 1 = i32:{generated('--run', n, 0)}")
 Row("generated module of another name", "gen").wasm2c("--gen 1 -o g.c -n one", 0, "wasm2c: gen 1: 44 bytes, 1 functions")
@@ -405,7 +405,7 @@ Row("a put of a generated module fails", "gen").watch(*ONE).turns(
 Row("a generated module is not summed up", "gen").watch(*ONE).turns(
     "err", "wasm2c --gen 3 -o g.c", line(0, "part", ONE, 2), line(0, SUMMED, ONE, 2))
 MOST = "wasm2c: gen 20000: " + generated(20000).split(":")[1].strip() + " bytes, 20000 functions"
-Row("a generated module of 20000, twice", "gen").watch(*ONE).turns("read", "wasm2c --gen 20000 -o g.c", line(0, MOST, ONE, 2))
+Row("a generated module of 20000, twice", "gen", "large").watch(*ONE).turns("read", "wasm2c --gen 20000 -o g.c", line(0, MOST, ONE, 2))
 TEXTS = ["out/w2c_rt.h", "out/w2c_rt.c"]
 for kind, part in [("begin", []), ("put", ["part"]), ("finish", ["whole"])]:
     Row(f"a {kind} of the runtime fails").watch(*TEXTS).turns(kind, "wasm2c --runtime out", *writes(TEXTS, part))
@@ -801,7 +801,7 @@ Row("a call with 60 arguments", "linked").module("p.wasm", SIXTY).translates("p"
     "p.c", 0, ["p f " + " ".join(str(i) for i in range(60))], "call 1 = i32:59")
 LOCALS = module(types=[func_type("", "i")], funcs=[0], exports=[exported("f", 0, 0)],
                 bodies=[body(i32(7), b"\x21" + unsigned(49999), local(49999), local(0), b"\x6A", runs=[(50000, "i")])])
-Row("a function of 50,000 locals, run", "linked").module("l.wasm", LOCALS).translates("l").calls("l.c", 0, ["l f"], "call 1 = i32:7")
+Row("a function of 50,000 locals, run", "linked", "large").module("l.wasm", LOCALS).translates("l").calls("l.c", 0, ["l f"], "call 1 = i32:7")
 WIDE = module(types=[func_type("i", "i")], funcs=[0], tables=[limits(1000000)], exports=[exported("f", 0, 0)],
               bodies=[body(i32(0), local(0), b"\x11\x00\x00")], elements=[element(999999, [0])])
 for place, said in ((999998, "trap 6 empty element"), (1000000, "trap 5 table out of bounds"), (999999, "trap 6 empty element")):
