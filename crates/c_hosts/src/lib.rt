@@ -6,8 +6,6 @@ mod asking;
 mod host;
 mod journal;
 mod running;
-#[cfg(test)]
-mod tests;
 
 pub use asking::Hosts;
 pub use c_thread::HostCall;

@@ -10,8 +10,6 @@ mod offers;
 mod own;
 mod passes;
 mod refusal;
-#[cfg(test)]
-mod tests;
 
 pub use functions::{c_func_type, defined_function, function_type};
 pub use host_symbol::HostSymbol;

@@ -5,8 +5,6 @@ mod evaluation;
 mod names;
 mod operators;
 mod tables;
-#[cfg(test)]
-mod tests;
 
 pub use evaluation::{Fault, constant, is_depth, low_half, widened};
 pub use names::Numbers;

@@ -5,8 +5,6 @@ mod items;
 mod laws;
 mod merging;
 mod names;
-#[cfg(test)]
-mod tests;
 mod text;
 
 pub use laws::{

@@ -14,6 +14,3 @@ mod unit;
 pub use c_tree::{CReadFault, Part, Tok, Wanted};
 pub use laws::{faults_are_of_tokens, one_fault, unit_or_fault};
 pub use unit::read_unit;
-
-#[cfg(test)]
-mod tests;

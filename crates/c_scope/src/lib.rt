@@ -8,8 +8,6 @@ mod own;
 mod runtime;
 mod scope;
 mod signature;
-#[cfg(test)]
-mod tests;
 
 pub use file_scope::FileScope;
 pub use name_table::NameTable;

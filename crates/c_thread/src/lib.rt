@@ -10,8 +10,6 @@ mod running;
 mod scope;
 mod signatures;
 mod stepping;
-#[cfg(test)]
-mod tests;
 mod types;
 mod values;
 

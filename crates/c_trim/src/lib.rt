@@ -6,8 +6,6 @@ mod cases;
 mod copies;
 mod laws;
 mod reach;
-#[cfg(test)]
-mod tests;
 mod trimming;
 
 pub use cases::{chain_cases, place_cases, sample_cases, trimmed_cases};

@@ -5,8 +5,6 @@
 mod agreement;
 mod ctype;
 mod known;
-#[cfg(test)]
-mod tests;
 mod typed;
 mod typing;
 

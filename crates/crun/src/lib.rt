@@ -13,14 +13,10 @@ mod objects;
 mod outcome;
 mod run_inits;
 mod session;
-#[cfg(test)]
-mod session_tests;
 mod shown;
 mod start;
 mod startup;
 mod symbols;
-#[cfg(test)]
-mod tests;
 mod types;
 
 pub use c_hosts::{Asked, BoxedHost, HostFunction, HostModule, HostReply, Journal};

@@ -11,8 +11,6 @@ mod reading;
 mod refusal;
 mod stop;
 mod task;
-#[cfg(test)]
-mod tests;
 
 pub use calls_file::{NamedCall, read_calls};
 pub use checking::check_units;

@@ -28,6 +28,3 @@ pub use law::{one_call, one_journal_reading, one_reading, one_units_reading};
 pub use line::{Line, MergeLine, RunLine, TrimLine};
 pub use numbers::number;
 pub use read::{NoLine, read_words, refusal};
-
-#[cfg(test)]
-mod tests;

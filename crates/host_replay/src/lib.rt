@@ -14,8 +14,6 @@ mod place;
 mod read;
 mod reading;
 mod replay;
-#[cfg(test)]
-mod tests;
 mod values;
 
 pub use cases::{reading_cases, replay_cases, text_cases};

@@ -9,8 +9,6 @@ mod lists;
 mod names;
 mod number;
 mod read;
-#[cfg(test)]
-mod tests;
 mod types;
 mod values;
 mod write;

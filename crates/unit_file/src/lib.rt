@@ -4,6 +4,3 @@
 mod writing;
 
 pub use writing::write_unit;
-
-#[cfg(test)]
-mod tests;

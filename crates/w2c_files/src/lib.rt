@@ -5,8 +5,6 @@
 mod c_file;
 mod law;
 mod reading;
-#[cfg(test)]
-mod tests;
 mod writing;
 
 pub use c_file::is_c_file;

@@ -11,6 +11,3 @@ pub use laws::{
     a_generated_module_has_one_file, generated_files_are_accepted, generated_modules_are_formed,
     generated_modules_are_valid, the_files_of_one_and_two_functions,
 };
-
-#[cfg(test)]
-mod tests;

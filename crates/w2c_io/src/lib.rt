@@ -24,6 +24,3 @@ pub use std_files::StdFiles;
 pub use std_sink::StdSink;
 pub use sure_files::SureFiles;
 pub use sure_sink::SureSink;
-
-#[cfg(test)]
-mod tests;

@@ -19,6 +19,3 @@ pub use line::{FileSet, Generation, Line, Translation};
 pub use names::header_name;
 pub use read::{NoLine, read_words};
 pub use set_files::{c_file_in, files_of_a_set_are_distinct, header_in};
-
-#[cfg(test)]
-mod tests;

@@ -16,6 +16,3 @@ mod windows;
 
 pub use module::read_module;
 pub use wasm_spelling::{Cause, ReadFault, Which};
-
-#[cfg(test)]
-mod tests;

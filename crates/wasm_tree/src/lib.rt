@@ -7,8 +7,6 @@ mod entries;
 mod instruction_table;
 mod opcodes;
 mod operators;
-#[cfg(test)]
-mod tests;
 mod tree;
 
 pub use code::{Code, ElsePart, Indexes, Instr, Kind, MemArg};

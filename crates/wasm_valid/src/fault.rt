@@ -92,16 +92,3 @@ impl<T: Drop> From<AllocFailed<T>> for ValidRefusal {
         ValidRefusal::Memory
     }
 }
-
-#[cfg(test)]
-mod tests {
-    use crate::ValidCause;
-    use std::test::Fail;
-
-    #[test]
-    fn texts(rt: HostRuntime) -> Result<(), Fail> {
-        assert_eq!(rt; ValidCause::TypeMismatch.text(), "type mismatch");
-        assert_eq!(rt; ValidCause::StartType.text(), "start type");
-        Ok(())
-    }
-}

@@ -14,6 +14,3 @@ mod vectors;
 
 pub use laws::what_is_written_is_read_again;
 pub use module::{Formed, write_module};
-
-#[cfg(test)]
-mod tests;

@@ -26,6 +26,3 @@ pub use line::report;
 pub use script::{Script, read_script};
 pub use stop::Stop;
 pub use words::{Line, read_words};
-
-#[cfg(test)]
-mod tests;

@@ -1,0 +1,16 @@
+//! Tests of the crates of modules, by what they offer to others. They stand apart, since a crate with
+//! tests is proved twice, with and without them.
+#![tactic(auto)]
+
+#[cfg(test)]
+mod generating;
+#[cfg(test)]
+mod helpers;
+#[cfg(test)]
+mod operators;
+#[cfg(test)]
+mod reading;
+#[cfg(test)]
+mod units;
+#[cfg(test)]
+mod writing;

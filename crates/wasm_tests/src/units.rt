@@ -1,0 +1,38 @@
+// The texts of a module's unit, written into files.
+use std::alloc::Global;
+use std::test::Fail;
+use w2c_io::{Files, SureFiles, WriteAnswer};
+use w2c_sim::{accept, write_header, write_unit};
+use wasm_valid::ValidModule;
+
+const UNIT: &str = "#include \"w2c_rt.h\"\nvoid w2cZ_mZ_i(void) {\n;\nreturn;\n}\n";
+
+const HEADER: &str =
+    "/* made by wasm2c; int has 32 bits and every character of a name counts */\n#ifndef W2CZ_mZ_H\n#define W2CZ_mZ_H\n#include \"w2c_rt.h\"\nvoid w2cZ_mZ_i(void);\n#endif\n";
+
+fn write_both<F: Files>(alloc: Global, m: &ValidModule, files: &mut F) -> Result<(), WriteAnswer> {
+    files.begin("m.c")?;
+    write_unit(alloc, m, b"m", files)?;
+    files.finish()?;
+    files.begin("m.h")?;
+    write_header(alloc, m, b"m", files)?;
+    files.finish()?;
+    Ok(())
+}
+
+#[test]
+fn texts_of_an_empty_module(rt: HostRuntime) -> Result<(), Fail> {
+    let alloc = rt.alloc();
+    let module = accept(alloc, b"\0asm\x01\0\0\0")
+        .ok()
+        .ok_or("the bytes are a module")?;
+    let mut files = SureFiles::new(alloc);
+    write_both(alloc, &module, &mut files)?;
+    assert!(rt; files.get("m.c").is_some_and(|text| text == UNIT.as_bytes()));
+    assert!(rt;
+        files
+            .get("m.h")
+            .is_some_and(|text| text == HEADER.as_bytes())
+    );
+    Ok(())
+}
