@@ -277,6 +277,12 @@ for n in (1, 2, 1001, 20000):
         f"--gen {n} -o g.c", 0, f"wasm2c: gen {n}: {size} bytes, {n} functions").calls(
         "g.c", 0, ["gen run 0"], f"call 1 = i32:{generated('--run', n, 0)}")
 Row("generated module of another name", "gen").wasm2c("--gen 1 -o g.c -n one", 0, "wasm2c: gen 1: 44 bytes, 1 functions")
+MOST_BYTES = 8388608
+Row("zeros, as many as a module has bytes").fill("z.wasm", MOST_BYTES).wasm2c("z.wasm -o z.c", 1, "wasm2c: z.wasm: malformed at 1: bad magic")
+Row("a byte more than a module has").fill("z.wasm", MOST_BYTES + 1).wasm2c(
+    "z.wasm -o z.c", 1, f"wasm2c: z.wasm: limit at {MOST_BYTES}: module bytes").none("z.c", "z.h")
+Row("more bytes than a set has", "set").fill("a.wasm", MOST_BYTES).fill("b.wasm", MOST_BYTES).module("two.wasm", TWO).wasm2c(
+    "--dir out a.wasm b.wasm two.wasm", 1, "wasm2c: two.wasm: limit at 0: set bytes").none("out/a.c", "out/two.c")
 for words in ("--gen 0 -o g.c", "--gen 1 a.wasm -o g.c", "--gen 20001 -o g.c", "--gen 1x -o g.c", "--gen +1 -o g.c", "--gen 000001 -o g.c",
               "--gen 1 -o g.h"):
     Row(f"words `{words}`", "words").module("a.wasm", A).wasm2c(words, 2, "wasm2c: bad command line").none("g.c", "g.h")

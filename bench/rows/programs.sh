@@ -9,7 +9,7 @@ top=$(cd "$here/../.." && pwd)
 work=$(mktemp -d)
 trap 'rm -rf "$work"' EXIT
 trap 'exit 130' INT TERM
-sh "$here/../copy_crates.sh" "$work" $(sed -n 's/^\([a-z0-9_]*\):.*/\1/p' "$top/crates.txt" | grep -v '_rows$')
+sh "$here/../copy_crates.sh" "$work" $(sed -n 's/^\([a-z0-9_]*\):.*/\1/p' "$top/crates.txt" | grep -v -e '_rows$' -e '_tests$')
 for program in wasm2c_cli crun_cli wast_run; do
     src=$work/crates/$program/src
     sed -e '/^fn main/,$d' -e '/^#\[cfg(test)\]/d' -e '/^mod [a-z_]*tests;/d' -e '/^use std::/d' -e '/^use w2c_io::/d' -e 's/^use env::/pub use env::/' \

@@ -8,6 +8,7 @@ ghost use Rattle.c_tree.specs.View.{body_of as body_seen, func_of as func_seen};
 ghost use Rattle.w2c_base.specs.declared.value.ValType.TheVariants as type;
 ghost use Rattle.c_body.specs.Around.{named_of, setting_of};
 ghost use Rattle.c_body.specs.Body as function;
+ghost use Rattle.c_body.specs.Finished as finished;
 ghost use Rattle.c_body.specs.Ready.{BodyIsReady};
 
 use crate::around::Around;
@@ -15,8 +16,9 @@ use crate::call::c_result;
 use crate::content::{declared, params, put_element, put_slots};
 use crate::emitter::Emitter;
 use crate::index_spaces::IndexSpaces;
+use crate::mark::Mark;
 use crate::naming::func_name;
-use c_tree::{Body, CType, Func, Name, Params, Stmts};
+use c_tree::{Body, CType, Func, Locals, Name, Params, Stmts};
 use std::alloc::Global;
 use w2c_base::{FuncType, Memory, ValType};
 use wasm_tree::{BodyEntry, Code, FuncEntry, Run};
@@ -59,6 +61,27 @@ fn statements(emitter: Emitter) -> Stmts
     Stmts::from_vec(stmts)
 }
 
+// The declared locals, and behind them the variables for slots and for an element.
+fn all_locals(
+    alloc: Global,
+    first: usize,
+    own: &[ValType],
+    marks: &[Mark],
+    is_indirect: bool,
+) -> Result<Locals, Memory>
+    requires { first < 2 ^ 63 }
+    ensures { IfOk result (λ locals. locals ≡ ((function.locals_from first own.now
+        ++ finished.slots_from type.I32 0 marks.now)
+        ++ finished.slots_from type.I64 0 marks.now)
+        ++ finished.element_if is_indirect) }
+{
+    let mut locals = declared(alloc, first, own)?;
+    put_slots(alloc, &mut locals, ValType::I32, marks)?;
+    put_slots(alloc, &mut locals, ValType::I64, marks)?;
+    put_element(alloc, &mut locals, is_indirect)?;
+    Ok(locals)
+}
+
 // The variables and the statements of a body, whose own locals are numbered from the first on.
 fn whole_body(around: &Around, first: usize, own: &[ValType], code: &Code) -> Result<Body, Memory>
     requires first { first < 2 ^ 63 }
@@ -71,22 +94,9 @@ fn whole_body(around: &Around, first: usize, own: &[ValType], code: &Code) -> Re
       stmts = function.stmts_of (setting_of around.now) code.now;
     }) }
 {
-    let alloc = around.alloc;
     let emitter = Emitter::body(around, code)?;
-    let mut locals = declared(alloc, first, own)?;
-    put_slots(
-        alloc,
-        &mut locals,
-        ValType::I32,
-        emitter.operands.marks.as_slice(),
-    )?;
-    put_slots(
-        alloc,
-        &mut locals,
-        ValType::I64,
-        emitter.operands.marks.as_slice(),
-    )?;
-    put_element(alloc, &mut locals, emitter.is_indirect)?;
+    let marks = emitter.operands.marks.as_slice();
+    let locals = all_locals(around.alloc, first, own, marks, emitter.is_indirect)?;
     let stmts = statements(emitter);
     Ok(Body { locals, stmts })
 }

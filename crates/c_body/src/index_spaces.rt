@@ -3,6 +3,7 @@ ghost use Rattle.std.specs.Prelude.{◌≡◌, map, length, slice_get, is_some, 
 ghost use Rattle.std.specs.Option.{option_copied};
 ghost use Rattle.w2c_base.specs.Lookup.{at_index};
 ghost use Rattle.wasm_tree.specs.IndexSpaces.{func_space, global_space, type_in, imported_funcs as imported_func_count};
+ghost use Rattle.c_tree.specs.Tree.{Name as name_read};
 ghost use Rattle.c_tree.specs.View.{arg_of, expr_of, stmt_of};
 ghost use Rattle.c_body.specs.Objects as objects;
 ghost use Rattle.c_body.specs.Symbols.{global_imports, memory_imports, table_imports, func_imports};
@@ -74,6 +75,15 @@ fn imports_table(m: &Module) -> bool
     false
 }
 
+fn copied(alloc: Global, name: &Option<Name>) -> Result<Option<Name>, Memory>
+    ensures { IfOk result (λ out. out ≡ name.now) }
+{
+    match name {
+        None => Ok(None),
+        Some(name) => Ok(Some(name.copy(alloc)?)),
+    }
+}
+
 impl<'a> IndexSpaces<'a> {
     ghost use Rattle.c_body.specs.Around.{named_of};
 
@@ -138,8 +148,7 @@ impl<'a> IndexSpaces<'a> {
     {
         match self.callees.get(index as usize) {
             None => Ok(Some(func_name(alloc, index)?)),
-            Some(None) => Ok(None),
-            Some(Some(symbol)) => Ok(Some(symbol.copy(alloc)?)),
+            Some(name) => copied(alloc, name),
         }
     }
 
@@ -183,14 +192,14 @@ impl<'a> IndexSpaces<'a> {
         }
     }
 
-    /// An assignment to a global.
-    pub(crate) fn set_global(&self, alloc: Global, index: u32, e: Expr) -> Result<Stmt, Memory>
-        ensures { IfOk result (λ s. stmt_of s ≡ objects.set_global self.now.tree.now index (expr_of e)) }
+    /// An assignment of a variable to a global.
+    pub(crate) fn set_global(&self, alloc: Global, index: u32, value: Name) -> Result<Stmt, Memory>
+        ensures { IfOk result (λ s. stmt_of s ≡ objects.set_global self.now.tree.now index (name_read value)) }
     {
         if self.is_imported_global(index) {
-            Ok(Stmt::SetStar(global_pointer(alloc, index)?, e))
+            Ok(Stmt::SetStar(global_pointer(alloc, index)?, Expr::Name(value)))
         } else {
-            Ok(Stmt::Set(global_name(alloc, index)?, Arg::Value(e)))
+            Ok(Stmt::Set(global_name(alloc, index)?, Arg::Value(Expr::Name(value))))
         }
     }
 }

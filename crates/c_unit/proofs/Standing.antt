@@ -1,5 +1,30 @@
 -- What stands at a place of a unit's items, kind by kind.
-use Rattle.std.proofs.Common.{◌≡◌, ℕ, zero, suc, ◌+◌, ◌-◌, ◌<◌, ◌≤◌, List, [], ◌∷◌, ◌++◌, length, get_or, map, drop, Option, Some, None, refl, sym, ap, ◌∙◌, arith}
+use Rattle.std.proofs.Common.{
+  ◌≡◌,
+  ℕ,
+  zero,
+  suc,
+  ◌+◌,
+  ◌-◌,
+  ◌<◌,
+  ◌≤◌,
+  List,
+  [],
+  ◌∷◌,
+  ◌++◌,
+  length,
+  get_or,
+  map,
+  drop,
+  Option,
+  Some,
+  None,
+  refl,
+  sym,
+  ap,
+  ◌∙◌,
+  arith,
+}
 use Rattle.std.specs.Prelude.{slice_get, option_map}
 use Rattle.std.specs.List.{range_with_len}
 use Rattle.std.specs.Borrow.{Bor}
@@ -7,6 +32,7 @@ use Rattle.std.proofs.lemmas.Option.{slice_get-map, slice_get_past, slice_get_re
 use Rattle.wasm_tree.specs.declared.entries.GlobalEntry.{GlobalEntry}
 use Rattle.wasm_tree.specs.declared.entries.SegmentEntry.{SegmentEntry}
 use Rattle.wasm_tree.specs.declared.entries.Export.{Export}
+use Rattle.wasm_tree.specs.declared.entries.LimitsEntry.{LimitsEntry}
 use Rattle.wasm_tree.specs.declared.entries.Import.{Import}
 use Rattle.wasm_tree.specs.IndexSpaces.{imported_funcs}
 use Rattle.wasm_meaning.specs.LinkedSet.{NamedModule}
@@ -26,11 +52,46 @@ use Rattle.c_unit.specs.declared.indexes.Symbol.{Symbol}
 use Rattle.c_unit.specs.Named.{pair_of}
 use Rattle.c_unit.specs.Pointers.{pointed}
 use Rattle.c_unit.specs.Arrays.{array_of, bytes_of, byte_segments}
+use Rattle.c_unit.specs.Exports.{export_func}
 use Rattle.c_unit.specs.Items.{variable, global_item, declaration, prototype, bodies}
-use Rattle.c_unit.specs.Tails.{Given, global_pointer, from_globals, from_pointers, from_table_pointers, from_global_pointers, from_data, from_declared, from_prototypes, from_helpers, from_bodies, from_exports}
+use Rattle.c_unit.specs.Tails.{
+  Given,
+  global_pointer,
+  from_tables,
+  from_memories,
+  from_globals,
+  from_pointers,
+  from_table_pointers,
+  from_global_pointers,
+  from_data,
+  from_declared,
+  from_prototypes,
+  from_helpers,
+  from_bodies,
+  from_exports,
+  from_init,
+}
 use Rattle.c_unit.proofs.Counts.{map_length}
 use Rattle.c_unit.proofs.Parted.{found, passed, found_numbered, passed_numbered, at_place}
 use Rattle.c_unit.proofs.Listings.{seen_found, seen_passed, listed_found, listed_passed, same_found, drawn_passed}
+
+pub own_table_there : (m : NamedModule) (n : ℕ) (t : LimitsEntry) (item : tree.Item) → slice_get m.tree.tables n ≡ Some t
+    → item ≡ variable c_type.Tab table_name → Some item ≡ slice_get (from_tables m) n
+own_table_there m n t item e is = ap Some is
+    ∙ found (λ (l : LimitsEntry). variable c_type.Tab table_name) m.tree.tables (from_memories m) n t e
+
+pub own_table_past : (m : NamedModule) (n : ℕ) → slice_get m.tree.tables n ≡ None
+    → slice_get (from_memories m) (n - length m.tree.tables) ≡ slice_get (from_tables m) n
+own_table_past m n e = passed (λ (l : LimitsEntry). variable c_type.Tab table_name) m.tree.tables (from_memories m) n e
+
+pub own_memory_there : (m : NamedModule) (n : ℕ) (t : LimitsEntry) (item : tree.Item) → slice_get m.tree.memories n ≡ Some t
+    → item ≡ variable c_type.Mem memory_name → Some item ≡ slice_get (from_memories m) n
+own_memory_there m n t item e is = ap Some is
+    ∙ found (λ (l : LimitsEntry). variable c_type.Mem memory_name) m.tree.memories (from_globals m) n t e
+
+pub own_memory_past : (m : NamedModule) (n : ℕ) → slice_get m.tree.memories n ≡ None
+    → slice_get (from_globals m) (n - length m.tree.memories) ≡ slice_get (from_memories m) n
+own_memory_past m n e = passed (λ (l : LimitsEntry). variable c_type.Mem memory_name) m.tree.memories (from_globals m) n e
 
 pub global_there : (m : NamedModule) (n : ℕ) (g : GlobalEntry) (item : tree.Item) → slice_get m.tree.globals n ≡ Some g
     → item ≡ global_item m.tree (n, g) → Some item ≡ slice_get (from_globals m) n
@@ -173,6 +234,17 @@ body_there m n item lt is = ap Some is ∙ func_there m tree.Function (from_expo
 pub body_past : (m : NamedModule) (n : ℕ) → length m.tree.funcs ≤ n
     → slice_get (from_exports m) (n - length m.tree.funcs) ≡ slice_get (from_bodies m) n
 body_past m n le = func_past m tree.Function (from_exports m) n le
+
+-- ---- exports
+
+pub export_there : (m : NamedModule) (n : ℕ) (export : Export) (item : tree.Item) → slice_get m.tree.exports n ≡ Some export
+    → item ≡ tree.Function (export_func m export) → Some item ≡ slice_get (from_exports m) n
+export_there m n export item e is = ap Some is
+    ∙ found (λ (x : Export). tree.Function (export_func m x)) m.tree.exports (from_init m) n export e
+
+pub export_past : (m : NamedModule) (n : ℕ) → slice_get m.tree.exports n ≡ None
+    → slice_get (from_init m) (n - length m.tree.exports) ≡ slice_get (from_exports m) n
+export_past m n e = passed (λ (x : Export). tree.Function (export_func m x)) m.tree.exports (from_init m) n e
 
 -- ---- the next item
 

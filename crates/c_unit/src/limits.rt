@@ -3,7 +3,7 @@
 ghost use Rattle.std.specs.Prelude.{◌≡◌, ◌∷◌, [], Some, ◌<◌, ◌-◌, ◌^◌, ◌++◌, suc, not, if◌then◌else◌, codes, filter, map, IfOk, OnOk};
 ghost use Rattle.wasm_tree.specs.IndexSpaces.{is_func_import, is_global_import};
 ghost use Rattle.alike.specs.Alike.{memory_name, table_name};
-ghost use Rattle.c_tree.specs.View.{stmt_of};
+ghost use Rattle.c_tree.specs.View.{expr_of, stmt_of};
 ghost use Rattle.c_tree.specs.Tree as tree;
 ghost use Rattle.c_tree.specs.declared.tree.COp.TheVariants as op;
 ghost use Rattle.c_body.specs.Names.{label_name, pointer_name as pointer_name_of};
@@ -13,10 +13,24 @@ ghost use Rattle.c_unit.specs.Pointers.{pointer_set};
 use crate::source::Source;
 use crate::statements::{jump, n64, pointer_arg, pointer_name, reading, size};
 use c_body::{operation, with_number};
-use c_tree::{Args, COp, Callee, Name, Stmt, Stmts};
+use c_tree::{Args, COp, Callee, Expr, Name, Stmt, Stmts};
 use std::alloc::Global;
 use w2c_base::Memory;
 use wasm_tree::{Import, ImportKind, Limits};
+
+fn put_reading(alloc: Global, stmts: &mut Stmts, read: &[u8], object: &[u8]) -> Result<(), Memory>
+    ensures { OnOk result (map stmt_of stmts.new ≡ map stmt_of stmts.old ++ of.primitive (Some of.size_name) read.now (tree.Value (tree.Name (pointer_name_of object.now)) ∷ []) ∷ []) }
+{
+    stmts.push(reading(alloc, read, pointer_arg(alloc, object)?)?)?;
+    Ok(())
+}
+
+// How many units the size is that was read.
+fn units(alloc: Global, unit: u64) -> Result<Expr, Memory>
+    ensures { IfOk result (λ e. expr_of e ≡ tree.Op op.Div (tree.Name of.size_name) (of.n64 unit)) }
+{
+    operation(alloc, COp::Div, size(alloc)?, n64(unit))
+}
 
 fn put_least(
     alloc: Global,
@@ -29,8 +43,8 @@ fn put_least(
     ensures { OnOk result (map stmt_of stmts.new ≡ map stmt_of stmts.old ++ of.primitive (Some of.size_name) len_of.now (tree.Value (tree.Name (pointer_name_of object.now)) ∷ [])
         ∷ tree.If op.Lt (tree.Op op.Div (tree.Name of.size_name) (of.n64 unit)) (of.n64 min) (label_name of.limits_label) ∷ []) }
 {
-    stmts.push(reading(alloc, len_of, pointer_arg(alloc, object)?)?)?;
-    let units = operation(alloc, COp::Div, size(alloc)?, n64(unit))?;
+    put_reading(alloc, stmts, len_of, object)?;
+    let units = units(alloc, unit)?;
     stmts.push(jump(alloc, COp::Lt, units, n64(min as u64), 0)?)
 }
 
@@ -64,7 +78,7 @@ fn put_max(
     match max {
         None => Ok(()),
         Some(max) => {
-            stmts.push(reading(alloc, max_of, pointer_arg(alloc, object)?)?)?;
+            put_reading(alloc, stmts, max_of, object)?;
             stmts.push(jump(alloc, COp::Gt, size(alloc)?, n64(max as u64), 0)?)
         }
     }

@@ -111,6 +111,15 @@ fn call_if(
     }
 }
 
+fn void_stmts(alloc: Global, name: Option<Name>, types: &[ValType]) -> Result<Stmts, Memory>
+    ensures { IfOk result (λ stmts. map stmt_of stmts ≡ of.call_if name None (map c_type_of types.now) ∷ tree.ReturnNone ∷ []) }
+{
+    let mut stmts = Stmts::new(alloc);
+    stmts.push(call_if(alloc, name, None, types)?)?;
+    stmts.push(Stmt::ReturnNone)?;
+    Ok(stmts)
+}
+
 fn passes_nothing(
     alloc: Global,
     ty: SymbolType,
@@ -119,10 +128,39 @@ fn passes_nothing(
 ) -> Result<Func, Memory>
     ensures { IfOk result (λ f. func_of f ≡ of.external (type_of ty.entry) symbol [] (of.call_if name None (map c_type_of ty.entry.params.now) ∷ tree.ReturnNone ∷ [])) }
 {
-    let mut stmts = Stmts::new(alloc);
-    stmts.push(call_if(alloc, name, None, ty.params)?)?;
-    stmts.push(Stmt::ReturnNone)?;
+    let stmts = void_stmts(alloc, name, ty.params)?;
     external(alloc, ty, symbol, Locals::new(alloc), stmts)
+}
+
+fn result_local(alloc: Global, ty: CType) -> Result<Locals, Memory>
+    ensures { IfOk result (λ locals. locals ≡ (ty, of.result_name, of.first_value ty) ∷ []) }
+{
+    let mut locals = Locals::new(alloc);
+    locals.push((ty, result_name(alloc)?, first_value(ty)))?;
+    Ok(locals)
+}
+
+fn call_for_result(alloc: Global, name: Option<Name>, types: &[ValType]) -> Result<Stmt, Memory>
+    ensures { IfOk result (λ s. stmt_of s ≡ of.call_if name (Some of.result_name) (map c_type_of types.now)) }
+{
+    let target = result_name(alloc)?;
+    call_if(alloc, name, Some(target), types)
+}
+
+fn return_result(alloc: Global) -> Result<Stmt, Memory>
+    ensures { IfOk result (λ s. stmt_of s ≡ tree.Return (tree.Value (tree.Name of.result_name))) }
+{
+    Ok(Stmt::Return(Arg::Value(Expr::Name(result_name(alloc)?))))
+}
+
+fn value_stmts(alloc: Global, name: Option<Name>, types: &[ValType]) -> Result<Stmts, Memory>
+    ensures { IfOk result (λ stmts. map stmt_of stmts ≡ of.call_if name (Some of.result_name) (map c_type_of types.now)
+        ∷ tree.Return (tree.Value (tree.Name of.result_name)) ∷ []) }
+{
+    let mut stmts = Stmts::new(alloc);
+    stmts.push(call_for_result(alloc, name, types)?)?;
+    stmts.push(return_result(alloc)?)?;
+    Ok(stmts)
 }
 
 fn passes_value(
@@ -134,11 +172,8 @@ fn passes_value(
     ensures { IfOk result (λ f. func_of f ≡ of.external (type_of ty.entry) symbol ((ty.entry.result, of.result_name, of.first_value ty.entry.result) ∷ [])
         (of.call_if name (Some of.result_name) (map c_type_of ty.entry.params.now) ∷ tree.Return (tree.Value (tree.Name of.result_name)) ∷ [])) }
 {
-    let mut locals = Locals::new(alloc);
-    locals.push((ty.result, result_name(alloc)?, first_value(ty.result)))?;
-    let mut stmts = Stmts::new(alloc);
-    stmts.push(call_if(alloc, name, Some(result_name(alloc)?), ty.params)?)?;
-    stmts.push(Stmt::Return(Arg::Value(Expr::Name(result_name(alloc)?))))?;
+    let locals = result_local(alloc, ty.result)?;
+    let stmts = value_stmts(alloc, name, ty.params)?;
     external(alloc, ty, symbol, locals, stmts)
 }
 

@@ -27,16 +27,14 @@ pub(crate) struct Source<'a> {
     /// The symbols of the imported functions.
     pub(crate) func_symbols: Vec<Name>,
     /// The symbols of the imported objects, where they may be used.
-    pub(crate) tables: Vec<Option<Name>>,
-    pub(crate) memories: Vec<Option<Name>>,
-    pub(crate) globals: Vec<Option<Name>>,
+    pub(crate) reached: Reached,
     ghost few_entries: { entries tree.now < 2 ^ 32 },
     ghost symbols_are: { named_of symbols.indexes ≡ record { name = name.now; tree = tree.now } },
     ghost spaces_are: { around.named_of spaces ≡ record { name = name.now; tree = tree.now } },
     ghost func_symbols_are: { func_symbols.items ≡ map import_symbol (func_imports tree.now) },
-    ghost tables_are: { tables.items ≡ map (usable_symbol (record { name = name.now; tree = tree.now })) (table_imports tree.now) },
-    ghost memories_are: { memories.items ≡ map (usable_symbol (record { name = name.now; tree = tree.now })) (memory_imports tree.now) },
-    ghost globals_are: { globals.items ≡ map (usable_symbol (record { name = name.now; tree = tree.now })) (global_imports tree.now) },
+    ghost tables_are: { reached.tables.items ≡ map (usable_symbol (record { name = name.now; tree = tree.now })) (table_imports tree.now) },
+    ghost memories_are: { reached.memories.items ≡ map (usable_symbol (record { name = name.now; tree = tree.now })) (memory_imports tree.now) },
+    ghost globals_are: { reached.globals.items ≡ map (usable_symbol (record { name = name.now; tree = tree.now })) (global_imports tree.now) },
 }
 
 impl<'a> Source<'a> {
@@ -54,12 +52,7 @@ impl<'a> Source<'a> {
     {
         let tree = m.module();
         let symbols = Symbols::new(alloc, tree, name)?;
-        let Reached {
-            tables,
-            memories,
-            globals,
-            ..
-        } = Reached::new(alloc, &symbols)?;
+        let reached = Reached::new(alloc, &symbols)?;
         let func_symbols = func_symbols(alloc, &symbols.indexes)?;
         let spaces = IndexSpaces::new(alloc, m, name)?;
         Ok(Source {
@@ -69,9 +62,7 @@ impl<'a> Source<'a> {
             symbols,
             spaces,
             func_symbols,
-            tables,
-            memories,
-            globals,
+            reached,
         })
     }
 

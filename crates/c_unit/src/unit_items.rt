@@ -27,19 +27,25 @@ use w2c_base::Memory;
 use wasm_tree::SegmentEntry;
 use wasm_valid::ValidModule;
 
-/// The items of a module's unit that were not given yet.
+/// What the unit of a module has of each kind, where that is no list of the module's own.
 #[derive(Drop)]
-pub struct UnitItems<'a> {
-    source: Source<'a>,
+struct Listed<'a> {
     pointers: Vec<CType>,
     arrays: Vec<(usize, &'a SegmentEntry)>,
     declared: Vec<Symbol<'a>>,
     helpers: Vec<Helper>,
+}
+
+/// The items of a module's unit that were not given yet.
+#[derive(Drop)]
+pub struct UnitItems<'a> {
+    source: Source<'a>,
+    listed: Listed<'a>,
     number: usize,
-    ghost pointers_are: { pointers.items ≡ map (pointed source.tree.now) (global_imports source.tree.now) },
-    ghost arrays_are: { map bytes_of arrays.items ≡ byte_segments source.tree.now },
-    ghost declared_are: { map pair_of declared.items ≡ declared_symbols (module_of source) },
-    ghost helpers_are: { helpers.items ≡ helpers_of source.tree.now },
+    ghost pointers_are: { listed.pointers.items ≡ map (pointed source.tree.now) (global_imports source.tree.now) },
+    ghost arrays_are: { map bytes_of listed.arrays.items ≡ byte_segments source.tree.now },
+    ghost declared_are: { map pair_of listed.declared.items ≡ declared_symbols (module_of source) },
+    ghost helpers_are: { listed.helpers.items ≡ helpers_of source.tree.now },
 }
 
 fn pointer(alloc: Global, ty: CType, object: &[u8]) -> Result<Item, Memory>
@@ -65,6 +71,27 @@ fn declared_item(alloc: Global, symbol: &Symbol) -> Result<Item, Memory>
     declaration(alloc, symbol)
 }
 
+impl<'a> Listed<'a> {
+    fn new(source: &Source<'a>) -> Result<Listed<'a>, Memory>
+        ensures pointers { IfOk result (λ listed. listed.pointers.items ≡ map (pointed source.now.tree.now) (global_imports source.now.tree.now)) }
+        ensures arrays { IfOk result (λ listed. map bytes_of listed.arrays.items ≡ byte_segments source.now.tree.now) }
+        ensures declared { IfOk result (λ listed. map pair_of listed.declared.items ≡ declared_symbols (module_of source.now)) }
+        ensures helpers { IfOk result (λ listed. listed.helpers.items ≡ helpers_of source.now.tree.now) }
+    {
+        let alloc = source.alloc;
+        let pointers = global_pointers(alloc, source.tree)?;
+        let arrays = with_bytes(alloc, source.tree)?;
+        let declared = declared(alloc, &source.symbols)?;
+        let helpers = helpers(alloc, source.tree)?;
+        Ok(Listed {
+            pointers,
+            arrays,
+            declared,
+            helpers,
+        })
+    }
+}
+
 impl<'a> UnitItems<'a> {
     ghost use Rattle.c_unit.specs.Items.{items};
     ghost use Rattle.c_unit.specs.Tails as tail;
@@ -75,16 +102,10 @@ impl<'a> UnitItems<'a> {
         ensures left { IfOk result (λ u. tail.left_of u ≡ of.items_of m.now name.now) }
     {
         let source = Source::new(alloc, m, name)?;
-        let pointers = global_pointers(alloc, source.tree)?;
-        let arrays = with_bytes(alloc, source.tree)?;
-        let declared = declared(alloc, &source.symbols)?;
-        let helpers = helpers(alloc, source.tree)?;
+        let listed = Listed::new(&source)?;
         Ok(UnitItems {
             source,
-            pointers,
-            arrays,
-            declared,
-            helpers,
+            listed,
             number: 0,
         })
     }
@@ -96,7 +117,6 @@ impl<'a> UnitItems<'a> {
         header_by(self.source.alloc, &self.source.symbols.indexes)
     }
 
-    #[tactic(auto, using(crate::proofs::Parted::found, crate::proofs::Parted::passed))]
     fn at_tables(&self, n: usize) -> Result<Option<Item>, Memory>
         ensures { IfOk result (λ item. option_map item_of item ≡ slice_get (tail.from_tables (module_of self.now.source)) n) }
     {
@@ -107,7 +127,6 @@ impl<'a> UnitItems<'a> {
         }
     }
 
-    #[tactic(auto, using(crate::proofs::Parted::found, crate::proofs::Parted::passed))]
     fn at_memories(&self, n: usize) -> Result<Option<Item>, Memory>
         ensures { IfOk result (λ item. option_map item_of item ≡ slice_get (tail.from_memories (module_of self.now.source)) n) }
     {
@@ -118,7 +137,6 @@ impl<'a> UnitItems<'a> {
         }
     }
 
-    #[tactic(auto, using(crate::proofs::Standing::global_there, crate::proofs::Standing::global_past))]
     fn at_globals(&self, n: usize) -> Result<Option<Item>, Memory>
         ensures { IfOk result (λ item. option_map item_of item ≡ slice_get (tail.from_globals (module_of self.now.source)) n) }
     {
@@ -129,64 +147,58 @@ impl<'a> UnitItems<'a> {
         }
     }
 
-    #[tactic(auto, using(crate::proofs::Standing::memory_there, crate::proofs::Standing::memory_past))]
     fn at_pointers(&self, n: usize) -> Result<Option<Item>, Memory>
         ensures { IfOk result (λ item. option_map item_of item ≡ slice_get (tail.from_pointers (module_of self.now.source)) n) }
     {
         let alloc = self.source.alloc;
-        let memories = self.source.memories.as_slice();
+        let memories = self.source.reached.memories.as_slice();
         match memories.get(n) {
             Some(_) => Ok(Some(pointer(alloc, CType::PtrMem, b"m0")?)),
             None => self.at_table_pointers(n.saturating_sub(memories.len())),
         }
     }
 
-    #[tactic(auto, using(crate::proofs::Standing::table_there, crate::proofs::Standing::table_past))]
     fn at_table_pointers(&self, n: usize) -> Result<Option<Item>, Memory>
         ensures { IfOk result (λ item. option_map item_of item ≡ slice_get (tail.from_table_pointers (module_of self.now.source)) n) }
     {
         let alloc = self.source.alloc;
-        let tables = self.source.tables.as_slice();
+        let tables = self.source.reached.tables.as_slice();
         match tables.get(n) {
             Some(_) => Ok(Some(pointer(alloc, CType::PtrTab, b"t0")?)),
             None => self.at_global_pointers(n.saturating_sub(tables.len())),
         }
     }
 
-    #[tactic(auto, using(crate::proofs::Standing::global_pointer_there, crate::proofs::Standing::global_pointer_past))]
     fn at_global_pointers(&self, n: usize) -> Result<Option<Item>, Memory>
         ensures { IfOk result (λ item. option_map item_of item ≡ slice_get (tail.from_global_pointers (module_of self.now.source)) n) }
     {
-        let pointers = self.pointers.as_slice();
+        let pointers = self.listed.pointers.as_slice();
         match pointers.get(n) {
             Some(ty) => Ok(Some(global_pointer(self.source.alloc, *ty, n)?)),
             None => self.at_data(n.saturating_sub(pointers.len())),
         }
     }
 
-    #[tactic(auto, using(crate::proofs::Standing::array_there, crate::proofs::Standing::array_past))]
     fn at_data(&self, n: usize) -> Result<Option<Item>, Memory>
         ensures { IfOk result (λ item. option_map item_of item ≡ slice_get (tail.from_data (module_of self.now.source)) n) }
     {
-        let arrays = self.arrays.as_slice();
+        let arrays = self.listed.arrays.as_slice();
         match arrays.get(n) {
             Some(entry) => Ok(Some(array(self.source.alloc, entry.0, entry.1)?)),
             None => self.at_declared(n.saturating_sub(arrays.len())),
         }
     }
 
-    #[tactic(auto, using(crate::proofs::Standing::declared_there, crate::proofs::Standing::declared_past))]
     fn at_declared(&self, n: usize) -> Result<Option<Item>, Memory>
         ensures { IfOk result (λ item. option_map item_of item ≡ slice_get (tail.from_declared (module_of self.now.source)) n) }
     {
-        let declared = self.declared.as_slice();
+        let declared = self.listed.declared.as_slice();
         match declared.get(n) {
             Some(symbol) => Ok(Some(declared_item(self.source.alloc, symbol)?)),
             None => self.at_prototypes(n.saturating_sub(declared.len())),
         }
     }
 
-    #[tactic(auto, using(crate::proofs::Standing::prototype_there, crate::proofs::Standing::prototype_past))]
     fn at_prototypes(&self, n: usize) -> Result<Option<Item>, Memory>
         ensures { IfOk result (λ item. option_map item_of item ≡ slice_get (tail.from_prototypes (module_of self.now.source)) n) }
     {
@@ -198,18 +210,16 @@ impl<'a> UnitItems<'a> {
         }
     }
 
-    #[tactic(auto, using(crate::proofs::Standing::helper_there, crate::proofs::Standing::helper_past))]
     fn at_helpers(&self, n: usize) -> Result<Option<Item>, Memory>
         ensures { IfOk result (λ item. option_map item_of item ≡ slice_get (tail.from_helpers (module_of self.now.source)) n) }
     {
-        let helpers = self.helpers.as_slice();
+        let helpers = self.listed.helpers.as_slice();
         match helpers.get(n) {
             Some(which) => Ok(Some(helper_item(self.source.alloc, *which)?)),
             None => self.at_bodies(n.saturating_sub(helpers.len())),
         }
     }
 
-    #[tactic(auto, using(crate::proofs::Standing::body_there, crate::proofs::Standing::body_past))]
     fn at_bodies(&self, n: usize) -> Result<Option<Item>, Memory>
         ensures { IfOk result (λ item. option_map item_of item ≡ slice_get (tail.from_bodies (module_of self.now.source)) n) }
     {
@@ -221,7 +231,6 @@ impl<'a> UnitItems<'a> {
         }
     }
 
-    #[tactic(auto, using(crate::proofs::Parted::found, crate::proofs::Parted::passed))]
     fn at_exports(&self, n: usize) -> Result<Option<Item>, Memory>
         ensures { IfOk result (λ item. option_map item_of item ≡ slice_get (tail.from_exports (module_of self.now.source)) n) }
     {
@@ -250,7 +259,6 @@ impl<'a> UnitItems<'a> {
     }
 
     /// The next item, None exactly where all were given. Where memory was wanting, it can be asked for again.
-    #[tactic(auto, using(crate::proofs::Countable::next_number, crate::proofs::Standing::gives_next, crate::proofs::Wholes::gives_none))]
     pub fn next(&mut self, _alloc: Global) -> Result<Option<Item>, Memory>
         ensures given { IfOk result (λ item. tail.Given (option_map item_of item) (tail.left_of self.old) (tail.left_of self.new)) }
         ensures module { module_of self.new.source ≡ module_of self.old.source }

@@ -2,6 +2,8 @@
 ghost use Rattle.std.specs.Prelude.{◌≡◌, IfOk};
 ghost use Rattle.c_tree.specs.View.{unit_of};
 ghost use Rattle.c_unit.specs.Items.{header_of, items_of};
+ghost use Rattle.c_unit.specs.Sources.{module_of};
+ghost use Rattle.c_unit.specs.Tails.{left_of};
 
 use crate::unit_items::UnitItems;
 use c_tree::{Header, Unit};
@@ -10,16 +12,30 @@ use w2c_base::Memory;
 use wasm_valid::ValidModule;
 
 /// The unit of a module under a name, and its header. `UnitItems` gives the same an item at a time.
-#[tactic(auto, using(crate::proofs::AllGiven::fewer))]
 pub fn unit(alloc: Global, m: &ValidModule, name: &[u8]) -> Result<(Unit, Header), Memory>
     ensures unit { IfOk result (λ made. unit_of made.0 ≡ items_of m.now name.now) }
     ensures header { IfOk result (λ made. made.1 ≡ header_of m.now name.now) }
 {
     let mut items = UnitItems::new(alloc, m, name)?;
+    unit_and_header(alloc, &mut items)
+}
+
+fn unit_and_header(alloc: Global, items: &mut UnitItems) -> Result<(Unit, Header), Memory>
+    ensures unit { IfOk result (λ made. unit_of made.0 ≡ left_of items.old) }
+    ensures header { IfOk result (λ made. made.1 ≡ header_of (module_of items.old.source).tree (module_of items.old.source).name) }
+{
     let header = items.header()?;
+    let unit = unit_of_rest(alloc, items)?;
+    Ok((unit, header))
+}
+
+// The unit of the items that were not given yet.
+fn unit_of_rest(alloc: Global, items: &mut UnitItems) -> Result<Unit, Memory>
+    ensures { IfOk result (λ unit. unit_of unit ≡ left_of items.old) }
+{
     let mut unit = Unit::new(alloc);
     'more: while let Some(item) = items.next(alloc)? {
         unit.push(item)?;
     }
-    Ok((unit, header))
+    Ok(unit)
 }

@@ -21,8 +21,6 @@ mod top;
 mod trimming;
 mod work;
 mod writing;
-#[cfg(test)]
-mod writing_tests;
 
 use c_hosts::BoxedHost;
 use env::Env;

@@ -1,5 +1,4 @@
-// The program over files in memory: a run of two units with a host, a journal, units that are written, and faults of the outside.
-// Rows say what other command lines come to (bench/rows).
+// Hosts are dropped once, whatever a run comes to. Rows say what command lines come to (bench/rows).
 use crate::env::Env;
 use crate::top::crun_top;
 use c_hosts::{BoxedHost, HostFunction, HostModule, HostReply};
@@ -9,7 +8,7 @@ use std::cell::Cell;
 use std::rc::Rc;
 use std::test::Fail;
 use w2c_base::Value;
-use w2c_io::{FileCall, Files, MemFiles, MemSink};
+use w2c_io::{MemFiles, MemSink};
 
 // A module `a` with a variable, a memory and a table, which counts by the host `env`.
 const A_C: &str = "#include \"w2c_rt.h\"
@@ -58,148 +57,6 @@ fn files_of(alloc: Global, calls: &str) -> Result<MemFiles, Fail> {
     files.add("d.c", D_C.as_bytes())?;
     files.add("calls", calls.as_bytes())?;
     Ok(files)
-}
-
-// The status of these words over the files with this text of calls, with the host `env`.
-fn status_of(
-    alloc: Global,
-    words: &[&str],
-    calls: &str,
-    out: &mut MemSink,
-    err: &mut MemSink,
-) -> Result<u8, Fail> {
-    let mut files = files_of(alloc, calls)?;
-    status_over(alloc, words, &mut files, out, err)
-}
-
-// The status of these words over files, with the host `env`.
-fn status_over(
-    alloc: Global,
-    words: &[&str],
-    files: &mut MemFiles,
-    out: &mut MemSink,
-    err: &mut MemSink,
-) -> Result<u8, Fail> {
-    let words = text_of(alloc, words)?;
-    let host = Box::new(alloc, Env::new(alloc)?)?;
-    let mut hosts = Vec::new(alloc);
-    hosts.push(BoxedHost { host })?;
-    Ok(crun_top(alloc, words.as_slice(), files, out, err, hosts))
-}
-
-#[test]
-fn a_run(rt: HostRuntime) -> Result<(), Fail> {
-    let alloc = rt.alloc();
-    let mut out = MemSink::new(alloc);
-    let mut err = MemSink::new(alloc);
-    let words = ["--steps", "1000", "--calls", "calls", "a.c", "b.c"];
-    let status = status_of(alloc, &words, "a tick\n\nb over 9 2\n", &mut out, &mut err)?;
-    assert!(rt; status == 0);
-    assert_eq!(rt;
-        out.bytes(),
-        b"host env tick = i64:1\ncall 1 = i64:1\ncall 2 = i32:2\n".as_slice()
-    );
-    assert_eq!(rt; err.bytes(), b"".as_slice());
-    Ok(())
-}
-
-#[test]
-fn a_line_that_is_not_written(rt: HostRuntime) -> Result<(), Fail> {
-    let alloc = rt.alloc();
-    let mut out = MemSink::new(alloc);
-    let mut err = MemSink::new(alloc);
-    out.fail(2)?;
-    err.fail(1)?;
-    let words = ["--steps", "100", "--calls", "calls", "a.c"];
-    let status = status_of(alloc, &words, "a half 8\na half 9\n", &mut out, &mut err)?;
-    assert!(rt; status == 4);
-    assert_eq!(rt; out.bytes(), b"call 1 = i32:4\ncall 2 ".as_slice());
-    assert_eq!(rt; err.bytes(), b"crun: wri".as_slice());
-    Ok(())
-}
-
-const JOURNAL: &str = "module env
-function put_i32 i32 = none
-function put_i64 i64 = none
-function tick = i64
-host env tick = i64:1
-host env tick = i64:2
-";
-
-const TICKS: &str = "host env tick = i64:1
-call 1 = i64:1
-host env tick = i64:2
-call 2 = i64:2
-";
-
-const RECORDS: &[&str] = &[
-    "--steps", "1000", "--calls", "calls", "--record", "j", "a.c",
-];
-
-const REPLAYS: &[&str] = &[
-    "--steps", "1000", "--calls", "calls", "--replay", "j", "--record", "k", "a.c",
-];
-
-#[test]
-fn a_recorded_run_is_replayed(rt: HostRuntime) -> Result<(), Fail> {
-    let alloc = rt.alloc();
-    let mut files = files_of(alloc, "a tick\na tick\n")?;
-    let mut out = MemSink::new(alloc);
-    let mut err = MemSink::new(alloc);
-    let recorded = status_over(alloc, RECORDS, &mut files, &mut out, &mut err)?;
-    assert!(rt; recorded == 0);
-    assert_eq!(rt; out.bytes(), TICKS.as_bytes());
-    assert_eq!(rt; files.get("j"), Some(JOURNAL.as_bytes()));
-    let mut again = MemSink::new(alloc);
-    let replayed = status_over(alloc, REPLAYS, &mut files, &mut again, &mut err)?;
-    assert!(rt; replayed == 0);
-    assert_eq!(rt; again.bytes(), TICKS.as_bytes());
-    assert!(rt; files.get("k").is_some());
-    Ok(())
-}
-
-#[test]
-fn a_journal_that_is_not_written(rt: HostRuntime) -> Result<(), Fail> {
-    let alloc = rt.alloc();
-    let mut files = files_of(alloc, "a tick\na tick\n")?;
-    files.fail(FileCall::Put, 1)?;
-    let mut out = MemSink::new(alloc);
-    let mut err = MemSink::new(alloc);
-    let status = status_over(alloc, RECORDS, &mut files, &mut out, &mut err)?;
-    assert!(rt; status == 4);
-    assert_eq!(rt; out.bytes(), TICKS.as_bytes());
-    assert_eq!(rt; err.bytes(), b"crun: write fault\n".as_slice());
-    Ok(())
-}
-
-#[test]
-fn units_are_written(rt: HostRuntime) -> Result<(), Fail> {
-    let alloc = rt.alloc();
-    let rows: [(&[&str], u8, &str); 4] = [
-        (&["--merge", "m.c", "a.c", "b.c"], 0, ""),
-        (&["--trim", "m.c", "a.c"], 0, ""),
-        (
-            &["--merge", "m.c", "b.c"],
-            6,
-            "crun: b.c: undefined w2cZ_aZ_fZ_half\n",
-        ),
-        (
-            &["--merge", "m.c", "d.c", "d.c"],
-            6,
-            "crun: d.c: twice w2cZ_dZ_fZ_stop\n",
-        ),
-    ];
-    for (words, status, line) in rows {
-        let mut files = files_of(alloc, "b over 9 2\n")?;
-        let mut out = MemSink::new(alloc);
-        let mut err = MemSink::new(alloc);
-        let came = status_over(alloc, words, &mut files, &mut out, &mut err)?;
-        assert!(rt; came == status, "{line}");
-        assert_eq!(rt; out.bytes(), b"".as_slice());
-        assert_eq!(rt; err.bytes(), line.as_bytes());
-        assert!(rt; files.get("m.c").is_some() == (status == 0));
-    }
-    Ok(())
 }
 
 // The host `env`, with a counter of drops.

@@ -171,7 +171,7 @@ pub fn read_journal_file<F: Files>(
 }
 
 // Why one file is not read.
-#[derive(Debug, Drop)]
+#[derive(Drop)]
 enum FileStop {
     Unread(String),
     TooLong,

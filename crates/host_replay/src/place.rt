@@ -10,7 +10,7 @@ use w2c_base::{Bytes, Memory};
 use w2c_mangle::{SymbolKind, export_symbol};
 
 /// The number of a module, and of a function of it, both from 0.
-#[derive(Clone, Copy, Debug, PartialEq, Eq)]
+#[derive(Clone, Copy)]
 pub(crate) struct Place {
     pub(crate) host: usize,
     pub(crate) function: usize,

@@ -12,7 +12,7 @@ use wasm_valid::ValidCause;
 use wasm2c_words::NoLine;
 
 /// Why a file is refused.
-#[derive(Clone, Copy, Debug, PartialEq, Eq)]
+#[derive(Clone, Copy)]
 pub enum Reason {
     /// What is wrong with the field at this place.
     Malformed(u32, Cause),

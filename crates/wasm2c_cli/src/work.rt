@@ -14,7 +14,7 @@ use w2c_io::Files;
 use wasm2c_words::{Line, read_words};
 
 /// What the work came to.
-#[derive(Clone, Copy, Debug, PartialEq, Eq)]
+#[derive(Clone, Copy)]
 pub enum Finished {
     /// All files are written.
     Written,

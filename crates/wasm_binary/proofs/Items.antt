@@ -1,5 +1,31 @@
 -- The loop over instructions, and one turn of it.
-use Rattle.std.proofs.Common.{◌≡◌, ℕ, zero, suc, ◌-◌, ◌<◌, Bool, true, false, ◌&&◌, cond, eqb, length, Option, Some, None, Result, Ok, Err, refl, sym, ap, subst, ◌∙◌, arith}
+use Rattle.std.proofs.Common.{
+  ◌≡◌,
+  ℕ,
+  zero,
+  suc,
+  ◌-◌,
+  ◌<◌,
+  Bool,
+  true,
+  false,
+  ◌&&◌,
+  cond,
+  eqb,
+  length,
+  Option,
+  Some,
+  None,
+  Result,
+  Ok,
+  Err,
+  refl,
+  sym,
+  ap,
+  subst,
+  ◌∙◌,
+  arith,
+}
 use Rattle.std.proofs.lemmas.Bool.{eqb-true, and_parts}
 use Rattle.wasm_tree.specs.Instructions.{Code, end_code, then_code, Kind}
 use Rattle.wasm_tree.specs.InstructionTable.{Form, row_of}
@@ -10,8 +36,38 @@ use Rattle.wasm_spelling.specs.declared.fault.ReadFault.TheVariants.{Malformed, 
 use Rattle.wasm_spelling.specs.declared.fault.Cause.TheVariants as cause
 use Rattle.wasm_spelling.specs.declared.fault.Which.TheVariants as which
 use Rattle.wasm_spelling.specs.At.{At}
-use Rattle.wasm_spelling.specs.Steps.{◌>>=◌, Reader, reads, checked, byte_at, Head, a_block, a_loop, an_if, opened, formed, is_float, head_of}
-use Rattle.wasm_spelling.specs.Reading.{Ender, by_end, by_else, Item, closed, one, as_one, item_of, item_at, put_before, after_item, items_at, block_of, block_at, code_at}
+use Rattle.wasm_spelling.specs.Steps.{
+  ◌>>=◌,
+  Reader,
+  reads,
+  checked,
+  byte_at,
+  Head,
+  a_block,
+  a_loop,
+  an_if,
+  opened,
+  formed,
+  is_float,
+  head_of,
+}
+use Rattle.wasm_spelling.specs.Reading.{
+  Ender,
+  by_end,
+  by_else,
+  Item,
+  closed,
+  one,
+  as_one,
+  item_of,
+  item_at,
+  put_before,
+  after_item,
+  items_at,
+  block_of,
+  block_at,
+  code_at,
+}
 use Rattle.wasm_spelling.proofs.CodeTaken.{item_takes, block_takes}
 use Rattle.wasm_binary.specs.View.{Fails}
 use Rattle.wasm_binary.specs.Opcodes.{plain_at, by_form}
@@ -231,19 +287,3 @@ plain_item room may_else a op b e n11 n5 n =
     ∙ ap (λ (r : Result Head ReadFault). (r >>= λ h. Ok (h, b)) >>= by_head room a.place)
     (rw (unequal op 0x0B (eqb op 0x0B) refl n11, n5, n.no_block, n.no_loop, n.no_if) refl)
     ∙ form_item room a.place op b (form_in (row_of op))
-
--- what an instruction that was read is in the list
-pub as_one_item : (p : ℕ) (r : Result (Kind × At) ReadFault) (k : Kind) (b : At) (whole : Result (Item × At) ReadFault)
-    → whole ≡ (r >>= λ x. Ok (one p x.0, x.1)) → r ≡ Ok (k, b) → whole ≡ Ok (one p k, b)
-as_one_item p r k b whole w e = w ∙ ap (λ (x : Result (Kind × At) ReadFault). x >>= λ x. Ok (one p x.0, x.1)) e
-
-fails_whole : (p : ℕ) (r : Result (Kind × At) ReadFault) (f : ReadFault) (whole : Result (Item × At) ReadFault)
-    → whole ≡ (r >>= λ x. Ok (one p x.0, x.1)) → r ≡ Err f → whole ≡ Err f
-fails_whole p r f whole w e = w ∙ ap (λ (x : Result (Kind × At) ReadFault). x >>= λ x. Ok (one p x.0, x.1)) e
-
-pub fails_as_item : (p : ℕ) (r : Result (Kind × At) ReadFault) (f : ReadFault) (whole : Result (Item × At) ReadFault)
-    → whole ≡ (r >>= λ x. Ok (one p x.0, x.1)) → Fails f r → Fails f whole
-fails_as_item p r Memory whole w e = tt
-fails_as_item p r (Malformed q c) whole w e = fails_whole p r _ whole w e
-fails_as_item p r (Float q) whole w e = fails_whole p r _ whole w e
-fails_as_item p r (Limit q l) whole w e = fails_whole p r _ whole w e

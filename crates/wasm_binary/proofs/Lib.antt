@@ -2,6 +2,5 @@ pub mod Loop
 pub mod Utf8
 pub mod Instructions
 pub mod Items
-pub mod Section
 pub mod SectionLoop
 pub mod Result

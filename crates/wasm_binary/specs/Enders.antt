@@ -1,10 +1,11 @@
 -- What closes instructions, and what opens them, as the reader returns them.
-use Rattle.std.specs.Prelude.{ℕ, Option, Some, None, ◌==◌, if◌then◌else◌}
+use Rattle.std.specs.Prelude.{ℕ, Option, Result, Ok, Some, None, ◌==◌, if◌then◌else◌}
 use Rattle.wasm_tree.specs.declared.code.Kind.{Kind as RustKind}
 use Rattle.wasm_tree.specs.Instructions.{Code, Kind}
 use Rattle.wasm_tree.specs.Views.{kind_tree}
 use Rattle.wasm_spelling.specs.At.{At}
-use Rattle.wasm_spelling.specs.Steps.{Head, a_block, a_loop, an_if}
+use Rattle.wasm_spelling.specs.declared.fault.ReadFault.{ReadFault}
+use Rattle.wasm_spelling.specs.Steps.{◌>>=◌, Head, a_block, a_loop, an_if}
 use Rattle.wasm_spelling.specs.Reading as reading
 use Rattle.wasm_binary.specs.declared.rest.Rest.{Rest}
 use Rattle.wasm_binary.specs.declared.code.Ender.{Ender}
@@ -33,6 +34,10 @@ as_kind x = (kind_tree x.0, at x.1)
 
 abbrev pub as_item : Item × Rest → reading.Item × At
 as_item x = (item_of x.0, at x.1)
+
+-- an instruction that was read, whose opcode stood at a place
+abbrev pub as_one : ℕ → Result (Kind × At) ReadFault → Result (reading.Item × At) ReadFault
+as_one place read = read >>= λ x. Ok (reading.one place x.0, x.1)
 
 abbrev pub as_code : (Code × Ender) × Rest → (Code × reading.Ender) × At
 as_code x = ((x.0.0, ender_of x.0.1), at x.1)

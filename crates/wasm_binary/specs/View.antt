@@ -3,6 +3,7 @@ use Rattle.std.specs.Prelude.{◌≡◌, ◌≢◌, Result, Ok, Err}
 use Rattle.wasm_spelling.specs.declared.fault.ReadFault.{ReadFault}
 use Rattle.wasm_spelling.specs.declared.fault.ReadFault.TheVariants.{Malformed, Float, Limit, Memory}
 use Rattle.wasm_spelling.specs.At as spelling
+use Rattle.wasm_spelling.specs.Steps.{◌>>=◌}
 use Rattle.wasm_binary.specs.declared.rest.Counts.{Counts}
 use Rattle.wasm_binary.specs.declared.rest.Rest.{Rest}
 
@@ -35,6 +36,10 @@ Gives view (Err fault) read = Fails fault read
 -- a value and the place behind it
 abbrev pub seen : {X : Type 0} → X × Rest → X × spelling.At
 seen x = (x.0, at x.1)
+
+-- what was read, without the place behind it
+abbrev pub value_in : {X : Type 0} → Result (X × spelling.At) ReadFault → Result X ReadFault
+value_in read = read >>= λ x. Ok x.0
 
 -- this is the result, unless memory was wanting
 abbrev pub UnlessMemory : {A : Type 0} → Result A ReadFault → Result A ReadFault → Type 0

@@ -83,8 +83,10 @@ impl Entry for Run {
     #[tactic(auto, unfolding(wasm_spelling::specs::Steps::reads, wasm_spelling::specs::Reading::run_at))]
     fn read(_alloc: Global, rest: Rest) -> Result<(Self::Item, Rest), ReadFault> {
         let (count, rest) = run_count(rest)?;
-        let (ty, rest) = value_type(rest)?;
-        Ok((Run { count, ty }, rest))
+        match value_type(rest) {
+            Ok((ty, rest)) => Ok((Run { count, ty }, rest)),
+            Err(fault) => Err(fault),
+        }
     }
 }
 

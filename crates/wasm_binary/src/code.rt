@@ -1,13 +1,15 @@
 // Instructions and expressions (WebAssembly Core 1.0, 5.4; Core 2.0, 5.4.6, for the byte FC).
-ghost use Rattle.std.specs.Prelude.{◌≡◌, ◌==◌, ◌&&◌, false, true, option_map};
+ghost use Rattle.std.specs.Prelude.{◌≡◌, ◌==◌, ◌&&◌, Result, false, true, option_map};
 ghost use Rattle.wasm_tree.specs.Parts.{HasOp};
-ghost use Rattle.wasm_tree.specs.Instructions.{BrTable, CallIndirect, MemorySize, MemoryGrow, I32Const, I64Const};
+ghost use Rattle.wasm_tree.specs.Instructions.{Kind as Tree, BrTable, CallIndirect, MemorySize, MemoryGrow, I32Const, I64Const};
 ghost use Rattle.wasm_tree.specs.InstructionTable.{labels, a_type, a_zero, an_i32, an_i64, a_sub_opcode, prefixed_of};
+ghost use Rattle.wasm_spelling.specs.declared.fault.ReadFault.{ReadFault as Fault};
+ghost use Rattle.wasm_spelling.specs.At.{At};
 ghost use Rattle.wasm_spelling.specs.Steps.{is_float as is_float_of, reads};
 ghost use Rattle.wasm_spelling.specs.Reading.{mem_arg_at, form_at, ender_place, block_of, if_closed, item_at, block_at, code_at, expression_at};
 ghost use Rattle.wasm_binary.specs.View.{Gives, at, seen};
 ghost use Rattle.wasm_binary.specs.Opcodes.{op_form, plain_at, fault_of, prefixed_row};
-ghost use Rattle.wasm_binary.specs.Enders.{as_kind, as_item, as_code, ender_of, head_of_opener, opener_head};
+ghost use Rattle.wasm_binary.specs.Enders.{as_kind, as_item, as_one, as_code, ender_of, head_of_opener, opener_head};
 
 use crate::fields::{byte, exactly, number, signed32, signed64, zero};
 use crate::rest::Rest;
@@ -53,8 +55,10 @@ fn mem_arg(rest: Rest) -> Result<(MemArg, Rest), ReadFault>
     ensures { Gives seen result (mem_arg_at (at rest.entry)) }
 {
     let (align, rest) = number(rest)?;
-    let (offset, rest) = number(rest)?;
-    Ok((MemArg { align, offset }, rest))
+    match number(rest) {
+        Ok((offset, rest)) => Ok((MemArg { align, offset }, rest)),
+        Err(fault) => Err(fault),
+    }
 }
 
 #[tactic(auto, unfolding(wasm_spelling::specs::Steps::reads, wasm_spelling::specs::Reading::form_at))]
@@ -62,8 +66,10 @@ fn branch_table(alloc: Global, rest: Rest) -> Result<(Kind, Rest), ReadFault>
     ensures { Gives as_kind result (form_at (labels BrTable) (at rest.entry)) }
 {
     let (targets, rest) = vector::<u32>(alloc, rest)?;
-    let (default, rest) = number(rest)?;
-    Ok((Kind::BrTable(targets, default), rest))
+    match number(rest) {
+        Ok((default, rest)) => Ok((Kind::BrTable(targets, default), rest)),
+        Err(fault) => Err(fault),
+    }
 }
 
 #[tactic(auto, unfolding(wasm_spelling::specs::Steps::reads, wasm_spelling::specs::Reading::form_at))]
@@ -71,40 +77,50 @@ fn indirect_call(rest: Rest) -> Result<(Kind, Rest), ReadFault>
     ensures { Gives as_kind result (form_at (a_type CallIndirect) (at rest.entry)) }
 {
     let (type_index, rest) = number(rest)?;
-    let rest = zero(rest)?;
-    Ok((Kind::CallIndirect(type_index), rest))
+    match zero(rest) {
+        Ok(rest) => Ok((Kind::CallIndirect(type_index), rest)),
+        Err(fault) => Err(fault),
+    }
 }
 
 #[tactic(auto, unfolding(wasm_spelling::specs::Steps::reads, wasm_spelling::specs::Reading::form_at))]
 fn memory_size(rest: Rest) -> Result<(Kind, Rest), ReadFault>
     ensures { Gives as_kind result (form_at (a_zero MemorySize) (at rest.entry)) }
 {
-    let rest = exactly(0x00, Cause::ZeroByteExpected, rest)?;
-    Ok((Kind::MemorySize, rest))
+    match exactly(0x00, Cause::ZeroByteExpected, rest) {
+        Ok(rest) => Ok((Kind::MemorySize, rest)),
+        Err(fault) => Err(fault),
+    }
 }
 
 #[tactic(auto, unfolding(wasm_spelling::specs::Steps::reads, wasm_spelling::specs::Reading::form_at))]
 fn memory_grow(rest: Rest) -> Result<(Kind, Rest), ReadFault>
     ensures { Gives as_kind result (form_at (a_zero MemoryGrow) (at rest.entry)) }
 {
-    let rest = exactly(0x00, Cause::ZeroByteExpected, rest)?;
-    Ok((Kind::MemoryGrow, rest))
+    match exactly(0x00, Cause::ZeroByteExpected, rest) {
+        Ok(rest) => Ok((Kind::MemoryGrow, rest)),
+        Err(fault) => Err(fault),
+    }
 }
 
 #[tactic(auto, unfolding(wasm_spelling::specs::Steps::reads, wasm_spelling::specs::Reading::form_at))]
 fn constant32(rest: Rest) -> Result<(Kind, Rest), ReadFault>
     ensures { Gives as_kind result (form_at (an_i32 I32Const) (at rest.entry)) }
 {
-    let (constant, rest) = signed32(rest)?;
-    Ok((Kind::I32Const(constant), rest))
+    match signed32(rest) {
+        Ok((constant, rest)) => Ok((Kind::I32Const(constant), rest)),
+        Err(fault) => Err(fault),
+    }
 }
 
 #[tactic(auto, unfolding(wasm_spelling::specs::Steps::reads, wasm_spelling::specs::Reading::form_at))]
 fn constant64(rest: Rest) -> Result<(Kind, Rest), ReadFault>
     ensures { Gives as_kind result (form_at (an_i64 I64Const) (at rest.entry)) }
 {
-    let (constant, rest) = signed64(rest)?;
-    Ok((Kind::I64Const(constant), rest))
+    match signed64(rest) {
+        Ok((constant, rest)) => Ok((Kind::I64Const(constant), rest)),
+        Err(fault) => Err(fault),
+    }
 }
 
 /// A byte 00 behind a sub-opcode.
@@ -171,20 +187,20 @@ fn with_operator(op: Op, rest: Rest) -> Result<(Kind, Rest), ReadFault>
 {
     match op {
         Op::Simple(op) => Ok((op.kind(), rest)),
-        Op::Index(op) => {
-            let (index, rest) = number(rest)?;
-            Ok((op.kind(index), rest))
-        }
-        Op::Access(op) => {
-            let (arg, rest) = mem_arg(rest)?;
-            Ok((op.kind(arg), rest))
-        }
+        Op::Index(op) => match number(rest) {
+            Ok((index, rest)) => Ok((op.kind(index), rest)),
+            Err(fault) => Err(fault),
+        },
+        Op::Access(op) => match mem_arg(rest) {
+            Ok((arg, rest)) => Ok((op.kind(arg), rest)),
+            Err(fault) => Err(fault),
+        },
         Op::Numeric(op) => Ok((op.kind(), rest)),
     }
 }
 
 /// The instruction of an opcode that is no operator's, which opens no block and closes none.
-#[tactic(auto, using(crate::proofs::Instructions::by_opcode, crate::proofs::Instructions::none_fails))]
+#[tactic(auto, using(crate::proofs::Instructions::none_fails))]
 fn without_operator(
     alloc: Global,
     place: u32,
@@ -259,6 +275,16 @@ enum Item {
     One(Instr),
 }
 
+/// An instruction that was read, with the place of its opcode.
+fn one(place: u32, read: Result<(Kind, Rest), ReadFault>) -> Result<(Item, Rest), ReadFault>
+    ensures { (given : Result (Tree × At) Fault) → Gives as_kind read.entry given → Gives as_item result (as_one place given) }
+{
+    match read {
+        Ok((kind, rest)) => Ok((Item::One(Instr { place, kind }), rest)),
+        Err(fault) => Err(fault),
+    }
+}
+
 /// What stands behind a block's opcode, where in it so many more blocks may be opened.
 #[cycle(instructions)]
 #[tactic(auto, unfolding(wasm_spelling::specs::Steps::reads))]
@@ -267,30 +293,34 @@ fn opened(alloc: Global, room: u32, opener: Opener, rest: Rest) -> Result<(Kind,
 {
     let (result, rest) = block_type(rest)?;
     match opener {
-        Opener::Block => {
-            let ((code, ender), rest) = instructions(alloc, room, false, rest)?;
-            let end_place = ender.place();
-            Ok((
-                Kind::Block {
-                    result,
-                    code,
-                    end_place,
-                },
-                rest,
-            ))
-        }
-        Opener::Loop => {
-            let ((code, ender), rest) = instructions(alloc, room, false, rest)?;
-            let end_place = ender.place();
-            Ok((
-                Kind::Loop {
-                    result,
-                    code,
-                    end_place,
-                },
-                rest,
-            ))
-        }
+        Opener::Block => match instructions(alloc, room, false, rest) {
+            Ok(((code, ender), rest)) => {
+                let end_place = ender.place();
+                Ok((
+                    Kind::Block {
+                        result,
+                        code,
+                        end_place,
+                    },
+                    rest,
+                ))
+            }
+            Err(fault) => Err(fault),
+        },
+        Opener::Loop => match instructions(alloc, room, false, rest) {
+            Ok(((code, ender), rest)) => {
+                let end_place = ender.place();
+                Ok((
+                    Kind::Loop {
+                        result,
+                        code,
+                        end_place,
+                    },
+                    rest,
+                ))
+            }
+            Err(fault) => Err(fault),
+        },
         Opener::If => branches(alloc, room, result, rest),
     }
 }
@@ -360,13 +390,9 @@ fn next_item(
             if room == 0 {
                 return Err(ReadFault::Limit(place, Which::BlockDepth));
             }
-            let (kind, rest) = opened(alloc, room - 1, opener, rest)?;
-            Ok((Item::One(Instr { place, kind }), rest))
+            one(place, opened(alloc, room - 1, opener, rest))
         }
-        None => {
-            let (kind, rest) = instruction(alloc, place, opcode, rest)?;
-            Ok((Item::One(Instr { place, kind }), rest))
-        }
+        None => one(place, instruction(alloc, place, opcode, rest)),
     }
 }
 

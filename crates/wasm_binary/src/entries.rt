@@ -70,8 +70,10 @@ impl Entry for TypeEntry {
     #[tactic(auto, unfolding(wasm_spelling::specs::Steps::reads, wasm_spelling::specs::Reading::type_entry_at))]
     fn read(alloc: Global, rest: Rest) -> Result<(Self::Item, Rest), ReadFault> {
         let place = rest.place;
-        let (ty, rest) = func_type(alloc, rest)?;
-        Ok((TypeEntry { place, ty }, rest))
+        match func_type(alloc, rest) {
+            Ok((ty, rest)) => Ok((TypeEntry { place, ty }, rest)),
+            Err(fault) => Err(fault),
+        }
     }
 }
 
@@ -81,18 +83,18 @@ fn imported(kind: ExportKind, rest: Rest) -> Result<(ImportKind, Rest), ReadFaul
     ensures { Gives seen result (import_kind_at kind (at rest.entry)) }
 {
     match kind {
-        ExportKind::Func => {
-            let (type_index, rest) = number(rest)?;
-            Ok((ImportKind::Func(type_index), rest))
-        }
-        ExportKind::Table => {
-            let (limits, rest) = table_type(rest)?;
-            Ok((ImportKind::Table(limits), rest))
-        }
-        ExportKind::Memory => {
-            let (limits, rest) = memory_type(rest)?;
-            Ok((ImportKind::Memory(limits), rest))
-        }
+        ExportKind::Func => match number(rest) {
+            Ok((type_index, rest)) => Ok((ImportKind::Func(type_index), rest)),
+            Err(fault) => Err(fault),
+        },
+        ExportKind::Table => match table_type(rest) {
+            Ok((limits, rest)) => Ok((ImportKind::Table(limits), rest)),
+            Err(fault) => Err(fault),
+        },
+        ExportKind::Memory => match memory_type(rest) {
+            Ok((limits, rest)) => Ok((ImportKind::Memory(limits), rest)),
+            Err(fault) => Err(fault),
+        },
         ExportKind::Global => {
             let (ty, rest) = value_type(rest)?;
             let (mutable, rest) = mutability(rest)?;
@@ -137,8 +139,10 @@ impl Entry for FuncEntry {
     #[tactic(auto, unfolding(wasm_spelling::specs::Steps::reads, wasm_spelling::specs::Reading::func_entry_at))]
     fn read(_alloc: Global, rest: Rest) -> Result<(Self::Item, Rest), ReadFault> {
         let place = rest.place;
-        let (type_index, rest) = number(rest)?;
-        Ok((FuncEntry { type_index, place }, rest))
+        match number(rest) {
+            Ok((type_index, rest)) => Ok((FuncEntry { type_index, place }, rest)),
+            Err(fault) => Err(fault),
+        }
     }
 }
 
@@ -155,8 +159,10 @@ impl Entry for TableEntry {
     #[tactic(auto, unfolding(wasm_spelling::specs::Steps::reads, wasm_spelling::specs::Reading::table_entry_at))]
     fn read(_alloc: Global, rest: Rest) -> Result<(Self::Item, Rest), ReadFault> {
         let place = rest.place;
-        let (limits, rest) = table_type(rest)?;
-        Ok((LimitsEntry { limits, place }, rest))
+        match table_type(rest) {
+            Ok((limits, rest)) => Ok((LimitsEntry { limits, place }, rest)),
+            Err(fault) => Err(fault),
+        }
     }
 }
 
@@ -173,8 +179,10 @@ impl Entry for MemoryEntry {
     #[tactic(auto, unfolding(wasm_spelling::specs::Steps::reads, wasm_spelling::specs::Reading::memory_entry_at))]
     fn read(_alloc: Global, rest: Rest) -> Result<(Self::Item, Rest), ReadFault> {
         let place = rest.place;
-        let (limits, rest) = memory_type(rest)?;
-        Ok((LimitsEntry { limits, place }, rest))
+        match memory_type(rest) {
+            Ok((limits, rest)) => Ok((LimitsEntry { limits, place }, rest)),
+            Err(fault) => Err(fault),
+        }
     }
 }
 
@@ -240,8 +248,10 @@ impl Entry for FuncRef {
     #[tactic(auto, unfolding(wasm_spelling::specs::Steps::reads, wasm_spelling::specs::Reading::func_ref_at))]
     fn read(_alloc: Global, rest: Rest) -> Result<(Self::Item, Rest), ReadFault> {
         let place = rest.place;
-        let (index, rest) = number(rest)?;
-        Ok((FuncRef { index, place }, rest))
+        match number(rest) {
+            Ok((index, rest)) => Ok((FuncRef { index, place }, rest)),
+            Err(fault) => Err(fault),
+        }
     }
 }
 
@@ -304,6 +314,8 @@ pub fn start(rest: Rest) -> Result<(Start, Rest), ReadFault>
     ensures { Gives seen result (start_at (at rest.entry)) }
 {
     let place = rest.place;
-    let (index, rest) = number(rest)?;
-    Ok((Start { index, place }, rest))
+    match number(rest) {
+        Ok((index, rest)) => Ok((Start { index, place }, rest)),
+        Err(fault) => Err(fault),
+    }
 }

@@ -1,13 +1,14 @@
 // A module's bytes (WebAssembly Core 1.0, 5.5.15).
-ghost use Rattle.std.specs.Prelude.{◌≡◌, ◌≤◌, ◌≢◌, length, IfOk, Ok, Err};
+ghost use Rattle.std.specs.Prelude.{◌≡◌, ◌≤◌, ◌≢◌, length, IfOk, Result, Ok, Err};
 ghost use Rattle.wasm_tree.specs.declared.tree.Module.{Module as Tree};
 ghost use Rattle.wasm_spelling.specs.declared.fault.ReadFault.{ReadFault as Fault};
 ghost use Rattle.wasm_spelling.specs.declared.fault.ReadFault.TheVariants.{Memory as memory_wanted};
 ghost use Rattle.wasm_spelling.specs.ModuleFields.{Spells};
 ghost use Rattle.wasm_spelling.specs.Places.{IsFormed};
+ghost use Rattle.wasm_spelling.specs.At.{At};
 ghost use Rattle.wasm_spelling.specs.Table.{Upto};
 ghost use Rattle.wasm_spelling.specs.Reading.{magic_at, version_at, file_at, no_module};
-ghost use Rattle.wasm_binary.specs.View.{Gives, at, seen, UnlessMemory};
+ghost use Rattle.wasm_binary.specs.View.{Gives, at, seen, value_in, UnlessMemory};
 
 use crate::fields::exactly;
 use crate::rest::{Counts, Rest};
@@ -56,6 +57,16 @@ fn empty(alloc: Global) -> Module
     }
 }
 
+/// What was read into, unless there is a fault.
+fn filled<T: Drop>(value: T, read: Result<Rest, ReadFault>) -> Result<T, ReadFault>
+    ensures { (given : Result (T × At) Fault) → Gives (λ x. (value, at x)) read.entry given → Gives (λ x. x) result (value_in given) }
+{
+    match read {
+        Ok(_) => Ok(value),
+        Err(fault) => Err(fault),
+    }
+}
+
 #[tactic(auto, unfolding(wasm_spelling::specs::Steps::reads, wasm_spelling::specs::Reading::module_at, wasm_spelling::specs::Reading::file_at))]
 fn read_file(alloc: Global, bytes: &[u8]) -> Result<Module, ReadFault>
     requires { length bytes.now ≤ 8388608 }
@@ -76,8 +87,9 @@ fn read_file(alloc: Global, bytes: &[u8]) -> Result<Module, ReadFault>
     };
     let rest = magic(start)?;
     let rest = version(rest)?;
-    let (module, _) = sections(alloc, empty(alloc), rest)?;
-    Ok(module)
+    let mut module = empty(alloc);
+    let read = sections(alloc, &mut module, rest);
+    filled(module, read)
 }
 
 /// The module that the bytes spell, all of the bytes.

@@ -1,7 +1,10 @@
 // Sections (WebAssembly Core 1.0, 5.5.2 and 5.5.3; Core 2.0, 5.5.16, for where the data count stands).
-ghost use Rattle.std.specs.Prelude.{◌≡◌, option_map};
+ghost use Rattle.std.specs.Prelude.{◌≡◌, Result, option_map};
+ghost use Rattle.wasm_tree.specs.declared.tree.Module.{Module as Tree};
+ghost use Rattle.wasm_spelling.specs.declared.fault.ReadFault.{ReadFault as Fault};
+ghost use Rattle.wasm_spelling.specs.At.{At};
 ghost use Rattle.wasm_spelling.specs.Steps.{part_of, section_id_at, bodies_done as are_done, data_done as is_done};
-ghost use Rattle.wasm_spelling.specs.ModuleFields.{rank_of};
+ghost use Rattle.wasm_spelling.specs.ModuleFields.{rank_of, start as the_start, data_count as the_data_count};
 ghost use Rattle.wasm_spelling.specs.Reading.{content_at, custom_at, part_at, all_sections_at};
 ghost use Rattle.wasm_binary.specs.View.{Gives, at, seen, counts_of};
 ghost use Rattle.wasm_binary.specs.Sections.{part_is, id_of_heading, behind_id, is_no_section};
@@ -153,143 +156,135 @@ fn next_heading(rest: Rest) -> Result<(Heading, Rest), ReadFault>
     }
 }
 
+/// A field of the module is what was read for it.
+fn put<'a, T: Drop>(
+    field: &mut T,
+    read: Result<(T, Rest<'a>), ReadFault>,
+) -> Result<Rest<'a>, ReadFault>
+    ensures { (given : Result (T × At) Fault) → Gives seen read.entry given → Gives (λ x. (field.new, at x)) result given }
+{
+    match read {
+        Ok((value, rest)) => {
+            *field = value;
+            Ok(rest)
+        }
+        Err(fault) => Err(fault),
+    }
+}
+
+#[tactic(auto, unfolding(wasm_spelling::specs::Steps::reads, wasm_spelling::specs::Reading::content_at))]
+fn start_content<'a>(module: &mut Module, rest: Rest<'a>) -> Result<Rest<'a>, ReadFault>
+    ensures { Gives (λ x. («module».new, at x)) result (content_at the_start «module».old (at rest.entry)) }
+{
+    match start(rest) {
+        Ok((entry, rest)) => {
+            module.start = Some(entry);
+            Ok(rest)
+        }
+        Err(fault) => Err(fault),
+    }
+}
+
+#[tactic(auto, unfolding(wasm_spelling::specs::Steps::reads, wasm_spelling::specs::Reading::content_at))]
+fn data_count_content<'a>(module: &mut Module, rest: Rest<'a>) -> Result<Rest<'a>, ReadFault>
+    ensures { Gives (λ x. («module».new, at x)) result (content_at the_data_count «module».old (at rest.entry)) }
+{
+    match data_count(rest) {
+        Ok((entry, rest)) => {
+            module.data_count = Some(entry);
+            Ok(rest)
+        }
+        Err(fault) => Err(fault),
+    }
+}
+
 /// The entries of a section, which are put into the module.
 #[tactic(auto, unfolding(wasm_spelling::specs::Steps::reads, wasm_spelling::specs::Reading::content_at))]
-fn content(
+fn content<'a>(
     alloc: Global,
     part: Part,
-    module: Module,
-    rest: Rest,
-) -> Result<(Module, Rest), ReadFault>
-    ensures { Gives seen result (content_at (part_is part) «module» (at rest.entry)) }
+    module: &mut Module,
+    rest: Rest<'a>,
+) -> Result<Rest<'a>, ReadFault>
+    ensures { Gives (λ x. («module».new, at x)) result (content_at (part_is part) «module».old (at rest.entry)) }
 {
-    let mut module = module;
     match part {
-        Part::Types => {
-            let (entries, rest) = vector::<TypeEntry>(alloc, rest)?;
-            module.types = entries;
-            Ok((module, rest))
-        }
-        Part::Imports => {
-            let (entries, rest) = vector::<Import>(alloc, rest)?;
-            module.imports = entries;
-            Ok((module, rest))
-        }
-        Part::Functions => {
-            let (entries, rest) = function_entries(alloc, rest)?;
-            module.funcs = entries;
-            Ok((module, rest))
-        }
-        Part::Tables => {
-            let (entries, rest) = vector::<TableEntry>(alloc, rest)?;
-            module.tables = entries;
-            Ok((module, rest))
-        }
-        Part::Memories => {
-            let (entries, rest) = vector::<MemoryEntry>(alloc, rest)?;
-            module.memories = entries;
-            Ok((module, rest))
-        }
-        Part::Globals => {
-            let (entries, rest) = vector::<GlobalEntry>(alloc, rest)?;
-            module.globals = entries;
-            Ok((module, rest))
-        }
-        Part::Exports => {
-            let (entries, rest) = vector::<Export>(alloc, rest)?;
-            module.exports = entries;
-            Ok((module, rest))
-        }
-        Part::Start => {
-            let (entry, rest) = start(rest)?;
-            module.start = Some(entry);
-            Ok((module, rest))
-        }
-        Part::Elements => {
-            let (entries, rest) = vector::<ElementEntry>(alloc, rest)?;
-            module.elements = entries;
-            Ok((module, rest))
-        }
-        Part::DataCount => {
-            let (entry, rest) = data_count(rest)?;
-            module.data_count = Some(entry);
-            Ok((module, rest))
-        }
-        Part::Code => {
-            let (entries, rest) = bodies(alloc, rest)?;
-            module.bodies = entries;
-            Ok((module, rest))
-        }
-        Part::Segments => {
-            let (entries, rest) = segments(alloc, rest)?;
-            module.segments = entries;
-            Ok((module, rest))
-        }
+        Part::Types => put(&mut module.types, vector::<TypeEntry>(alloc, rest)),
+        Part::Imports => put(&mut module.imports, vector::<Import>(alloc, rest)),
+        Part::Functions => put(&mut module.funcs, function_entries(alloc, rest)),
+        Part::Tables => put(&mut module.tables, vector::<TableEntry>(alloc, rest)),
+        Part::Memories => put(&mut module.memories, vector::<MemoryEntry>(alloc, rest)),
+        Part::Globals => put(&mut module.globals, vector::<GlobalEntry>(alloc, rest)),
+        Part::Exports => put(&mut module.exports, vector::<Export>(alloc, rest)),
+        Part::Start => start_content(module, rest),
+        Part::Elements => put(&mut module.elements, vector::<ElementEntry>(alloc, rest)),
+        Part::DataCount => data_count_content(module, rest),
+        Part::Code => put(&mut module.bodies, bodies(alloc, rest)),
+        Part::Segments => put(&mut module.segments, segments(alloc, rest)),
     }
 }
 
 /// A section other than a custom one, behind its id.
 #[tactic(auto, unfolding(wasm_spelling::specs::Reading::part_at, wasm_spelling::specs::Reading::window_at))]
-fn part_section(
+fn part_section<'a>(
     alloc: Global,
     part: Part,
-    module: Module,
-    rest: Rest,
-) -> Result<(Module, Rest), ReadFault>
-    ensures { Gives seen result (part_at (part_is part) «module» (at rest.entry)) }
+    module: &mut Module,
+    rest: Rest<'a>,
+) -> Result<Rest<'a>, ReadFault>
+    ensures { Gives (λ x. («module».new, at x)) result (part_at (part_is part) «module».old (at rest.entry)) }
 {
     let (inside, behind) = window(rest)?;
-    let (module, inside) = content(alloc, part, module, inside)?;
-    let rest = ended(Cause::SectionNotUsedUp, inside, behind)?;
-    Ok((module, rest))
+    let inside = content(alloc, part, module, inside)?;
+    ended(Cause::SectionNotUsedUp, inside, behind)
 }
 
-/// A custom section behind its id. Its bytes are skipped.
+/// A custom section behind its id. Its bytes are skipped, whatever the module is.
 #[tactic(auto, unfolding(wasm_spelling::specs::Steps::reads, wasm_spelling::specs::Reading::custom_at, wasm_spelling::specs::Reading::custom_content_at, wasm_spelling::specs::Reading::window_at))]
-fn custom_section(module: Module, rest: Rest) -> Result<(Module, Rest), ReadFault>
-    ensures { Gives seen result (custom_at «module» (at rest.entry)) }
+fn custom_section(rest: Rest) -> Result<Rest, ReadFault>
+    ensures { (tree : Tree) → Gives (λ x. (tree, at x)) result (custom_at tree (at rest.entry)) }
 {
     let (inside, behind) = window(rest)?;
     let (_, inside) = any_name(inside)?;
-    let rest = Rest {
+    Ok(Rest {
         place: behind.place,
         left: behind.left,
         counts: inside.counts,
-    };
-    Ok((module, rest))
+    })
 }
 
 /// What stands behind a section's id.
 #[tactic(auto, unfolding(wasm_spelling::specs::Steps::reads))]
-fn section(
+fn section<'a>(
     alloc: Global,
     heading: Heading,
-    module: Module,
-    rest: Rest,
-) -> Result<(Module, Rest), ReadFault>
-    ensures { Gives seen result (behind_id (id_of_heading heading) «module» (at rest.entry)) }
+    module: &mut Module,
+    rest: Rest<'a>,
+) -> Result<Rest<'a>, ReadFault>
+    ensures { Gives (λ x. («module».new, at x)) result (behind_id (id_of_heading heading) «module».old (at rest.entry)) }
 {
     match heading {
-        Heading::End => Ok((module, rest)),
-        Heading::Custom => custom_section(module, rest),
+        Heading::End => Ok(rest),
+        Heading::Custom => custom_section(rest),
         Heading::Part(part) => part_section(alloc, part, module, rest),
     }
 }
 
 /// The sections up to the end of the file, put into a module.
-pub fn sections(alloc: Global, module: Module, rest: Rest) -> Result<(Module, Rest), ReadFault>
-    ensures { Gives seen result (all_sections_at «module» (at rest.entry)) }
+pub fn sections<'a>(
+    alloc: Global,
+    module: &mut Module,
+    rest: Rest<'a>,
+) -> Result<Rest<'a>, ReadFault>
+    ensures { Gives (λ x. («module».new, at x)) result (all_sections_at «module».old (at rest.entry)) }
 {
-    let mut read = module;
     let mut ahead = rest;
     loop {
         let (heading, after) = next_heading(ahead)?;
         if is_end(heading) {
-            return Ok((read, after));
+            return Ok(after);
         }
-        let (more, behind) = section(alloc, heading, read, after)?;
-        read = more;
-        ahead = behind;
+        ahead = section(alloc, heading, module, after)?;
     }
 }
 

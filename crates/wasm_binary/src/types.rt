@@ -88,8 +88,10 @@ fn maximum(is_there: bool, rest: Rest) -> Result<(Option<u32>, Rest), ReadFault>
     if !is_there {
         return Ok((None, rest));
     }
-    let (max, rest) = number(rest)?;
-    Ok((Some(max), rest))
+    match number(rest) {
+        Ok((max, rest)) => Ok((Some(max), rest)),
+        Err(fault) => Err(fault),
+    }
 }
 
 /// Limits whose minimum is at most so much.

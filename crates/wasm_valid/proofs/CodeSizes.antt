@@ -1,5 +1,5 @@
 -- Each instruction of a list is smaller than the list.
-use Rattle.std.proofs.Common.{◌≡◌, ℕ, zero, suc, ◌+◌, ◌<◌, ◌≤◌, List, [], ◌∷◌, length, get_or, arith, ap}
+use Rattle.std.proofs.Common.{◌≡◌, ℕ, zero, suc, ◌+◌, ◌*◌, ◌<◌, ◌≤◌, List, [], ◌∷◌, length, get_or, arith, ap}
 use Rattle.wasm_tree.specs.declared.code.Instr.{Instr}
 use Rattle.wasm_tree.specs.Size.{code_size, kind_size}
 use Rattle.wasm_tree.specs.Views.{code_tree, kind_tree}
@@ -13,3 +13,22 @@ instr_smaller (y ∷ items) zero x less is =
 instr_smaller (y ∷ items) (suc i) x less is =
     let h : kind_size (kind_tree x.kind) + 1 ≤ code_size (code_tree items) = instr_smaller items i x (omega (arith, less)) is in
     omega (arith, h)
+
+-- Code inside code is smaller in the measures of the checker: eight times its size, and the more above it the farther out it is read.
+pub code_below_block : (code t : ℕ) → 8 * code + 1 ≡ t → 8 * code < t
+code_below_block code t e = omega (arith, e)
+
+pub block_below_nested : (code t : ℕ) → 8 * code + 2 ≡ t → 8 * code + 1 < t
+block_below_nested code t e = omega (arith, e)
+
+pub first_below_branches : (code otherwise t : ℕ) → 8 * (code + otherwise) + 2 ≡ t → 8 * code + 1 < t
+first_below_branches code otherwise t e = omega (arith, e)
+
+pub second_below_branches : (code otherwise other t : ℕ) → otherwise ≡ other → 8 * (code + otherwise) + 2 ≡ t → 8 * other + 1 < t
+second_below_branches code otherwise other t same e = omega (arith, same, e)
+
+pub inside_below_instr : (kind inside t : ℕ) → kind ≡ inside + 1 → 8 * kind + 3 ≡ t → 8 * inside + 2 < t
+inside_below_instr kind inside t same e = omega (arith, same, e)
+
+pub instr_below_code : (kind items code t : ℕ) → kind + 1 ≤ items → items ≡ code → 8 * code ≡ t → 8 * kind + 3 < t
+instr_below_code kind items code t smaller same e = omega (arith, smaller, same, e)

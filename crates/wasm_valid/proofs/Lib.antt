@@ -16,3 +16,5 @@ pub mod Shapes
 pub mod EnteredBodies
 pub mod TableTypes
 pub mod ByParts
+pub mod Gathered
+pub mod Refusals

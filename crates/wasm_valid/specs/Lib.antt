@@ -19,3 +19,4 @@ pub mod Needs
 pub mod Plain
 pub mod PlainParts
 pub mod RanTo
+pub mod SaysVerdict

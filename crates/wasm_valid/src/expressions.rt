@@ -13,14 +13,14 @@ use w2c_base::ValType;
 use wasm_tree::{Code, ElementEntry, GlobalEntry, Kind, Module, SegmentEntry};
 
 /// Which globals an expression may get.
-#[derive(Clone, Copy, Debug, PartialEq, Eq)]
+#[derive(Clone, Copy)]
 enum Reach {
     Imported,
     All,
 }
 
 /// What an initial or an offset expression is.
-#[derive(Clone, Copy, Debug, PartialEq, Eq)]
+#[derive(Clone, Copy)]
 enum Shape {
     Constant(ValType),
     Got(ValType, bool),
@@ -29,7 +29,7 @@ enum Shape {
 }
 
 /// A fault that an expression can have.
-#[derive(Clone, Copy, Debug, PartialEq, Eq)]
+#[derive(Clone, Copy)]
 pub(crate) enum ExpressionRow {
     ConstantExpected,
     UnknownGlobal,

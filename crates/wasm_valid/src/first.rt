@@ -6,7 +6,7 @@ ghost use Rattle.wasm_valid.specs.ModuleFaults.{fault_if};
 use crate::{Fault, ValidCause};
 
 /// The fault with the least place; of several there the one that was entered first.
-#[derive(Clone, Copy, Debug, PartialEq, Eq)]
+#[derive(Clone, Copy)]
 pub(crate) struct FirstFault {
     found: Option<Fault>,
 }

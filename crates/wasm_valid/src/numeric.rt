@@ -13,7 +13,7 @@ use wasm_tree::{AccessOp, Kind, MemArg, Numeric, Parts, Simple};
 
 /// What an instruction needs besides its operands: a memory, and for an access an alignment, the exponent of a power of
 /// two, that is not larger than its width in bytes.
-#[derive(Clone, Copy, Debug, PartialEq, Eq)]
+#[derive(Clone, Copy)]
 pub(crate) enum Needs {
     Nothing,
     Memory,
@@ -157,7 +157,6 @@ fn other_type(kind: &Kind) -> Option<InstrType>
 }
 
 /// The type of an instruction, None where the place of the instruction says more.
-#[tactic(auto, using(crate::proofs::ByParts::of_numeric))]
 pub(crate) fn fixed_type(kind: &Kind) -> Option<InstrType>
     ensures typing { typing_seen result ≡ table_type (kind_tree kind.now) }
     ensures needs { needs_seen result ≡ needs_of (kind_tree kind.now) }

@@ -6,7 +6,7 @@ use crate::stop::Stop;
 use w2c_base::ValType;
 
 /// An operand: of a type, or in dead code of any.
-#[derive(Clone, Copy, Debug, PartialEq, Eq)]
+#[derive(Clone, Copy)]
 pub(crate) enum Operand {
     Known(ValType),
     Unknown,

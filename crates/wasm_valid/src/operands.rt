@@ -8,7 +8,7 @@ use w2c_base::ValType;
 
 /// Where the operands of the innermost open block begin, and whether the code is dead there: then operands of any type
 /// stand below the others.
-#[derive(Clone, Copy, Debug, PartialEq, Eq)]
+#[derive(Clone, Copy)]
 pub(crate) struct Height {
     below: usize,
     dead: bool,

@@ -7,7 +7,7 @@ use crate::{ValidCause, ValidRefusal};
 use std::alloc::{AllocError, AllocFailed};
 
 /// A cause, or want of memory.
-#[derive(Clone, Copy, Debug, PartialEq, Eq)]
+#[derive(Clone, Copy)]
 pub(crate) enum Stop {
     Cause(ValidCause),
     Memory,

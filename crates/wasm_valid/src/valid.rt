@@ -6,6 +6,7 @@ ghost use Rattle.wasm_spelling.specs.Places.{IsFormed};
 ghost use Rattle.wasm_valid.specs.declared.fault.Fault.{Fault as OneFault};
 ghost use Rattle.wasm_valid.specs.declared.fault.ValidRefusal.TheVariants.{Invalid as refused_by, Memory as memory_wanted};
 ghost use Rattle.wasm_valid.specs.Verdict.{Verdict, Invalid, IsValid, outcome_of, bodies_of};
+ghost use Rattle.wasm_valid.specs.SaysVerdict.{SaysVerdict};
 ghost use Rattle.wasm_valid.specs.Seen.{AreSpacesOf};
 ghost use Rattle.wasm_valid.specs.EnteredBodies.{typed_context_seen, body_context_seen, EntersBody, EntersBodies};
 
@@ -66,9 +67,9 @@ impl ValidModule {
         ensures first_only { (fault : OneFault) → Verdict m (Invalid fault) → result ≢ Err memory_wanted
             → result ≡ Err (refused_by fault.place fault.cause) }
     {
-        match first_fault(alloc, &m)? {
-            Some(fault) => Err(ValidRefusal::Invalid(fault.place, fault.cause)),
-            None => Ok(ValidModule { tree: m }),
+        match refuse_faults(alloc, &m) {
+            Ok(()) => Ok(ValidModule { tree: m }),
+            Err(refusal) => Err(refusal),
         }
     }
 
@@ -79,6 +80,15 @@ impl ValidModule {
         ensures formed { IsFormed result.now }
     {
         &self.tree
+    }
+}
+
+fn refuse_faults(alloc: Global, m: &Module) -> Result<(), ValidRefusal>
+    ensures { SaysVerdict result m.now }
+{
+    match first_fault(alloc, m)? {
+        Some(fault) => Err(ValidRefusal::Invalid(fault.place, fault.cause)),
+        None => Ok(()),
     }
 }
 

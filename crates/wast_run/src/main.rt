@@ -7,12 +7,8 @@ mod judging;
 mod law;
 mod reporting;
 mod runs;
-#[cfg(test)]
-mod runs_tests;
 mod session_runs;
 mod stage;
-#[cfg(test)]
-mod tests;
 mod top;
 mod word;
 mod work;

@@ -26,7 +26,7 @@ use wasm_set::SetModule;
 use wast_script::Call;
 
 /// What a run came to.
-#[derive(Clone, Copy, Debug, PartialEq, Eq)]
+#[derive(Clone, Copy)]
 pub(crate) enum Came {
     /// It ended, with the value of the last call, where it has one.
     Ended(Option<Value>),

@@ -18,7 +18,7 @@ use w2c_mangle::{SymbolKind, export_symbol};
 use wast_script::Call;
 
 /// What a run came to: in its last call, or before that in an init function or an earlier call, which did not end.
-#[derive(Clone, Copy, Debug, PartialEq, Eq)]
+#[derive(Clone, Copy)]
 pub(crate) enum Ran {
     Last(Outcome),
     Before(Outcome),

@@ -8,7 +8,7 @@ use std::alloc::Global;
 use w2c_base::{Bytes, Memory};
 
 /// What a command came to.
-#[derive(Clone, Copy, Debug, PartialEq, Eq)]
+#[derive(Clone, Copy)]
 pub(crate) enum Word {
     Ok,
     /// The file of the module is too long, or is not accepted.

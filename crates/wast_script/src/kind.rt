@@ -8,7 +8,7 @@ ghost use Rattle.wast_script.specs.Forms.{cause_named, kind_named, kind_text};
 use w2c_base::TrapKind;
 
 /// A kind of command.
-#[derive(Clone, Copy, Debug, PartialEq, Eq)]
+#[derive(Clone, Copy)]
 pub(crate) enum Kind {
     Module,
     Call,

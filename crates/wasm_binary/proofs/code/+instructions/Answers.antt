@@ -1,12 +1,12 @@
 use Rattle.std.proofs.Common.{Ok, sym, ap, subst, ◌∙◌, arith}
 use Rattle.std.proofs.lemmas.Result.{err_from_is_err_and}
 use Rattle.wasm_tree.specs.Instructions.{Code}
-use Rattle.wasm_tree.specs.Views.{instr_tree, kind_tree}
+use Rattle.wasm_tree.specs.Views.{instr_tree}
 use Rattle.wasm_spelling.specs.Reading.{code_at}
-use Rattle.wasm_binary.specs.View.{at}
+use Rattle.wasm_binary.specs.View.{Gives, at}
 use Rattle.wasm_binary.specs.declared.code.Item.{Item}
-use Rattle.wasm_binary.specs.Enders.{item_of, ender_of, head_of_opener}
-use Rattle.wasm_binary.proofs.Items.{Ahead, at_start, goes_on, stops, is_done, shorter, byte_fails, end_item, else_item, no_room, block_item, plain_item, opens_as, opens_none, as_one_item, fails_as_item}
+use Rattle.wasm_binary.specs.Enders.{as_item, item_of, ender_of, head_of_opener}
+use Rattle.wasm_binary.proofs.Items.{Ahead, at_start, goes_on, stops, is_done, shorter, byte_fails, end_item, else_item, no_room, block_item, plain_item, opens_as, opens_none}
 use Rattle.wasm_binary.proofs.code.+instructions.Goals as goal
 
 pub instructions-loop-code-init : goal.instructions-loop-code-init
@@ -63,36 +63,18 @@ next_item-returns-then-room-eq0 t c =
     (at c.in_ok-opcode.rest) c.in_ok-opcode.ensures
     (opens_as c.in_ok-opcode.opcode (head_of_opener c.in-Some.opener) c.in-Some.ensures) c.if-room-eq0.true
 
-pub next_item-returns-in_err-kind-in-Some : goal.next_item-returns-in_err-kind-in-Some
-next_item-returns-in_err-kind-in-Some t c =
-    let p = err_from_is_err_and c.from_residual-in_err-kind-in-Some.result c.from_residual-in_err-kind-in-Some.ensures.1 in
+pub next_item-returns-else-room-eq0 : goal.next_item-returns-else-room-eq0
+next_item-returns-else-room-eq0 t c =
     let item =
     block_item c.args.room c.args.may_else (at c.args.rest) c.in_ok-opcode.opcode (head_of_opener c.in-Some.opener)
     (at c.in_ok-opcode.rest) c.in_ok-opcode.ensures (opens_as c.in_ok-opcode.opcode (head_of_opener c.in-Some.opener) c.in-Some.ensures)
     (omega (arith, c.if-room-eq0.false)) in
-    rw (p.1, p.2) (fails_as_item c.args.rest.place _ c.in_err-kind-in-Some.field-0.0 _ item c.in_err-kind-in-Some.ensures)
+    subst (Gives as_item c.one.result) (sym item) (c.one.ensures _ c.opened.ensures)
 
-pub next_item-returns-in_ok-kind-in-Some : goal.next_item-returns-in_ok-kind-in-Some
-next_item-returns-in_ok-kind-in-Some t c =
-    let item =
-    block_item c.args.room c.args.may_else (at c.args.rest) c.in_ok-opcode.opcode (head_of_opener c.in-Some.opener)
-    (at c.in_ok-opcode.rest) c.in_ok-opcode.ensures (opens_as c.in_ok-opcode.opcode (head_of_opener c.in-Some.opener) c.in-Some.ensures)
-    (omega (arith, c.if-room-eq0.false)) in
-    as_one_item c.args.rest.place _ (kind_tree c.in_ok-kind-in-Some.kind) (at c.in_ok-kind-in-Some.rest) _ item c.in_ok-kind-in-Some.ensures
-
-pub next_item-returns-in_err-kind-in-None : goal.next_item-returns-in_err-kind-in-None
-next_item-returns-in_err-kind-in-None t c =
-    let p = err_from_is_err_and c.from_residual-in_err-kind-in-None.result c.from_residual-in_err-kind-in-None.ensures.1 in
+pub next_item-returns-in-None : goal.next_item-returns-in-None
+next_item-returns-in-None t c =
     let item =
     plain_item c.args.room c.args.may_else (at c.args.rest) c.in_ok-opcode.opcode
     (at c.in_ok-opcode.rest) c.in_ok-opcode.ensures c.if-opcode-eq11.false (sym c.is_else.ensures ∙ c.if-is_else.false)
     (opens_none c.in_ok-opcode.opcode c.in-None.ensures) in
-    rw (p.1, p.2) (fails_as_item c.args.rest.place _ c.in_err-kind-in-None.field-0.0 _ item c.in_err-kind-in-None.ensures)
-
-pub next_item-returns-in_ok-kind-in-None : goal.next_item-returns-in_ok-kind-in-None
-next_item-returns-in_ok-kind-in-None t c =
-    let item =
-    plain_item c.args.room c.args.may_else (at c.args.rest) c.in_ok-opcode.opcode
-    (at c.in_ok-opcode.rest) c.in_ok-opcode.ensures c.if-opcode-eq11.false (sym c.is_else.ensures ∙ c.if-is_else.false)
-    (opens_none c.in_ok-opcode.opcode c.in-None.ensures) in
-    as_one_item c.args.rest.place _ (kind_tree c.in_ok-kind-in-None.kind) (at c.in_ok-kind-in-None.rest) _ item c.in_ok-kind-in-None.ensures
+    subst (Gives as_item c.one-in-None.result) (sym item) (c.one-in-None.ensures _ c.instruction.ensures)

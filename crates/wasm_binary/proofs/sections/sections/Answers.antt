@@ -8,34 +8,34 @@ use Rattle.wasm_binary.proofs.sections.sections.Goals as goal
 
 pub returns-in_err-heading : goal.returns-in_err-heading
 returns-in_err-heading c =
-    let l = c.loop-read in
+    let l = c.loop-heading in
     let p = err_from_is_err_and c.from_residual.result c.from_residual.ensures.1 in
-    rw (p.1, p.2) (id_stops l.read (at l.ahead) c.in_err-heading.field-0.0
-    (all_sections_at c.args.«module» (at c.args.rest)) c.in_err-heading.ensures l.invariant)
+    rw (p.1, p.2) (id_stops l.«module» (at l.ahead) c.in_err-heading.field-0.0
+    (all_sections_at c.args.«module».now (at c.args.rest)) c.in_err-heading.ensures l.invariant)
 
 pub returns-then-is_end : goal.returns-then-is_end
 returns-then-is_end c =
-    let l = c.loop-read in
-    is_done l.read (at l.ahead) (id_of_heading c.in_ok-heading.heading) (at c.in_ok-heading.after)
-    (all_sections_at c.args.«module» (at c.args.rest)) c.in_ok-heading.ensures (sym c.is_end.ensures ∙ c.if-is_end.true) l.invariant
+    let l = c.loop-heading in
+    is_done l.«module» (at l.ahead) (id_of_heading c.in_ok-heading.heading) (at c.in_ok-heading.after)
+    (all_sections_at c.args.«module».now (at c.args.rest)) c.in_ok-heading.ensures (sym c.is_end.ensures ∙ c.if-is_end.true) l.invariant
 
-pub returns-in_err-more : goal.returns-in_err-more
-returns-in_err-more c =
-    let l = c.loop-read in
-    let p = err_from_is_err_and c.from_residual-in_err-more.result c.from_residual-in_err-more.ensures.1 in
-    rw (p.1, p.2) (section_stops l.read (at l.ahead) (id_of_heading c.in_ok-heading.heading)
-    (at c.in_ok-heading.after) c.in_err-more.field-0.0 (all_sections_at c.args.«module» (at c.args.rest)) c.in_ok-heading.ensures
-    (sym c.is_end.ensures ∙ c.if-is_end.false) c.in_err-more.ensures l.invariant)
+pub returns-in_err-ahead : goal.returns-in_err-ahead
+returns-in_err-ahead c =
+    let l = c.loop-heading in
+    let p = err_from_is_err_and c.from_residual-in_err-ahead.result c.from_residual-in_err-ahead.ensures.1 in
+    rw (p.1, p.2) (section_stops l.«module» (at l.ahead) (id_of_heading c.in_ok-heading.heading)
+    (at c.in_ok-heading.after) c.in_err-ahead.field-0.0 (all_sections_at c.args.«module».now (at c.args.rest)) c.in_ok-heading.ensures
+    (sym c.is_end.ensures ∙ c.if-is_end.false) c.in_err-ahead.ensures l.invariant)
 
-pub loop-read-smaller : goal.loop-read-smaller
-loop-read-smaller c =
-    let l = c.loop-read in
-    smaller l.read (at l.ahead) (id_of_heading c.in_ok-heading.heading) (at c.in_ok-heading.after) c.in_ok-more.more
-    (at c.in_ok-more.behind) c.in_ok-heading.ensures (sym c.is_end.ensures ∙ c.if-is_end.false) c.in_ok-more.ensures
+pub loop-heading-smaller : goal.loop-heading-smaller
+loop-heading-smaller c =
+    let l = c.loop-heading in
+    smaller l.«module» (at l.ahead) (id_of_heading c.in_ok-heading.heading) (at c.in_ok-heading.after) c.section.new.«module»
+    (at c.in_ok-ahead.ahead) c.in_ok-heading.ensures (sym c.is_end.ensures ∙ c.if-is_end.false) c.in_ok-ahead.ensures
 
-pub loop-read-preserved : goal.loop-read-preserved
-loop-read-preserved c =
-    let l = c.loop-read in
-    goes_on l.read (at l.ahead) (id_of_heading c.in_ok-heading.heading) (at c.in_ok-heading.after) c.in_ok-more.more
-    (at c.in_ok-more.behind) (all_sections_at c.args.«module» (at c.args.rest)) c.in_ok-heading.ensures
-    (sym c.is_end.ensures ∙ c.if-is_end.false) c.in_ok-more.ensures l.invariant
+pub loop-heading-preserved : goal.loop-heading-preserved
+loop-heading-preserved c =
+    let l = c.loop-heading in
+    goes_on l.«module» (at l.ahead) (id_of_heading c.in_ok-heading.heading) (at c.in_ok-heading.after) c.section.new.«module»
+    (at c.in_ok-ahead.ahead) (all_sections_at c.args.«module».now (at c.args.rest)) c.in_ok-heading.ensures
+    (sym c.is_end.ensures ∙ c.if-is_end.false) c.in_ok-ahead.ensures l.invariant

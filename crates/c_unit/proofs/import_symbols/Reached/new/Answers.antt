@@ -1,4 +1,4 @@
-use Rattle.wasm_tree.specs.IndexSpaces.{is_func_import, is_table_import, is_memory_import, is_global_import}
+use Rattle.wasm_tree.specs.IndexSpaces.{is_table_import, is_memory_import, is_global_import}
 use Rattle.c_body.specs.Reached.{usable_symbol}
 use Rattle.c_unit.specs.Named.{named_of}
 use Rattle.c_unit.proofs.ByKind.{kind_next}
@@ -6,11 +6,6 @@ use Rattle.c_unit.proofs.import_symbols.Reached.new.Goals as goal
 
 pub loop-import-preserved : goal.loop-import-preserved
 loop-import-preserved c = record {
-  funcs = kind_next is_func_import (usable_symbol (named_of c.args.symbols.now.indexes)) c.loop-import.reached.funcs.items
-      c.enter.new.self.funcs.items _ c.in_ok-name.name c.args.symbols.now.indexes.tree.now.imports c.as_slice-import-items.result.now
-      c.loop-import.import-index c.import-item.result
-      c.as_slice-import-items.ensures c.loop-import-test.true c.import-item.is c.in_ok-name.ensures c.in_ok-enter.ensures.funcs
-      c.loop-import.invariant.funcs;
   tables = kind_next is_table_import (usable_symbol (named_of c.args.symbols.now.indexes)) c.loop-import.reached.tables.items
       c.enter.new.self.tables.items _ c.in_ok-name.name c.args.symbols.now.indexes.tree.now.imports c.as_slice-import-items.result.now
       c.loop-import.import-index c.import-item.result

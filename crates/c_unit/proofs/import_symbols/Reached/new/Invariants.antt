@@ -1,16 +1,13 @@
 use Rattle.std.proofs.Common.{◌≡◌, ◌++◌, drop, map, filter}
-use Rattle.wasm_tree.specs.IndexSpaces.{is_func_import, is_table_import, is_memory_import, is_global_import}
+use Rattle.wasm_tree.specs.IndexSpaces.{is_table_import, is_memory_import, is_global_import}
 use Rattle.c_body.specs.Reached.{usable_symbol}
-use Rattle.c_body.specs.Symbols.{func_imports, table_imports, memory_imports, global_imports}
+use Rattle.c_body.specs.Symbols.{table_imports, memory_imports, global_imports}
 use Rattle.c_unit.specs.Named.{named_of}
 use Rattle.c_unit.proofs.import_symbols.Reached.new.Given as goal
 
 -- what the imports so far brought, and what the others bring
 abbrev pub invariant-loop-import : goal.invariant-loop-import
 invariant-loop-import l = record {
-  funcs : l.reached.funcs.items ++ map (usable_symbol (named_of l.symbols.indexes))
-      (filter is_func_import (drop l.import-index l.symbols.indexes.tree.now.imports)) ≡ map
-      (usable_symbol (named_of l.symbols.indexes)) (func_imports l.symbols.indexes.tree.now);
   tables : l.reached.tables.items ++ map (usable_symbol (named_of l.symbols.indexes))
       (filter is_table_import (drop l.import-index l.symbols.indexes.tree.now.imports)) ≡ map
       (usable_symbol (named_of l.symbols.indexes)) (table_imports l.symbols.indexes.tree.now);

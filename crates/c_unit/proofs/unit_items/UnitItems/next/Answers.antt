@@ -4,6 +4,7 @@ use Rattle.c_unit.specs.Sources.{module_of}
 use Rattle.c_unit.specs.Items.{items}
 use Rattle.c_unit.proofs.Countable.{next_number}
 use Rattle.c_unit.proofs.Standing.{gives_next}
+use Rattle.c_unit.proofs.Wholes.{gives_none}
 use Rattle.c_unit.proofs.unit_items.UnitItems.next.Goals as goal
 
 pub overflow_add-self : goal.overflow_add-self
@@ -18,3 +19,9 @@ returns-in-Some-clause-given c =
     let u = c.args.self.now in
     gives_next (items (module_of u.source)) u.number (u.number + 1) (item_of c.in-Some.item)
     (ap (option_map item_of) (sym c.in-Some.is) ∙ c.in_ok-at.ensures) refl
+
+pub returns-in-None-clause-given : goal.returns-in-None-clause-given
+returns-in-None-clause-given c =
+    let u = c.args.self.now in
+    let none = gives_none (items (module_of u.source)) u.number (ap (option_map item_of) (sym c.in-None.is) ∙ c.in_ok-at.ensures) in
+    (none, none)

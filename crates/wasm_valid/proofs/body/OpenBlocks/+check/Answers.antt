@@ -1,10 +1,11 @@
-use Rattle.std.proofs.Common.{◌≡◌, ◌+◌, ◌≤◌, reverse, rules, ap, subst, sym, ◌∙◌, arith, refl, List, Option, Result, Ok, Err, OnOk}
+use Rattle.std.proofs.Common.{◌≡◌, ℕ, ◌+◌, ◌≤◌, reverse, rules, ap, subst, sym, ◌∙◌, refl, List, Option, Result, Ok, Err, OnOk}
 use Rattle.std.proofs.lemmas.Result.{err_from_is_err_and}
 use Rattle.w2c_base.specs.declared.value.ValType.{ValType}
+use Rattle.wasm_tree.specs.declared.code.ElsePart.{ElsePart}
 use Rattle.wasm_tree.specs.declared.code.Kind.{Kind as RustKind}
 use Rattle.wasm_valid.specs.declared.fault.ValidRefusal.{ValidRefusal}
 use Rattle.wasm_valid.specs.declared.body.Block.{Block}
-use Rattle.wasm_tree.specs.Size.{code_size, kind_size}
+use Rattle.wasm_tree.specs.Size.{code_size, kind_size, otherwise_size}
 use Rattle.wasm_tree.specs.Views.{code_tree, kind_tree, otherwise_tree}
 use Rattle.wasm_tree.specs.Instructions.{Code}
 use Rattle.wasm_valid.specs.Checker.{nothing, run, run_kind, step}
@@ -12,7 +13,7 @@ use Rattle.wasm_valid.specs.Shown.{shown}
 use Rattle.wasm_valid.specs.RanTo.{seen, labels_of, run_block, RanTo, Stays}
 use Rattle.wasm_valid.specs.Plain.{Plain, Does}
 use Rattle.wasm_valid.specs.BodyFault.{cause_of}
-use Rattle.wasm_valid.proofs.CodeSizes.{instr_smaller}
+use Rattle.wasm_valid.proofs.CodeSizes.{instr_smaller, code_below_block, block_below_nested, first_below_branches, second_below_branches, inside_below_instr, instr_below_code}
 use Rattle.wasm_valid.proofs.RunLists.{later_none, run_more, list_refused, run_all}
 use Rattle.wasm_valid.proofs.RunBlocks.{plain_ran, placed_kept, no_else_refused, if_refused}
 use Rattle.wasm_valid.proofs.body.OpenBlocks.+check.Goals as goal
@@ -41,8 +42,11 @@ code-instr-requires t c =
     let smaller : kind_size (kind_tree c.instr-item.result.kind) + 1 ≤ code_size (code_tree c.as_slice-instr-items.result.now) =
     instr_smaller c.as_slice-instr-items.result.now c.loop-instr.instr-index c.instr-item.result c.loop-instr-test.true c.instr-item.is in
     let same : code_size (code_tree c.as_slice-instr-items.result.now) ≡ code_size c.args.code.now =
-    ap code_size c.as_slice-instr-items.ensures in
-    (omega (arith, smaller, same, c.decreases), tt)
+    ap code_size c.as_slice-instr-items.ensures in (
+      instr_below_code (kind_size (kind_tree c.instr-item.result.kind)) (code_size (code_tree c.as_slice-instr-items.result.now))
+          (code_size c.args.code.now) t smaller same c.decreases,
+      tt,
+    )
 
 pub code-returns-in_err-instr-clause-step : goal.code-returns-in_err-instr-clause-step
 code-returns-in_err-instr-clause-step t c =
@@ -111,3 +115,43 @@ instr-returns-in_default t c =
           (sym c.at_place-in_default.ensures)
           (placed_kept c.plain.result c.args.instr.now.place _ _ c.plain.ensures.kept (λ h. record { labels = refl; operands = h }));
     }
+
+pub block-code-requires : goal.block-code-requires
+block-code-requires t c = (code_below_block (code_size c.args.code.now) t c.decreases, tt)
+
+pub nested-block-requires : goal.nested-block-requires
+nested-block-requires t c = (block_below_nested (code_size c.args.code.now) t c.decreases, tt)
+
+pub branches-block-requires : goal.branches-block-requires
+branches-block-requires t c =
+    (first_below_branches (code_size c.args.code.now) (otherwise_size (otherwise_tree c.args.otherwise.now)) t c.decreases, tt)
+
+pub branches-block-requires-in-Some : goal.branches-block-requires-in-Some
+branches-block-requires-in-Some t c =
+    (first_below_branches (code_size c.args.code.now) (otherwise_size (otherwise_tree c.args.otherwise.now)) t c.decreases, tt)
+
+pub branches-block-requires-in-Some-2 : goal.branches-block-requires-in-Some-2
+branches-block-requires-in-Some-2 t c =
+    let size : Option ElsePart → ℕ = λ o. otherwise_size (otherwise_tree o) in (
+      second_below_branches (code_size c.args.code.now) (size c.args.otherwise.now) (code_size c.in-Some.other.code) t
+          (ap size c.in-Some.is) c.decreases,
+      tt,
+    )
+
+pub instr-nested-requires : goal.instr-nested-requires
+instr-nested-requires t c =
+    let size : RustKind → ℕ = λ k. kind_size (kind_tree k) in
+    (inside_below_instr (size c.args.instr.now.kind) (code_size c.in-Block.code) t (ap size c.in-Block.is) c.decreases, tt)
+
+pub instr-nested-requires-in-Loop : goal.instr-nested-requires-in-Loop
+instr-nested-requires-in-Loop t c =
+    let size : RustKind → ℕ = λ k. kind_size (kind_tree k) in
+    (inside_below_instr (size c.args.instr.now.kind) (code_size c.in-Loop.code) t (ap size c.in-Loop.is) c.decreases, tt)
+
+pub instr-branches-requires : goal.instr-branches-requires
+instr-branches-requires t c =
+    let size : RustKind → ℕ = λ k. kind_size (kind_tree k) in (
+      inside_below_instr (size c.args.instr.now.kind) (code_size c.in-If.code + otherwise_size (otherwise_tree c.in-If.otherwise)) t
+          (ap size c.in-If.is) c.decreases,
+      tt,
+    )

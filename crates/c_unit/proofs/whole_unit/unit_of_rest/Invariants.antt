@@ -1,11 +1,10 @@
 use Rattle.std.proofs.Common.{◌≡◌, ◌++◌, length}
 use Rattle.c_tree.specs.View.{unit_of}
-use Rattle.c_unit.specs.Items.{items_of}
 use Rattle.c_unit.specs.Tails.{left_of}
-use Rattle.c_unit.proofs.whole_unit.unit.Given as goal
+use Rattle.c_unit.proofs.whole_unit.unit_of_rest.Given as goal
 
 abbrev pub invariant-more : goal.invariant-more
-invariant-more l = unit_of l.unit ++ left_of l.items ≡ items_of l.m l.name
+invariant-more l = unit_of l.unit ++ left_of l.items ≡ left_of l.fn.items
 
 abbrev pub decreases-more : goal.decreases-more
 decreases-more l = length (left_of l.items)

@@ -1,0 +1,13 @@
+-- What the items of a list give is gathered item by item: what is there, and what the rest gives, is the whole.
+use Rattle.std.proofs.Common.{◌≡◌, ℕ, ◌+◌, ◌<◌, List, ◌∷◌, ◌++◌, length, get_or, drop, append_assoc, sym, ap, ◌∙◌}
+use Rattle.std.proofs.lemmas.List.{drop_more}
+use Rattle.std.specs.List.{flat_map}
+
+pub one_more_gathered : {A B : Type 0} (f : A → List B) (items : List A) (i : ℕ) (x default : A) (old new whole : List B)
+    → i < length items → x ≡ get_or items i default → new ≡ old ++ f x → old ++ flat_map f (drop i items) ≡ whole
+    → new ++ flat_map f (drop (i + 1) items) ≡ whole
+one_more_gathered f items i x default old new whole less is more h =
+    let rest = flat_map f (drop (i + 1) items) in
+    ap (λ ys. ys ++ rest) more ∙ append_assoc old (f x) rest
+    ∙ ap (λ y. old ++ flat_map f (y ∷ drop (i + 1) items)) is
+    ∙ ap (λ ys. old ++ flat_map f ys) (sym (drop_more items i default less)) ∙ h
