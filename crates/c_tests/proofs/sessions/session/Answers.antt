@@ -1,7 +1,7 @@
 use Rattle.std.proofs.Common.{ap, ◌∙◌}
 use Rattle.c_hosts.specs.Asking.{hosts_of}
 use Rattle.crun.specs.HostSymbols.{symbols_of_hosts}
-use Rattle.crun.specs.contracts.session_tests.CounterHostModule.TheImpl
+use Rattle.c_tests.specs.contracts.sessions.CounterHostModule.TheImpl
 use Rattle.c_tests.proofs.sessions.session.Goals as goal
 
 pub start-requires : goal.start-requires
