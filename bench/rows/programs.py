@@ -52,6 +52,12 @@ class Row:
     def wasm2c(self, words, status, *err):
         return self.ran("wasm2c", words, status, [], err)
 
+    def sure(self, file, output, words, status):
+        """A run over files without faults, of which one is there."""
+        self.lines.append(f"sure {file} {output} {words}")
+        self.said.append(f"wasm2c: {status}")
+        return self
+
     def translates(self, file):
         return self.wasm2c(f"{file}.wasm -o {file}.c", 0)
 
@@ -299,6 +305,8 @@ Row("the name of a module").module("x.y/add.two.wasm", ADD).wasm2c("x.y/add.two.
     "add.h", *[line.replace("addZ", "addZ2EtwoZ", 1) for line in ADD_H])
 two_c, two_h = translated("two")
 Row("a given name").module("in/1.wasm", TWO).wasm2c("in/1.wasm -o out/1.c -n two", 0).holds("out/1.c", *two_c).holds("out/1.h", *two_h)
+Row("a module over files without faults").module("two.wasm", TWO).sure("two.wasm", "two.c", "two.wasm -o two.c", 0).holds("two.c", *two_c)
+Row("a name without letters").module("two.wasm", TWO).wasm2c("two.wasm -o two.c -n ''", 2, "wasm2c: bad command line").none("two.c", "two.h")
 row = Row("the runtime").wasm2c("--runtime out", 0)
 for name in ("w2c_rt.h", "w2c_rt.c"):
     row.holds(f"out/{name}", *(HERE.parents[1] / "examples" / name).read_text().splitlines())
