@@ -1,5 +1,5 @@
 -- The helpers of instructions by their steps, and tables of the names of helpers.
-use Rattle.std.proofs.Common.{◌≡◌, ℕ, zero, suc, ◌+◌, ◌<◌, ◌≤◌, Bool, true, false, ◌||◌, ◌&&◌, not, if◌then◌else◌, List, [], ◌∷◌, ◌++◌, append_assoc, length, get_or, drop, filter, bytes_eq, is_some, Option, Some, None, refl, sym, ap, arith, ◌∙◌}
+use Rattle.std.proofs.Common.{◌≡◌, ℕ, ◌+◌, ◌<◌, ◌≤◌, Bool, true, false, ◌||◌, ◌&&◌, not, if◌then◌else◌, List, [], ◌∷◌, ◌++◌, append_assoc, length, get_or, drop, filter, bytes_eq, is_some, Option, Some, None, refl, sym, ap, arith, ◌∙◌}
 use Rattle.std.specs.Option.{option_or}
 use Rattle.std.specs.List.{list_any}
 use Rattle.std.proofs.Math.Bool.{or-false, or_assoc}
@@ -24,6 +24,7 @@ use Rattle.c_body.specs.Stack.{ends}
 use Rattle.c_body.specs.Needs.{named_by, calls, calls_helper, helpers_of}
 use Rattle.c_body.specs.Called.{HasMore, KnowsCalls, is_known}
 use Rattle.c_body.proofs.CodeLists.{code_more, code_done}
+use Rattle.c_body.proofs.Grown.{read_again}
 
 -- ---- helpers
 
@@ -161,11 +162,6 @@ pub known_helpers : {A : Type 0} (table : List (Name × A)) (m : Module) (list :
 known_helpers table m list knows is =
     is ∙ same_filter (is_known table) (λ which. list_any (λ b. any_in (calls_helper which) b.code) m.bodies) HELPERS
     (λ which. knows (helper_of which).name)
-
-read_again : {A : Type 0} (xs : List A) (i : ℕ) (d : A) → get_or xs i d ≡ get_or xs i (get_or xs i d)
-read_again [] i d = refl
-read_again (y ∷ xs) zero d = refl
-read_again (y ∷ xs) (suc i) d = read_again xs i d
 
 -- the same of what is read with another element in reserve
 pub filter_at : {A : Type 0} (p : A → Bool) (list after : List A) (items whole : List A) (i : ℕ) (d : A) (b : Bool) → i < length items

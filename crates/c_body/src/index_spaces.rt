@@ -3,14 +3,18 @@ ghost use Rattle.std.specs.Prelude.{◌≡◌, map, length, slice_get, is_some, 
 ghost use Rattle.std.specs.Option.{option_copied};
 ghost use Rattle.w2c_base.specs.Lookup.{at_index};
 ghost use Rattle.wasm_tree.specs.IndexSpaces.{func_space, global_space, type_in, imported_funcs as imported_func_count};
-ghost use Rattle.c_tree.specs.Tree.{Name as name_read};
+ghost use Rattle.alike.specs.Alike.{global_name as global_name_of};
+ghost use Rattle.c_tree.specs.Tree as tree_read;
 ghost use Rattle.c_tree.specs.View.{arg_of, expr_of, stmt_of};
+ghost use Rattle.c_body.specs.Names.{pointer_name};
 ghost use Rattle.c_body.specs.Objects as objects;
+ghost use Rattle.c_body.specs.Plain.{operand};
 ghost use Rattle.c_body.specs.Symbols.{global_imports, memory_imports, table_imports, func_imports};
 ghost use Rattle.c_body.specs.Ready.{HaveFewParams};
 ghost use Rattle.c_body.specs.Reached.{usable_symbol};
 
-use crate::naming::{func_name, global_name, global_pointer, name_of};
+use crate::naming::{func_name, global_name, global_pointer, name_of, slot};
+use crate::pieces::set_to_operand;
 use crate::symbols::callees;
 use crate::types_by_index::TypesByIndex;
 use c_tree::{Arg, Expr, Name, Stmt};
@@ -82,6 +86,15 @@ fn copied(alloc: Global, name: &Option<Name>) -> Result<Option<Name>, Memory>
         None => Ok(None),
         Some(name) => Ok(Some(name.copy(alloc)?)),
     }
+}
+
+// An assignment of the operand at a height to an imported global.
+fn set_imported(alloc: Global, index: u32, ty: ValType, height: usize) -> Result<Stmt, Memory>
+    ensures { IfOk result (λ s. stmt_of s ≡ tree_read.SetStar (pointer_name (global_name_of index)) (operand ty height)) }
+{
+    let target = global_pointer(alloc, index)?;
+    let value = slot(alloc, ty, height)?;
+    Ok(Stmt::SetStar(target, Expr::Name(value)))
 }
 
 impl<'a> IndexSpaces<'a> {
@@ -192,14 +205,20 @@ impl<'a> IndexSpaces<'a> {
         }
     }
 
-    /// An assignment of a variable to a global.
-    pub(crate) fn set_global(&self, alloc: Global, index: u32, value: Name) -> Result<Stmt, Memory>
-        ensures { IfOk result (λ s. stmt_of s ≡ objects.set_global self.now.tree.now index (name_read value)) }
+    /// An assignment of the operand at a height to a global.
+    pub(crate) fn set_global(
+        &self,
+        alloc: Global,
+        index: u32,
+        ty: ValType,
+        height: usize,
+    ) -> Result<Stmt, Memory>
+        ensures { IfOk result (λ s. stmt_of s ≡ objects.set_global self.now.tree.now index (operand ty height)) }
     {
         if self.is_imported_global(index) {
-            Ok(Stmt::SetStar(global_pointer(alloc, index)?, Expr::Name(value)))
+            set_imported(alloc, index, ty, height)
         } else {
-            Ok(Stmt::Set(global_name(alloc, index)?, Arg::Value(Expr::Name(value))))
+            set_to_operand(alloc, global_name(alloc, index)?, ty, height)
         }
     }
 }

@@ -1,5 +1,5 @@
 // The helpers that the bodies of a module call.
-ghost use Rattle.std.specs.Prelude.{◌≡◌, ◌++◌, ◌∷◌, [], filter, IfOk, OnOk};
+ghost use Rattle.std.specs.Prelude.{◌≡◌, ◌++◌, ◌||◌, ◌∷◌, [], filter, IfOk, OnOk};
 ghost use Rattle.wasm_tree.specs.Views.{kind_tree, otherwise_tree};
 ghost use Rattle.c_body.specs.Called.{HasMore, KnowsCalls, is_known};
 ghost use Rattle.c_body.specs.Labels as labels;
@@ -113,12 +113,23 @@ fn enter_inside(alloc: Global, table: &mut NameTable<()>, kind: &Kind) -> Result
             code,
             otherwise,
             ..
-        } => {
-            enter_code(alloc, table, code)?;
-            enter_else(alloc, table, otherwise)
-        }
+        } => enter_branches(alloc, table, code, otherwise),
         _ => Ok(()),
     }
+}
+
+#[cycle(needs)]
+fn enter_branches(
+    alloc: Global,
+    table: &mut NameTable<()>,
+    code: &Code,
+    otherwise: &Option<ElsePart>,
+) -> Result<(), Memory>
+    ensures { OnOk result (HasMore table.new table.old
+        (λ name. labels.any_in (calls name) code.now || labels.any_in_else (calls name) (otherwise_tree otherwise.now))) }
+{
+    enter_code(alloc, table, code)?;
+    enter_else(alloc, table, otherwise)
 }
 
 #[cycle(needs)]

@@ -167,6 +167,35 @@ fn put_symbol(found: &mut Vec<Symbol>, name: Name, ty: CFuncType) -> Result<(), 
     Ok(())
 }
 
+fn put_export(
+    alloc: Global,
+    module_name: &[u8],
+    types: &TypesByIndex,
+    found: &mut Vec<Symbol>,
+    e: &Export,
+) -> Result<(), Memory>
+    ensures { OnOk result (all_typed found.new.items ≡ all_typed found.old.items
+        ++ (symbols.export_symbol (under_name module_name.now types.now) e.now, symbols.export_type types.now.tree.now e.now) ∷ []) }
+{
+    let name = symbol_of_export(alloc, module_name, types, e)?;
+    let ty = export_type(alloc, types, e)?;
+    put_symbol(found, name, ty)
+}
+
+fn put_import(
+    alloc: Global,
+    types: &TypesByIndex,
+    found: &mut Vec<Symbol>,
+    import: &Import,
+) -> Result<(), Memory>
+    ensures { OnOk result (all_typed found.new.items ≡ all_typed found.old.items
+        ++ (symbols.import_symbol import.now, symbols.import_type types.now.tree.now import.now) ∷ []) }
+{
+    let name = import_symbol(alloc, import)?;
+    let ty = import_type(alloc, types, import)?;
+    put_symbol(found, name, ty)
+}
+
 fn put_exports(
     alloc: Global,
     module_name: &[u8],
@@ -177,8 +206,7 @@ fn put_exports(
         all_typed found.old.items ++ symbols.exported_symbols (under_name module_name.now types.now)) }
 {
     for e in types.tree.exports.as_slice() {
-        let name = symbol_of_export(alloc, module_name, types, e)?;
-        put_symbol(found, name, export_type(alloc, types, e)?)?;
+        put_export(alloc, module_name, types, found, e)?;
     }
     Ok(())
 }
@@ -188,8 +216,7 @@ fn put_imports(alloc: Global, types: &TypesByIndex, found: &mut Vec<Symbol>) -> 
         ++ map (λ i. (symbols.import_symbol i, symbols.import_type types.now.tree.now i)) types.now.tree.now.imports) }
 {
     for import in types.tree.imports.as_slice() {
-        let name = import_symbol(alloc, import)?;
-        put_symbol(found, name, import_type(alloc, types, import)?)?;
+        put_import(alloc, types, found, import)?;
     }
     Ok(())
 }

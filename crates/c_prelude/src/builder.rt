@@ -148,8 +148,8 @@ impl Builder {
     fn assign(&mut self, ty: ValType, c: u8) -> Result<(), Memory>
         ensures { OnOk result (made_by self.new ≡ placed ty 0 (made_by self.old) (piece.Set c)) }
     {
-        let e = self.take(ty);
         let name = letter(self.alloc, c)?;
+        let e = self.take(ty);
         self.add(Stmt::Set(name, Arg::Value(e)))
     }
 
@@ -157,9 +157,9 @@ impl Builder {
     fn branch(&mut self, ty: ValType, op: COp, c: u8) -> Result<(), Memory>
         ensures { OnOk result (made_by self.new ≡ placed ty 0 (made_by self.old) (piece.If op c)) }
     {
+        let label = letter(self.alloc, c)?;
         let right = self.take(ty);
         let left = self.take(ty);
-        let label = letter(self.alloc, c)?;
         self.add(Stmt::If(op, left, right, label))
     }
 

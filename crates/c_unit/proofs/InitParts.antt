@@ -15,7 +15,7 @@ regroup : {A : Type 0} (a b c d e f g h i j k l m : List A)
     (b ++ (c ++ (d ++ (e ++ (f ++ (g ++ (h ++ (i ++ (j ++ (k ++ (l ++ m)))))))))))
 regroup a b c d e f g h i j k l m = simp append_assoc
 
-pub in_parts : (m : NamedModule) → ending m (writing m (making m)) ≡ of.init_stmts m
+pub in_parts : (m : NamedModule) → ending m (writing m (making m [])) ≡ of.init_stmts m
 in_parts m =
     regroup (tree.Null ∷ []) (of.takes_from m 0 (filter (λ i. not (is_func_import i)) m.tree.imports))
     (map (λ t. of.make_table t.limits) m.tree.tables) (map (λ t. of.make_memory t.limits) m.tree.memories)

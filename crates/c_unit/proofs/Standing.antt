@@ -53,6 +53,7 @@ use Rattle.c_unit.specs.Named.{pair_of}
 use Rattle.c_unit.specs.Pointers.{pointed}
 use Rattle.c_unit.specs.Arrays.{array_of, bytes_of, byte_segments}
 use Rattle.c_unit.specs.Exports.{export_func}
+use Rattle.c_unit.specs.Init.{init_func}
 use Rattle.c_unit.specs.Items.{variable, global_item, declaration, prototype, bodies}
 use Rattle.c_unit.specs.Tails.{
   Given,
@@ -245,6 +246,16 @@ export_there m n export item e is = ap Some is
 pub export_past : (m : NamedModule) (n : ℕ) → slice_get m.tree.exports n ≡ None
     → slice_get (from_init m) (n - length m.tree.exports) ≡ slice_get (from_exports m) n
 export_past m n e = passed (λ (x : Export). tree.Function (export_func m x)) m.tree.exports (from_init m) n e
+
+-- ---- the init function
+
+pub init_there : (m : NamedModule) (n : ℕ) (item : tree.Item) → n ≡ 0 → item ≡ tree.Function (init_func m)
+    → Some item ≡ slice_get (from_init m) n
+init_there m n item first is = ap Some is ∙ ap (λ k. slice_get (from_init m) k) (sym first)
+
+pub init_past : (m : NamedModule) (n : ℕ) → (n ≡ 0 → ⊥) → None ≡ slice_get (from_init m) n
+init_past m zero other = absurd (other refl)
+init_past m (suc n) other = refl
 
 -- ---- the next item
 

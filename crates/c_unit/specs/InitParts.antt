@@ -3,21 +3,22 @@ use Rattle.std.specs.Prelude.{List, [], ◌∷◌, ◌++◌, ◌||◌, not, map,
 use Rattle.std.specs.List.{list_any}
 use Rattle.w2c_base.specs.declared.trap.TrapKind.TheVariants as trap
 use Rattle.w2c_base.specs.Lookup.{numbered}
+use Rattle.wasm_tree.specs.declared.tree.Module.{Module}
 use Rattle.wasm_tree.specs.IndexSpaces.{is_func_import}
 use Rattle.wasm_meaning.specs.LinkedSet.{NamedModule}
 use Rattle.c_tree.specs.Tree as tree
 use Rattle.c_prelude.specs.Pieces as pieces
 use Rattle.c_unit.specs.Init as of
 
--- what is imported and what the module defines
-abbrev pub making : NamedModule → List tree.Stmt
-making m =
-    ((((tree.Null ∷ []) ++ of.takes_from m 0 (filter (λ i. not (is_func_import i)) m.tree.imports))
+-- what is imported and what the module defines, behind other statements
+abbrev pub making : NamedModule → List tree.Stmt → List tree.Stmt
+making m before =
+    ((((before ++ (tree.Null ∷ [])) ++ of.takes_from m 0 (filter (λ i. not (is_func_import i)) m.tree.imports))
     ++ map (λ t. of.make_table t.limits) m.tree.tables)
     ++ map (λ t. of.make_memory t.limits) m.tree.memories)
     ++ map (of.make_global m.tree) (numbered m.tree.globals)
 
--- bounds, elements and bytes, behind other statements
+-- bounds, elements and bytes
 abbrev pub writing : NamedModule → List tree.Stmt → List tree.Stmt
 writing m before =
     (((before ++ flat_map (of.test_elements m.tree) m.tree.elements)
@@ -33,7 +34,8 @@ ending m before =
     ++ of.trap_if (of.tests_limits m.tree) of.limits_label (pieces.trap trap.ImportLimits))
     ++ of.trap_if (of.tests_bounds m.tree) of.bounds_label (pieces.trap trap.SegmentOut)
 
-abbrev pub init_locals : NamedModule → List tree.Local
-init_locals m =
-    of.local_if (of.tests_limits m.tree || of.tests_bounds m.tree) of.size_name ++ of.local_if
-    (list_any of.has_bytes m.tree.segments) of.byte_name
+-- the local variables, behind others
+abbrev pub put_locals : Module → List tree.Local → List tree.Local
+put_locals m before =
+    (before ++ of.local_if (of.tests_limits m || of.tests_bounds m) of.size_name) ++ of.local_if
+    (list_any of.has_bytes m.segments) of.byte_name

@@ -14,7 +14,7 @@ pub record AreReached (r : Reached) (m : NamedModule) : Type 0 where
   pub globals : r.globals.items ≡ map (usable_symbol m) (global_imports m.tree)
 
 -- the name, where the import is of this kind
-abbrev pub if_kind : (Import → Bool) → Import → Option Name → List (Option Name)
+abbrev pub if_kind : {A : Type 0} → (Import → Bool) → Import → A → List A
 if_kind of_kind i name = map (λ j. name) (filter of_kind (i ∷ []))
 
 pub record HasOneMore (before after : Reached) (i : Import) (name : Option Name) : Type 0 where

@@ -1,12 +1,12 @@
 // The header of a module.
-ghost use Rattle.std.specs.Prelude.{◌≡◌, IfOk};
+ghost use Rattle.std.specs.Prelude.{◌≡◌, ◌++◌, ◌∷◌, [], IfOk, OnOk};
 ghost use Rattle.c_unit.specs.Items.{header_of};
 ghost use Rattle.c_unit.specs.Lines.{line_of};
 ghost use Rattle.c_unit.specs.Named.{named_of};
 
 use crate::indexes::Indexes;
 use c_body::c_types;
-use c_tree::{CType, CTypes, Header, HeaderLines, Name};
+use c_tree::{CType, CTypes, Header, HeaderLines};
 use std::alloc::Global;
 use w2c_base::{Bytes, Memory};
 use w2c_mangle::init_symbol;
@@ -35,20 +35,25 @@ pub(crate) fn header_by(alloc: Global, indexes: &Indexes) -> Result<Header, Memo
 fn header_lines(alloc: Global, indexes: &Indexes) -> Result<HeaderLines, Memory>
     ensures { IfOk result (λ lines. lines ≡ (header_of indexes.now.tree.now indexes.now.name.now).lines) }
 {
-    let mut lines = HeaderLines::new(alloc);
     let init = init_symbol(alloc, indexes.name)?;
+    let mut lines = HeaderLines::new(alloc);
     lines.push((CType::Void, init, CTypes::new(alloc)))?;
     for export in indexes.tree.exports.as_slice() {
-        lines.push(line(alloc, indexes, export)?)?;
+        put_line(alloc, &mut lines, indexes, export)?;
     }
     Ok(lines)
 }
 
 #[tactic(auto, using(crate::proofs::SameTypes::proper_params))]
-fn line(alloc: Global, indexes: &Indexes, export: &Export) -> Result<(CType, Name, CTypes), Memory>
-    ensures { IfOk result (λ line. line ≡ line_of (named_of indexes.now) export.now) }
+fn put_line(
+    alloc: Global,
+    lines: &mut HeaderLines,
+    indexes: &Indexes,
+    export: &Export,
+) -> Result<(), Memory>
+    ensures { OnOk result (lines.new ≡ lines.old ++ line_of (named_of indexes.now) export.now ∷ []) }
 {
     let symbol = indexes.export(alloc, export)?;
     let types = c_types(alloc, symbol.ty.params)?;
-    Ok((symbol.ty.result, symbol.name, types))
+    lines.push((symbol.ty.result, symbol.name, types))
 }

@@ -21,15 +21,15 @@ use wasm_tree::{Import, ImportKind, Limits};
 fn put_reading(alloc: Global, stmts: &mut Stmts, read: &[u8], object: &[u8]) -> Result<(), Memory>
     ensures { OnOk result (map stmt_of stmts.new ≡ map stmt_of stmts.old ++ of.primitive (Some of.size_name) read.now (tree.Value (tree.Name (pointer_name_of object.now)) ∷ []) ∷ []) }
 {
-    stmts.push(reading(alloc, read, pointer_arg(alloc, object)?)?)?;
-    Ok(())
+    stmts.push(reading(alloc, read, pointer_arg(alloc, object)?)?)
 }
 
-// How many units the size is that was read.
-fn units(alloc: Global, unit: u64) -> Result<Expr, Memory>
-    ensures { IfOk result (λ e. expr_of e ≡ tree.Op op.Div (tree.Name of.size_name) (of.n64 unit)) }
+// The test of the size that was read, in units.
+fn least_test(alloc: Global, unit: u64, min: u32) -> Result<Stmt, Memory>
+    ensures { IfOk result (λ s. stmt_of s ≡ tree.If op.Lt (tree.Op op.Div (tree.Name of.size_name) (of.n64 unit)) (of.n64 min) (label_name of.limits_label)) }
 {
-    operation(alloc, COp::Div, size(alloc)?, n64(unit))
+    let units = operation(alloc, COp::Div, size(alloc)?, n64(unit))?;
+    jump(alloc, COp::Lt, units, n64(min as u64), 0)
 }
 
 fn put_least(
@@ -44,8 +44,7 @@ fn put_least(
         ∷ tree.If op.Lt (tree.Op op.Div (tree.Name of.size_name) (of.n64 unit)) (of.n64 min) (label_name of.limits_label) ∷ []) }
 {
     put_reading(alloc, stmts, len_of, object)?;
-    let units = units(alloc, unit)?;
-    stmts.push(jump(alloc, COp::Lt, units, n64(min as u64), 0)?)
+    stmts.push(least_test(alloc, unit, min)?)
 }
 
 #[tactic(auto, using(crate::proofs::Takes::least_none))]
@@ -128,8 +127,7 @@ impl<'a> Source<'a> {
         ensures { IfOk result (λ s. stmt_of s ≡ of.set_pointer (module_of self.now) import.now object.now) }
     {
         let symbol = self.symbols.usable(self.alloc, import)?;
-        let stmt = set_pointer(self.alloc, symbol, object)?;
-        Ok(stmt)
+        set_pointer(self.alloc, symbol, object)
     }
 
     fn put_take(&self, stmts: &mut Stmts, number: usize, import: &Import) -> Result<(), Memory>

@@ -114,8 +114,9 @@ fn call_if(
 fn void_stmts(alloc: Global, name: Option<Name>, types: &[ValType]) -> Result<Stmts, Memory>
     ensures { IfOk result (λ stmts. map stmt_of stmts ≡ of.call_if name None (map c_type_of types.now) ∷ tree.ReturnNone ∷ []) }
 {
+    let call = call_if(alloc, name, None, types)?;
     let mut stmts = Stmts::new(alloc);
-    stmts.push(call_if(alloc, name, None, types)?)?;
+    stmts.push(call)?;
     stmts.push(Stmt::ReturnNone)?;
     Ok(stmts)
 }
@@ -157,8 +158,9 @@ fn value_stmts(alloc: Global, name: Option<Name>, types: &[ValType]) -> Result<S
     ensures { IfOk result (λ stmts. map stmt_of stmts ≡ of.call_if name (Some of.result_name) (map c_type_of types.now)
         ∷ tree.Return (tree.Value (tree.Name of.result_name)) ∷ []) }
 {
+    let call = call_for_result(alloc, name, types)?;
     let mut stmts = Stmts::new(alloc);
-    stmts.push(call_for_result(alloc, name, types)?)?;
+    stmts.push(call)?;
     stmts.push(return_result(alloc)?)?;
     Ok(stmts)
 }

@@ -51,10 +51,10 @@ impl<'a> Source<'a> {
         ensures { IfOk result (λ source. module_of source ≡ record { name = name.now; tree = m.now }) }
     {
         let tree = m.module();
+        let func_symbols = func_symbols(alloc, tree)?;
+        let spaces = IndexSpaces::new(alloc, m, name)?;
         let symbols = Symbols::new(alloc, tree, name)?;
         let reached = Reached::new(alloc, &symbols)?;
-        let func_symbols = func_symbols(alloc, &symbols.indexes)?;
-        let spaces = IndexSpaces::new(alloc, m, name)?;
         Ok(Source {
             alloc,
             tree,

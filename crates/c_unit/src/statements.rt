@@ -98,6 +98,13 @@ pub(crate) fn size(alloc: Global) -> Result<Expr, Memory>
     Ok(Expr::Name(name_of(alloc, b"n")?))
 }
 
+/// A label.
+pub(crate) fn put_label(alloc: Global, stmts: &mut Stmts, number: usize) -> Result<(), Memory>
+    ensures { OnOk result (map stmt_of stmts.new ≡ map stmt_of stmts.old ++ tree.Label (names.label_name number) ∷ []) }
+{
+    stmts.push(label(alloc, number)?)
+}
+
 /// A label and a trap behind it, where something goes there.
 pub(crate) fn put_trap(
     alloc: Global,
@@ -109,8 +116,9 @@ pub(crate) fn put_trap(
     ensures { OnOk result (map stmt_of stmts.new ≡ map stmt_of stmts.old ++ of.trap_if named number (trap_of kind)) }
 {
     if named {
-        stmts.push(label(alloc, number)?)?;
-        stmts.push(trap(alloc, kind)?)?;
+        put_label(alloc, stmts, number)?;
+        stmts.push(trap(alloc, kind)?)
+    } else {
+        Ok(())
     }
-    Ok(())
 }

@@ -78,20 +78,25 @@ impl<'a> Source<'a> {
     }
 
     /// The value of an initial or offset expression.
-    #[tactic(auto, using(crate::proofs::Constants::by_single))]
     pub(crate) fn constant(&self, code: &Code) -> Result<Expr, Memory>
         ensures { IfOk result (λ e. expr_of e ≡ of.constant_expr self.now.tree.now code.now) }
     {
-        let e = self.constant_of(only(code))?;
-        Ok(e)
+        self.constant_of(only(code))
+    }
+
+    /// The offset of a segment, as a u64.
+    pub(crate) fn start(&self, offset: &Code) -> Result<Expr, Memory>
+        ensures { IfOk result (λ e. expr_of e ≡ tree.To64 (of.constant_expr self.now.tree.now offset.now)) }
+    {
+        to_64(self.alloc, self.constant(offset)?)
     }
 
     /// A place in a segment, as a u64.
-    pub(crate) fn place(&self, offset: &Code, number: Expr) -> Result<Expr, Memory>
-        ensures { IfOk result (λ e. expr_of e ≡ of.place_expr self.now.tree.now offset.now (expr_of number)) }
+    pub(crate) fn place(&self, offset: &Code, number: u64) -> Result<Expr, Memory>
+        ensures { IfOk result (λ e. expr_of e ≡ of.place_expr self.now.tree.now offset.now (of.n64 number)) }
     {
-        let start = to_64(self.alloc, self.constant(offset)?)?;
-        operation(self.alloc, COp::Add, start, number)
+        let start = self.start(offset)?;
+        operation(self.alloc, COp::Add, start, n64(number))
     }
 
     /// The name of the own global with a number.

@@ -1,5 +1,5 @@
 -- The include line and the items that were given stand in the current file, and the others are left.
-use Rattle.std.proofs.Common.{◌≡◌, ℕ, ◌≤◌, List, [], ◌∷◌, ◌++◌, append_assoc, append-nil, refl, sym, ◌∙◌, ap, subst, arith, Option, Some, None, Result, Ok, Err}
+use Rattle.std.proofs.Common.{◌≡◌, ℕ, ◌<◌, ◌≤◌, List, length, [], ◌∷◌, ◌++◌, append_assoc, append-nil, refl, sym, ◌∙◌, ap, subst, arith, Option, Some, None, Result, Ok, Err}
 use Rattle.std.specs.Prelude.{option_map}
 use Rattle.std.specs.List.{Contains}
 use Rattle.std.proofs.lemmas.List.Elements.{Contains-append_right}
@@ -66,6 +66,9 @@ pub is_contained : (old now : Told) (current : Option Name) (all left after : Li
 is_contained old now current all left after item so_far next =
     subst (λ items. Contains items item) (sym (so_far.split ∙ ap (λ l. so_far.given ++ l) next))
     (Contains-append_right so_far.given (item ∷ after) item (0, omega arith, refl))
+
+pub shorter : (left after : List tree.Item) (item : tree.Item) → left ≡ item ∷ after → length after < length left
+shorter left after item next = rw next (omega arith)
 
 pub one_more : (old before now : Told) (current : Option Name) (all left after : List tree.Item) (item : tree.Item)
     → IsWritten old before current all left → left ≡ item ∷ after → now ≡ appending before current (print_item_of item)

@@ -6,12 +6,17 @@ ghost use Rattle.wasm_valid.specs.FileVerdict.{Read, IsVerdictOn};
 ghost use Rattle.w2c_sim.specs.declared.refusal.Refusal.{Refusal as AnyRefusal};
 ghost use Rattle.w2c_sim.specs.declared.refusal.Refusal.TheVariants.{Memory as memory_wanted};
 ghost use Rattle.w2c_sim.specs.Refusals.{IsRefusal, IsRefused};
+ghost use Rattle.c_tree.specs.Spelled.{Formed};
+ghost use Rattle.c_tree.specs.View.{unit_of};
+ghost use Rattle.c_print.specs.Print.{print_of};
+ghost use Rattle.c_print.specs.Header.{header_text};
 ghost use Rattle.c_unit.specs.Sets.{IsAccepted};
 ghost use Rattle.w2c_sim.specs.Translation.{AreTextsOf, IsTranslation};
 
 use crate::file_verdict::accept;
 use crate::refusal::Refusal;
 use c_print::{print_header, print_unit};
+use c_tree::{Header, Unit};
 use c_unit::unit;
 use std::alloc::Global;
 use w2c_base::{Bytes, Memory};
@@ -56,7 +61,9 @@ fn translation(alloc: Global, bytes: &[u8], name: &[u8]) -> Result<Texts, Refusa
     ensures refused { IfErr result (IsRefusal bytes.now) }
 {
     let module = accept(alloc, bytes)?;
-    let texts = print_texts(alloc, &module, name)?;
+    let printed = print_texts(alloc, &module, name);
+    drop(module);
+    let texts = printed?;
     Ok(texts)
 }
 
@@ -65,8 +72,16 @@ fn print_texts(alloc: Global, m: &ValidModule, name: &[u8]) -> Result<Texts, Mem
     ensures { IfOk result (AreTextsOf m.now name.now) }
 {
     let (unit, header) = unit(alloc, m, name)?;
+    print_both(alloc, &unit, &header)
+}
+
+fn print_both(alloc: Global, unit: &Unit, header: &Header) -> Result<Texts, Memory>
+    requires { Formed (unit_of unit.now) }
+    ensures unit { IfOk result (λ texts. texts.unit ≡ print_of (unit_of unit.now)) }
+    ensures header { IfOk result (λ texts. texts.header ≡ header_text header.now) }
+{
     Ok(Texts {
-        unit: print_unit(alloc, &unit)?,
-        header: print_header(alloc, &header)?,
+        unit: print_unit(alloc, unit)?,
+        header: print_header(alloc, header)?,
     })
 }

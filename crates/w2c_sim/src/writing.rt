@@ -2,13 +2,13 @@
 ghost use Rattle.std.specs.Prelude.{◌≡◌, ◌≤◌, length, IsSome, IfOk, OnOk, OnErr};
 ghost use Rattle.w2c_io.specs.Contents.{appending, AppendsPart};
 ghost use Rattle.w2c_io.specs.Causes.{WriteCause, name_after_write};
-ghost use Rattle.c_tree.specs.View.{item_of};
-ghost use Rattle.c_print.specs.ItemText.{IsItemOfUnit};
-ghost use Rattle.c_print.specs.Print.{print_item_of};
+ghost use Rattle.c_tree.specs.Spelled.{Formed};
+ghost use Rattle.c_print.specs.Print.{print_of};
+ghost use Rattle.c_unit.specs.Tails.{left_of};
 ghost use Rattle.w2c_sim.specs.Translation.{text_of, header_text_of};
 
 use c_print::{print_header, print_item_to};
-use c_tree::{Item, Tok};
+use c_tree::Tok;
 use c_unit::{UnitItems, header};
 use std::alloc::Global;
 use w2c_base::{Bytes, Memory};
@@ -43,27 +43,33 @@ pub fn write_unit<F: Files>(
     // It says that the module is valid and has a file, so that its unit is one that a text spells.
     let _ = m.module();
     let mut items = UnitItems::new(alloc, m, name)?;
-    files.put(Tok::Include.text())?;
-    'more: while let Some(item) = items.next(alloc)? {
-        write_item(alloc, item, files)?;
-    }
-    Ok(())
+    write_items(alloc, &mut items, files)
 }
 
-// Appends an item's text and drops the item.
-fn write_item<F: Files>(alloc: Global, item: Item, files: &mut F) -> Result<(), WriteAnswer>
-    requires formed { IsItemOfUnit (item_of item) }
+// Appends the include line and the text of each item that was not given yet.
+fn write_items<F: Files>(
+    alloc: Global,
+    items: &mut UnitItems,
+    files: &mut F,
+) -> Result<(), WriteAnswer>
+    requires formed { Formed (left_of items.old) }
     requires current { IsSome (F.current files.old) }
     ensures written { OnOk result (F.told files.new
-        ≡ appending (F.told files.old) (F.current files.old) (print_item_of (item_of item))) }
+        ≡ appending (F.told files.old) (F.current files.old) (print_of (left_of items.old))) }
     ensures part { OnErr result (AppendsPart (F.told files.old) (F.told files.new) (F.current files.old)
-        (print_item_of (item_of item))) }
+        (print_of (left_of items.old))) }
     ensures current { F.current files.new ≡ F.current files.old }
     ensures cause { WriteCause (F.write_faults files.old) (F.write_faults files.new) result }
     ensures fault { F.fault_name files.new ≡ name_after_write result (F.current files.old) (F.fault_name files.old) }
     ensures reads { F.read_faults files.new ≡ F.read_faults files.old }
 {
-    print_item_to(alloc, &item, files)
+    files.put(Tok::Include.text())?;
+    'more: while let Some(item) = items.next(alloc)? {
+        let written = print_item_to(alloc, &item, files);
+        drop(item);
+        written?;
+    }
+    Ok(())
 }
 
 /// Appends the text of a module's header under a name to the current file. It is the text that `translate` gives.
@@ -90,8 +96,7 @@ pub fn write_header<F: Files>(
     ensures reads { F.read_faults files.new ≡ F.read_faults files.old }
 {
     let text = header_text(alloc, m, name)?;
-    files.put(text.as_slice())?;
-    Ok(())
+    files.put(text.as_slice())
 }
 
 fn header_text(alloc: Global, m: &ValidModule, name: &[u8]) -> Result<Bytes, Memory>

@@ -1,17 +1,27 @@
 -- What the stop of each form says of its line's job.
-use Rattle.std.proofs.Common.{ℕ, List, [], ◌∷◌, refl, Option, string_bytes, inl, inr}
+use Rattle.std.proofs.Common.{◌≡◌, ℕ, List, [], ◌∷◌, length, refl, Option, Result, Ok, Err, OnOk, IfErr, string_bytes, inl, inr}
 use Rattle.w2c_io.specs.Contents.{Name, Contents, Told}
+use Rattle.w2c_files.specs.Standing.{written}
 use Rattle.w2c_files.proofs.Standing.{is_one}
+use Rattle.wasm_spelling.specs.Bytes.{AreBytes}
 use Rattle.wasm_tree.specs.declared.tree.Module.{Module}
 use Rattle.wasm2c_words.specs.CommandLine.{Translation, FileSet, Generation, translate, set, generate, runtime}
 use Rattle.wasm2c_cli.specs.declared.stop.Stop.{Stop}
 use Rattle.wasm2c_cli.specs.declared.stop.Stop.TheVariants as stops
 use Rattle.wasm2c_cli.specs.Job.{Translates, files_of, module_files}
-use Rattle.wasm2c_cli.specs.Parts.{AreAllTaken, IsTakenFile, StopsGenerating, StopsTranslating, StopsWriting}
+use Rattle.wasm2c_cli.specs.Parts.{AreAllTaken, IsGenerated, IsTakenFile, StopsGenerating, StopsTranslating, StopsWriting}
 use Rattle.wasm2c_cli.specs.Plan.{inputs_of, target, targets_of}
 use Rattle.wasm2c_cli.specs.Runtime.{runtime_files}
 use Rattle.wasm2c_cli.specs.Stops.{StopsLine}
 use Rattle.wasm2c_cli.proofs.ModuleFiles.{one_of_targets}
+
+-- the files of a generated module that is taken
+pub all_generated : (old new : Told) (g : Generation) (bytes : List ℕ) (m : Module) (r : Result Unit Stop) → IsTakenFile g bytes m
+    → AreBytes g.module_name → OnOk r (new ≡ written old (module_files (target g.output g.module_name) m))
+    → OnOk r (IsGenerated g (length bytes) old new)
+all_generated old new g bytes m (Ok done) taken named stand =
+    record { bytes = bytes; generated = m; taken = taken; many = refl; named = named; stand = stand }
+all_generated old new g bytes m (Err stop) taken named stand = stand
 
 module _ (old new : Told) (r r' w w' : ℕ) (named : Option Name) where
   -- ---- files of a line, and of a set
@@ -96,6 +106,12 @@ module _ (old new : Told) (r r' w w' : ℕ) (named : Option Name) where
   generating_stops g bytes m (stops.Unread name) taken why = absurd why
   generating_stops g bytes m (stops.Unwritten name) taken (faulted, stands) = (faulted, (bytes, m, taken, stands))
   generating_stops g bytes m stops.Memory taken stands = inr (bytes, m, taken, stands)
+
+  pub all_stopped : (g : Generation) (bytes : List ℕ) (m : Module) (r : Result Unit Stop) → IsTakenFile g bytes m
+      → IfErr r (StopsWriting old new (module_files (target g.output g.module_name) m) w w' named)
+      → IfErr r (StopsGenerating g old new w w' named)
+  all_stopped g bytes m (Ok done) taken why = why
+  all_stopped g bytes m (Err stop) taken why = generating_stops g bytes m stop taken why
 
   -- ---- the runtime
 

@@ -3,6 +3,8 @@ ghost use Rattle.std.specs.Prelude.{◌≡◌, ◌≤◌, length, IfOk, IfErr, O
 ghost use Rattle.std.specs.List.{AllByRecursion};
 ghost use Rattle.w2c_io.specs.Telling.{Tells};
 ghost use Rattle.w2c_files.specs.Words.{names_of};
+ghost use Rattle.w2c_gen.specs.GeneratedFile.{IsGeneratedFile};
+ghost use Rattle.wasm_spelling.specs.Limits.{most_module_bytes};
 ghost use Rattle.wasm2c_words.specs.Seen.{seen_generation};
 ghost use Rattle.wasm2c_cli.specs.Parts.{HasName, IsFitGeneration, IsGenerated, IsTranslated, StopsGenerating, StopsTranslating, seen_targets};
 ghost use Rattle.wasm2c_cli.specs.Stops.{KeepsCurrent};
@@ -62,14 +64,32 @@ pub fn generate_module<F: Files>(
     ensures stop { IfErr result (StopsGenerating (seen_generation line.entry) (F.told files.old) (F.told files.new)
         (F.write_faults files.old) (F.write_faults files.new) (F.fault_name files.new)) }
 {
-    let target = Target::beside(alloc, line.output, line.module_name)?;
     let bytes = generate(alloc, line.count)?;
-    // A generated module is accepted, unless memory is wanting.
-    let Ok(module) = accept(alloc, bytes.as_slice()) else {
-        return Err(Stop::Memory);
-    };
-    match write_module(alloc, &target, &module, files) {
+    match write_generated(alloc, line, bytes.as_slice(), files) {
         Ok(()) => Ok(bytes.len()),
         Err(stop) => Err(stop),
+    }
+}
+
+// Writes the C file and the header of a generated module, whose file has these bytes. It is accepted, unless memory is wanting.
+fn write_generated<F: Files>(
+    alloc: Global,
+    line: Generation<'_>,
+    bytes: &[u8],
+    files: &mut F,
+) -> Result<(), Stop>
+    requires line { IsFitGeneration (seen_generation line) }
+    requires file { IsGeneratedFile (seen_generation line).count bytes.now }
+    requires small { length bytes.now ≤ most_module_bytes }
+    ensures done { OnOk result (IsGenerated (seen_generation line.entry) (length bytes.now) (F.told files.old) (F.told files.new)) }
+    ensures reads { F.read_faults files.new ≡ F.read_faults files.old }
+    ensures writes { F.write_faults files.old ≤ F.write_faults files.new }
+    ensures stop { IfErr result (StopsGenerating (seen_generation line.entry) (F.told files.old) (F.told files.new)
+        (F.write_faults files.old) (F.write_faults files.new) (F.fault_name files.new)) }
+{
+    let target = Target::beside(alloc, line.output, line.module_name)?;
+    match accept(alloc, bytes) {
+        Ok(module) => write_module(alloc, &target, &module, files),
+        Err(_) => Err(Stop::Memory),
     }
 }

@@ -1,7 +1,7 @@
 // The command that clap reads the words as.
-ghost use Rattle.std.specs.Prelude.{◌≡◌, false, IfOk};
-ghost use Rattle.clap.specs.Words.{app_of, rule_of};
-ghost use Rattle.wasm2c_words.specs.Command.{bare as bare_app, files_left as files_left_rule, letter_option as letter_rule, wasm2c, word_option as word_rule};
+ghost use Rattle.std.specs.Prelude.{◌≡◌, IfOk};
+ghost use Rattle.clap.specs.Words.{app_of, with_rule};
+ghost use Rattle.wasm2c_words.specs.Command.{bare as bare_app, files_left as files_rule, letter_option as letter_rule, wasm2c, word_option as word_rule};
 
 use clap::{Arg, ArgAction, Command};
 use std::alloc::{AllocError, Global};
@@ -11,15 +11,12 @@ use std::alloc::{AllocError, Global};
 pub fn command<'a>(alloc: Global) -> Result<Command<'a>, AllocError>
     ensures { IfOk result (λ command. app_of command ≡ wasm2c) }
 {
-    let output = letter_option(alloc, "output", 'o');
-    let name = letter_option(alloc, "name", 'n');
-    let dir = word_option(alloc, "dir");
-    let count = word_option(alloc, "gen");
-    let runtime = word_option(alloc, "runtime");
-    let files = files_left(alloc);
-    let command = bare(alloc).arg(output)?.arg(name)?.arg(dir)?;
-    let command = command.arg(count)?.arg(runtime)?.arg(files)?;
-    Ok(command)
+    let command = with_letter(alloc, bare(alloc), "output", 'o')?;
+    let command = with_letter(alloc, command, "name", 'n')?;
+    let command = with_word(alloc, command, "dir")?;
+    let command = with_word(alloc, command, "gen")?;
+    let command = with_word(alloc, command, "runtime")?;
+    with_files(alloc, command)
 }
 
 fn bare<'a>(alloc: Global) -> Command<'a>
@@ -28,23 +25,32 @@ fn bare<'a>(alloc: Global) -> Command<'a>
     Command::new(alloc, "wasm2c").no_binary_name(true)
 }
 
-fn letter_option<'a>(alloc: Global, id: &'a str, letter: char) -> Arg<'a>
-    ensures rule { rule_of result ≡ letter_rule id.now letter }
-    ensures local { result.global ≡ false }
+// The command with an option of one letter.
+fn with_letter<'a>(
+    alloc: Global,
+    command: Command<'a>,
+    id: &'a str,
+    letter: char,
+) -> Result<Command<'a>, AllocError>
+    ensures { IfOk result (λ more. app_of more ≡ with_rule (app_of command.entry) (letter_rule id.now letter)) }
 {
-    Arg::new(alloc, id).short(letter)
+    command.arg(Arg::new(alloc, id).short(letter))
 }
 
-fn word_option<'a>(alloc: Global, id: &'a str) -> Arg<'a>
-    ensures rule { rule_of result ≡ word_rule id.now }
-    ensures local { result.global ≡ false }
+// The command with an option of a whole word.
+fn with_word<'a>(
+    alloc: Global,
+    command: Command<'a>,
+    id: &'a str,
+) -> Result<Command<'a>, AllocError>
+    ensures { IfOk result (λ more. app_of more ≡ with_rule (app_of command.entry) (word_rule id.now)) }
 {
-    Arg::new(alloc, id).long(id)
+    command.arg(Arg::new(alloc, id).long(id))
 }
 
-fn files_left<'a>(alloc: Global) -> Arg<'a>
-    ensures rule { rule_of result ≡ files_left_rule }
-    ensures local { result.global ≡ false }
+// The command with the files.
+fn with_files<'a>(alloc: Global, command: Command<'a>) -> Result<Command<'a>, AllocError>
+    ensures { IfOk result (λ more. app_of more ≡ with_rule (app_of command.entry) files_rule) }
 {
-    Arg::new(alloc, "files").action(ArgAction::Append)
+    command.arg(Arg::new(alloc, "files").action(ArgAction::Append))
 }

@@ -1,5 +1,5 @@
 // Instructions, and lists of them (WebAssembly Core 1.0, 2.4 and 5.4).
-ghost use Rattle.std.specs.Prelude.{◌≡◌, ◌<◌, Some, OnOk, OnErr};
+ghost use Rattle.std.specs.Prelude.{◌≡◌, ◌<◌, ◌++◌, ◌∷◌, [], Some, OnOk, OnErr};
 ghost use Rattle.wasm_tree.specs.Instructions.{end_code};
 ghost use Rattle.wasm_tree.specs.Appended.{◌+>◌, code_length, instr_at};
 ghost use Rattle.wasm_tree.specs.Views.{instr_tree, code_tree};
@@ -208,8 +208,7 @@ impl Code {
         ensures ok { OnOk result (self.new ≡ self.old +> instr_tree item) }
         ensures err { OnErr result (self.new ≡ self.old) }
     {
-        make_room(&mut self.list)?;
-        self.list.push(item)?;
+        put(&mut self.list, item)?;
         Ok(())
     }
 
@@ -236,13 +235,15 @@ impl Code {
     }
 }
 
-// Room for an instruction. Blocks of one are many, and a list would begin with room for four.
-fn make_room(list: &mut Vec<Instr>) -> Result<(), Memory>
-    ensures { list.new.items ≡ list.old.items }
+// Puts an item at the end. Blocks of one instruction are many, and a list would begin with room for four.
+fn put<T: Drop>(list: &mut Vec<T>, item: T) -> Result<(), Memory>
+    ensures ok { OnOk result (list.new.items ≡ list.old.items ++ item ∷ []) }
+    ensures err { OnErr result (list.new.items ≡ list.old.items) }
 {
     if list.is_empty() {
         list.reserve_exact(1)?;
     }
+    list.push(item)?;
     Ok(())
 }
 

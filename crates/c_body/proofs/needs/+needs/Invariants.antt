@@ -10,6 +10,9 @@ decreases-enter_code l = 4 * code_size l.code.now
 abbrev pub decreases-enter_else : goal.decreases-enter_else
 decreases-enter_else l = 4 * otherwise_size (otherwise_tree l.otherwise.now) + 1
 
+abbrev pub decreases-enter_branches : goal.decreases-enter_branches
+decreases-enter_branches l = 4 * (code_size l.code.now + otherwise_size (otherwise_tree l.otherwise.now)) + 2
+
 abbrev pub decreases-enter_inside : goal.decreases-enter_inside
 decreases-enter_inside l = 4 * kind_size (kind_tree l.kind.now) + 2
 

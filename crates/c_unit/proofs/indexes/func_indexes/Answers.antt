@@ -1,6 +1,7 @@
-use Rattle.std.proofs.Common.{ap, ◌∙◌}
+use Rattle.std.proofs.Common.{◌++◌, map, refl, ap, ◌∙◌}
+use Rattle.std.specs.List.{flat_map}
 use Rattle.wasm_tree.specs.IndexSpaces.{func_of_import}
-use Rattle.c_unit.proofs.ByKind.{brought_next, func_brought, no_func_brought}
+use Rattle.c_unit.proofs.ByKind.{brought_next, one_next, nothing_left, func_brought, no_func_brought}
 use Rattle.c_unit.proofs.indexes.func_indexes.Goals as goal
 use Rattle.c_unit.proofs.indexes.func_indexes.Goals.{in-Func+in_ok-push, in_default}
 
@@ -15,3 +16,22 @@ loop-import-preserved c =
           (ap (λ s. s.items) w.space-is ∙ w.in_ok-push.ensures.items)
       | in_default w ↦ no_func_brought import before after w.in_default.not-Func (ap (λ s. s.items) w.space-is)
     ]) c.loop-import.invariant
+
+pub loop-func-init : goal.loop-func-init
+loop-func-init c =
+    let imports = c.as_slice-import-items.result.now in
+    let imported = flat_map func_of_import c.args.m.now.imports in
+    ap (λ ys. ys ++ map (λ f. f.type_index) c.as_slice-func-items.result.now)
+    (nothing_left (flat_map func_of_import) c.loop-import.space.items imported imports c.loop-import.import-index refl
+    c.loop-import-test.false c.loop-import.invariant)
+    ∙ ap (λ ys. imported ++ map (λ f. f.type_index) ys) c.as_slice-func-items.ensures
+
+pub loop-func-preserved : goal.loop-func-preserved
+loop-func-preserved c =
+    one_next (λ f. f.type_index) c.loop-func.space.items c.push-in-loop-func.new.self.items _ c.as_slice-func-items.result.now
+    c.loop-func.func-index _ c.loop-func-test.true c.in_ok-push-2.ensures.items c.loop-func.invariant
+
+pub returns : goal.returns
+returns c =
+    nothing_left (map (λ f. f.type_index)) c.loop-func.space.items _ c.as_slice-func-items.result.now
+    c.loop-func.func-index refl c.loop-func-test.false c.loop-func.invariant

@@ -1,6 +1,7 @@
-use Rattle.std.proofs.Common.{ap, ◌∙◌}
+use Rattle.std.proofs.Common.{[], ◌∷◌, ◌++◌, map, refl, ap, ◌∙◌}
+use Rattle.std.specs.List.{flat_map}
 use Rattle.wasm_tree.specs.IndexSpaces.{global_of_import}
-use Rattle.c_unit.proofs.ByKind.{brought_next, global_brought, no_global_brought}
+use Rattle.c_unit.proofs.ByKind.{brought_next, one_next, nothing_left, global_brought, no_global_brought}
 use Rattle.c_unit.proofs.indexes.global_types.Goals as goal
 use Rattle.c_unit.proofs.indexes.global_types.Goals.{in-Global+in_ok-push, in_default}
 
@@ -15,3 +16,23 @@ loop-import-preserved c =
           (ap (λ s. s.items) w.space-is ∙ w.in_ok-push.ensures.items)
       | in_default w ↦ no_global_brought import before after w.in_default.not-Global (ap (λ s. s.items) w.space-is)
     ]) c.loop-import.invariant
+
+pub loop-global-init : goal.loop-global-init
+loop-global-init c =
+    let imports = c.as_slice-import-items.result.now in
+    let imported = flat_map global_of_import c.args.m.now.imports in
+    ap (λ ys. ys ++ map (λ g. (g.ty, g.mutable)) c.as_slice-global-items.result.now)
+    (nothing_left (flat_map global_of_import) c.loop-import.space.items imported imports c.loop-import.import-index refl
+    c.loop-import-test.false c.loop-import.invariant)
+    ∙ ap (λ ys. imported ++ map (λ g. (g.ty, g.mutable)) ys) c.as_slice-global-items.ensures
+
+pub loop-global-preserved : goal.loop-global-preserved
+loop-global-preserved c =
+    one_next (λ g. (g.ty, g.mutable)) c.loop-global.space.items c.push-in-loop-global.new.self.items _ c.as_slice-global-items.result.now
+    c.loop-global.global-index _ c.loop-global-test.true
+    (c.in_ok-push-2.ensures.items ∙ ap (λ g. c.loop-global.space.items ++ (g.ty, g.mutable) ∷ []) c.global-item.is) c.loop-global.invariant
+
+pub returns : goal.returns
+returns c =
+    nothing_left (map (λ g. (g.ty, g.mutable))) c.loop-global.space.items _ c.as_slice-global-items.result.now
+    c.loop-global.global-index refl c.loop-global-test.false c.loop-global.invariant

@@ -2,8 +2,8 @@ use Rattle.wasm_binary.proofs.Result.{slice_bytes}
 use Rattle.w2c_sim.proofs.Accepting.{module_is_accepted}
 use Rattle.w2c_sim.proofs.translation.translation.Goals as goal
 
-pub print_texts-requires : goal.print_texts-requires
-print_texts-requires c = module_is_accepted c.args.bytes.now c.args.name.now c.in_ok-module.module (record {
+pub print_texts-printed-requires : goal.print_texts-printed-requires
+print_texts-printed-requires c = module_is_accepted c.args.bytes.now c.args.name.now c.in_ok-module.module (record {
   accepted = c.in_ok-module.ensures.found;
   are_bytes = slice_bytes c.args.bytes.now c.type_inv.bytes;
   named = c.requires.named;

@@ -1,5 +1,5 @@
-use Rattle.std.proofs.Common.{◌≡◌, ◌∙◌, subst}
-use Rattle.w2c_io.specs.Contents.{appending}
+use Rattle.std.proofs.Common.{◌≡◌, ◌∙◌, subst, Result, Ok, Err, OnOk, OnErr, inr}
+use Rattle.w2c_io.specs.Contents.{appending, AppendsPart}
 use Rattle.w2c_sim.specs.Translation.{header_text_of}
 use Rattle.w2c_sim.proofs.writing.write_header.Goals as goal
 
@@ -7,5 +7,28 @@ pub returns-clause-written : goal.returns-clause-written
 returns-clause-written g c =
     let files = g.F.Files in
     let text : c.as_slice.result.now ≡ header_text_of c.args.m.now c.args.name.now = c.as_slice.ensures ∙ c.in_ok-text.ensures in
-    subst (λ l. files.told c.put.new.self ≡ appending (files.told c.args.files.now) (files.current c.args.files.now) l) text
-    c.in_ok-put.ensures.written
+    subst (λ l. OnOk c.put.result (files.told c.put.new.self
+    ≡ appending (files.told c.args.files.now) (files.current c.args.files.now) l)) text c.put.ensures.written
+
+pub returns-clause-part : goal.returns-clause-part
+returns-clause-part g c =
+    let files = g.F.Files in
+    let text : c.as_slice.result.now ≡ header_text_of c.args.m.now c.args.name.now = c.as_slice.ensures ∙ c.in_ok-text.ensures in
+    subst (λ l. OnErr c.put.result (AppendsPart (files.told c.args.files.now) (files.told c.put.new.self)
+    (files.current c.args.files.now) l)) text (on_err c.put.result inr c.put.ensures.part)
+  where
+    on_err : {A B P Q : Type 0} (result : Result A B) → (P → Q) → OnErr result P → OnErr result Q
+    on_err (Ok x) f is = tt
+    on_err (Err e) f is = f is
+
+pub returns-clause-current : goal.returns-clause-current
+returns-clause-current g c = c.put.ensures.current
+
+pub returns-clause-cause : goal.returns-clause-cause
+returns-clause-cause g c = c.put.ensures.cause
+
+pub returns-clause-fault : goal.returns-clause-fault
+returns-clause-fault g c = c.put.ensures.named
+
+pub returns-clause-reads : goal.returns-clause-reads
+returns-clause-reads g c = c.put.ensures.reads

@@ -1,3 +1,4 @@
+use Rattle.std.proofs.Common.{refl}
 use Rattle.wasm_tree.specs.IndexSpaces.{is_table_import, is_memory_import, is_global_import}
 use Rattle.c_body.specs.Reached.{usable_symbol}
 use Rattle.c_unit.specs.Named.{named_of}
@@ -7,18 +8,18 @@ use Rattle.c_unit.proofs.import_symbols.Reached.new.Goals as goal
 pub loop-import-preserved : goal.loop-import-preserved
 loop-import-preserved c = record {
   tables = kind_next is_table_import (usable_symbol (named_of c.args.symbols.now.indexes)) c.loop-import.reached.tables.items
-      c.enter.new.self.tables.items _ c.in_ok-name.name c.args.symbols.now.indexes.tree.now.imports c.as_slice-import-items.result.now
+      c.enter.new.self.tables.items _ _ c.args.symbols.now.indexes.tree.now.imports c.as_slice-import-items.result.now
       c.loop-import.import-index c.import-item.result
-      c.as_slice-import-items.ensures c.loop-import-test.true c.import-item.is c.in_ok-name.ensures c.in_ok-enter.ensures.tables
+      c.as_slice-import-items.ensures c.loop-import-test.true c.import-item.is refl c.in_ok-enter.ensures.tables
       c.loop-import.invariant.tables;
   memories = kind_next is_memory_import (usable_symbol (named_of c.args.symbols.now.indexes)) c.loop-import.reached.memories.items
-      c.enter.new.self.memories.items _ c.in_ok-name.name c.args.symbols.now.indexes.tree.now.imports c.as_slice-import-items.result.now
+      c.enter.new.self.memories.items _ _ c.args.symbols.now.indexes.tree.now.imports c.as_slice-import-items.result.now
       c.loop-import.import-index c.import-item.result
-      c.as_slice-import-items.ensures c.loop-import-test.true c.import-item.is c.in_ok-name.ensures c.in_ok-enter.ensures.memories
+      c.as_slice-import-items.ensures c.loop-import-test.true c.import-item.is refl c.in_ok-enter.ensures.memories
       c.loop-import.invariant.memories;
   globals = kind_next is_global_import (usable_symbol (named_of c.args.symbols.now.indexes)) c.loop-import.reached.globals.items
-      c.enter.new.self.globals.items _ c.in_ok-name.name c.args.symbols.now.indexes.tree.now.imports c.as_slice-import-items.result.now
+      c.enter.new.self.globals.items _ _ c.args.symbols.now.indexes.tree.now.imports c.as_slice-import-items.result.now
       c.loop-import.import-index c.import-item.result
-      c.as_slice-import-items.ensures c.loop-import-test.true c.import-item.is c.in_ok-name.ensures c.in_ok-enter.ensures.globals
+      c.as_slice-import-items.ensures c.loop-import-test.true c.import-item.is refl c.in_ok-enter.ensures.globals
       c.loop-import.invariant.globals;
 }

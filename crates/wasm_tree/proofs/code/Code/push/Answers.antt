@@ -1,4 +1,4 @@
-use Rattle.std.proofs.Common.{◌++◌, ◌∷◌, [], ap, ◌∙◌}
+use Rattle.std.proofs.Common.{ap, ◌∙◌}
 use Rattle.wasm_tree.specs.Appended.{◌+>◌}
 use Rattle.wasm_tree.specs.Views.{instr_tree, code_tree}
 use Rattle.wasm_tree.proofs.Lists.{code_tree-push}
@@ -6,5 +6,5 @@ use Rattle.wasm_tree.proofs.code.Code.push.Goals as goal
 
 pub returns-clause-ok : goal.returns-clause-ok
 returns-clause-ok c =
-    ap code_tree (c.in_ok-push.ensures.items ∙ ap (λ items. items ++ c.args.item ∷ []) c.in_ok-make_room.ensures)
+    ap code_tree c.in_ok-put.ensures.ok
     ∙ code_tree-push _ c.args.item ∙ ap (λ code. code +> instr_tree c.args.item) c.self.view_is

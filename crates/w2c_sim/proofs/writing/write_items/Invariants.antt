@@ -1,15 +1,14 @@
 use Rattle.std.proofs.Common.{◌≡◌, ◌≤◌, length}
-use Rattle.c_unit.specs.Items.{items_of}
 use Rattle.c_unit.specs.Tails.{left_of}
 use Rattle.w2c_sim.proofs.ItemsWritten.{IsWritten}
-use Rattle.w2c_sim.proofs.writing.write_unit.Given as goal
+use Rattle.w2c_sim.proofs.writing.write_items.Given as goal
 
 abbrev pub invariant-more : goal.invariant-more
 invariant-more g l =
     let files = g.F.Files in
     record {
       written : IsWritten (files.told l.fn.files) (files.told l.files) (files.current l.fn.files)
-          (items_of l.m l.name) (left_of l.items);
+          (left_of l.fn.items) (left_of l.items);
       current : files.current l.files ≡ files.current l.fn.files;
       fault : files.fault_name l.files ≡ files.fault_name l.fn.files;
       reads : files.read_faults l.files ≡ files.read_faults l.fn.files;

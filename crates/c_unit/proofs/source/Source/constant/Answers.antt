@@ -1,0 +1,12 @@
+use Rattle.std.proofs.Common.{◌≡◌, IfOk, subst, ap, ◌∙◌}
+use Rattle.c_tree.specs.Tree as tree
+use Rattle.c_tree.specs.View.{expr_of}
+use Rattle.c_unit.specs.Single.{constant_by}
+use Rattle.c_unit.proofs.Constants.{by_single}
+use Rattle.c_unit.proofs.source.Source.constant.Goals as goal
+
+pub returns : goal.returns
+returns c =
+    let m = c.args.self.now.tree.now in
+    subst (λ (e : tree.Expr). IfOk c.constant_of.result (λ r. expr_of r ≡ e))
+    (ap (constant_by m) c.only.ensures ∙ by_single m c.args.code.now) c.constant_of.ensures

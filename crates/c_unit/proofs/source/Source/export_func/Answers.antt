@@ -1,0 +1,40 @@
+use Rattle.std.proofs.Common.{◌≡◌, IfOk, subst, ap, ◌∙◌}
+use Rattle.wasm_meaning.specs.LinkedSet.{NamedModule}
+use Rattle.alike.specs.Alike.{memory_name, table_name, global_name}
+use Rattle.c_tree.specs.Tree as tree
+use Rattle.c_tree.specs.View.{func_of}
+use Rattle.c_body.specs.Symbols.{export_symbol, export_type, table_imports, memory_imports, global_imports}
+use Rattle.c_unit.specs.Named.{pair_of}
+use Rattle.c_unit.specs.Sources.{module_of}
+use Rattle.c_unit.proofs.Accesses.{given_at, table_export, memory_export, global_export}
+use Rattle.c_unit.proofs.source.Source.export_func.Goals as goal
+
+pub returns-in-Table : goal.returns-in-Table
+returns-in-Table c =
+    let source = c.args.self.now in
+    let m = module_of source in
+    let e = c.args.export.now in
+    subst (λ (f : tree.Func). IfOk c.object_func.result (λ r. func_of r ≡ f))
+    (given_at m e (pair_of c.in_ok-symbol.symbol) source.reached.tables.items (table_imports m.tree) table_name
+    (c.in_ok-symbol.ensures ∙ ap (λ (n : NamedModule). (export_symbol n e, export_type n.tree e)) source.symbols_are)
+    source.tables_are ∙ table_export m e c.in-Table.is) c.object_func.ensures
+
+pub returns-in-Memory : goal.returns-in-Memory
+returns-in-Memory c =
+    let source = c.args.self.now in
+    let m = module_of source in
+    let e = c.args.export.now in
+    subst (λ (f : tree.Func). IfOk c.object_func-in-Memory.result (λ r. func_of r ≡ f))
+    (given_at m e (pair_of c.in_ok-symbol.symbol) source.reached.memories.items (memory_imports m.tree) memory_name
+    (c.in_ok-symbol.ensures ∙ ap (λ (n : NamedModule). (export_symbol n e, export_type n.tree e)) source.symbols_are)
+    source.memories_are ∙ memory_export m e c.in-Memory.is) c.object_func-in-Memory.ensures
+
+pub returns-in-Global : goal.returns-in-Global
+returns-in-Global c =
+    let source = c.args.self.now in
+    let m = module_of source in
+    let e = c.args.export.now in
+    subst (λ (f : tree.Func). IfOk c.global_func.result (λ r. func_of r ≡ f))
+    (given_at m e (pair_of c.in_ok-symbol.symbol) source.reached.globals.items (global_imports m.tree) (global_name e.index)
+    (c.in_ok-symbol.ensures ∙ ap (λ (n : NamedModule). (export_symbol n e, export_type n.tree e)) source.symbols_are)
+    source.globals_are ∙ global_export m e c.in-Global.is) c.global_func.ensures

@@ -1,0 +1,11 @@
+use Rattle.std.proofs.Common.{map, ap, ◌∙◌}
+use Rattle.c_tree.specs.View.{stmt_of}
+use Rattle.c_unit.specs.InitParts.{making, writing, ending}
+use Rattle.c_unit.specs.Sources.{module_of}
+use Rattle.c_unit.proofs.InitParts.{in_parts}
+use Rattle.c_unit.proofs.source.Source.init_stmts.Goals as goal
+
+pub returns : goal.returns
+returns c =
+    let m = module_of c.args.self.now in
+    c.in_ok-put_stmts.ensures ∙ ap (λ stmts. ending m (writing m (making m (map stmt_of stmts)))) c.new-stmts.ensures ∙ in_parts m

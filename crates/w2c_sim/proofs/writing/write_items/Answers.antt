@@ -1,0 +1,159 @@
+use Rattle.std.proofs.Common.{◌≡◌, ◌∙◌, ap, sym, subst, arith, IsSome, Option, Result, Err, inr}
+use Rattle.std.proofs.lemmas.Result.{err_from_is_err_and}
+use Rattle.w2c_io.specs.Contents.{Name, appending, AppendsPart}
+use Rattle.w2c_io.specs.declared.answers.WriteAnswer.{WriteAnswer}
+use Rattle.c_tree.specs.View.{item_of}
+use Rattle.c_print.specs.Print.{print_item_of}
+use Rattle.c_unit.specs.Tails.{left_of}
+use Rattle.w2c_sim.proofs.ItemsWritten.{begun, given_item, none_left, is_contained, one_more, all_written, stops_at_include, stops_between, stops_in, shorter, cause_behind, memory_cause, done_cause, named_behind}
+use Rattle.w2c_sim.proofs.writing.write_items.Goals as goal
+
+pub returns-in_err-put-clause-part : goal.returns-in_err-put-clause-part
+returns-in_err-put-clause-part g c =
+    let files = g.F.Files in
+    let p = err_from_is_err_and c.from_residual.result c.from_residual.ensures.1 in
+    rw p.1 (stops_at_include (files.told c.args.files.now) (files.told c.put.new.self) (files.current c.args.files.now)
+    (left_of c.args.items.now) (subst (AppendsPart (files.told c.args.files.now) (files.told c.put.new.self)
+    (files.current c.args.files.now)) c.text.ensures (inr c.in_err-put.ensures.part)))
+
+pub returns-in_err-put-clause-cause : goal.returns-in_err-put-clause-cause
+returns-in_err-put-clause-cause g c =
+    let p = err_from_is_err_and c.from_residual.result c.from_residual.ensures.1 in
+    rw (p.1, p.2) c.in_err-put.ensures.cause
+
+pub more-init : goal.more-init
+more-init g c =
+    let files = g.F.Files in
+    record {
+      written = begun (files.told c.args.files.now) (files.told c.put.new.self)
+          (files.current c.args.files.now) (left_of c.args.items.now)
+          (subst (λ l. files.told c.put.new.self ≡ appending (files.told c.args.files.now) (files.current c.args.files.now) l)
+          c.text.ensures c.in_ok-put.ensures.written);
+      current = c.in_ok-put.ensures.current;
+      fault = c.in_ok-put.ensures.named;
+      reads = c.in_ok-put.ensures.reads;
+      later = c.in_ok-put.ensures.cause.later;
+    }
+
+pub returns-in_err-item-clause-part : goal.returns-in_err-item-clause-part
+returns-in_err-item-clause-part g c =
+    let files = g.F.Files in
+    let p = err_from_is_err_and c.from_residual-in_err-item.result c.from_residual-in_err-item.ensures.1 in
+    rw p.1 (stops_between (files.told c.args.files.now) (files.told c.more.files) (files.current c.args.files.now)
+    (left_of c.args.items.now) (left_of c.more.items) c.more.invariant.written)
+
+pub returns-in_err-item-clause-cause : goal.returns-in_err-item-clause-cause
+returns-in_err-item-clause-cause g c =
+    let files = g.F.Files in
+    let p = err_from_is_err_and c.from_residual-in_err-item.result c.from_residual-in_err-item.ensures.1 in
+    rw (p.1, p.2) (memory_cause (files.write_faults c.args.files.now) (files.write_faults c.more.files) c.more.invariant.later)
+
+pub returns-in_err-item-clause-fault : goal.returns-in_err-item-clause-fault
+returns-in_err-item-clause-fault g c =
+    let p = err_from_is_err_and c.from_residual-in_err-item.result c.from_residual-in_err-item.ensures.1 in
+    rw (p.1, p.2) c.more.invariant.fault
+
+pub print_item_to-written-requires-clause-formed : goal.print_item_to-written-requires-clause-formed
+print_item_to-written-requires-clause-formed g c =
+    let files = g.F.Files in
+    let next = given_item c.in-Some.item c.in_ok-item.field-0 (left_of c.more.items) (left_of c.next.new.self) c.in-Some.is
+    c.in_ok-item.ensures.given in (
+      left_of c.args.items.now,
+      c.requires.formed,
+      is_contained (files.told c.args.files.now) (files.told c.more.files) (files.current c.args.files.now) (left_of c.args.items.now)
+          (left_of c.more.items) (left_of c.next.new.self) (item_of c.in-Some.item) c.more.invariant.written next,
+    )
+
+pub returns-in_err-written-clause-part : goal.returns-in_err-written-clause-part
+returns-in_err-written-clause-part g c =
+    let files = g.F.Files in
+    let next = given_item c.in-Some.item c.in_ok-item.field-0 (left_of c.more.items) (left_of c.next.new.self) c.in-Some.is
+    c.in_ok-item.ensures.given in
+    let p = err_from_is_err_and c.from_residual-in_err-written.result c.from_residual-in_err-written.ensures.1 in
+    rw p.1 (stops_in (files.told c.args.files.now) (files.told c.more.files) (files.told c.print_item_to-written.new.files)
+    (files.current c.args.files.now) (left_of c.args.items.now) (left_of c.more.items) (left_of c.next.new.self)
+    (item_of c.in-Some.item) c.more.invariant.written next
+    (subst (λ (current : Option Name). AppendsPart (files.told c.more.files) (files.told c.print_item_to-written.new.files) current
+    (print_item_of (item_of c.in-Some.item))) c.more.invariant.current c.in_err-written.ensures.part))
+
+pub returns-in_err-written-clause-cause : goal.returns-in_err-written-clause-cause
+returns-in_err-written-clause-cause g c =
+    let files = g.F.Files in
+    let p = err_from_is_err_and c.from_residual-in_err-written.result c.from_residual-in_err-written.ensures.1 in
+    let answer : Result (Unit {0}) WriteAnswer = Err c.in_err-written.field-0.0 in
+    rw (p.1, p.2) (cause_behind (files.write_faults c.args.files.now) (files.write_faults c.more.files)
+    (files.write_faults c.print_item_to-written.new.files) answer c.more.invariant.later c.in_err-written.ensures.cause)
+
+pub returns-in_err-written-clause-fault : goal.returns-in_err-written-clause-fault
+returns-in_err-written-clause-fault g c =
+    let files = g.F.Files in
+    let p = err_from_is_err_and c.from_residual-in_err-written.result c.from_residual-in_err-written.ensures.1 in
+    let answer : Result (Unit {0}) WriteAnswer = Err c.in_err-written.field-0.0 in
+    rw (p.1, p.2) (named_behind answer (files.current c.more.files) (files.current c.args.files.now)
+    (files.fault_name c.more.files) (files.fault_name c.args.files.now) (files.fault_name c.print_item_to-written.new.files)
+    c.more.invariant.current c.more.invariant.fault c.in_err-written.ensures.named)
+
+pub returns-clause-cause : goal.returns-clause-cause
+returns-clause-cause g c =
+    let files = g.F.Files in
+    done_cause _ (files.write_faults c.args.files.now) (files.write_faults c.more.files) c.more.invariant.later
+
+pub more-preserved : goal.more-preserved
+more-preserved g c =
+    let files = g.F.Files in
+    let next = given_item c.in-Some.item c.in_ok-item.field-0 (left_of c.more.items) (left_of c.next.new.self) c.in-Some.is
+    c.in_ok-item.ensures.given in
+    record {
+      written = one_more (files.told c.args.files.now) (files.told c.more.files) (files.told c.print_item_to-written.new.files)
+          (files.current c.args.files.now) (left_of c.args.items.now) (left_of c.more.items) (left_of c.next.new.self)
+          (item_of c.in-Some.item) c.more.invariant.written next (c.in_ok-written.ensures.written
+          ∙ ap (λ (current : Option Name). appending (files.told c.more.files) current (print_item_of (item_of c.in-Some.item)))
+          c.more.invariant.current);
+      current = c.in_ok-written.ensures.current ∙ c.more.invariant.current;
+      fault = ◌∙◌ {b = files.fault_name c.more.files} c.in_ok-written.ensures.named c.more.invariant.fault;
+      reads = c.in_ok-written.ensures.reads ∙ c.more.invariant.reads;
+      later = omega (arith, c.more.invariant.later, c.in_ok-written.ensures.cause.later);
+    }
+
+pub returns-clause-written : goal.returns-clause-written
+returns-clause-written g c =
+    let files = g.F.Files in
+    all_written (files.told c.args.files.now) (files.told c.more.files) (files.current c.args.files.now)
+    (left_of c.args.items.now) (left_of c.more.items) c.more.invariant.written
+    (none_left c.in_ok-item.field-0 (left_of c.more.items) (left_of c.next.new.self) c.in_default.not-Some c.in_ok-item.ensures.given)
+
+pub more-smaller : goal.more-smaller
+more-smaller g c =
+    let next = given_item c.in-Some.item c.in_ok-item.field-0 (left_of c.more.items) (left_of c.next.new.self) c.in-Some.is
+    c.in_ok-item.ensures.given in
+    shorter (left_of c.more.items) (left_of c.next.new.self) (item_of c.in-Some.item) next
+
+pub print_item_to-written-requires-clause-current : goal.print_item_to-written-requires-clause-current
+print_item_to-written-requires-clause-current g c = subst IsSome (sym c.more.invariant.current) c.requires.current
+
+pub returns-in_err-put-clause-current : goal.returns-in_err-put-clause-current
+returns-in_err-put-clause-current g c = c.in_err-put.ensures.current
+
+pub returns-in_err-put-clause-reads : goal.returns-in_err-put-clause-reads
+returns-in_err-put-clause-reads g c = c.in_err-put.ensures.reads
+
+pub returns-in_err-item-clause-current : goal.returns-in_err-item-clause-current
+returns-in_err-item-clause-current g c = c.more.invariant.current
+
+pub returns-in_err-item-clause-reads : goal.returns-in_err-item-clause-reads
+returns-in_err-item-clause-reads g c = c.more.invariant.reads
+
+pub returns-in_err-written-clause-current : goal.returns-in_err-written-clause-current
+returns-in_err-written-clause-current g c = c.in_err-written.ensures.current ∙ c.more.invariant.current
+
+pub returns-in_err-written-clause-reads : goal.returns-in_err-written-clause-reads
+returns-in_err-written-clause-reads g c = c.in_err-written.ensures.reads ∙ c.more.invariant.reads
+
+pub returns-clause-current : goal.returns-clause-current
+returns-clause-current g c = c.more.invariant.current
+
+pub returns-clause-fault : goal.returns-clause-fault
+returns-clause-fault g c = c.more.invariant.fault
+
+pub returns-clause-reads : goal.returns-clause-reads
+returns-clause-reads g c = c.more.invariant.reads
