@@ -1,0 +1,83 @@
+"""The crates of the repository as crates.txt has them, and the words with which the compiler of the Rattle kit is called for them."""
+import functools
+import hashlib
+import os
+import subprocess
+
+ROOT = os.path.dirname(os.path.dirname(os.path.abspath(__file__)))
+# What a proof reads of a crate. The code and what is promised of it are the first two.
+PARTS = "src", "specs", "proofs"
+
+
+@functools.cache
+def kit():
+    """The folder of the Rattle kit, that of its first page."""
+    page = subprocess.run(["rt", "doc"], stdout=subprocess.PIPE, text=True, check=True).stdout.strip()
+    return os.path.dirname(page)
+
+
+@functools.cache
+def lines_of_crates():
+    """Each crate and the libraries that it names, the kit's among them."""
+    with open(f"{ROOT}/crates.txt", encoding="utf-8") as lines:
+        return {name: used.split() for name, _, used in (it.partition(":") for it in lines if not it.startswith("#"))}
+
+
+def used(crate):
+    """The crates of the repository that a crate names."""
+    crates = lines_of_crates()
+    return [it for it in crates[crate] if it in crates]
+
+
+def below(crate):
+    """The crates that a crate stands on, lowest first, with itself."""
+    found = []
+
+    def enter(each):
+        for it in used(each):
+            if it not in found:
+                enter(it)
+        found.append(each)
+
+    enter(crate)
+    return found
+
+
+def files(crate, parts=PARTS):
+    """The paths of a crate's files, in order."""
+    return sorted(
+        os.path.join(folder, name) for part in parts for folder, _, names in os.walk(f"{ROOT}/crates/{crate}/{part}") for name in names
+    )
+
+
+@functools.cache
+def sum_of(crate):
+    """A sum of all that a crate's proof reads: the kit, the crate's line and files, and those of the crates that it stands on."""
+    found = hashlib.sha256(subprocess.run(["rt", "version"], stdout=subprocess.PIPE, check=True).stdout)
+    found.update(repr([crate, lines_of_crates()[crate], [sum_of(it) for it in used(crate)]]).encode())
+    for path in files(crate):
+        with open(path, "rb") as file:
+            found.update(repr([os.path.relpath(path, ROOT), hashlib.sha256(file.read()).hexdigest()]).encode())
+    return found.hexdigest()
+
+
+def is_program(crate):
+    return os.path.exists(f"{ROOT}/crates/{crate}/src/main.rt")
+
+
+def statements(crate):
+    """Where what a library states is kept, and its code: its proofs are made and not kept. (rt reads nothing there.)"""
+    return f"{ROOT}/crates/{crate}/out/rlib/statements"
+
+
+def words(command, crate):
+    """A call of the compiler that checks or builds a crate over what the libraries below it state, in the crate's folder."""
+    of_kit = f"{kit()}/rlibs"
+    root = "main.rt" if is_program(crate) else "lib.rt"
+    found = [f"{kit()}/bin/rattle", command, "--crate-name", crate, f"src/{root}", "--extern", f"std={of_kit}/std.rlib"]
+    for it in lines_of_crates()[crate]:
+        found += ["--extern", f"{it}={statements(it) if it in used(crate) else of_kit}/{it}.rlib"]
+    for folder in [of_kit, *(statements(it) for it in below(crate)[:-1])]:
+        found += ["-L", f"dependency={folder}"]
+    found += ["--antt-project", f"{kit()}/rattle/logic/antt-project.json", "--logic-built", f"{kit()}/logic_built"]
+    return [*found, "--links", f"{crate}="]
