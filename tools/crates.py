@@ -17,10 +17,15 @@ def kit():
 
 
 @functools.cache
+def version_of_kit():
+    return subprocess.run(["rt", "version"], stdout=subprocess.PIPE, text=True, check=True).stdout
+
+
+@functools.cache
 def lines_of_crates():
     """Each crate and the libraries that it names, the kit's among them."""
     with open(f"{ROOT}/crates.txt", encoding="utf-8") as lines:
-        return {name: used.split() for name, _, used in (it.partition(":") for it in lines if not it.startswith("#"))}
+        return {name: used.split() for name, _, used in (it.partition(":") for it in lines if ":" in it and not it.startswith("#"))}
 
 
 def used(crate):
@@ -53,8 +58,7 @@ def files(crate, parts=PARTS):
 @functools.cache
 def sum_of(crate):
     """A sum of all that a crate's proof reads: the kit, the crate's line and files, and those of the crates that it stands on."""
-    found = hashlib.sha256(subprocess.run(["rt", "version"], stdout=subprocess.PIPE, check=True).stdout)
-    found.update(repr([crate, lines_of_crates()[crate], [sum_of(it) for it in used(crate)]]).encode())
+    found = hashlib.sha256(repr([version_of_kit(), crate, lines_of_crates()[crate], [sum_of(it) for it in used(crate)]]).encode())
     for path in files(crate):
         with open(path, "rb") as file:
             found.update(repr([os.path.relpath(path, ROOT), hashlib.sha256(file.read()).hexdigest()]).encode())
