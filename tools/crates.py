@@ -70,7 +70,8 @@ def is_program(crate):
 
 
 def statements(crate):
-    """Where what a library states is kept, and its code: its proofs are made and not kept. (rt reads nothing there.)"""
+    """Where what a library states is kept, and its code: its proofs are made and not kept. rt takes no .rt file elsewhere in out/, reads
+    nothing there, and removes it when it builds the library itself."""
     return f"{ROOT}/crates/{crate}/out/rlib/statements"
 
 
