@@ -1,5 +1,5 @@
 // The function of a body.
-ghost use Rattle.std.specs.Prelude.{◌≡◌, ◌<◌, ◌-◌, ◌^◌, ◌++◌, replicate, slice_get, IfOk, OnOk};
+ghost use Rattle.std.specs.Prelude.{◌≡◌, ◌<◌, ◌-◌, ◌^◌, ◌++◌, length, replicate, slice_get, IfOk, OnOk};
 ghost use Rattle.std.specs.Option.{option_copied};
 ghost use Rattle.w2c_base.specs.Lookup.{if_found};
 ghost use Rattle.wasm_tree.specs.IndexSpaces.{declared_locals, at_defined, type_in};
@@ -94,14 +94,38 @@ fn whole_body(around: &Around, first: usize, own: &[ValType], code: &Code) -> Re
       stmts = function.stmts_of (setting_of around.now) code.now;
     }) }
 {
-    let emitter = Emitter::body(around, code)?;
+    let mut emitter = Emitter::empty(around.alloc);
+    emitter.body(around, code)?;
     let marks = emitter.operands.marks.as_slice();
-    let locals = all_locals(around.alloc, first, own, marks, emitter.is_indirect)?;
+    let made = all_locals(around.alloc, first, own, marks, emitter.is_indirect);
     let stmts = statements(emitter);
+    let locals = made?;
     Ok(Body { locals, stmts })
 }
 
 impl<'a> IndexSpaces<'a> {
+    // The variables and the statements of a function of this type and this body.
+    fn content(&self, alloc: Global, ty: &FuncType, body: &BodyEntry) -> Result<Body, Memory>
+        requires { BodyIsReady (context_of self.now.tree.now ty.now body.now) body.now.code }
+        ensures { IfOk result (λ b. body_seen b ≡ record {
+          locals = function.locals_from (length ty.now.params) (declared_locals body.now.runs)
+              ++ (function.slots_of type.I32 (context_of self.now.tree.now ty.now body.now) body.now.code
+              ++ (function.slots_of type.I64 (context_of self.now.tree.now ty.now body.now) body.now.code
+              ++ function.element_local body.now.code));
+          stmts = function.stmts_of (record { named = named_of self.now; context = context_of self.now.tree.now ty.now body.now }) body.now.code;
+        }) }
+    {
+        let own = declared_types(alloc, body)?;
+        let all = all_types(alloc, ty, own.as_slice())?;
+        let around = Around {
+            alloc,
+            spaces: self,
+            locals: all.as_slice(),
+            result: ty.result,
+        };
+        whole_body(&around, ty.params.len(), own.as_slice(), &body.code)
+    }
+
     // The function with an index, of this type and this body.
     fn defined(
         &self,
@@ -113,17 +137,9 @@ impl<'a> IndexSpaces<'a> {
         requires { BodyIsReady (context_of self.now.tree.now ty.now body.now) body.now.code }
         ensures { IfOk result (λ f. func_seen f ≡ function.func_of (named_of self.now) index ty.now body.now) }
     {
-        let own = declared_types(alloc, body)?;
-        let all = all_types(alloc, ty, own.as_slice())?;
-        let around = Around {
-            alloc,
-            spaces: self,
-            locals: all.as_slice(),
-            result: ty.result,
-        };
-        let content = whole_body(&around, ty.params.len(), own.as_slice(), &body.code)?;
-        let name = func_name(alloc, index)?;
         let params = params(alloc, ty.params.as_slice())?;
+        let name = func_name(alloc, index)?;
+        let content = self.content(alloc, ty, body)?;
         Ok(Func {
             is_static: true,
             result: c_result(ty.result),

@@ -345,6 +345,27 @@ fn put_callee(
     Ok(())
 }
 
+// Of the symbols of all imports and exports those of the imported functions, where they may be called.
+fn callees_among(
+    alloc: Global,
+    module_name: &[u8],
+    types: &TypesByIndex,
+    found: &[Symbol],
+) -> Result<Vec<Option<Name>>, Memory>
+    requires { all_typed found.now ≡
+        symbols.exported_symbols (under_name module_name.now types.now)
+        ++ symbols.imported_symbols (under_name module_name.now types.now) }
+    ensures { IfOk result (λ names. names.items ≡
+        map (usable_symbol (under_name module_name.now types.now)) (symbols.func_imports types.now.tree.now)) }
+{
+    let table = types_by_name(alloc, found)?;
+    let mut names = Vec::new(alloc);
+    for import in types.tree.imports.as_slice() {
+        put_callee(alloc, module_name, types, &table, import, &mut names)?;
+    }
+    Ok(names)
+}
+
 /// The symbols of the imported functions, where they may be called.
 pub(crate) fn callees(
     alloc: Global,
@@ -355,10 +376,5 @@ pub(crate) fn callees(
         map (usable_symbol (under_name module_name.now types.now)) (symbols.func_imports types.now.tree.now)) }
 {
     let found = all_symbols(alloc, module_name, types)?;
-    let table = types_by_name(alloc, found.as_slice())?;
-    let mut names = Vec::new(alloc);
-    for import in types.tree.imports.as_slice() {
-        put_callee(alloc, module_name, types, &table, import, &mut names)?;
-    }
-    Ok(names)
+    callees_among(alloc, module_name, types, found.as_slice())
 }

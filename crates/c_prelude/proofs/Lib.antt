@@ -16,5 +16,6 @@ pub mod Ones
 pub mod Shifts
 pub mod Signs
 pub mod Tables
+pub mod Whole
 pub mod Widths
 pub mod Zeros

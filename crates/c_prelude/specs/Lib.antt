@@ -1,6 +1,7 @@
 pub mod Pieces
 pub mod Rows
 pub mod Helpers
+pub mod Bodies
 pub mod Calls
 pub mod Operators
 pub mod Functions

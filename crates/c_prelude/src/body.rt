@@ -11,6 +11,9 @@ use crate::rows::{Form, Row};
 use c_tree::CType;
 use w2c_base::ValType;
 
+/// A parameter or a local variable: its type, and its name of one letter.
+pub type Variable = (CType, u8);
+
 /// The type of C whose numbers are those of a type.
 pub fn c_type(ty: ValType) -> CType
     ensures { result ≡ of.c_type ty }
@@ -21,40 +24,45 @@ pub fn c_type(ty: ValType) -> CType
     }
 }
 
-/// The type of the operands.
-pub fn operand_type(row: Row) -> CType
-    ensures { result ≡ of.operand_type row }
+/// The operands.
+pub fn operands(row: Row) -> &'static [Variable]
+    ensures { result.now ≡ of.all_of (of.operand_type row) (of.operand_names row.form) }
 {
-    match row.form {
-        Form::ExtendS => CType::U32,
-        _ => c_type(row.ty),
+    match (row.form, row.ty) {
+        (Form::ExtendS, _) => &[(CType::U32, b'x')],
+        (
+            Form::Clz
+            | Form::Ctz
+            | Form::Popcnt
+            | Form::Extend8S
+            | Form::Extend16S
+            | Form::Extend32S,
+            ValType::I32,
+        ) => &[(CType::U32, b'x')],
+        (
+            Form::Clz
+            | Form::Ctz
+            | Form::Popcnt
+            | Form::Extend8S
+            | Form::Extend16S
+            | Form::Extend32S,
+            ValType::I64,
+        ) => &[(CType::U64, b'x')],
+        (_, ValType::I32) => &[(CType::U32, b'x'), (CType::U32, b'y')],
+        (_, ValType::I64) => &[(CType::U64, b'x'), (CType::U64, b'y')],
     }
 }
 
-/// The names of the operands, of one letter each.
-pub fn operand_names(form: Form) -> &'static [u8]
-    ensures { result.now ≡ of.operand_names form }
+/// The local variables.
+pub fn number_locals(row: Row) -> &'static [Variable]
+    ensures { result.now ≡ of.all_of (of.c_type row.ty) (of.local_names row.form) }
 {
-    match form {
-        Form::Clz
-        | Form::Ctz
-        | Form::Popcnt
-        | Form::ExtendS
-        | Form::Extend8S
-        | Form::Extend16S
-        | Form::Extend32S => b"x",
-        _ => b"xy",
-    }
-}
-
-/// The names of the local variables.
-pub fn local_names(form: Form) -> &'static [u8]
-    ensures { result.now ≡ of.local_names form }
-{
-    match form {
-        Form::ShrS => b"s",
-        Form::Clz | Form::Ctz => b"nt",
-        _ => b"",
+    match (row.form, row.ty) {
+        (Form::ShrS, ValType::I32) => &[(CType::U32, b's')],
+        (Form::ShrS, ValType::I64) => &[(CType::U64, b's')],
+        (Form::Clz | Form::Ctz, ValType::I32) => &[(CType::U32, b'n'), (CType::U32, b't')],
+        (Form::Clz | Form::Ctz, ValType::I64) => &[(CType::U64, b'n'), (CType::U64, b't')],
+        _ => &[],
     }
 }
 

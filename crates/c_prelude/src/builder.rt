@@ -1,12 +1,11 @@
 // The builder of a body: it places pieces one behind another.
 ghost use Rattle.std.specs.Prelude.{◌≡◌, ◌∷◌, OnOk};
 ghost use Rattle.c_tree.specs.View.{expr_of, stmt_of};
-ghost use Rattle.c_prelude.specs.declared.piece.Piece.TheVariants as piece;
 ghost use Rattle.c_prelude.specs.Pieces.{top, below_top, with_stack, with_stmt, with_call, placed, all_placed, staged, made_by, nothing_made};
 
 use crate::parts::{cast_to, letter, literal, named, number_in, operation, primitive_name, trap};
-use crate::piece::{Cast, Piece, Setting};
-use c_tree::{Arg, Args, COp, Callee, Expr, Name, Num, Stmt, Stmts};
+use crate::piece::{Piece, Setting};
+use c_tree::{Arg, Args, Callee, Expr, Name, Num, Stmt, Stmts};
 use std::alloc::Global;
 use std::mem;
 use w2c_base::{Memory, ValType};
@@ -75,16 +74,35 @@ impl Builder {
             Piece::Name(c) => self.push(Expr::Name(letter(alloc, c)?)),
             Piece::Number(n) => self.push(literal(ty, number_in(setting, n))),
             Piece::Long(n) => self.push(Expr::Num(Num::N64(number_in(setting, n)))),
-            Piece::Op(op) => self.operate(ty, op),
-            Piece::Cast(cast) => self.cast(setting, cast),
-            Piece::Arg => self.pass(ty),
+            Piece::Op(op) => {
+                let right = self.take(ty);
+                let left = self.take(ty);
+                self.push(operation(alloc, op, left, right)?)
+            }
+            Piece::Cast(cast) => {
+                let e = self.take(ty);
+                self.push(cast_to(alloc, setting, cast, e)?)
+            }
+            Piece::Arg => {
+                let e = self.take(ty);
+                self.args.push(Arg::Value(e))
+            }
             Piece::Get(c, primitive) => {
                 let target = letter(alloc, c)?;
                 self.call(Some(target), primitive_name(setting.size, primitive))
             }
             Piece::Do(primitive) => self.call(None, primitive_name(setting.size, primitive)),
-            Piece::Set(c) => self.assign(ty, c),
-            Piece::If(op, c) => self.branch(ty, op, c),
+            Piece::Set(c) => {
+                let name = letter(alloc, c)?;
+                let e = self.take(ty);
+                self.add(Stmt::Set(name, Arg::Value(e)))
+            }
+            Piece::If(op, c) => {
+                let label = letter(alloc, c)?;
+                let right = self.take(ty);
+                let left = self.take(ty);
+                self.add(Stmt::If(op, left, right, label))
+            }
             Piece::Label(c) => self.add(Stmt::Label(letter(alloc, c)?)),
             Piece::Return => {
                 let e = self.take(ty);
@@ -118,49 +136,6 @@ impl Builder {
         ensures { OnOk result (made_by self.new ≡ with_stmt (made_by self.old) (made_by self.old).stack (stmt_of s)) }
     {
         self.stmts.push(s)
-    }
-
-    // An operator on the two uppermost expressions.
-    fn operate(&mut self, ty: ValType, op: COp) -> Result<(), Memory>
-        ensures { OnOk result (made_by self.new ≡ placed ty 0 (made_by self.old) (piece.Op op)) }
-    {
-        let right = self.take(ty);
-        let left = self.take(ty);
-        self.push(operation(self.alloc, op, left, right)?)
-    }
-
-    // The uppermost expression in another type.
-    fn cast(&mut self, setting: Setting, cast: Cast) -> Result<(), Memory>
-        ensures { OnOk result (made_by self.new ≡ placed setting.ty setting.size (made_by self.old) (piece.Cast cast)) }
-    {
-        let e = self.take(setting.ty);
-        self.push(cast_to(self.alloc, setting, cast, e)?)
-    }
-
-    // The uppermost expression becomes the next argument.
-    fn pass(&mut self, ty: ValType) -> Result<(), Memory>
-        ensures { OnOk result (made_by self.new ≡ placed ty 0 (made_by self.old) piece.Arg) }
-    {
-        let e = self.take(ty);
-        self.args.push(Arg::Value(e))
-    }
-
-    fn assign(&mut self, ty: ValType, c: u8) -> Result<(), Memory>
-        ensures { OnOk result (made_by self.new ≡ placed ty 0 (made_by self.old) (piece.Set c)) }
-    {
-        let name = letter(self.alloc, c)?;
-        let e = self.take(ty);
-        self.add(Stmt::Set(name, Arg::Value(e)))
-    }
-
-    // Goes to a label where the two uppermost expressions compare so.
-    fn branch(&mut self, ty: ValType, op: COp, c: u8) -> Result<(), Memory>
-        ensures { OnOk result (made_by self.new ≡ placed ty 0 (made_by self.old) (piece.If op c)) }
-    {
-        let label = letter(self.alloc, c)?;
-        let right = self.take(ty);
-        let left = self.take(ty);
-        self.add(Stmt::If(op, left, right, label))
     }
 
     // A call of a function of the runtime with the arguments so far.

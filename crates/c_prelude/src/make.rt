@@ -1,14 +1,15 @@
 // Helpers as functions of the C subset.
-ghost use Rattle.std.specs.Prelude.{◌≡◌, ◌≤◌, ◌++◌, ◌∷◌, [], map, true, Some, IfOk, OnOk};
+ghost use Rattle.std.specs.Prelude.{◌≡◌, ◌≤◌, ◌++◌, ◌∷◌, [], map, true, Some, IfOk};
 ghost use Rattle.c_tree.specs.View.{func_of, stmt_of};
-ghost use Rattle.c_prelude.specs.Pieces as made;
-ghost use Rattle.c_prelude.specs.Helpers.{Variable, static_function, all_of, number_helper, number_stmts, access_stmts, load_helper, store_helper, size_helper, element_helper, copy_helper, fill_helper, helper_of};
+ghost use Rattle.c_prelude.specs.Pieces.{all_placed, staged, nothing_made};
+ghost use Rattle.c_prelude.specs.Helpers.{access_stmts, helper_of};
+ghost use Rattle.c_prelude.specs.Bodies.{locals_of, stmts_of};
 ghost use Rattle.c_prelude.specs.Helpers as of;
 ghost use Rattle.c_prelude.specs.Operators.{DoesItsInstruction};
 ghost use Rattle.c_prelude.specs.Functions.{IsStaticFunction, helper_type};
 
 use crate::body::{
-    c_type, end, end_size, local_names, operand_names, operand_type, result_type, sizes, stage,
+    Variable, c_type, end, end_size, number_locals, operands, result_type, sizes, stage,
 };
 use crate::builder::Builder;
 use crate::object_tables::{ACCESS, COPY, ELEMENT, FILL, LOAD, LOAD_S, SIZE, STORE};
@@ -19,7 +20,7 @@ use crate::rows::{Row, form_name, load_name, number_row, prefix, store_name};
 use c_tree::{Body, CType, Func, Locals, Name, Num, Params, Stmts};
 use std::alloc::Global;
 use w2c_base::{Memory, ValType};
-use wasm_tree::{Access, LoadOp, StoreOp};
+use wasm_tree::Access;
 
 /// The function of a helper. For an operator on numbers it takes the operands and gives the result,
 /// or traps as the operator does (WebAssembly Core 1.0, 4.3.2). A load takes a pointer to a memory,
@@ -38,7 +39,11 @@ pub fn helper(alloc: Global, which: Helper) -> Result<Func, Memory>
     ensures does { IfOk result (λ func. DoesItsInstruction which (func_of func)) }
     ensures function { IfOk result (λ func. IsStaticFunction (helper_type which) (func_of func)) }
 {
-    Ok(make(alloc, which)?)
+    let name = helper_name(alloc, which)?;
+    let params = params_of(alloc, params(which))?;
+    let locals = locals_of(alloc, locals(which))?;
+    let stmts = stmts(alloc, which)?;
+    Ok(function(name, returns(which), params, locals, stmts))
 }
 
 /// The name of a helper's function.
@@ -46,7 +51,12 @@ pub fn helper_name(alloc: Global, which: Helper) -> Result<Name, Memory>
     ensures { IfOk result (λ name. name ≡ (helper_of which).name) }
 {
     match which {
-        Helper::Num(op) => number_name(alloc, number_row(op)),
+        Helper::Num(op) => {
+            let row = number_row(op);
+            let mut name = named(alloc, prefix(row.ty))?;
+            name.extend(form_name(row.form))?;
+            Ok(name)
+        }
         Helper::Load(op) => named(alloc, load_name(op)),
         Helper::Store(op) => named(alloc, store_name(op)),
         Helper::Size => named(alloc, b"memory_size"),
@@ -56,148 +66,150 @@ pub fn helper_name(alloc: Global, which: Helper) -> Result<Name, Memory>
     }
 }
 
-fn make(alloc: Global, which: Helper) -> Result<Func, Memory>
-    ensures { IfOk result (λ func. func_of func ≡ helper_of which) }
+fn returns(which: Helper) -> CType
+    ensures { result ≡ (helper_of which).result }
 {
     match which {
-        Helper::Num(op) => number(alloc, number_row(op)),
-        Helper::Load(op) => load(alloc, op),
-        Helper::Store(op) => store(alloc, op),
-        Helper::Size => size(alloc),
-        Helper::Element => element(alloc),
-        Helper::Copy => copy(alloc),
-        Helper::Fill => fill(alloc),
+        Helper::Num(op) => result_type(number_row(op)),
+        Helper::Load(op) => c_type(op.access().ty),
+        Helper::Store(_) => CType::Void,
+        Helper::Size => CType::U32,
+        Helper::Element => CType::FnPtr,
+        Helper::Copy => CType::Void,
+        Helper::Fill => CType::Void,
     }
 }
 
-fn number_name(alloc: Global, row: Row) -> Result<Name, Memory>
-    ensures { IfOk result (λ name. name ≡ (number_helper row).name) }
+// The parameters. Those of an access begin with the memory, the base and the offset, and those of a store end with the
+// value. Those of bytes that are written begin with the memory and two numbers, and end with how many bytes there are.
+fn params(which: Helper) -> &'static [Variable]
+    ensures { map of.param result.now ≡ (helper_of which).params }
 {
-    let mut name = named(alloc, prefix(row.ty))?;
-    name.extend(form_name(row.form))?;
-    Ok(name)
+    match which {
+        Helper::Num(op) => operands(number_row(op)),
+        Helper::Load(_) => &[
+            (CType::PtrMem, b'm'),
+            (CType::U32, b'b'),
+            (CType::U32, b'o'),
+        ],
+        Helper::Store(op) => match op.access().ty {
+            ValType::I32 => &[
+                (CType::PtrMem, b'm'),
+                (CType::U32, b'b'),
+                (CType::U32, b'o'),
+                (CType::U32, b'v'),
+            ],
+            ValType::I64 => &[
+                (CType::PtrMem, b'm'),
+                (CType::U32, b'b'),
+                (CType::U32, b'o'),
+                (CType::U64, b'v'),
+            ],
+        },
+        Helper::Size => &[(CType::PtrMem, b'm')],
+        Helper::Element => &[
+            (CType::PtrTab, b't'),
+            (CType::U32, b'i'),
+            (CType::U64, b's'),
+        ],
+        Helper::Copy => &[
+            (CType::PtrMem, b'm'),
+            (CType::U32, b'd'),
+            (CType::U32, b's'),
+            (CType::U32, b'n'),
+        ],
+        Helper::Fill => &[
+            (CType::PtrMem, b'm'),
+            (CType::U32, b'd'),
+            (CType::U32, b'v'),
+            (CType::U32, b'n'),
+        ],
+    }
 }
 
-fn number(alloc: Global, row: Row) -> Result<Func, Memory>
-    ensures { IfOk result (λ func. func_of func ≡ number_helper row) }
+// The local variables. Those of an access begin with its address and the memory's length. What the runtime reads comes
+// last in a load: fewer than 8 bytes are a u32.
+fn locals(which: Helper) -> &'static [Variable]
+    ensures { map of.local result.now ≡ locals_of (helper_of which) }
 {
-    let name = number_name(alloc, row)?;
-    let params = params_of(alloc, operand_type(row), operand_names(row.form))?;
-    let locals = locals_of(alloc, c_type(row.ty), local_names(row.form))?;
-    let stmts = number_body(alloc, row)?;
-    Ok(function(name, result_type(row), params, locals, stmts))
+    match which {
+        Helper::Num(op) => number_locals(number_row(op)),
+        Helper::Load(op) if op.access().width == 8 => {
+            &[(CType::U64, b'a'), (CType::U64, b'n'), (CType::U64, b'v')]
+        }
+        Helper::Load(_) => &[(CType::U64, b'a'), (CType::U64, b'n'), (CType::U32, b'v')],
+        Helper::Store(_) => &[(CType::U64, b'a'), (CType::U64, b'n')],
+        Helper::Size => &[(CType::U64, b'n')],
+        Helper::Element => &[
+            (CType::U64, b'k'),
+            (CType::U64, b'n'),
+            (CType::U64, b'g'),
+            (CType::FnPtr, b'f'),
+        ],
+        Helper::Copy => &[
+            (CType::U64, b'a'),
+            (CType::U64, b'b'),
+            (CType::U64, b'k'),
+            (CType::U64, b'l'),
+            (CType::U32, b'v'),
+        ],
+        Helper::Fill => &[(CType::U64, b'a'), (CType::U64, b'k'), (CType::U64, b'l')],
+    }
 }
 
-fn number_body(alloc: Global, row: Row) -> Result<Stmts, Memory>
-    ensures { IfOk result (λ stmts. map stmt_of stmts ≡ number_stmts row) }
+#[tactic(auto, using(crate::proofs::Memories::load_short, crate::proofs::Memories::store_short))]
+fn stmts(alloc: Global, which: Helper) -> Result<Stmts, Memory>
+    ensures { IfOk result (λ stmts. map stmt_of stmts ≡ stmts_of (helper_of which)) }
 {
-    let mut builder = Builder::new(alloc);
-    builder.place_staged(row.ty, sizes(row), stage(row.form))?;
-    let setting = Setting {
-        ty: row.ty,
-        size: end_size(row.form),
-    };
-    builder.place_all(setting, end(row.form))?;
-    Ok(builder.finish())
+    match which {
+        Helper::Num(op) => {
+            let row = number_row(op);
+            body(
+                alloc,
+                row.ty,
+                sizes(row),
+                stage(row.form),
+                end_size(row.form),
+                end(row.form),
+            )
+        }
+        Helper::Load(op) => access_body(alloc, op.access(), load_pieces(op.access())),
+        Helper::Store(op) => access_body(alloc, op.access(), &STORE),
+        Helper::Size => body(alloc, ValType::I32, &[], &[], 32, &SIZE),
+        Helper::Element => body(alloc, ValType::I32, &[], &[], 32, &ELEMENT),
+        Helper::Copy => body(alloc, ValType::I32, &[], &[], 8, &COPY),
+        Helper::Fill => body(alloc, ValType::I32, &[], &[], 8, &FILL),
+    }
 }
 
-#[tactic(auto, using(crate::proofs::Memories::load_short))]
-fn load(alloc: Global, op: LoadOp) -> Result<Func, Memory>
-    ensures { IfOk result (λ func. func_of func ≡ load_helper op) }
+fn load_pieces(access: Access) -> &'static [Piece]
+    ensures { result.now ≡ of.load_pieces access.is_signed }
 {
-    let access = op.access();
-    let name = named(alloc, load_name(op))?;
-    let params = address_params(alloc)?;
-    let mut locals = address_locals(alloc)?;
-    put_local(alloc, &mut locals, read_type(access.width), b'v')?;
-    let pieces: &[Piece] = if access.is_signed { &LOAD_S } else { &LOAD };
-    let stmts = access_body(alloc, access, pieces)?;
-    Ok(function(name, c_type(access.ty), params, locals, stmts))
-}
-
-#[tactic(auto, using(crate::proofs::Memories::store_short))]
-fn store(alloc: Global, op: StoreOp) -> Result<Func, Memory>
-    ensures { IfOk result (λ func. func_of func ≡ store_helper op) }
-{
-    let access = op.access();
-    let name = named(alloc, store_name(op))?;
-    let mut params = address_params(alloc)?;
-    put_param(alloc, &mut params, c_type(access.ty), b'v')?;
-    let locals = address_locals(alloc)?;
-    let stmts = access_body(alloc, access, &STORE)?;
-    Ok(function(name, CType::Void, params, locals, stmts))
+    if access.is_signed { &LOAD_S } else { &LOAD }
 }
 
 fn access_body(alloc: Global, access: Access, pieces: &[Piece]) -> Result<Stmts, Memory>
     requires { access.width ≤ 8 }
     ensures { IfOk result (λ stmts. map stmt_of stmts ≡ access_stmts access pieces.now) }
 {
-    let setting = Setting {
-        ty: access.ty,
-        size: 8 * access.width,
-    };
+    let size = 8 * access.width;
+    body(alloc, access.ty, &[size], &ACCESS, size, pieces)
+}
+
+// The pieces of a stage, placed for each size, and those behind the stages.
+fn body(
+    alloc: Global,
+    ty: ValType,
+    sizes: &[u32],
+    stage: &[Piece],
+    size: u32,
+    end: &[Piece],
+) -> Result<Stmts, Memory>
+    ensures { IfOk result (λ stmts. map stmt_of stmts ≡ (all_placed ty size (staged ty sizes.now nothing_made stage.now) end.now).stmts) }
+{
     let mut builder = Builder::new(alloc);
-    builder.place_all(setting, &ACCESS)?;
-    builder.place_all(setting, pieces)?;
-    Ok(builder.finish())
-}
-
-fn size(alloc: Global) -> Result<Func, Memory>
-    ensures { IfOk result (λ func. func_of func ≡ size_helper) }
-{
-    let name = named(alloc, b"memory_size")?;
-    let mut params = Params::new(alloc);
-    put_param(alloc, &mut params, CType::PtrMem, b'm')?;
-    let mut locals = Locals::new(alloc);
-    put_local(alloc, &mut locals, CType::U64, b'n')?;
-    let stmts = object_body(alloc, 32, &SIZE)?;
-    Ok(function(name, CType::U32, params, locals, stmts))
-}
-
-fn element(alloc: Global) -> Result<Func, Memory>
-    ensures { IfOk result (λ func. func_of func ≡ element_helper) }
-{
-    let name = named(alloc, b"table_element")?;
-    let mut params = Params::new(alloc);
-    put_param(alloc, &mut params, CType::PtrTab, b't')?;
-    put_param(alloc, &mut params, CType::U32, b'i')?;
-    put_param(alloc, &mut params, CType::U64, b's')?;
-    let mut locals = locals_of(alloc, CType::U64, b"kng")?;
-    put_local(alloc, &mut locals, CType::FnPtr, b'f')?;
-    let stmts = object_body(alloc, 32, &ELEMENT)?;
-    Ok(function(name, CType::FnPtr, params, locals, stmts))
-}
-
-fn copy(alloc: Global) -> Result<Func, Memory>
-    ensures { IfOk result (λ func. func_of func ≡ copy_helper) }
-{
-    let name = named(alloc, b"memory_copy")?;
-    let params = bytes_params(alloc, b'd', b's')?;
-    let mut locals = locals_of(alloc, CType::U64, b"abkl")?;
-    put_local(alloc, &mut locals, CType::U32, b'v')?;
-    let stmts = object_body(alloc, 8, &COPY)?;
-    Ok(function(name, CType::Void, params, locals, stmts))
-}
-
-fn fill(alloc: Global) -> Result<Func, Memory>
-    ensures { IfOk result (λ func. func_of func ≡ fill_helper) }
-{
-    let name = named(alloc, b"memory_fill")?;
-    let params = bytes_params(alloc, b'd', b'v')?;
-    let locals = locals_of(alloc, CType::U64, b"akl")?;
-    let stmts = object_body(alloc, 8, &FILL)?;
-    Ok(function(name, CType::Void, params, locals, stmts))
-}
-
-fn object_body(alloc: Global, size: u32, pieces: &[Piece]) -> Result<Stmts, Memory>
-    ensures { IfOk result (λ stmts. map stmt_of stmts ≡ of.object_stmts size pieces.now) }
-{
-    let setting = Setting {
-        ty: ValType::I32,
-        size,
-    };
-    let mut builder = Builder::new(alloc);
-    builder.place_all(setting, pieces)?;
+    builder.place_staged(ty, sizes, stage)?;
+    builder.place_all(Setting { ty, size }, end)?;
     Ok(builder.finish())
 }
 
@@ -213,74 +225,27 @@ fn function(name: Name, returns: CType, params: Params, locals: Locals, stmts: S
     }
 }
 
-// The memory, the base and the offset of an access.
-fn address_params(alloc: Global) -> Result<Params, Memory>
-    ensures { IfOk result (λ params. params ≡ map of.param of.address_params) }
+fn params_of(alloc: Global, variables: &[Variable]) -> Result<Params, Memory>
+    ensures { IfOk result (λ params. params ≡ map of.param variables.now) }
 {
     let mut params = Params::new(alloc);
-    put_param(alloc, &mut params, CType::PtrMem, b'm')?;
-    put_param(alloc, &mut params, CType::U32, b'b')?;
-    put_param(alloc, &mut params, CType::U32, b'o')?;
-    Ok(params)
-}
-
-// The memory, two numbers, and how many bytes are written.
-fn bytes_params(alloc: Global, first: u8, second: u8) -> Result<Params, Memory>
-    ensures { IfOk result (λ params. params ≡ map of.param (of.bytes_params first second)) }
-{
-    let mut params = Params::new(alloc);
-    put_param(alloc, &mut params, CType::PtrMem, b'm')?;
-    put_param(alloc, &mut params, CType::U32, first)?;
-    put_param(alloc, &mut params, CType::U32, second)?;
-    put_param(alloc, &mut params, CType::U32, b'n')?;
-    Ok(params)
-}
-
-// The address of an access, and the memory's length.
-fn address_locals(alloc: Global) -> Result<Locals, Memory>
-    ensures { IfOk result (λ locals. locals ≡ map of.local of.address_locals) }
-{
-    locals_of(alloc, CType::U64, b"an")
-}
-
-// What the runtime reads: fewer than 8 bytes are a u32.
-fn read_type(width: u32) -> CType
-    ensures { result ≡ of.read_type width }
-{
-    if width == 8 { CType::U64 } else { CType::U32 }
-}
-
-fn params_of(alloc: Global, ty: CType, names: &[u8]) -> Result<Params, Memory>
-    ensures { IfOk result (λ params. params ≡ map of.param (all_of ty names.now)) }
-{
-    let mut params = Params::new(alloc);
-    for c in names {
-        put_param(alloc, &mut params, ty, *c)?;
+    for variable in variables {
+        let (ty, c) = *variable;
+        params.push((ty, Some(letter(alloc, c)?)))?;
     }
     Ok(params)
 }
 
-fn locals_of(alloc: Global, ty: CType, names: &[u8]) -> Result<Locals, Memory>
-    ensures { IfOk result (λ locals. locals ≡ map of.local (all_of ty names.now)) }
+// Each is 0 at first.
+fn locals_of(alloc: Global, variables: &[Variable]) -> Result<Locals, Memory>
+    ensures { IfOk result (λ locals. locals ≡ map of.local variables.now) }
 {
     let mut locals = Locals::new(alloc);
-    for c in names {
-        put_local(alloc, &mut locals, ty, *c)?;
+    for variable in variables {
+        let (ty, c) = *variable;
+        locals.push((ty, letter(alloc, c)?, zero(ty)))?;
     }
     Ok(locals)
-}
-
-fn put_param(alloc: Global, params: &mut Params, ty: CType, c: u8) -> Result<(), Memory>
-    ensures { OnOk result (params.new ≡ params.old ++ of.param (ty, c) ∷ []) }
-{
-    params.push((ty, Some(letter(alloc, c)?)))
-}
-
-// A local variable that is 0 at first.
-fn put_local(alloc: Global, locals: &mut Locals, ty: CType, c: u8) -> Result<(), Memory>
-    ensures { OnOk result (locals.new ≡ locals.old ++ of.local (ty, c) ∷ []) }
-{
-    locals.push((ty, letter(alloc, c)?, zero(ty)))
 }
 
 fn zero(ty: CType) -> Num

@@ -177,7 +177,8 @@ fn put_name(size: u32) -> &'static [u8]
 pub fn trap(alloc: Global, kind: TrapKind) -> Result<Stmt, Memory>
     ensures { IfOk result (λ s. stmt_of s ≡ made.trap kind) }
 {
+    let name = named(alloc, b"w2c_trap")?;
     let mut args = Args::new(alloc);
     args.push(Arg::Value(Expr::Num(Num::N32(kind.code()))))?;
-    Ok(Stmt::Call(None, Callee::Named(named(alloc, b"w2c_trap")?), args))
+    Ok(Stmt::Call(None, Callee::Named(name), args))
 }

@@ -4,12 +4,18 @@ use Rattle.std.proofs.lemmas.List.{append-nil}
 use Rattle.c_tree.specs.declared.token.Tok.TheVariants as tok
 use Rattle.c_tree.specs.declared.token.Kind.TheVariants as kind
 use Rattle.c_tree.specs.Tree.{Item}
-use Rattle.c_tree.specs.Tokens.{Token, Fixed, token_text, kind_of}
+use Rattle.c_tree.specs.Tokens.{Token, Fixed, fixed_text, token_text, kind_of}
 use Rattle.c_tree.specs.Layout.{laid}
 use Rattle.c_tree.specs.Trees.{each, item_tokens}
 use Rattle.c_print.specs.declared.page.Page.{Page}
 use Rattle.c_print.specs.Print.{gap, gap_between, print_item_of}
 use Rattle.c_print.specs.Page.{printed, printed_onto, ended, items_onto}
+
+-- an include line on an empty page
+pub include_put : printed (record { text = []; last = kind.Fixed tok.Include }) (Fixed tok.Include)
+    ≡ record { text = fixed_text tok.Include; last = kind.Fixed tok.Include }
+unfolding printed
+include_put = refl
 
 pub onto_text : (page : Page) (t : Token) (ts : List Token) → page.last ≡ kind_of t
     → (printed_onto page ts).text ≡ page.text ++ laid gap_between t ts

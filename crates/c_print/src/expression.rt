@@ -67,8 +67,7 @@ pub fn put_expression(page: &mut Page, e: &Expr) -> Result<(), Memory>
     match e {
         Expr::Name(name) => page.name(name),
         Expr::At(name, index) => {
-            page.name(name)?;
-            page.fixed(Tok::LeftBracket)?;
+            page.name_and(name, Tok::LeftBracket)?;
             put_expression(page, index)?;
             page.fixed(Tok::RightBracket)
         }
@@ -82,10 +81,8 @@ pub fn put_expression(page: &mut Page, e: &Expr) -> Result<(), Memory>
             put_expression(page, inner)
         }
         Expr::Star(name) => {
-            page.fixed(Tok::LeftParen)?;
-            page.fixed(Tok::Star)?;
-            page.name(name)?;
-            page.fixed(Tok::RightParen)
+            page.all_fixed(&[Tok::LeftParen, Tok::Star])?;
+            page.name_and(name, Tok::RightParen)
         }
         Expr::Op(operator, left, right) => {
             page.fixed(Tok::LeftParen)?;

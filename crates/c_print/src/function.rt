@@ -28,8 +28,7 @@ impl Piece for (CType, Name, Num) {
     #[tactic(auto, using(crate::proofs::Onto::onto_append))]
     fn put(&self, page: &mut Page) -> Result<(), Memory> {
         self.0.put(page)?;
-        page.name(&self.1)?;
-        page.fixed(Tok::Assign)?;
+        page.name_and(&self.1, Tok::Assign)?;
         page.number(self.2)?;
         page.fixed(Tok::Semicolon)
     }
@@ -65,8 +64,7 @@ pub fn put_function(page: &mut Page, func: &Func) -> Result<(), Memory>
         page.fixed(Tok::WordStatic)?;
     }
     func.result.put(page)?;
-    page.name(&func.name)?;
-    page.fixed(Tok::LeftParen)?;
+    page.name_and(&func.name, Tok::LeftParen)?;
     put_separated(page, func.params.as_slice())?;
     page.fixed(Tok::RightParen)?;
     put_close(page, &func.body)

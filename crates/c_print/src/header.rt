@@ -1,7 +1,7 @@
 // A header: the declarations of the functions that other units may call.
-ghost use Rattle.std.specs.Prelude.{◌≡◌, ◌++◌, OnOk, IfOk};
+ghost use Rattle.std.specs.Prelude.{◌≡◌, ◌++◌, codes, OnOk, IfOk};
 ghost use Rattle.c_tree.specs.Trees.{each};
-ghost use Rattle.c_print.specs.Header.{type_text, space_behind, next_type_text, params_text, line_text, guard_of, head_text, header_text};
+ghost use Rattle.c_print.specs.Header.{type_text, space_behind, next_type_text, params_text, line_text, head_text, header_text};
 
 use c_tree::{CType, CTypes, Header, Name};
 use std::alloc::Global;
@@ -13,33 +13,36 @@ use w2c_mangle::escape;
 pub fn print_header(alloc: Global, h: &Header) -> Result<Bytes, Memory>
     ensures { IfOk result (λ text. text ≡ header_text h.now) }
 {
+    let module = escape(alloc, h.module.as_slice())?;
     let mut text = Bytes::new(alloc);
-    let guard = guard(alloc, h.module.as_slice())?;
-    put_head(&mut text, guard.as_slice())?;
-    put_lines(&mut text, h.lines.as_slice())?;
-    text.extend(b"#endif\n")?;
+    put_header(&mut text, module.as_slice(), h.lines.as_slice())?;
     Ok(text)
 }
 
-fn guard(alloc: Global, module: &[u8]) -> Result<Bytes, Memory>
-    ensures { IfOk result (λ guard. guard ≡ guard_of «module».now) }
-{
-    let mut guard = Bytes::new(alloc);
-    guard.extend(b"W2CZ_")?;
-    guard.extend(escape(alloc, module)?.as_slice())?;
-    guard.extend(b"Z_H")?;
-    Ok(guard)
-}
-
-fn put_head(text: &mut Bytes, guard: &[u8]) -> Result<(), Memory>
-    ensures { OnOk result (text.new ≡ text.old ++ head_text guard.now) }
+fn put_header(
+    text: &mut Bytes,
+    module: &[u8],
+    lines: &[(CType, Name, CTypes)],
+) -> Result<(), Memory>
+    ensures { OnOk result (text.new ≡ text.old ++ (head_text (codes "W2CZ_" ++ («module».now ++ codes "Z_H")) ++ (each line_text lines.now ++ codes "#endif\n"))) }
 {
     text.extend(b"/* made by wasm2c; int has 32 bits and every character of a name counts */\n")?;
     text.extend(b"#ifndef ")?;
-    text.extend(guard)?;
+    put_guard(text, module)?;
     text.extend(b"\n#define ")?;
-    text.extend(guard)?;
-    text.extend(b"\n#include \"w2c_rt.h\"\n")
+    put_guard(text, module)?;
+    text.extend(b"\n#include \"w2c_rt.h\"\n")?;
+    put_lines(text, lines)?;
+    text.extend(b"#endif\n")
+}
+
+// The guard, by the module's escaped name.
+fn put_guard(text: &mut Bytes, module: &[u8]) -> Result<(), Memory>
+    ensures { OnOk result (text.new ≡ text.old ++ (codes "W2CZ_" ++ («module».now ++ codes "Z_H"))) }
+{
+    text.extend(b"W2CZ_")?;
+    text.extend(module)?;
+    text.extend(b"Z_H")
 }
 
 fn put_lines(text: &mut Bytes, lines: &[(CType, Name, CTypes)]) -> Result<(), Memory>
@@ -76,16 +79,10 @@ fn put_more_params(text: &mut Bytes, params: &[CType]) -> Result<(), Memory>
     ensures { OnOk result (text.new ≡ text.old ++ each next_type_text params.now) }
 {
     for param in params {
-        put_next_type(text, *param)?;
+        text.extend(b", ")?;
+        text.extend(type_text(*param))?;
     }
     Ok(())
-}
-
-fn put_next_type(text: &mut Bytes, t: CType) -> Result<(), Memory>
-    ensures { OnOk result (text.new ≡ text.old ++ next_type_text t) }
-{
-    text.extend(b", ")?;
-    text.extend(type_text(t))
 }
 
 fn type_text(t: CType) -> &'static [u8]

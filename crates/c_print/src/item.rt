@@ -33,18 +33,12 @@ fn put_array(page: &mut Page, name: &Name, count: u64, bytes: &Bytes) -> Result<
         ∷ Fixed tok.LeftBracket ∷ num_token (Plain count) ∷ Fixed tok.RightBracket ∷ Fixed tok.Assign ∷ Fixed tok.LeftBrace
         ∷ (separated (λ byte. num_token (Plain byte) ∷ []) bytes.now ++ Fixed tok.RightBrace ∷ Fixed tok.Semicolon ∷ []))) }
 {
-    page.fixed(Tok::WordStatic)?;
-    page.fixed(Tok::WordConst)?;
-    page.fixed(Tok::WordU8)?;
-    page.name(name)?;
-    page.fixed(Tok::LeftBracket)?;
+    page.all_fixed(&[Tok::WordStatic, Tok::WordConst, Tok::WordU8])?;
+    page.name_and(name, Tok::LeftBracket)?;
     page.number(Num::Plain(count))?;
-    page.fixed(Tok::RightBracket)?;
-    page.fixed(Tok::Assign)?;
-    page.fixed(Tok::LeftBrace)?;
+    page.all_fixed(&[Tok::RightBracket, Tok::Assign, Tok::LeftBrace])?;
     put_separated(page, bytes.as_slice())?;
-    page.fixed(Tok::RightBrace)?;
-    page.fixed(Tok::Semicolon)
+    page.all_fixed(&[Tok::RightBrace, Tok::Semicolon])
 }
 
 fn put_value(page: &mut Page, value: &Option<Num>) -> Result<(), Memory>
@@ -84,7 +78,7 @@ pub fn put_line(page: &mut Page, item: &Item) -> Result<(), Memory>
 fn item_text(alloc: Global, item: &Item) -> Result<Bytes, Memory>
     ensures { IfOk result (λ text. text ≡ print_item_of (item_of item.now)) }
 {
-    let mut page = Page::behind_include(alloc);
+    let mut page = Page::new(alloc);
     put_line(&mut page, item)?;
     Ok(page.text)
 }
@@ -110,8 +104,7 @@ pub fn print_item_to<F: Files>(alloc: Global, item: &Item, files: &mut F) -> Res
     ensures reads { F.read_faults files.new ≡ F.read_faults files.old }
 {
     let text = item_text(alloc, item)?;
-    files.put(text.as_slice())?;
-    Ok(())
+    files.put(text.as_slice())
 }
 
 #[cfg(test)]

@@ -1,9 +1,9 @@
 // The text so far, and the tokens that are put at its end.
-ghost use Rattle.std.specs.Prelude.{◌≡◌, [], ◌∷◌, ◌++◌, OnOk, IfOk};
+ghost use Rattle.std.specs.Prelude.{◌≡◌, [], ◌∷◌, ◌++◌, map, OnOk};
 ghost use Rattle.std.specs.Fmt.{decimal};
 ghost use Rattle.c_tree.specs.declared.token.Tok.TheVariants as tok;
 ghost use Rattle.c_tree.specs.declared.token.Kind.TheVariants as kind;
-ghost use Rattle.c_tree.specs.Tokens.{Fixed, Named, fixed_text};
+ghost use Rattle.c_tree.specs.Tokens.{Fixed, Named};
 ghost use Rattle.c_tree.specs.Trees.{num_token};
 ghost use Rattle.c_print.specs.Print.{opens, ends_line, closes, ends_block, is_named, begins_list, gap};
 
@@ -20,23 +20,10 @@ pub struct Page {
 }
 
 impl Page {
-    ghost use Rattle.c_print.specs.Page.{printed, ended};
+    ghost use Rattle.c_print.specs.Page.{printed, printed_onto, ended};
 
-    /// The include line.
-    #[tactic(auto, unfolding(crate::specs::Page::printed))]
-    pub fn new(alloc: Global) -> Result<Page, Memory>
-        ensures { IfOk result (λ page. page ≡ record { text = fixed_text tok.Include; last = kind.Fixed tok.Include }) }
-    {
-        let mut text = Bytes::new(alloc);
-        text.extend(Tok::Include.text())?;
-        Ok(Page {
-            text,
-            last: Kind::Fixed(Tok::Include),
-        })
-    }
-
-    /// No text yet. What is put stands behind an include line that is printed elsewhere.
-    pub fn behind_include(alloc: Global) -> Page
+    /// No text yet. What is put first has no gap in front of it, as behind an include line.
+    pub fn new(alloc: Global) -> Page
         ensures { result ≡ record { text = []; last = kind.Fixed tok.Include } }
     {
         Page {
@@ -60,6 +47,24 @@ impl Page {
         ensures { OnOk result (self.new ≡ printed self.old (Fixed t)) }
     {
         self.put(Kind::Fixed(t), t.text())
+    }
+
+    /// Key words and signs in order.
+    pub fn all_fixed(&mut self, tokens: &[Tok]) -> Result<(), Memory>
+        ensures { OnOk result (self.new ≡ printed_onto self.old (map Fixed tokens.now)) }
+    {
+        for t in tokens {
+            self.fixed(*t)?;
+        }
+        Ok(())
+    }
+
+    /// A name with a sign behind it.
+    pub fn name_and(&mut self, name: &Name, sign: Tok) -> Result<(), Memory>
+        ensures { OnOk result (self.new ≡ printed_onto self.old (Named name.now ∷ Fixed sign ∷ [])) }
+    {
+        self.name(name)?;
+        self.fixed(sign)
     }
 
     #[tactic(auto, unfolding(crate::specs::Page::printed))]

@@ -16,19 +16,12 @@ use w2c_base::Memory;
 fn put_through(page: &mut Page, ty: &CFuncType, name: &Name) -> Result<(), Memory>
     ensures { OnOk result (page.new ≡ printed_onto page.old (through_tokens (func_type_of ty.now) name.now)) }
 {
-    page.fixed(Tok::LeftParen)?;
-    page.fixed(Tok::Star)?;
-    page.fixed(Tok::LeftParen)?;
+    page.all_fixed(&[Tok::LeftParen, Tok::Star, Tok::LeftParen])?;
     ty.result.put(page)?;
-    page.fixed(Tok::LeftParen)?;
-    page.fixed(Tok::Star)?;
-    page.fixed(Tok::RightParen)?;
-    page.fixed(Tok::LeftParen)?;
+    page.all_fixed(&[Tok::LeftParen, Tok::Star, Tok::RightParen, Tok::LeftParen])?;
     put_separated(page, ty.params.as_slice())?;
-    page.fixed(Tok::RightParen)?;
-    page.fixed(Tok::RightParen)?;
-    page.name(name)?;
-    page.fixed(Tok::RightParen)
+    page.all_fixed(&[Tok::RightParen, Tok::RightParen])?;
+    page.name_and(name, Tok::RightParen)
 }
 
 fn put_callee(page: &mut Page, callee: &Callee) -> Result<(), Memory>
@@ -47,16 +40,14 @@ fn put_call(page: &mut Page, callee: &Callee, args: &Args) -> Result<(), Memory>
     put_callee(page, callee)?;
     page.fixed(Tok::LeftParen)?;
     put_separated(page, args.as_slice())?;
-    page.fixed(Tok::RightParen)?;
-    page.fixed(Tok::Semicolon)
+    page.all_fixed(&[Tok::RightParen, Tok::Semicolon])
 }
 
 fn put_goto(page: &mut Page, label: &Name) -> Result<(), Memory>
     ensures { OnOk result (page.new ≡ printed_onto page.old (goto_tokens label.now)) }
 {
     page.fixed(Tok::WordGoto)?;
-    page.name(label)?;
-    page.fixed(Tok::Semicolon)
+    page.name_and(label, Tok::Semicolon)
 }
 
 impl Piece for (Num, Name) {
@@ -82,8 +73,7 @@ fn put_if(
     ensures { OnOk result (page.new ≡ printed_onto page.old (Fixed tok.WordIf ∷ Fixed tok.LeftParen ∷ (expr_tokens (expr_of left.now)
         ++ (op_token operator ∷ (expr_tokens (expr_of right.now) ++ Fixed tok.RightParen ∷ goto_tokens label.now))))) }
 {
-    page.fixed(Tok::WordIf)?;
-    page.fixed(Tok::LeftParen)?;
+    page.all_fixed(&[Tok::WordIf, Tok::LeftParen])?;
     put_expression(page, left)?;
     put_operator(page, operator)?;
     put_expression(page, right)?;
@@ -97,14 +87,11 @@ fn put_switch(page: &mut Page, on: &Expr, cases: &Cases, label: &Name) -> Result
         ++ (Fixed tok.RightParen ∷ Fixed tok.LeftBrace ∷ (each case_tokens cases.now
         ++ (Fixed tok.WordDefault ∷ Fixed tok.Colon ∷ (goto_tokens label.now ++ Fixed tok.RightBrace ∷ []))))))) }
 {
-    page.fixed(Tok::WordSwitch)?;
-    page.fixed(Tok::LeftParen)?;
+    page.all_fixed(&[Tok::WordSwitch, Tok::LeftParen])?;
     put_expression(page, on)?;
-    page.fixed(Tok::RightParen)?;
-    page.fixed(Tok::LeftBrace)?;
+    page.all_fixed(&[Tok::RightParen, Tok::LeftBrace])?;
     put_each(page, cases.as_slice())?;
-    page.fixed(Tok::WordDefault)?;
-    page.fixed(Tok::Colon)?;
+    page.all_fixed(&[Tok::WordDefault, Tok::Colon])?;
     put_goto(page, label)?;
     page.fixed(Tok::RightBrace)
 }
@@ -115,37 +102,28 @@ impl Piece for Stmt {
     #[tactic(auto, using(crate::proofs::Onto::onto_append))]
     fn put(&self, page: &mut Page) -> Result<(), Memory> {
         match self {
-            Stmt::Label(name) => {
-                page.name(name)?;
-                page.fixed(Tok::Colon)
-            }
+            Stmt::Label(name) => page.name_and(name, Tok::Colon),
             Stmt::Null => page.fixed(Tok::Semicolon),
             Stmt::Set(name, arg) => {
-                page.name(name)?;
-                page.fixed(Tok::Assign)?;
+                page.name_and(name, Tok::Assign)?;
                 arg.put(page)?;
                 page.fixed(Tok::Semicolon)
             }
             Stmt::SetStar(name, e) => {
                 page.fixed(Tok::Star)?;
-                page.name(name)?;
-                page.fixed(Tok::Assign)?;
+                page.name_and(name, Tok::Assign)?;
                 put_expression(page, e)?;
                 page.fixed(Tok::Semicolon)
             }
             Stmt::Call(None, callee, args) => put_call(page, callee, args),
             Stmt::Call(Some(name), callee, args) => {
-                page.name(name)?;
-                page.fixed(Tok::Assign)?;
+                page.name_and(name, Tok::Assign)?;
                 put_call(page, callee, args)
             }
             Stmt::Goto(label) => put_goto(page, label),
             Stmt::If(operator, left, right, label) => put_if(page, *operator, left, right, label),
             Stmt::Switch(on, cases, label) => put_switch(page, on, cases, label),
-            Stmt::ReturnNone => {
-                page.fixed(Tok::WordReturn)?;
-                page.fixed(Tok::Semicolon)
-            }
+            Stmt::ReturnNone => page.all_fixed(&[Tok::WordReturn, Tok::Semicolon]),
             Stmt::Return(arg) => {
                 page.fixed(Tok::WordReturn)?;
                 arg.put(page)?;

@@ -7,7 +7,7 @@ ghost use Rattle.c_print.specs.Print.{print_of};
 
 use crate::item::put_line;
 use crate::page::Page;
-use c_tree::{Item, Unit};
+use c_tree::{Item, Tok, Unit};
 use std::alloc::Global;
 use w2c_base::{Bytes, Memory};
 
@@ -26,7 +26,8 @@ pub fn print_unit(alloc: Global, u: &Unit) -> Result<Bytes, Memory>
     ensures printed { IfOk result (λ text. text ≡ print_of (unit_of u.now)) }
     ensures spells { IfOk result (λ text. CSpells (unit_of u.now) text) }
 {
-    let mut page = Page::new(alloc)?;
+    let mut page = Page::new(alloc);
+    page.fixed(Tok::Include)?;
     put_items(&mut page, u.as_slice())?;
     Ok(page.text)
 }

@@ -16,7 +16,7 @@ use Rattle.wasm_tree.specs.declared.entries.ExportKind.{ExportKind}
 use Rattle.wasm_tree.specs.declared.entries.ExportKind.TheVariants.{Func as ExportFunc, Table as ExportTable, Memory as ExportMemory, Global as ExportGlobal}
 use Rattle.wasm_tree.specs.IndexSpaces.{global_type_in, imported_globals}
 use Rattle.wasm_meaning.specs.LinkedSet as link
-use Rattle.wasm_meaning.specs.LinkedSet.{LinkedSet, NamedModule, External, IndexSpaces, GlobalAddress, IsFunc, IsTable, IsMemory, IsGlobal, instances, export_of, import_at, module_at, global_type}
+use Rattle.wasm_meaning.specs.LinkedSet.{LinkedSet, NamedModule, External, IndexSpaces, GlobalAddress, IsFunc, IsTable, IsMemory, IsGlobal, instances, import_at, global_type}
 use Rattle.c_tree.specs.declared.tree.CType.{CType}
 use Rattle.c_tree.specs.declared.tree.CType.TheVariants as c_type
 use Rattle.c_tree.specs.declared.tree.Num.TheVariants.{Plain}

@@ -39,6 +39,11 @@ read_again [] i d = refl
 read_again (y ∷ xs) zero d = refl
 read_again (y ∷ xs) (suc i) d = read_again xs i d
 
+-- one more item
+pub pushed : {A B : Type 0} (f : A → B) (before after : List A) (x : A) (y : B) → after ≡ before ++ x ∷ [] → f x ≡ y
+    → map f after ≡ map f before ++ y ∷ []
+pushed f before after x y grown is = ap (map f) grown ∙ map_push f before x ∙ ap (λ z. map f before ++ z ∷ []) is
+
 -- one more item is made of what stands at an index
 pub push_at : {A B V : Type 0} (xs items : List A) → items ≡ xs → (i : ℕ) (d : A) → i < length items
     → (g : V → B) (f : A → B) (made after : List V) (v : V) (whole : List B)
@@ -52,6 +57,17 @@ push_at xs items same i d less g f made after v whole grown is so_far =
     ap (λ ys. map g ys ++ rest) grown ∙ ap (λ ys. ys ++ rest) (map_push g made v) ∙ append_assoc (map g made) (g v ∷ []) rest
     ∙ ap (λ y. map g made ++ y ∷ rest) is
     ∙ ap (λ ys. map g made ++ map f ys) (sym (at_front xs i x within item)) ∙ so_far
+
+-- several more are made of what stands at an index
+pub put_at : {A B : Type 0} (xs items : List A) → items ≡ xs → (i : ℕ) (x : A) → i < length items → x ≡ get_or items i x
+    → (f : A → List B) (before after whole : List B) → after ≡ before ++ f x → before ++ flat_map f (drop i xs) ≡ whole
+    → after ++ flat_map f (drop (i + 1) xs) ≡ whole
+put_at xs items same i x less read f before after whole grown so_far =
+    let within : i < length xs = omega (arith, less, ap length same) in
+    let item : x ≡ get_or xs i x = read ∙ ap (λ ys. get_or ys i x) same in
+    let rest = flat_map f (drop (i + 1) xs) in
+    ap (λ ys. ys ++ rest) grown ∙ append_assoc before (f x) rest
+    ∙ ap (λ ys. before ++ flat_map f ys) (sym (at_front xs i x within item)) ∙ so_far
 
 module _ {A B : Type 0} (xs items : List A) (same : items ≡ xs) (i : ℕ) where
   -- one more item is made

@@ -14,7 +14,7 @@ use Rattle.c_meaning.specs.State as state
 use Rattle.c_meaning.specs.Linking.{Program, Definition, definition_at}
 use Rattle.c_meaning.specs.Machine.{fresh}
 use Rattle.c_meaning.specs.Step.{begin, first_vars, next, Stops}
-use Rattle.c_meaning.specs.Run.{CRun, Entry, Pending, Progress, Going, Over, IsGoing, after, over, begun, begin_entry, told_end, go_on, c_start, c_run}
+use Rattle.c_meaning.specs.Run.{CRun, Entry, Pending, Progress, Over, IsGoing, after, over, begun, begin_entry, told_end, go_on, c_start, c_run}
 use Rattle.c_meaning.specs.Run as c
 use Rattle.c_meaning.specs.Reaches.{Reaches}
 use Rattle.c_meaning.proofs.Ways.{stays, join, enough}

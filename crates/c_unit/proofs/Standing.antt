@@ -9,7 +9,6 @@ use Rattle.std.proofs.Common.{
   ◌<◌,
   ◌≤◌,
   List,
-  [],
   ◌∷◌,
   ◌++◌,
   length,
@@ -45,7 +44,7 @@ use Rattle.c_prelude.specs.declared.operation.Helper.{Helper}
 use Rattle.c_prelude.specs.Helpers.{helper_of}
 use Rattle.c_body.specs.Names.{pointer_name}
 use Rattle.c_body.specs.Reached.{usable_symbol}
-use Rattle.c_body.specs.Symbols.{Typed, table_imports, memory_imports, global_imports, declared_symbols}
+use Rattle.c_body.specs.Symbols.{table_imports, memory_imports, global_imports, declared_symbols}
 use Rattle.c_body.specs.Needs.{helpers_of}
 use Rattle.c_body.specs.Body.{body_of}
 use Rattle.c_unit.specs.declared.indexes.Symbol.{Symbol}
@@ -56,7 +55,6 @@ use Rattle.c_unit.specs.Exports.{export_func}
 use Rattle.c_unit.specs.Init.{init_func}
 use Rattle.c_unit.specs.Items.{variable, global_item, declaration, prototype, bodies}
 use Rattle.c_unit.specs.Tails.{
-  Given,
   global_pointer,
   from_tables,
   from_memories,

@@ -19,7 +19,7 @@ use Rattle.wasm_tree.specs.declared.entries.ExportKind.{ExportKind}
 use Rattle.wasm_tree.specs.declared.entries.ExportKind.TheVariants.{Func as ExportFunc, Table as ExportTable, Memory as ExportMemory, Global as ExportGlobal}
 use Rattle.wasm_tree.specs.IndexSpaces.{func_of_import, func_space, type_in, func_type_in, global_type_in, imported_funcs, is_func_import}
 use Rattle.wasm_meaning.specs.LinkedSet as link
-use Rattle.wasm_meaning.specs.LinkedSet.{LinkedSet, NamedModule, Instance, External, IndexSpaces, IsFunc, instances, exported, export_of, func_at, import_at, type_at}
+use Rattle.wasm_meaning.specs.LinkedSet.{LinkedSet, NamedModule, Instance, External, IndexSpaces, IsFunc, instances, exported, export_of, func_at, import_at}
 use Rattle.c_tree.specs.declared.tree.CType.{CType}
 use Rattle.c_tree.specs.declared.tree.CType.TheVariants as c_type
 use Rattle.c_tree.specs.Tree as tree

@@ -1,6 +1,6 @@
 -- The items of a unit one after the other.
-use Rattle.std.proofs.Common.{◌≡◌, ℕ, ◌+◌, List, [], ◌∷◌, ◌++◌, append_assoc, length, map, drop, Option, Some, None, refl, sym, ap, ◌∙◌}
-use Rattle.std.specs.Prelude.{slice_get, option_map, flat_map}
+use Rattle.std.proofs.Common.{◌≡◌, ℕ, ◌+◌, List, [], ◌∷◌, ◌++◌, append_assoc, map, drop, None, refl, sym, ap, ◌∙◌}
+use Rattle.std.specs.Prelude.{slice_get, flat_map}
 use Rattle.w2c_base.specs.Lookup.{numbered}
 use Rattle.wasm_tree.specs.declared.entries.Import.{Import}
 use Rattle.wasm_tree.specs.declared.entries.SegmentEntry.{SegmentEntry}
@@ -15,8 +15,8 @@ use Rattle.c_body.specs.Names.{pointer_name}
 use Rattle.c_body.specs.Symbols.{table_imports, memory_imports, global_imports, import_type}
 use Rattle.c_body.specs.Objects.{pointers_of}
 use Rattle.c_unit.specs.Items.{variable, global_item, data_item, data_of, items}
-use Rattle.c_unit.specs.Arrays.{array_of, byte_segments, bytes_if}
-use Rattle.c_unit.specs.Tails.{from_tables, from_pointers, from_data, from_declared, global_pointer}
+use Rattle.c_unit.specs.Arrays.{array_of, bytes_if}
+use Rattle.c_unit.specs.Tails.{from_tables, from_data, from_declared, global_pointer}
 use Rattle.c_unit.proofs.Parted.{past_all}
 
 map_append : {A B : Type 0} (f : A → B) (xs ys : List A) → map f (xs ++ ys) ≡ map f xs ++ map f ys

@@ -5,10 +5,10 @@ ghost use Rattle.c_unit.specs.Lines.{line_of};
 ghost use Rattle.c_unit.specs.Named.{named_of};
 
 use crate::indexes::Indexes;
-use c_body::c_types;
+use c_body::{c_types, name_of};
 use c_tree::{CType, CTypes, Header, HeaderLines};
 use std::alloc::Global;
-use w2c_base::{Bytes, Memory};
+use w2c_base::Memory;
 use w2c_mangle::init_symbol;
 use wasm_tree::Export;
 use wasm_valid::ValidModule;
@@ -26,9 +26,8 @@ pub fn header(alloc: Global, m: &ValidModule, name: &[u8]) -> Result<Header, Mem
 pub(crate) fn header_by(alloc: Global, indexes: &Indexes) -> Result<Header, Memory>
     ensures { IfOk result (λ header. header ≡ header_of indexes.now.tree.now indexes.now.name.now) }
 {
+    let module = name_of(alloc, indexes.name)?;
     let lines = header_lines(alloc, indexes)?;
-    let mut module = Bytes::new(alloc);
-    module.extend(indexes.name)?;
     Ok(Header { module, lines })
 }
 

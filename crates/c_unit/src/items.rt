@@ -7,7 +7,6 @@ ghost use Rattle.wasm_tree.specs.IndexSpaces.{type_in};
 ghost use Rattle.c_tree.specs.Tree as tree;
 ghost use Rattle.c_tree.specs.View.{item_of};
 ghost use Rattle.c_meaning.specs.Linking.{c_params_of, c_type_of};
-ghost use Rattle.c_prelude.specs.Helpers.{helper_of};
 ghost use Rattle.alike.specs.Alike.{memory_name, table_name};
 ghost use Rattle.c_body.specs.Body.{body_of, defined_at, no_func};
 ghost use Rattle.c_unit.specs.Init.{data_name};
@@ -19,11 +18,10 @@ use crate::indexes::Symbol;
 use crate::passing::no_params;
 use crate::source::Source;
 use c_body::{c_result, c_type, func_name, name_of, with_number};
-use c_prelude::{Helper, helper};
 use c_tree::{CType, Func, Item, Name, Params};
 use std::alloc::Global;
 use w2c_base::{FuncType, Memory, ValType};
-use wasm_tree::{Export, GlobalEntry, Module, SegmentEntry};
+use wasm_tree::{GlobalEntry, Module, SegmentEntry};
 
 pub(crate) fn variable(ty: CType, name: Name) -> Item
     ensures { item_of result ≡ of.variable ty name }
@@ -132,28 +130,12 @@ fn prototype(alloc: Global, index: u32, ty: &FuncType) -> Result<Item, Memory>
     }))
 }
 
-pub(crate) fn helper_item(alloc: Global, which: Helper) -> Result<Item, Memory>
-    ensures { IfOk result (λ item. item_of item ≡ tree.Function (helper_of which)) }
-{
-    Ok(Item::Func(helper(alloc, which)?))
-}
-
 impl<'a> Source<'a> {
-    ghost use Rattle.c_unit.specs.Exports.{export_func};
-    ghost use Rattle.c_unit.specs.Sources.{module_of};
-
     /// The variable of an own global.
     pub(crate) fn global_item(&self, number: usize, global: &GlobalEntry) -> Result<Item, Memory>
         requires { number < length self.now.tree.now.globals }
         ensures { IfOk result (λ item. item_of item ≡ of.global_item self.now.tree.now (number, global.now)) }
     {
         Ok(variable(c_type(global.ty), self.own_global(number)?))
-    }
-
-    /// The function of an export.
-    pub(crate) fn export_item(&self, export: &Export) -> Result<Item, Memory>
-        ensures { IfOk result (λ item. item_of item ≡ tree.Function (export_func (module_of self.now) export.now)) }
-    {
-        Ok(Item::Func(self.export_func(export)?))
     }
 }

@@ -6,13 +6,13 @@ ghost use Rattle.alike.specs.Alike.{memory_name, table_name};
 ghost use Rattle.c_tree.specs.View.{expr_of, stmt_of};
 ghost use Rattle.c_tree.specs.Tree as tree;
 ghost use Rattle.c_tree.specs.declared.tree.COp.TheVariants as op;
-ghost use Rattle.c_body.specs.Names.{label_name, pointer_name as pointer_name_of};
+ghost use Rattle.c_body.specs.Names.{label_name as label_name_of, pointer_name as pointer_name_of};
 ghost use Rattle.c_unit.specs.Init as of;
 ghost use Rattle.c_unit.specs.Pointers.{pointer_set};
 
 use crate::source::Source;
 use crate::statements::{jump, n64, pointer_arg, pointer_name, reading, size};
-use c_body::{operation, with_number};
+use c_body::{label_name, operation, with_number};
 use c_tree::{Args, COp, Callee, Expr, Name, Stmt, Stmts};
 use std::alloc::Global;
 use w2c_base::Memory;
@@ -26,10 +26,11 @@ fn put_reading(alloc: Global, stmts: &mut Stmts, read: &[u8], object: &[u8]) -> 
 
 // The test of the size that was read, in units.
 fn least_test(alloc: Global, unit: u64, min: u32) -> Result<Stmt, Memory>
-    ensures { IfOk result (λ s. stmt_of s ≡ tree.If op.Lt (tree.Op op.Div (tree.Name of.size_name) (of.n64 unit)) (of.n64 min) (label_name of.limits_label)) }
+    ensures { IfOk result (λ s. stmt_of s ≡ tree.If op.Lt (tree.Op op.Div (tree.Name of.size_name) (of.n64 unit)) (of.n64 min) (label_name_of of.limits_label)) }
 {
+    let label = label_name(alloc, 0)?;
     let units = operation(alloc, COp::Div, size(alloc)?, n64(unit))?;
-    jump(alloc, COp::Lt, units, n64(min as u64), 0)
+    Ok(jump(COp::Lt, units, n64(min as u64), label))
 }
 
 fn put_least(
@@ -41,7 +42,7 @@ fn put_least(
     min: u32,
 ) -> Result<(), Memory>
     ensures { OnOk result (map stmt_of stmts.new ≡ map stmt_of stmts.old ++ of.primitive (Some of.size_name) len_of.now (tree.Value (tree.Name (pointer_name_of object.now)) ∷ [])
-        ∷ tree.If op.Lt (tree.Op op.Div (tree.Name of.size_name) (of.n64 unit)) (of.n64 min) (label_name of.limits_label) ∷ []) }
+        ∷ tree.If op.Lt (tree.Op op.Div (tree.Name of.size_name) (of.n64 unit)) (of.n64 min) (label_name_of of.limits_label) ∷ []) }
 {
     put_reading(alloc, stmts, len_of, object)?;
     stmts.push(least_test(alloc, unit, min)?)
@@ -78,7 +79,8 @@ fn put_max(
         None => Ok(()),
         Some(max) => {
             put_reading(alloc, stmts, max_of, object)?;
-            stmts.push(jump(alloc, COp::Gt, size(alloc)?, n64(max as u64), 0)?)
+            let label = label_name(alloc, 0)?;
+            stmts.push(jump(COp::Gt, size(alloc)?, n64(max as u64), label))
         }
     }
 }
@@ -123,30 +125,31 @@ fn next_number(number: usize, import: &Import) -> usize
 impl<'a> Source<'a> {
     ghost use Rattle.c_unit.specs.Sources.{module_of};
 
-    fn pointer(&self, import: &Import, object: &[u8]) -> Result<Stmt, Memory>
-        ensures { IfOk result (λ s. stmt_of s ≡ of.set_pointer (module_of self.now) import.now object.now) }
+    // The pointer to an imported object is set, where the import may be used.
+    fn put_pointer(&self, stmts: &mut Stmts, import: &Import, object: &[u8]) -> Result<(), Memory>
+        ensures { OnOk result (map stmt_of stmts.new ≡ map stmt_of stmts.old ++ of.set_pointer (module_of self.now) import.now object.now ∷ []) }
     {
         let symbol = self.symbols.usable(self.alloc, import)?;
-        set_pointer(self.alloc, symbol, object)
+        stmts.push(set_pointer(self.alloc, symbol, object)?)?;
+        Ok(())
     }
 
     fn put_take(&self, stmts: &mut Stmts, number: usize, import: &Import) -> Result<(), Memory>
         ensures { OnOk result (map stmt_of stmts.new ≡ map stmt_of stmts.old ++ of.take_stmts (module_of self.now) number import.now) }
     {
-        let alloc = self.alloc;
         match import.kind {
             ImportKind::Func(_) => Ok(()),
             ImportKind::Table(limits) => {
-                stmts.push(self.pointer(import, b"t0")?)?;
-                put_table(alloc, stmts, limits)
+                self.put_pointer(stmts, import, b"t0")?;
+                put_table(self.alloc, stmts, limits)
             }
             ImportKind::Memory(limits) => {
-                stmts.push(self.pointer(import, b"m0")?)?;
-                put_memory(alloc, stmts, limits)
+                self.put_pointer(stmts, import, b"m0")?;
+                put_memory(self.alloc, stmts, limits)
             }
             ImportKind::Global(_, _) => {
-                let name = with_number(alloc, b"g", number)?;
-                stmts.push(self.pointer(import, name.as_slice())?)
+                let name = with_number(self.alloc, b"g", number)?;
+                self.put_pointer(stmts, import, name.as_slice())
             }
         }
     }

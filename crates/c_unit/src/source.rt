@@ -17,7 +17,6 @@ use wasm_tree::Module;
 use wasm_valid::ValidModule;
 
 /// A module under its name, with its symbols and what its bodies read of it.
-#[derive(Drop)]
 pub(crate) struct Source<'a> {
     pub(crate) alloc: Global,
     pub(crate) tree: &'a Module,
@@ -37,6 +36,21 @@ pub(crate) struct Source<'a> {
     ghost globals_are: { reached.globals.items ≡ map (usable_symbol (record { name = name.now; tree = tree.now })) (global_imports tree.now) },
 }
 
+// By hand, so that each place which drops it is proved by one call.
+impl Drop for Source<'_> {
+    fn drop(self) {
+        let Source {
+            alloc: _,
+            tree: _,
+            name: _,
+            symbols: _,
+            spaces: _,
+            func_symbols: _,
+            reached: _,
+        } = self;
+    }
+}
+
 impl<'a> Source<'a> {
     ghost use Rattle.std.specs.Prelude.{◌+◌, length};
     ghost use Rattle.wasm_tree.specs.IndexSpaces.{imported_funcs};
@@ -46,15 +60,14 @@ impl<'a> Source<'a> {
     ghost use Rattle.c_unit.specs.Sources.{module_of};
 
     /// What a module's unit is made of.
-    #[tactic(auto, using(crate::proofs::Counts::counted))]
     pub(crate) fn new(alloc: Global, m: &'a ValidModule, name: &'a [u8]) -> Result<Self, Memory>
         ensures { IfOk result (λ source. module_of source ≡ record { name = name.now; tree = m.now }) }
     {
         let tree = m.module();
         let func_symbols = func_symbols(alloc, tree)?;
-        let spaces = IndexSpaces::new(alloc, m, name)?;
         let symbols = Symbols::new(alloc, tree, name)?;
         let reached = Reached::new(alloc, &symbols)?;
+        let spaces = IndexSpaces::new(alloc, m, name)?;
         Ok(Source {
             alloc,
             tree,

@@ -6,7 +6,7 @@ ghost use Rattle.c_body.specs.Names as names;
 ghost use Rattle.c_prelude.specs.Pieces.{trap as trap_of};
 ghost use Rattle.c_unit.specs.Init as of;
 
-use c_body::{label, label_name, name_of, one_arg};
+use c_body::{label, name_of, one_arg};
 use c_prelude::trap;
 use c_tree::{Arg, Args, COp, Callee, Expr, Name, Num, Stmt, Stmts};
 use std::alloc::Global;
@@ -79,16 +79,10 @@ pub(crate) fn reading(alloc: Global, read: &[u8], object: Arg) -> Result<Stmt, M
 }
 
 /// A jump to a label where two expressions compare so.
-pub(crate) fn jump(
-    alloc: Global,
-    op: COp,
-    left: Expr,
-    right: Expr,
-    label: usize,
-) -> Result<Stmt, Memory>
-    ensures { IfOk result (λ s. stmt_of s ≡ tree.If op (expr_of left) (expr_of right) (names.label_name label)) }
+pub(crate) fn jump(op: COp, left: Expr, right: Expr, label: Name) -> Stmt
+    ensures { stmt_of result ≡ tree.If op (expr_of left) (expr_of right) label }
 {
-    Ok(Stmt::If(op, left, right, label_name(alloc, label)?))
+    Stmt::If(op, left, right, label)
 }
 
 /// The length or maximum that was read.

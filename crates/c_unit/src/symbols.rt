@@ -15,11 +15,20 @@ use w2c_base::Memory;
 use wasm_tree::{Import, Module};
 
 /// The symbols of a module with their types in the unit.
-#[derive(Drop)]
 pub(crate) struct Symbols<'a> {
     pub(crate) indexes: Indexes<'a>,
     types: NameTable<SymbolType<'a>>,
     ghost found: { FindsTypes types (exported_symbols (named_of indexes) ++ imported_symbols (named_of indexes)) },
+}
+
+// By hand, so that each place which drops it is proved by one call.
+impl Drop for Symbols<'_> {
+    fn drop(self) {
+        let Symbols {
+            indexes: _,
+            types: _,
+        } = self;
+    }
 }
 
 #[tactic(auto, using(crate::proofs::Founds::entered))]

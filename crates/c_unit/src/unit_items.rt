@@ -15,12 +15,12 @@ use crate::declarations::declared;
 use crate::global_pointers::global_pointers;
 use crate::heading::header_by;
 use crate::indexes::Symbol;
-use crate::items::{array, declaration, helper_item, memory, table, variable};
+use crate::items::{array, declaration, memory, table, variable};
 use crate::source::Source;
 use crate::statements::pointer_name;
 use crate::with_bytes::with_bytes;
 use c_body::{helpers, with_number};
-use c_prelude::Helper;
+use c_prelude::{Helper, helper};
 use c_tree::{CType, Header, Item};
 use std::alloc::Global;
 use w2c_base::Memory;
@@ -37,7 +37,6 @@ struct Listed<'a> {
 }
 
 /// The items of a module's unit that were not given yet.
-#[derive(Drop)]
 pub struct UnitItems<'a> {
     source: Source<'a>,
     listed: Listed<'a>,
@@ -46,6 +45,17 @@ pub struct UnitItems<'a> {
     ghost arrays_are: { map bytes_of listed.arrays.items ≡ byte_segments source.tree.now },
     ghost declared_are: { map pair_of listed.declared.items ≡ declared_symbols (module_of source) },
     ghost helpers_are: { listed.helpers.items ≡ helpers_of source.tree.now },
+}
+
+// By hand, so that each place which drops it is proved by one call.
+impl Drop for UnitItems<'_> {
+    fn drop(self) {
+        let UnitItems {
+            source: _,
+            listed: _,
+            number: _,
+        } = self;
+    }
 }
 
 fn pointer(alloc: Global, ty: CType, object: &[u8]) -> Result<Item, Memory>
@@ -115,16 +125,6 @@ impl<'a> UnitItems<'a> {
         ensures { IfOk result (λ header. header ≡ of.header_of (module_of self.now.source).tree (module_of self.now.source).name) }
     {
         header_by(self.source.alloc, &self.source.symbols.indexes)
-    }
-
-    fn at_tables(&self, n: usize) -> Result<Option<Item>, Memory>
-        ensures { IfOk result (λ item. option_map item_of item ≡ slice_get (tail.from_tables (module_of self.now.source)) n) }
-    {
-        let tables = self.source.tree.tables.as_slice();
-        match tables.get(n) {
-            Some(_) => Ok(Some(table(self.source.alloc)?)),
-            None => self.at_memories(n.saturating_sub(tables.len())),
-        }
     }
 
     fn at_memories(&self, n: usize) -> Result<Option<Item>, Memory>
@@ -215,7 +215,7 @@ impl<'a> UnitItems<'a> {
     {
         let helpers = self.listed.helpers.as_slice();
         match helpers.get(n) {
-            Some(which) => Ok(Some(helper_item(self.source.alloc, *which)?)),
+            Some(which) => Ok(Some(Item::Func(helper(self.source.alloc, *which)?))),
             None => self.at_bodies(n.saturating_sub(helpers.len())),
         }
     }
@@ -236,7 +236,7 @@ impl<'a> UnitItems<'a> {
     {
         let exports = self.source.tree.exports.as_slice();
         match exports.get(n) {
-            Some(export) => Ok(Some(self.source.export_item(export)?)),
+            Some(export) => Ok(Some(Item::Func(self.source.export_func(export)?))),
             None => self.at_init(n.saturating_sub(exports.len())),
         }
     }
@@ -255,7 +255,11 @@ impl<'a> UnitItems<'a> {
     fn at(&self, n: usize) -> Result<Option<Item>, Memory>
         ensures { IfOk result (λ item. option_map item_of item ≡ slice_get (items (module_of self.now.source)) n) }
     {
-        self.at_tables(n)
+        let tables = self.source.tree.tables.as_slice();
+        match tables.get(n) {
+            Some(_) => Ok(Some(table(self.source.alloc)?)),
+            None => self.at_memories(n.saturating_sub(tables.len())),
+        }
     }
 
     /// The next item, None exactly where all were given. Where memory was wanting, it can be asked for again.

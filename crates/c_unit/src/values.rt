@@ -114,8 +114,9 @@ impl<'a> Source<'a> {
     {
         let mut number = 0usize;
         for global in self.tree.globals.as_slice() {
+            let name = self.own_global(number)?;
             let value = self.constant(&global.code)?;
-            stmts.push(set(self.own_global(number)?, value))?;
+            stmts.push(set(name, value))?;
             number += 1;
         }
         Ok(())

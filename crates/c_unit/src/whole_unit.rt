@@ -2,9 +2,9 @@
 ghost use Rattle.std.specs.Prelude.{◌≡◌, IfOk};
 ghost use Rattle.c_tree.specs.View.{unit_of};
 ghost use Rattle.c_unit.specs.Items.{header_of, items_of};
-ghost use Rattle.c_unit.specs.Sources.{module_of};
 ghost use Rattle.c_unit.specs.Tails.{left_of};
 
+use crate::heading::header;
 use crate::unit_items::UnitItems;
 use c_tree::{Header, Unit};
 use std::alloc::Global;
@@ -16,17 +16,17 @@ pub fn unit(alloc: Global, m: &ValidModule, name: &[u8]) -> Result<(Unit, Header
     ensures unit { IfOk result (λ made. unit_of made.0 ≡ items_of m.now name.now) }
     ensures header { IfOk result (λ made. made.1 ≡ header_of m.now name.now) }
 {
-    let mut items = UnitItems::new(alloc, m, name)?;
-    unit_and_header(alloc, &mut items)
+    let unit = all_items(alloc, m, name)?;
+    let header = header(alloc, m, name)?;
+    Ok((unit, header))
 }
 
-fn unit_and_header(alloc: Global, items: &mut UnitItems) -> Result<(Unit, Header), Memory>
-    ensures unit { IfOk result (λ made. unit_of made.0 ≡ left_of items.old) }
-    ensures header { IfOk result (λ made. made.1 ≡ header_of (module_of items.old.source).tree (module_of items.old.source).name) }
+// The unit alone.
+fn all_items(alloc: Global, m: &ValidModule, name: &[u8]) -> Result<Unit, Memory>
+    ensures { IfOk result (λ unit. unit_of unit ≡ items_of m.now name.now) }
 {
-    let header = items.header()?;
-    let unit = unit_of_rest(alloc, items)?;
-    Ok((unit, header))
+    let mut items = UnitItems::new(alloc, m, name)?;
+    unit_of_rest(alloc, &mut items)
 }
 
 // The unit of the items that were not given yet.

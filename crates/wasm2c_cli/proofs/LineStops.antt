@@ -1,18 +1,21 @@
 -- What the stop of each form says of its line's job.
-use Rattle.std.proofs.Common.{◌≡◌, ℕ, List, [], ◌∷◌, length, refl, Option, Result, Ok, Err, OnOk, IfErr, string_bytes, inl, inr}
+use Rattle.std.proofs.Common.{◌≡◌, ℕ, List, [], ◌∷◌, length, refl, ◌∙◌, ap, subst, Option, Some, Result, Ok, Err, OnOk, IfOk, IfErr, string_bytes, inl, inr}
+use Rattle.std.proofs.lemmas.Result.{IfErr-weaker, IfOk-weaker}
 use Rattle.w2c_io.specs.Contents.{Name, Contents, Told}
 use Rattle.w2c_files.specs.Standing.{written}
 use Rattle.w2c_files.proofs.Standing.{is_one}
 use Rattle.wasm_spelling.specs.Bytes.{AreBytes}
 use Rattle.wasm_tree.specs.declared.tree.Module.{Module}
-use Rattle.wasm2c_words.specs.CommandLine.{Translation, FileSet, Generation, translate, set, generate, runtime}
+use Rattle.wasm2c_words.specs.CommandLine.{Line, Translation, FileSet, Generation, translate, set, generate, runtime, line_of}
 use Rattle.wasm2c_cli.specs.declared.stop.Stop.{Stop}
 use Rattle.wasm2c_cli.specs.declared.stop.Stop.TheVariants as stops
+use Rattle.wasm2c_cli.specs.declared.work.Finished.{Finished}
+use Rattle.wasm2c_cli.specs.declared.work.Finished.TheVariants as finished
 use Rattle.wasm2c_cli.specs.Job.{Translates, files_of, module_files}
-use Rattle.wasm2c_cli.specs.Parts.{AreAllTaken, IsGenerated, IsTakenFile, StopsGenerating, StopsTranslating, StopsWriting}
+use Rattle.wasm2c_cli.specs.Parts.{AreAllTaken, FinishesLine, FinishesWork, HasPassed, IsGenerated, IsTakenFile, StopsTranslating, StopsWriting}
 use Rattle.wasm2c_cli.specs.Plan.{inputs_of, target, targets_of}
 use Rattle.wasm2c_cli.specs.Runtime.{runtime_files}
-use Rattle.wasm2c_cli.specs.Stops.{StopsLine}
+use Rattle.wasm2c_cli.specs.Stops.{KeepsCurrent, StopsLine, StopsWork}
 use Rattle.wasm2c_cli.proofs.ModuleFiles.{one_of_targets}
 
 -- the files of a generated module that is taken
@@ -31,7 +34,7 @@ module _ (old new : Told) (r r' w w' : ℕ) (named : Option Name) where
   translates t contents modules all =
       record { sources = all.sources; modules = modules; read = all.read; accepted = all.accepted; written = refl }
 
-  pub translation_stops : (t : Translation) (stop : Stop)
+  translation_stops : (t : Translation) (stop : Stop)
       → StopsTranslating (inputs_of (translate t)) (targets_of (translate t)) old new r r' w w' named stop
       → StopsLine (translate t) old new r r' w w' named stop
   translation_stops t stops.Usage why = why
@@ -49,12 +52,17 @@ module _ (old new : Told) (r r' w w' : ℕ) (named : Option Name) where
     | inr part ↦ inr (files_of (targets_of (translate t)) part.0, translates t contents part.0 part.1, part.2)
   ]
 
+  pub translation_stopped : {A : Type 0} (t : Translation) (result : Result A Stop)
+      → IfErr result (StopsTranslating (inputs_of (translate t)) (targets_of (translate t)) old new r r' w w' named)
+      → IfErr result (StopsLine (translate t) old new r r' w w' named)
+  translation_stopped t result = IfErr-weaker result _ _ (translation_stops t)
+
   set_translates : (s : FileSet) (contents : Contents) (modules : List Module) → AreAllTaken (inputs_of (set s)) contents modules
       → Translates (set s) contents (files_of (targets_of (set s)) modules)
   set_translates s contents modules all =
       record { sources = all.sources; modules = modules; read = all.read; accepted = all.accepted; written = refl }
 
-  pub set_stops : (s : FileSet) (stop : Stop)
+  set_stops : (s : FileSet) (stop : Stop)
       → StopsTranslating (inputs_of (set s)) (targets_of (set s)) old new r r' w w' named stop
       → StopsLine (set s) old new r r' w w' named stop
   set_stops s stops.Usage why = why
@@ -72,6 +80,11 @@ module _ (old new : Told) (r r' w w' : ℕ) (named : Option Name) where
     | inr part ↦ inr (files_of (targets_of (set s)) part.0, set_translates s contents part.0 part.1, part.2)
   ]
 
+  pub set_stopped : {A : Type 0} (s : FileSet) (result : Result A Stop)
+      → IfErr result (StopsTranslating (inputs_of (set s)) (targets_of (set s)) old new r r' w w' named)
+      → IfErr result (StopsLine (set s) old new r r' w w' named)
+  set_stopped s result = IfErr-weaker result _ _ (set_stops s)
+
   -- ---- a generated module
 
   generates : (g : Generation) (contents : Contents) (bytes : List ℕ) (m : Module) → IsTakenFile g bytes m
@@ -84,38 +97,29 @@ module _ (old new : Told) (r r' w w' : ℕ) (named : Option Name) where
     written = refl;
   }
 
-  pub generation_stops : (g : Generation) (stop : Stop) → StopsGenerating g old new w w' named stop
+  generating_stops : (g : Generation) (bytes : List ℕ) (m : Module) → IsTakenFile g bytes m → (stop : Stop)
+      → StopsWriting old new (module_files (target g.output g.module_name) m) w w' named stop
       → StopsLine (generate g) old new r r' w w' named stop
-  generation_stops g stops.Usage why = why
-  generation_stops g (stops.Refused name reason) why = absurd why
-  generation_stops g (stops.Unread name) why = absurd why
-  generation_stops g (stops.Unwritten name) (faulted, (bytes, m, taken, stands)) = (
+  generating_stops g bytes m taken stops.Usage why = absurd why
+  generating_stops g bytes m taken (stops.Refused name reason) why = absurd why
+  generating_stops g bytes m taken (stops.Unread name) why = absurd why
+  generating_stops g bytes m taken (stops.Unwritten name) (faulted, stands) = (
     one_of_targets (target g.output g.module_name ∷ []) (m ∷ []) (string_bytes name)
         (is_one old new (module_files (target g.output g.module_name) m) (string_bytes name) stands),
     faulted,
     λ contents tells. (module_files (target g.output g.module_name) m, generates g contents bytes m taken, stands),
   )
-  generation_stops g stops.Memory (inl same) = λ contents tells. inl same
-  generation_stops g stops.Memory (inr (bytes, m, taken, stands)) =
+  generating_stops g bytes m taken stops.Memory stands =
       λ contents tells. inr (module_files (target g.output g.module_name) m, generates g contents bytes m taken, stands)
 
-  pub generating_stops : (g : Generation) (bytes : List ℕ) (m : Module) (stop : Stop) → IsTakenFile g bytes m
-      → StopsWriting old new (module_files (target g.output g.module_name) m) w w' named stop → StopsGenerating g old new w w' named stop
-  generating_stops g bytes m stops.Usage taken why = absurd why
-  generating_stops g bytes m (stops.Refused name reason) taken why = absurd why
-  generating_stops g bytes m (stops.Unread name) taken why = absurd why
-  generating_stops g bytes m (stops.Unwritten name) taken (faulted, stands) = (faulted, (bytes, m, taken, stands))
-  generating_stops g bytes m stops.Memory taken stands = inr (bytes, m, taken, stands)
-
-  pub all_stopped : (g : Generation) (bytes : List ℕ) (m : Module) (r : Result Unit Stop) → IsTakenFile g bytes m
-      → IfErr r (StopsWriting old new (module_files (target g.output g.module_name) m) w w' named)
-      → IfErr r (StopsGenerating g old new w w' named)
-  all_stopped g bytes m (Ok done) taken why = why
-  all_stopped g bytes m (Err stop) taken why = generating_stops g bytes m stop taken why
+  pub all_stopped : {A : Type 0} (g : Generation) (bytes : List ℕ) (m : Module) (result : Result A Stop) → IsTakenFile g bytes m
+      → IfErr result (StopsWriting old new (module_files (target g.output g.module_name) m) w w' named)
+      → IfErr result (StopsLine (generate g) old new r r' w w' named)
+  all_stopped g bytes m result taken = IfErr-weaker result _ _ (generating_stops g bytes m taken)
 
   -- ---- the runtime
 
-  pub runtime_stops : (dir : Name) (stop : Stop) → StopsWriting old new (runtime_files dir) w w' named stop
+  runtime_stops : (dir : Name) (stop : Stop) → StopsWriting old new (runtime_files dir) w w' named stop
       → StopsLine (runtime dir) old new r r' w w' named stop
   runtime_stops dir stops.Usage why = absurd why
   runtime_stops dir (stops.Refused name reason) why = absurd why
@@ -123,3 +127,40 @@ module _ (old new : Told) (r r' w w' : ℕ) (named : Option Name) where
   runtime_stops dir (stops.Unwritten name) (faulted, stands) =
       (is_one old new (runtime_files dir) (string_bytes name) stands, faulted, λ contents tells. (runtime_files dir, refl, stands))
   runtime_stops dir stops.Memory stands = λ contents tells. inr (runtime_files dir, refl, stands)
+
+  pub runtime_stopped : {A : Type 0} (dir : Name) (files : List (Name × List ℕ)) (result : Result A Stop) → files ≡ runtime_files dir
+      → IfErr result (StopsWriting old new files w w' named) → IfErr result (StopsLine (runtime dir) old new r r' w w' named)
+  runtime_stopped dir files result same why = IfErr-weaker result _ _ (runtime_stops dir)
+      (subst (λ (l : List (Name × List ℕ)). IfErr result (StopsWriting old new l w w' named)) same why)
+
+-- the files of the runtime under their names
+pub runtime_finished : (old new : Told) (dir : Name) (files : List (Name × List ℕ)) (result : Result Finished Stop)
+    → files ≡ runtime_files dir
+    → IfOk result (λ f. f ≡ finished.Written) → IfOk result (λ _. new ≡ written old files)
+    → IfOk result (FinishesLine (runtime dir) old new)
+runtime_finished old new dir files (Ok f) same is whole = (is, whole ∙ ap (written old) same)
+runtime_finished old new dir files (Err stop) same is whole = tt
+
+-- the work on the line of words
+pub work_finished : (old new : Told) (words : List Name) (line : Line) (result : Result Finished Stop) → line_of words ≡ Some line
+    → HasPassed line → IfOk result (FinishesLine line old new) → IfOk result (FinishesWork words old new)
+work_finished old new words line result is passed = IfOk-weaker result _ _ (λ f done. (line, is, passed, done))
+
+pub work_stopped : {A : Type 0} (old new : Told) (r r' w w' : ℕ) (named : Option Name) (words : List Name) (line : Line)
+    (result : Result A Stop) → line_of words ≡ Some line → IfErr result (StopsLine line old new r r' w w' named)
+    → IfErr result (StopsWork words old new r r' w w' named)
+work_stopped old new r r' w w' named words line result is = IfErr-weaker result _ _ (λ stop why. inr (inr (line, is, why)))
+
+-- where writing stops, no clause is on the current file
+keeps : (current current' : Option Name) (old new : Told) (files : List (Name × List ℕ)) (w w' : ℕ) (named : Option Name) (stop : Stop)
+    → StopsWriting old new files w w' named stop → KeepsCurrent current current' stop
+keeps current current' old new files w w' named stops.Usage why = absurd why
+keeps current current' old new files w w' named (stops.Refused name reason) why = absurd why
+keeps current current' old new files w w' named (stops.Unread name) why = absurd why
+keeps current current' old new files w w' named (stops.Unwritten name) why = tt
+keeps current current' old new files w w' named stops.Memory why = tt
+
+pub all_kept : {A : Type 0} (current current' : Option Name) (old new : Told) (files : List (Name × List ℕ)) (w w' : ℕ)
+    (named : Option Name) (result : Result A Stop) → IfErr result (StopsWriting old new files w w' named)
+    → IfErr result (KeepsCurrent current current')
+all_kept current current' old new files w w' named result = IfErr-weaker result _ _ (keeps current current' old new files w w' named)

@@ -1,5 +1,5 @@
 -- The files of modules, one module after another.
-use Rattle.std.proofs.Common.{◌≡◌, ◌<◌, ◌+◌, ◌≤◌, ℕ, zero, suc, List, [], ◌∷◌, ◌++◌, length, take, drop, map, add-one, refl, sym, ◌∙◌, ap, subst, arith, Option, Some, slice_get, slice_index_or, string_bytes, inl, inr}
+use Rattle.std.proofs.Common.{◌≡◌, ◌<◌, ◌+◌, ◌≤◌, ℕ, zero, suc, List, [], ◌∷◌, ◌++◌, length, take, drop, map, add-one, refl, sym, ◌∙◌, ap, subst, arith, Option, Some, Result, Ok, Err, OnOk, OnErr, slice_get, slice_index_or, string_bytes, inl, inr}
 use Rattle.std.specs.List.{AllByRecursion}
 use Rattle.w2c_io.specs.Contents.{Name, Told, holding, appending, AppendsPart}
 use Rattle.w2c_io.specs.Causes.{Faulted}
@@ -17,6 +17,16 @@ use Rattle.wasm2c_cli.specs.Job.{files_of, module_files}
 use Rattle.wasm2c_cli.specs.Parts.{IsNamed, StopsAtFile, StopsWriting, seen_target, seen_targets}
 use Rattle.wasm2c_cli.specs.Plan as plan
 use Rattle.wasm2c_cli.specs.Plan.{names_of_targets}
+
+-- ---- what holds, whatever the answer
+
+pub in_ok : {A E P : Type 0} (result : Result A E) → P → OnOk result P
+in_ok (Ok x) holds = holds
+in_ok (Err e) holds = tt
+
+pub in_err : {A E P : Type 0} (result : Result A E) → P → OnErr result P
+in_err (Ok x) holds = tt
+in_err (Err e) holds = holds
 
 -- ---- one file
 

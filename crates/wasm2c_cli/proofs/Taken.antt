@@ -15,7 +15,6 @@ use Rattle.w2c_sim.specs.Refusals.{IsRefusal}
 use Rattle.wasm2c_cli.specs.declared.stop.Reason.{Reason}
 use Rattle.wasm2c_cli.specs.declared.stop.Stop.{Stop}
 use Rattle.wasm2c_cli.specs.declared.stop.Stop.TheVariants as stops
-use Rattle.wasm2c_cli.specs.declared.stop.Reason.TheVariants.{Malformed, Float, Limit, Invalid}
 use Rattle.wasm2c_cli.specs.Job.{AreAccepted}
 use Rattle.wasm2c_cli.specs.Parts.{AreTaken, StopsAccepting, StopsAtRefused}
 use Rattle.wasm2c_cli.specs.Reasons.{IsFirstRefused, IsRefused, reason_of}

@@ -1,5 +1,5 @@
 -- What the end of the work says of the status, and of what stands.
-use Rattle.std.proofs.Common.{◌≡◌, ◌⊎◌, ℕ, List, [], ◌∷◌, ◌++◌, length, suc, refl, sym, ◌∙◌, ap, subst, arith, Option, Some, None, MatchOption, string_bytes, inl, inr}
+use Rattle.std.proofs.Common.{◌≡◌, ◌⊎◌, ◌≤◌, ℕ, List, [], ◌∷◌, ◌++◌, length, suc, refl, sym, ◌∙◌, ap, subst, arith, Option, Some, None, MatchOption, string_bytes, inl, inr}
 use Rattle.std.specs.List.{AllByRecursion}
 use Rattle.std.proofs.lemmas.List.{append-nil, length-map}
 use Rattle.w2c_io.specs.Contents.{Name, Contents, Told, HasFile, extended}
@@ -24,7 +24,7 @@ use Rattle.wasm2c_cli.specs.Lines.{IsLine, line_for, memory_line, read_line, ref
 use Rattle.wasm2c_cli.specs.Parts.{AreTaken, FinishesLine, FinishesWork, HasName, HasPassed, IsNamed, IsTranslated, SumsUp, SumsUpPart}
 use Rattle.wasm2c_cli.specs.Plan.{Target, inputs_of, outputs_of, names_of_targets, targets_of, target_in}
 use Rattle.wasm2c_cli.specs.Runtime.{runtime_files}
-use Rattle.wasm2c_cli.specs.Stops.{Done, Generates, IsInput, IsOutput, StandsOfJob, StandsOfLine, StopsLine, StopsWork}
+use Rattle.wasm2c_cli.specs.Stops.{Done, Generates, IsInput, IsOutput, KeepsCurrent, StandsOfJob, StandsOfLine, StopsLine, StopsWork}
 use Rattle.wasm2c_cli.specs.Top.{Answers, NamesModules}
 use Rattle.wasm2c_cli.specs.Units.{DoTheSameWithOthers, HoldUnits, HoldsUnit, StandUnits, WritesLinkedUnits, WritesUnits, texts_made}
 use Rattle.wasm2c_cli.proofs.Taken.{length-taken, taken_accepted}
@@ -169,6 +169,20 @@ finish_summary words old new f (line, is, passed, fin) said said' faults faults'
           (subst (λ (s : Finished). SumsUp said said' faults faults' s) written_so sums),
     )
 
+-- where nothing was generated, nothing is said
+pub finish_silent : (words : List Name) (old new : Told) (f : Finished) → FinishesWork words old new f
+    → (said said' : Option (List ℕ)) (faults faults' : ℕ) → SumsUp said said' faults faults' f
+    → ((g : Generation) → Generates words g → ⊥) → said' ≡ said
+finish_silent words old new finished.Written fin said said' faults faults' same none = same
+finish_silent words old new (finished.Generated count bytes) (line, is, passed, fin) said said' faults faults' sums none =
+    absurd (generates line is fin)
+  where
+    generates : (line : Line) → line_of words ≡ Some line → FinishesLine line old new (finished.Generated count bytes) → ⊥
+    generates (translate t) is (other, all) = cc
+    generates (set s) is (other, all) = cc
+    generates (generate g) is fin = none g is
+    generates (runtime dir) is (other, whole) = cc
+
 unsaid : (said : Option (List ℕ)) → said ≡ extended said []
 unsaid None = refl
 unsaid (Some bytes) = λ i. Some (sym (append-nil bytes) i)
@@ -179,6 +193,16 @@ pub finish_part : (f : Finished) (said said' : Option (List ℕ)) → SumsUpPart
 finish_part finished.Written said said' same =
     (memory_line, inl (stops.Memory, refl), ([], (memory_line, refl), same ∙ unsaid said))
 finish_part (finished.Generated count bytes) said said' part = (summary_line count bytes, inr (count, bytes, refl), part)
+
+-- work that was finished has no status of a stop
+pub finish_not : {C : Type 0} (status n : ℕ) → (status ≡ 0) ⊎ (status ≡ 5) → 1 ≤ n → n ≤ 4 → status ≡ n → C
+finish_not status n (inl zero) some few is = absurd (omega (arith, zero, some, is))
+finish_not status n (inr five) some few is = absurd (omega (arith, five, few, is))
+
+pub finish_no_stop : {C : Type 0} (status : ℕ) → (status ≡ 0) ⊎ (status ≡ 5) → (status ≡ 1) ⊎ (status ≡ 2) ⊎ (status ≡ 3) → C
+finish_no_stop status is (inl one) = finish_not status 1 is (omega arith) (omega arith) one
+finish_no_stop status is (inr (inl two)) = finish_not status 2 is (omega arith) (omega arith) two
+finish_no_stop status is (inr (inr three)) = finish_not status 3 is (omega arith) (omega arith) three
 
 -- ---- the units of the modules
 
@@ -350,6 +374,50 @@ stop_stands words old new r r' w w' named stop (inl (usage, none, same)) content
 stop_stands words old new r r' w w' named stop (inr (inl (memory, same))) contents told = inl same
 stop_stands words old new r r' w w' named stop (inr (inr (line, found, why))) contents told =
     line_stands words line old new r r' w w' named stop found why contents told
+
+-- ---- the other clauses on a stop
+
+-- no stop has status 0
+pub stop_not : {C : Type 0} (status : ℕ) (stop : Stop) → (status ≡ status_of stop) ⊎ (status ≡ 5) → status ≡ 0 → C
+stop_not status stop (inr five) zero = absurd (omega (arith, five, zero))
+stop_not status stops.Usage (inl is) zero = absurd (omega (arith, is, zero))
+stop_not status (stops.Refused file reason) (inl is) zero = absurd (omega (arith, is, zero))
+stop_not status (stops.Unread file) (inl is) zero = absurd (omega (arith, is, zero))
+stop_not status (stops.Unwritten file) (inl is) zero = absurd (omega (arith, is, zero))
+stop_not status stops.Memory (inl is) zero = absurd (omega (arith, is, zero))
+
+-- statuses 1 to 3: nothing was written
+not_four : {C : Type 0} (status : ℕ) → status ≡ 4 ⊎ status ≡ 5 → (status ≡ 1) ⊎ (status ≡ 2) ⊎ (status ≡ 3) → C
+not_four status (inl four) (inl one) = absurd (omega (arith, four, one))
+not_four status (inl four) (inr (inl two)) = absurd (omega (arith, four, two))
+not_four status (inl four) (inr (inr three)) = absurd (omega (arith, four, three))
+not_four status (inr five) (inl one) = absurd (omega (arith, five, one))
+not_four status (inr five) (inr (inl two)) = absurd (omega (arith, five, two))
+not_four status (inr five) (inr (inr three)) = absurd (omega (arith, five, three))
+
+pub stop_untouched : (words : List Name) (old new : Told) (r r' w w' : ℕ) (named : Option Name) (status : ℕ) (stop : Stop)
+    → StopsWork words old new r r' w w' named stop → (status ≡ status_of stop) ⊎ (status ≡ 5)
+    → (status ≡ 1) ⊎ (status ≡ 2) ⊎ (status ≡ 3) → new ≡ old
+stop_untouched words old new r r' w w' named status stop why (inr five) is = not_four status (inr five) is
+stop_untouched words old new r r' w w' named status stop (inl (usage, none, same)) (inl of_stop) is = same
+stop_untouched words old new r r' w w' named status stop (inr (inl (memory, same))) (inl of_stop) is = same
+stop_untouched words old new r r' w w' named status stop (inr (inr (line, found, why))) (inl of_stop) is = by_stop stop why of_stop
+  where
+    by_stop : (stop : Stop) → StopsLine line old new r r' w w' named stop → status ≡ status_of stop → new ≡ old
+    by_stop stops.Usage why of_stop = absurd why
+    by_stop (stops.Refused file reason) (one, job, same) of_stop = same
+    by_stop (stops.Unread file) (one, why, same) of_stop = same
+    by_stop (stops.Unwritten file) why of_stop = not_four status (inl of_stop) is
+    by_stop stops.Memory why of_stop = not_four status (inr of_stop) is
+
+pub stop_current : (current current' : Option Name) (status : ℕ) (stop : Stop) → KeepsCurrent current current' stop
+    → (status ≡ status_of stop) ⊎ (status ≡ 5) → (status ≡ 1) ⊎ (status ≡ 2) ⊎ (status ≡ 3) → current' ≡ current
+stop_current current current' status stop keeps (inr five) is = not_four status (inr five) is
+stop_current current current' status stops.Usage keeps (inl of_stop) is = keeps
+stop_current current current' status (stops.Refused file reason) keeps (inl of_stop) is = keeps
+stop_current current current' status (stops.Unread file) keeps (inl of_stop) is = keeps
+stop_current current current' status (stops.Unwritten file) keeps (inl of_stop) is = not_four status (inl of_stop) is
+stop_current current current' status stops.Memory keeps (inl of_stop) is = not_four status (inr of_stop) is
 
 -- ---- the statuses that say why the work on a line stopped
 

@@ -1,5 +1,6 @@
 -- What reading, accepting and writing say of a translation.
-use Rattle.std.proofs.Common.{◌≡◌, ℕ, List, ◌∙◌, ap, subst, Option, string_bytes, inl, inr}
+use Rattle.std.proofs.Common.{◌≡◌, ℕ, List, ◌∙◌, ap, subst, Option, Result, Ok, Err, OnOk, IfOk, IfErr, string_bytes, inl, inr}
+use Rattle.std.proofs.lemmas.Result.{IfErr-weaker}
 use Rattle.std.specs.List.{AllByRecursion}
 use Rattle.w2c_io.specs.Contents.{Name, Told}
 use Rattle.w2c_io.specs.Causes.{Rose}
@@ -11,8 +12,10 @@ use Rattle.wasm_tree.specs.declared.tree.Module.{Module}
 use Rattle.wasm_spelling.specs.Limits.{most_module_bytes}
 use Rattle.wasm2c_cli.specs.declared.stop.Stop.{Stop}
 use Rattle.wasm2c_cli.specs.declared.stop.Stop.TheVariants as stops
+use Rattle.wasm2c_cli.specs.declared.work.Finished.{Finished}
+use Rattle.wasm2c_cli.specs.declared.work.Finished.TheVariants as finished
 use Rattle.wasm2c_cli.specs.Job.{files_of}
-use Rattle.wasm2c_cli.specs.Parts.{AreTaken, IsNamed, IsTranslated, StopsAccepting, StopsTranslating, StopsWriting}
+use Rattle.wasm2c_cli.specs.Parts.{AreTaken, FinishesTranslating, IsNamed, IsTranslated, StopsAccepting, StopsTranslating, StopsWriting}
 use Rattle.wasm2c_cli.specs.Plan as plan
 use Rattle.wasm2c_cli.specs.Plan.{most_set_bytes}
 use Rattle.wasm2c_cli.proofs.ModuleFiles.{one_of_targets}
@@ -30,7 +33,7 @@ module _ (inputs : List Name) (targets : List plan.Target) (old mid : Told) (sou
   accepting_stops r r' w w' named stops.Memory why = λ contents tells. inl same
 
   module _ (modules : List Module) (taken : AreTaken sources modules) where
-    pub writing_stops : (new : Told) (r r' w0 w w' : ℕ) (named : Option Name) (stop : Stop) → w ≡ w0
+    writing_stops : (new : Told) (r r' w0 w w' : ℕ) (named : Option Name) (stop : Stop) → w ≡ w0
         → StopsWriting mid new (files_of targets modules) w w' named stop → StopsTranslating inputs targets old new r r' w0 w' named stop
     writing_stops new r r' w0 w w' named stops.Usage count why = absurd why
     writing_stops new r r' w0 w w' named (stops.Refused name reason) count why = absurd why
@@ -50,7 +53,13 @@ module _ (inputs : List Name) (targets : List plan.Target) (old mid : Told) (sou
       subst (λ (t : Told). Stands t new (files_of targets modules)) same why,
     )
 
-    pub all_translated : (new : Told) → AllByRecursion IsNamed targets → new ≡ written mid (files_of targets modules)
+    pub writing_stopped : {A : Type 0} (new : Told) (r r' w0 w w' : ℕ) (named : Option Name) (result : Result A Stop) → w ≡ w0
+        → IfErr result (StopsWriting mid new (files_of targets modules) w w' named)
+        → IfErr result (StopsTranslating inputs targets old new r r' w0 w' named)
+    writing_stopped new r r' w0 w w' named result count =
+        IfErr-weaker result _ _ (λ stop why. writing_stops new r r' w0 w w' named stop count why)
+
+    all_translated : (new : Told) → AllByRecursion IsNamed targets → new ≡ written mid (files_of targets modules)
         → Tells old (λ contents. IsTranslated inputs targets contents old new)
     all_translated new named stand = λ contents tells. record {
       sources = sources;
@@ -60,3 +69,9 @@ module _ (inputs : List Name) (targets : List plan.Target) (old mid : Told) (sou
       named = named;
       stand = stand ∙ ap (λ (t : Told). written t (files_of targets modules)) same;
     }
+
+    pub translation_finished : (new : Told) (result : Result Finished Stop) → IfOk result (λ f. f ≡ finished.Written)
+        → OnOk result (AllByRecursion IsNamed targets) → OnOk result (new ≡ written mid (files_of targets modules))
+        → IfOk result (FinishesTranslating inputs targets old new)
+    translation_finished new (Ok f) is named stand = (is, all_translated new named stand)
+    translation_finished new (Err stop) is named stand = tt

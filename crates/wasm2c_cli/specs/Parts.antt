@@ -8,9 +8,12 @@ use Rattle.w2c_io.specs.declared.answers.WriteAnswer.TheVariants as answers
 use Rattle.w2c_io.specs.Telling.{Tells, Says, SaysPart}
 use Rattle.w2c_files.specs.Reading.{AreRead, Missing, StopsReading as StopsAtUnread}
 use Rattle.w2c_files.specs.Standing.{IsOneOf, written, Stands, StandsAt}
+use Rattle.w2c_files.specs.declared.reading.ReadStop.{ReadStop}
+use Rattle.w2c_files.specs.declared.reading.ReadStop.TheVariants as reading
 use Rattle.wasm_tree.specs.declared.tree.Module.{Module}
 use Rattle.wasm_spelling.specs.Bytes.{AreBytes}
 use Rattle.wasm_spelling.specs.Limits.{most_module_bytes}
+use Rattle.wasm_spelling.specs.declared.fault.Which.TheVariants.{ModuleBytes, SetBytes}
 use Rattle.wasm_valid.specs.Verdict.{Accepted}
 use Rattle.wasm_valid.specs.FileVerdict.{Read, IsVerdictOn}
 use Rattle.w2c_sim.specs.declared.refusal.Refusal.{Refusal}
@@ -23,6 +26,8 @@ use Rattle.wasm2c_words.specs.declared.read.NoLine.TheVariants as no_line
 use Rattle.wasm2c_cli.specs.Plan as plan
 use Rattle.wasm2c_cli.specs.Plan.{most_set_bytes, names_of_targets, inputs_of, targets_of, target}
 use Rattle.wasm2c_cli.specs.declared.plan.Target.{Target}
+use Rattle.wasm2c_cli.specs.declared.stop.Reason.{Reason}
+use Rattle.wasm2c_cli.specs.declared.stop.Reason.TheVariants.{Limit}
 use Rattle.wasm2c_cli.specs.declared.stop.Stop.{Stop}
 use Rattle.wasm2c_cli.specs.declared.stop.Stop.TheVariants as stops
 use Rattle.wasm2c_cli.specs.declared.work.Finished.{Finished}
@@ -30,7 +35,7 @@ use Rattle.wasm2c_cli.specs.declared.work.Finished.TheVariants as finished
 use Rattle.wasm2c_cli.specs.Job.{AreAccepted, files_of, module_files}
 use Rattle.wasm2c_cli.specs.Reasons.{IsFirstRefused, PassesLimit, reason_of}
 use Rattle.wasm2c_cli.specs.Lines.{summary_line}
-use Rattle.wasm2c_cli.specs.Runtime.{runtime_files}
+use Rattle.wasm2c_cli.specs.Runtime.{runtime_files, runtime_header, runtime_source}
 
 -- ---- what the code keeps, without where it lies in memory
 
@@ -75,6 +80,36 @@ StopsReading told names before after named (stops.Unread name) = IsOneOf (string
     × StopsAtUnread most_module_bytes most_set_bytes contents names (string_bytes name) Missing))
 StopsReading told names before after named (stops.Unwritten name) = ⊥
 StopsReading told names before after named stops.Memory = Unit {0}
+
+-- reading stopped at one of the files, within the limit of all, or for want of memory
+abbrev pub IsAtFile : List Name → ReadStop → Type 0
+IsAtFile names (reading.Unread k) = (name : Name) × (slice_get names k ≡ Some name)
+IsAtFile names (reading.TooLong k) = (name : Name) × (slice_get names k ≡ Some name)
+IsAtFile names (reading.Past k place) = (place ≤ most_set_bytes) × (name : Name) × (slice_get names k ≡ Some name)
+IsAtFile names reading.Memory = Unit {0}
+
+-- the stop at the file with a number, which cannot be read: memory was wanting, or it is named
+abbrev pub StopsAtUnreadable : List Name → ℕ → Stop → Type 0
+StopsAtUnreadable names k stops.Usage = ⊥
+StopsAtUnreadable names k (stops.Refused name reason) = ⊥
+StopsAtUnreadable names k (stops.Unread name) = slice_get names k ≡ Some (string_bytes name)
+StopsAtUnreadable names k (stops.Unwritten name) = ⊥
+StopsAtUnreadable names k stops.Memory = Unit {0}
+
+-- the stop at the file with a number, which passes a limit: memory was wanting, or it is named, and this is the reason
+abbrev pub StopsAtLimit : Reason → List Name → ℕ → Stop → Type 0
+StopsAtLimit limit names k stops.Usage = ⊥
+StopsAtLimit limit names k (stops.Refused name reason) = (reason ≡ limit) × (slice_get names k ≡ Some (string_bytes name))
+StopsAtLimit limit names k (stops.Unread name) = ⊥
+StopsAtLimit limit names k (stops.Unwritten name) = ⊥
+StopsAtLimit limit names k stops.Memory = Unit {0}
+
+-- the stop where reading stopped so
+abbrev pub StopsAtRead : ReadStop → List Name → Stop → Type 0
+StopsAtRead (reading.Unread k) names stop = StopsAtUnreadable names k stop
+StopsAtRead (reading.TooLong k) names stop = StopsAtLimit (Limit most_module_bytes ModuleBytes) names k stop
+StopsAtRead (reading.Past k place) names stop = StopsAtLimit (Limit place SetBytes) names k stop
+StopsAtRead reading.Memory names stop = stop ≡ stops.Memory
 
 -- bytes that are accepted, and their modules
 abbrev pub AreTaken : List (List ℕ) → List Module → Type 0
@@ -128,6 +163,10 @@ pub record IsTranslated (inputs : List Name) (targets : List plan.Target) (conte
   pub named : AllByRecursion IsNamed targets
   pub stand : new ≡ written old (files_of targets modules)
 
+-- the work that is finished where they stand
+abbrev pub FinishesTranslating : List Name → List plan.Target → Told → Told → Finished → Type 0
+FinishesTranslating inputs targets old new f = (f ≡ finished.Written) × Tells old (λ contents. IsTranslated inputs targets contents old new)
+
 -- all are read and accepted
 pub record AreAllTaken (inputs : List Name) (contents : Contents) (modules : List Module) : Type 0 where
   pub sources : List (List ℕ)
@@ -172,23 +211,17 @@ pub record IsGenerated (g : Generation) (count : ℕ) (old new : Told) : Type 0 
   pub named : AreBytes g.module_name
   pub stand : new ≡ written old (module_files (target g.output g.module_name) generated)
 
-abbrev pub StopsGenerating : Generation → Told → Told → ℕ → ℕ → Option Name → Stop → Type 0
-StopsGenerating g old new writes writes' named stops.Usage = ⊥
-StopsGenerating g old new writes writes' named (stops.Refused name reason) = ⊥
-StopsGenerating g old new writes writes' named (stops.Unread name) = ⊥
-StopsGenerating g old new writes writes' named (stops.Unwritten name) = Faulted (string_bytes name) writes writes' named
-    × ((bytes : List ℕ) × (m : Module) × IsTakenFile g bytes m
-    × StandsAt old new (module_files (target g.output g.module_name) m) (string_bytes name))
-StopsGenerating g old new writes writes' named stops.Memory = (new ≡ old)
-    ⊎ ((bytes : List ℕ) × (m : Module) × IsTakenFile g bytes m × Stands old new (module_files (target g.output g.module_name) m))
+-- ---- the runtime
+
+-- the header and the source under names
+abbrev pub runtime_under : Name → Name → List (Name × List ℕ)
+runtime_under header source = (header, runtime_header) ∷ (source, runtime_source) ∷ []
 
 -- ---- the work on a line that was finished
 
 abbrev pub FinishesLine : Line → Told → Told → Finished → Type 0
-FinishesLine (translate t) old new f = (f ≡ finished.Written)
-    × Tells old (λ contents. IsTranslated (inputs_of (translate t)) (targets_of (translate t)) contents old new)
-FinishesLine (set s) old new f = (f ≡ finished.Written)
-    × Tells old (λ contents. IsTranslated (inputs_of (set s)) (targets_of (set s)) contents old new)
+FinishesLine (translate t) old new f = FinishesTranslating (inputs_of (translate t)) (targets_of (translate t)) old new f
+FinishesLine (set s) old new f = FinishesTranslating (inputs_of (set s)) (targets_of (set s)) old new f
 FinishesLine (generate g) old new f = (count : ℕ) × (f ≡ finished.Generated g.count count) × IsGenerated g count old new
 FinishesLine (runtime dir) old new f = (f ≡ finished.Written) × (new ≡ written old (runtime_files dir))
 

@@ -27,20 +27,21 @@ fn main(rt: HostRuntime) -> ExitCode {
 // Arguments that are not text are a bad command line, as none are. Where memory is wanting for them, it is for a
 // line too.
 fn status(rt: &HostRuntime) -> u8 {
-    let alloc = rt.alloc();
-    let mut files = StdFiles::new(rt, alloc);
-    let mut err = StdSink::err(rt);
     match words_of(rt) {
-        Ok(words) => wasm2c_top(alloc, words.as_slice(), &mut files, &mut err),
+        Ok(words) => run(rt, words.as_slice()),
         Err(e) if e.kind() == ErrorKind::OutOfMemory => 5,
-        Err(_) => wasm2c_top(alloc, &[], &mut files, &mut err),
+        Err(_) => run(rt, &[]),
     }
 }
 
+// Over the files and the error stream of the system.
+fn run(rt: &HostRuntime, words: &[String]) -> u8 {
+    let alloc = rt.alloc();
+    let mut files = StdFiles::new(rt, alloc);
+    let mut err = StdSink::err(rt);
+    wasm2c_top(alloc, words, &mut files, &mut err)
+}
+
 fn words_of(rt: &HostRuntime) -> std::io::Result<Vec<String>> {
-    let mut words = Vec::new(rt.alloc());
-    for word in env::args(rt)?.skip(1) {
-        words.push(word)?;
-    }
-    Ok(words)
+    Ok(env::args(rt)?.skip(1).collect(rt.alloc())?)
 }

@@ -4,9 +4,8 @@ ghost use Rattle.std.specs.List.{AllByRecursion};
 ghost use Rattle.w2c_io.specs.Telling.{Tells};
 ghost use Rattle.w2c_files.specs.Reading.{AreRead};
 ghost use Rattle.w2c_files.specs.Words.{names_of};
-ghost use Rattle.wasm_spelling.specs.declared.fault.Which.TheVariants.{ModuleBytes, SetBytes};
 ghost use Rattle.wasm_spelling.specs.Limits.{most_module_bytes};
-ghost use Rattle.wasm2c_cli.specs.Parts.{StopsReading};
+ghost use Rattle.wasm2c_cli.specs.Parts.{IsAtFile, StopsAtRead, StopsReading};
 ghost use Rattle.wasm2c_cli.specs.Plan.{most_set_bytes};
 
 use crate::stop::{Reason, Stop};
@@ -39,16 +38,29 @@ pub fn read_modules<F: Files>(
     };
     match read_files(alloc, inputs, limits, files) {
         Ok(all) => Ok(all),
-        Err(ReadStop::Unread(k)) => Err(Stop::Unread(named(alloc, inputs, k)?)),
-        Err(ReadStop::TooLong(k)) => {
-            let reason = Reason::Limit(MODULE_BYTES as u32, Which::ModuleBytes);
-            Err(Stop::Refused(named(alloc, inputs, k)?, reason))
-        }
-        Err(ReadStop::Past(k, place)) => {
-            let reason = Reason::Limit(place as u32, Which::SetBytes);
-            Err(Stop::Refused(named(alloc, inputs, k)?, reason))
-        }
-        Err(ReadStop::Memory) => Err(Stop::Memory),
+        Err(why) => Err(stop_for(alloc, inputs, why)),
+    }
+}
+
+// Why the work stops where not all files are read.
+fn stop_for(alloc: Global, inputs: &[&str], why: ReadStop) -> Stop
+    requires { IsAtFile (names_of inputs.now) why }
+    ensures { StopsAtRead why (names_of inputs.now) result }
+{
+    match why {
+        ReadStop::Unread(k) => match named(alloc, inputs, k) {
+            Ok(name) => Stop::Unread(name),
+            Err(_) => Stop::Memory,
+        },
+        ReadStop::TooLong(k) => match named(alloc, inputs, k) {
+            Ok(name) => Stop::Refused(name, Reason::Limit(MODULE_BYTES as u32, Which::ModuleBytes)),
+            Err(_) => Stop::Memory,
+        },
+        ReadStop::Past(k, place) => match named(alloc, inputs, k) {
+            Ok(name) => Stop::Refused(name, Reason::Limit(place as u32, Which::SetBytes)),
+            Err(_) => Stop::Memory,
+        },
+        ReadStop::Memory => Stop::Memory,
     }
 }
 

@@ -11,16 +11,17 @@ use std::alloc::{AllocError, Global};
 use w2c_io::{Sink, WriteAnswer};
 
 /// Says why the work stopped, and gives the status.
-pub fn report<E: Sink>(alloc: Global, stop: &Stop, err: &mut E) -> u8
-    ensures status { (result ≡ status_of stop.now) ⊎ (result ≡ 5) }
-    ensures says { (result ≡ status_of stop.now) → Says (E.told err.old) (E.told err.new) (E.faults err.old) (E.faults err.new) (line_for stop.now) ⊎ (result ≡ 5) }
-    ensures part { SaysPart (E.told err.old) (E.told err.new) (line_for stop.now) }
+pub fn report<E: Sink>(alloc: Global, stop: Stop, err: &mut E) -> u8
+    ensures status { (result ≡ status_of stop) ⊎ (result ≡ 5) }
+    ensures says { (result ≡ status_of stop) → Says (E.told err.old) (E.told err.new) (E.faults err.old) (E.faults err.new) (line_for stop) ⊎ (result ≡ 5) }
+    ensures part { SaysPart (E.told err.old) (E.told err.new) (line_for stop) }
 {
+    let status = status(&stop);
     let Ok(line) = line_text(alloc, stop) else {
         return 5;
     };
     match err.put(line.as_bytes()) {
-        Ok(()) | Err(WriteAnswer::Failed) => status(stop),
+        Ok(()) | Err(WriteAnswer::Failed) => status,
         Err(WriteAnswer::Memory) => 5,
     }
 }
@@ -47,12 +48,9 @@ fn summary(alloc: Global, count: u32, bytes: usize) -> Result<String, AllocError
     ensures { IfOk result (λ line. string_bytes line ≡ summary_line count bytes) }
 {
     let mut buffer = Buffer::new();
-    let mut line = String::from_str(alloc, "wasm2c: gen ")?;
-    line.push_str(buffer.format(count))?;
-    line.push_str(": ")?;
-    line.push_str(buffer.format(bytes))?;
-    line.push_str(" bytes, ")?;
-    line.push_str(buffer.format(count))?;
+    let mut line = String::from_str(alloc, "wasm2c: ")?;
+    push_numbered(&mut line, "gen ", count, buffer.format(bytes))?;
+    push_number(&mut line, " bytes, ", count)?;
     line.push_str(" functions\n")?;
     Ok(line)
 }
@@ -69,14 +67,14 @@ fn status(stop: &Stop) -> u8
     }
 }
 
-fn line_text(alloc: Global, stop: &Stop) -> Result<String, AllocError>
-    ensures { IfOk result (λ line. string_bytes line ≡ line_for stop.now) }
+fn line_text(alloc: Global, stop: Stop) -> Result<String, AllocError>
+    ensures { IfOk result (λ line. string_bytes line ≡ line_for stop) }
 {
     match stop {
         Stop::Usage => String::from_str(alloc, "wasm2c: bad command line\n"),
-        Stop::Refused(name, reason) => refused_text(alloc, name, *reason),
-        Stop::Unread(name) => named_text(alloc, name, ": read fault\n"),
-        Stop::Unwritten(name) => named_text(alloc, name, ": write fault\n"),
+        Stop::Refused(name, reason) => refused_text(alloc, &name, reason),
+        Stop::Unread(name) => named_text(alloc, &name, ": read fault\n"),
+        Stop::Unwritten(name) => named_text(alloc, &name, ": write fault\n"),
         Stop::Memory => String::from_str(alloc, "wasm2c: want of memory\n"),
     }
 }
@@ -94,35 +92,32 @@ fn push_reason(line: &mut String, reason: Reason) -> Result<(), AllocError>
     ensures { OnOk result (string_bytes line.new ≡ string_bytes line.old ++ reason_text reason) }
 {
     match reason {
-        Reason::Malformed(place, cause) => {
-            push_place(line, "malformed at ", place)?;
-            push_why(line, cause.text())
-        }
-        Reason::Float(place) => push_place(line, "float at ", place),
-        Reason::Limit(place, which) => {
-            push_place(line, "limit at ", place)?;
-            push_why(line, which.text())
-        }
-        Reason::Invalid(place, cause) => {
-            push_place(line, "invalid at ", place)?;
-            push_why(line, cause.text())
-        }
+        Reason::Malformed(place, cause) => push_numbered(
+            line,
+            "malformed at ",
+            place,
+            cause.text(),
+        ),
+        Reason::Float(place) => push_number(line, "float at ", place),
+        Reason::Limit(place, which) => push_numbered(line, "limit at ", place, which.text()),
+        Reason::Invalid(place, cause) => push_numbered(line, "invalid at ", place, cause.text()),
     }
 }
 
-fn push_place(line: &mut String, what: &str, place: u32) -> Result<(), AllocError>
-    ensures { OnOk result (string_bytes line.new ≡ string_bytes line.old ++ (what.now ++ decimal place)) }
+fn push_numbered(line: &mut String, what: &str, number: u32, text: &str) -> Result<(), AllocError>
+    ensures { OnOk result (string_bytes line.new ≡ string_bytes line.old ++ (what.now ++ decimal number ++ codes ": " ++ text.now)) }
+{
+    push_number(line, what, number)?;
+    line.push_str(": ")?;
+    line.push_str(text)
+}
+
+fn push_number(line: &mut String, what: &str, number: u32) -> Result<(), AllocError>
+    ensures { OnOk result (string_bytes line.new ≡ string_bytes line.old ++ (what.now ++ decimal number)) }
 {
     let mut buffer = Buffer::new();
     line.push_str(what)?;
-    line.push_str(buffer.format(place))
-}
-
-fn push_why(line: &mut String, why: &str) -> Result<(), AllocError>
-    ensures { OnOk result (string_bytes line.new ≡ string_bytes line.old ++ (codes ": " ++ why.now)) }
-{
-    line.push_str(": ")?;
-    line.push_str(why)
+    line.push_str(buffer.format(number))
 }
 
 fn named_text(alloc: Global, name: &String, end: &str) -> Result<String, AllocError>

@@ -1,56 +1,31 @@
 // The two files of the runtime that units are compiled with.
-ghost use Rattle.std.specs.Prelude.{◌≡◌, ◌++◌, ◌<◌, ◌≤◌, codes, length, slice_get, IfErr, IfOk, OnOk, Some, string_bytes};
-ghost use Rattle.wasm2c_cli.specs.Runtime.{runtime_files, runtime_header, runtime_source};
-ghost use Rattle.w2c_files.specs.Standing.{file_names, written};
-ghost use Rattle.w2c_files.specs.Stopping.{seen_outputs};
-ghost use Rattle.wasm2c_cli.specs.Parts.{StopsWriting};
+ghost use Rattle.std.specs.Prelude.{◌≡◌, ◌++◌, ◌≤◌, IfErr, IfOk, string_bytes};
+ghost use Rattle.w2c_files.specs.Standing.{written};
+ghost use Rattle.wasm2c_words.specs.CommandLine.{runtime};
+ghost use Rattle.wasm2c_cli.specs.declared.work.Finished.TheVariants.{Written};
+ghost use Rattle.wasm2c_cli.specs.Parts.{FinishesLine, StopsWriting, runtime_under};
+ghost use Rattle.wasm2c_cli.specs.Runtime.{runtime_header, runtime_source};
+ghost use Rattle.wasm2c_cli.specs.Stops.{KeepsCurrent, StopsLine};
 
 use crate::stop::Stop;
+use crate::work::Finished;
+use crate::writing::stop_for;
 use std::alloc::{AllocError, Global};
-use w2c_base::{Bytes, Memory};
-use w2c_files::{Output, WriteStop, write_files};
+use w2c_files::write_file;
 use w2c_io::Files;
 
 /// Writes the header and the source of the runtime into a directory.
-pub fn write_runtime<F: Files>(alloc: Global, dir: &str, files: &mut F) -> Result<(), Stop>
-    ensures whole { OnOk result (F.told files.new ≡ written (F.told files.old) (runtime_files dir.now)) }
-    ensures reads { F.read_faults files.new ≡ F.read_faults files.old }
-    ensures later { F.write_faults files.old ≤ F.write_faults files.new }
-    ensures stop { IfErr result (StopsWriting (F.told files.old) (F.told files.new) (runtime_files dir.now)
-        (F.write_faults files.old) (F.write_faults files.new) (F.fault_name files.new)) }
+pub fn write_runtime<F: Files>(alloc: Global, dir: &str, files: &mut F) -> Result<Finished, Stop>
+    ensures done { IfOk result (FinishesLine (runtime dir.now) (F.told files.old) (F.told files.new)) }
+    ensures current { IfErr result (KeepsCurrent (F.current files.old) (F.current files.new)) }
+    ensures reads { F.read_faults files.old ≤ F.read_faults files.new }
+    ensures writes { F.write_faults files.old ≤ F.write_faults files.new }
+    ensures stop { IfErr result (StopsLine (runtime dir.now) (F.told files.old) (F.told files.new)
+        (F.read_faults files.old) (F.read_faults files.new) (F.write_faults files.old) (F.write_faults files.new) (F.fault_name files.new)) }
 {
-    let outputs = runtime_outputs(alloc, dir)?;
-    match write_files(&outputs, files) {
-        Ok(()) => Ok(()),
-        Err(WriteStop::Memory) => Err(Stop::Memory),
-        Err(WriteStop::Unwritten(k)) => {
-            let name = output_name(&outputs, k);
-            Err(Stop::Unwritten(String::from_str(alloc, name)?))
-        }
-    }
-}
-
-// The name of the file with a number.
-fn output_name(outputs: &[Output], k: usize) -> &str
-    requires { k < length outputs.now }
-    ensures { slice_get (file_names (seen_outputs outputs.now)) k ≡ Some result.now }
-{
-    outputs[k].name.as_str()
-}
-
-// The header and the source of the runtime, in a directory.
-fn runtime_outputs(alloc: Global, dir: &str) -> Result<[Output; 2], Memory>
-    ensures { IfOk result (λ outputs. seen_outputs outputs ≡ runtime_files dir.now) }
-{
-    let header = Output {
-        name: name_in(alloc, dir, "/w2c_rt.h")?,
-        text: bytes_of(alloc, header())?,
-    };
-    let source = Output {
-        name: name_in(alloc, dir, "/w2c_rt.c")?,
-        text: bytes_of(alloc, source())?,
-    };
-    Ok([header, source])
+    let header = name_in(alloc, dir, "/w2c_rt.h")?;
+    let source = name_in(alloc, dir, "/w2c_rt.c")?;
+    write_texts(alloc, header.as_str(), source.as_str(), files)
 }
 
 fn name_in(alloc: Global, dir: &str, name: &str) -> Result<String, AllocError>
@@ -61,10 +36,27 @@ fn name_in(alloc: Global, dir: &str, name: &str) -> Result<String, AllocError>
     Ok(path)
 }
 
-fn bytes_of(alloc: Global, text: &str) -> Result<Bytes, Memory>
-    ensures { IfOk result (λ bytes. bytes ≡ text.now) }
+// Writes the header, then the source, into files of these names.
+fn write_texts<F: Files>(
+    alloc: Global,
+    header_file: &str,
+    source_file: &str,
+    files: &mut F,
+) -> Result<Finished, Stop>
+    ensures done { IfOk result (λ f. f ≡ Written) }
+    ensures whole { IfOk result (λ _. F.told files.new ≡ written (F.told files.old) (runtime_under header_file.now source_file.now)) }
+    ensures reads { F.read_faults files.new ≡ F.read_faults files.old }
+    ensures later { F.write_faults files.old ≤ F.write_faults files.new }
+    ensures stop { IfErr result (StopsWriting (F.told files.old) (F.told files.new) (runtime_under header_file.now source_file.now)
+        (F.write_faults files.old) (F.write_faults files.new) (F.fault_name files.new)) }
 {
-    Ok(Bytes::from_vec(text.as_bytes().to_vec(alloc)?))
+    if let Err(answer) = write_file(header_file, header().as_bytes(), files) {
+        return Err(stop_for(alloc, answer, header_file));
+    }
+    if let Err(answer) = write_file(source_file, source().as_bytes(), files) {
+        return Err(stop_for(alloc, answer, source_file));
+    }
+    Ok(Finished::Written)
 }
 
 fn header() -> &'static str

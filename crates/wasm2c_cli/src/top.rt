@@ -74,7 +74,7 @@ pub fn wasm2c_top<F: Files, E: Sink>(
     linked_units_do_what_modules_do();
     match work(alloc, words, files) {
         Ok(finished) => summarize(alloc, finished, err),
-        Err(stop) => report(alloc, &stop, err),
+        Err(stop) => report(alloc, stop, err),
     }
 }
 

@@ -1,18 +1,19 @@
 // Translates the modules of files, and a module that is generated.
 ghost use Rattle.std.specs.Prelude.{◌≡◌, ◌≤◌, length, IfOk, IfErr, OnOk};
 ghost use Rattle.std.specs.List.{AllByRecursion};
-ghost use Rattle.w2c_io.specs.Telling.{Tells};
 ghost use Rattle.w2c_files.specs.Words.{names_of};
 ghost use Rattle.w2c_gen.specs.GeneratedFile.{IsGeneratedFile};
 ghost use Rattle.wasm_spelling.specs.Limits.{most_module_bytes};
+ghost use Rattle.wasm2c_words.specs.CommandLine.{generate as generates};
 ghost use Rattle.wasm2c_words.specs.Seen.{seen_generation};
-ghost use Rattle.wasm2c_cli.specs.Parts.{HasName, IsFitGeneration, IsGenerated, IsTranslated, StopsGenerating, StopsTranslating, seen_targets};
-ghost use Rattle.wasm2c_cli.specs.Stops.{KeepsCurrent};
+ghost use Rattle.wasm2c_cli.specs.Parts.{FinishesLine, FinishesTranslating, HasName, IsFitGeneration, IsGenerated, StopsTranslating, seen_targets};
+ghost use Rattle.wasm2c_cli.specs.Stops.{KeepsCurrent, StopsLine};
 
 use crate::accepting::accept_modules;
 use crate::plan::Target;
 use crate::reading::read_modules;
 use crate::stop::Stop;
+use crate::work::Finished;
 use crate::writing::{write_module, write_modules};
 use std::alloc::Global;
 use w2c_gen::generate;
@@ -26,11 +27,10 @@ pub fn translate<F: Files>(
     inputs: &[&str],
     targets: &[Target<'_>],
     files: &mut F,
-) -> Result<(), Stop>
+) -> Result<Finished, Stop>
     requires many { length targets.now ≡ length inputs.now }
     requires named { AllByRecursion HasName (seen_targets targets.now) }
-    ensures done { OnOk result (Tells (F.told files.old)
-        (λ contents. IsTranslated (names_of inputs.now) (seen_targets targets.now) contents (F.told files.old) (F.told files.new))) }
+    ensures done { IfOk result (FinishesTranslating (names_of inputs.now) (seen_targets targets.now) (F.told files.old) (F.told files.new)) }
     ensures reads { F.read_faults files.old ≤ F.read_faults files.new }
     ensures writes { F.write_faults files.old ≤ F.write_faults files.new }
     ensures current { IfErr result (KeepsCurrent (F.current files.old) (F.current files.new)) }
@@ -45,28 +45,26 @@ pub fn translate<F: Files>(
         Ok(modules) => modules,
         Err(stop) => return Err(stop),
     };
-    match write_modules(alloc, targets, modules.as_slice(), files) {
-        Ok(()) => Ok(()),
-        Err(stop) => Err(stop),
-    }
+    write_modules(alloc, targets, modules.as_slice(), files)
 }
 
-/// Generates a module, and writes its C file and its header. It gives the length of the module's file.
+/// Generates a module, and writes its C file and its header.
 pub fn generate_module<F: Files>(
     alloc: Global,
     line: Generation<'_>,
     files: &mut F,
-) -> Result<usize, Stop>
+) -> Result<Finished, Stop>
     requires { IsFitGeneration (seen_generation line) }
-    ensures done { IfOk result (λ bytes. IsGenerated (seen_generation line.entry) bytes (F.told files.old) (F.told files.new)) }
-    ensures reads { F.read_faults files.new ≡ F.read_faults files.old }
+    ensures done { IfOk result (FinishesLine (generates (seen_generation line.entry)) (F.told files.old) (F.told files.new)) }
+    ensures current { IfErr result (KeepsCurrent (F.current files.old) (F.current files.new)) }
+    ensures reads { F.read_faults files.old ≤ F.read_faults files.new }
     ensures writes { F.write_faults files.old ≤ F.write_faults files.new }
-    ensures stop { IfErr result (StopsGenerating (seen_generation line.entry) (F.told files.old) (F.told files.new)
-        (F.write_faults files.old) (F.write_faults files.new) (F.fault_name files.new)) }
+    ensures stop { IfErr result (StopsLine (generates (seen_generation line.entry)) (F.told files.old) (F.told files.new)
+        (F.read_faults files.old) (F.read_faults files.new) (F.write_faults files.old) (F.write_faults files.new) (F.fault_name files.new)) }
 {
     let bytes = generate(alloc, line.count)?;
     match write_generated(alloc, line, bytes.as_slice(), files) {
-        Ok(()) => Ok(bytes.len()),
+        Ok(()) => Ok(Finished::Generated(line.count, bytes.len())),
         Err(stop) => Err(stop),
     }
 }
@@ -82,14 +80,19 @@ fn write_generated<F: Files>(
     requires file { IsGeneratedFile (seen_generation line).count bytes.now }
     requires small { length bytes.now ≤ most_module_bytes }
     ensures done { OnOk result (IsGenerated (seen_generation line.entry) (length bytes.now) (F.told files.old) (F.told files.new)) }
-    ensures reads { F.read_faults files.new ≡ F.read_faults files.old }
+    ensures current { IfErr result (KeepsCurrent (F.current files.old) (F.current files.new)) }
+    ensures reads { F.read_faults files.old ≤ F.read_faults files.new }
     ensures writes { F.write_faults files.old ≤ F.write_faults files.new }
-    ensures stop { IfErr result (StopsGenerating (seen_generation line.entry) (F.told files.old) (F.told files.new)
-        (F.write_faults files.old) (F.write_faults files.new) (F.fault_name files.new)) }
+    ensures stop { IfErr result (StopsLine (generates (seen_generation line.entry)) (F.told files.old) (F.told files.new)
+        (F.read_faults files.old) (F.read_faults files.new) (F.write_faults files.old) (F.write_faults files.new) (F.fault_name files.new)) }
 {
     let target = Target::beside(alloc, line.output, line.module_name)?;
     match accept(alloc, bytes) {
-        Ok(module) => write_module(alloc, &target, &module, files),
+        Ok(module) => {
+            let written = write_module(alloc, &target, &module, files);
+            drop(module);
+            written
+        }
         Err(_) => Err(Stop::Memory),
     }
 }

@@ -33,43 +33,28 @@ pub fn work<F: Files>(alloc: Global, words: &[String], files: &mut F) -> Result<
         (F.read_faults files.old) (F.read_faults files.new) (F.write_faults files.old) (F.write_faults files.new) (F.fault_name files.new)) }
 {
     let line = read_words(alloc, words)?;
-    match work_on(alloc, &line, files) {
-        Ok(finished) => Ok(finished),
-        Err(stop) => Err(stop),
-    }
+    work_on(alloc, line, files)
 }
 
-fn work_on<F: Files>(alloc: Global, line: &Line<'_>, files: &mut F) -> Result<Finished, Stop>
-    requires { HasPassed (seen_line line.now) }
-    ensures done { IfOk result (FinishesLine (seen_line line.now) (F.told files.old) (F.told files.new)) }
+fn work_on<F: Files>(alloc: Global, line: Line<'_>, files: &mut F) -> Result<Finished, Stop>
+    requires { HasPassed (seen_line line) }
+    ensures done { IfOk result (FinishesLine (seen_line line.entry) (F.told files.old) (F.told files.new)) }
     ensures current { IfErr result (KeepsCurrent (F.current files.old) (F.current files.new)) }
     ensures reads { F.read_faults files.old ≤ F.read_faults files.new }
     ensures writes { F.write_faults files.old ≤ F.write_faults files.new }
-    ensures stop { IfErr result (StopsLine (seen_line line.now) (F.told files.old) (F.told files.new)
+    ensures stop { IfErr result (StopsLine (seen_line line.entry) (F.told files.old) (F.told files.new)
         (F.read_faults files.old) (F.read_faults files.new) (F.write_faults files.old) (F.write_faults files.new) (F.fault_name files.new)) }
 {
     match line {
         Line::Translate(one) => {
             let target = Target::beside(alloc, one.output, one.module_name)?;
-            match translate(alloc, &[one.input], &[target], files) {
-                Ok(()) => Ok(Finished::Written),
-                Err(stop) => Err(stop),
-            }
+            translate(alloc, &[one.input], &[target], files)
         }
         Line::Set(set) => {
             let targets = set_targets(alloc, set.dir, set.inputs.as_slice())?;
-            match translate(alloc, set.inputs.as_slice(), targets.as_slice(), files) {
-                Ok(()) => Ok(Finished::Written),
-                Err(stop) => Err(stop),
-            }
+            translate(alloc, set.inputs.as_slice(), targets.as_slice(), files)
         }
-        Line::Generate(one) => match generate_module(alloc, *one, files) {
-            Ok(bytes) => Ok(Finished::Generated(one.count, bytes)),
-            Err(stop) => Err(stop),
-        },
-        Line::Runtime(dir) => match write_runtime(alloc, dir, files) {
-            Ok(()) => Ok(Finished::Written),
-            Err(stop) => Err(stop),
-        },
+        Line::Generate(one) => generate_module(alloc, one, files),
+        Line::Runtime(dir) => write_runtime(alloc, dir, files),
     }
 }

@@ -1,5 +1,5 @@
 // Writes the files of modules, in order.
-ghost use Rattle.std.specs.Prelude.{◌≡◌, ◌≤◌, length, Some, OnOk, OnErr, IfErr, IsErrOf, string_bytes};
+ghost use Rattle.std.specs.Prelude.{◌≡◌, ◌≤◌, length, Some, OnOk, OnErr, IfOk, IfErr, IsErrOf};
 ghost use Rattle.std.specs.List.{AllByRecursion};
 ghost use Rattle.w2c_io.specs.declared.answers.WriteAnswer.TheVariants as writing;
 ghost use Rattle.w2c_io.specs.Contents.{holding};
@@ -7,11 +7,13 @@ ghost use Rattle.w2c_io.specs.Causes.{WriteCause};
 ghost use Rattle.w2c_files.specs.Standing.{written, IsBegun};
 ghost use Rattle.w2c_sim.specs.Translation.{text_of, header_text_of};
 ghost use Rattle.wasm_spelling.specs.Bytes.{AreBytes};
+ghost use Rattle.wasm2c_cli.specs.declared.work.Finished.TheVariants.{Written};
 ghost use Rattle.wasm2c_cli.specs.Job.{files_of, module_files};
 ghost use Rattle.wasm2c_cli.specs.Parts.{HasName, IsNamed, StopsAtFile, StopsWriting, seen_target, seen_targets};
 
 use crate::plan::Target;
 use crate::stop::Stop;
+use crate::work::Finished;
 use std::alloc::Global;
 use w2c_io::{Files, WriteAnswer};
 use w2c_sim::{write_header, write_unit};
@@ -23,9 +25,10 @@ pub fn write_modules<F: Files>(
     targets: &[Target<'_>],
     modules: &[ValidModule],
     files: &mut F,
-) -> Result<(), Stop>
+) -> Result<Finished, Stop>
     requires many { length modules.now ≡ length targets.now }
     requires named { AllByRecursion HasName (seen_targets targets.now) }
+    ensures done { IfOk result (λ f. f ≡ Written) }
     ensures whole { OnOk result (F.told files.new ≡ written (F.told files.old) (files_of (seen_targets targets.now) modules.now)) }
     ensures names { OnOk result (AllByRecursion IsNamed (seen_targets targets.now)) }
     ensures reads { F.read_faults files.new ≡ F.read_faults files.old }
@@ -39,7 +42,7 @@ pub fn write_modules<F: Files>(
             Err(stop) => return Err(stop),
         }
     }
-    Ok(())
+    Ok(Finished::Written)
 }
 
 /// Writes the C file of a module, then its header.
@@ -68,8 +71,8 @@ pub fn write_module<F: Files>(
     Ok(())
 }
 
-// Why the work stops at a file that is not written.
-fn stop_for(alloc: Global, answer: WriteAnswer, file: &str) -> Stop
+/// Why the work stops at a file that is not written.
+pub fn stop_for(alloc: Global, answer: WriteAnswer, file: &str) -> Stop
     ensures { StopsAtFile answer file.now result }
 {
     match answer {
@@ -100,8 +103,7 @@ fn unit_to_file<F: Files>(
 {
     files.begin(file)?;
     write_unit(alloc, module, module_name, files)?;
-    files.finish()?;
-    Ok(())
+    files.finish()
 }
 
 // Writes a file with the text of a module's header.
@@ -122,6 +124,5 @@ fn header_to_file<F: Files>(
 {
     files.begin(file)?;
     write_header(alloc, module, module_name, files)?;
-    files.finish()?;
-    Ok(())
+    files.finish()
 }

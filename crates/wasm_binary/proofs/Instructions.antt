@@ -1,5 +1,5 @@
 -- Instructions but for blocks: what their opcodes say of what is read behind them.
-use Rattle.std.proofs.Common.{◌≡◌, ℕ, pos, [], Option, Some, None, Result, Err, refl, sym, ap, subst, ◌∙◌}
+use Rattle.std.proofs.Common.{◌≡◌, ℕ, pos, [], Option, Some, None, Result, Ok, Err, refl, sym, ap, subst, ◌∙◌}
 use Rattle.wasm_tree.specs.declared.code.MemArg.{MemArg}
 use Rattle.wasm_tree.specs.declared.opcodes.Op.{Op}
 use Rattle.wasm_tree.specs.declared.opcodes.Op.TheVariants as op
@@ -11,14 +11,16 @@ use Rattle.wasm_tree.specs.Instructions.{Kind, Unreachable, Nop, Return, Drop, S
 use Rattle.wasm_tree.specs.Parts.{access_tree, index_tree, numeric_tree, op_opcode, simple_tree, HasOp}
 use Rattle.wasm_tree.specs.InstructionTable.{Form, nothing, an_index, a_mem_arg, labels, a_type, a_zero, an_i32, an_i64, a_sub_opcode}
 use Rattle.wasm_tree.specs.InstructionTable.{Row, row_of}
-use Rattle.wasm_tree.specs.InstructionTable.{opcode_of}
+use Rattle.wasm_tree.specs.InstructionTable.{opcode_of, Prefixed, prefixed_of}
 use Rattle.wasm_tree.specs.Forms.{form_of, form_in, Makes}
 use Rattle.wasm_tree.proofs.ExactTable.{has_row, row_makes}
 use Rattle.wasm_spelling.specs.declared.fault.ReadFault.{ReadFault}
 use Rattle.wasm_spelling.specs.declared.fault.ReadFault.TheVariants.{Malformed, Float, Limit, Memory}
 use Rattle.wasm_spelling.specs.At.{At}
-use Rattle.wasm_spelling.specs.Reading.{form_at}
-use Rattle.wasm_binary.specs.View.{Fails, Gives}
+use Rattle.wasm_spelling.specs.declared.fault.Cause.TheVariants as cause
+use Rattle.wasm_spelling.specs.Steps.{◌>>=◌, reads, checked, number_at, sub_opcode_in, sub_opcode_of}
+use Rattle.wasm_spelling.specs.Reading.{exactly_at, form_at, times_at}
+use Rattle.wasm_binary.specs.View.{Fails, Gives, kept}
 use Rattle.wasm_binary.specs.Opcodes.{op_form, fault_of, by_form, plain_at}
 
 -- ---- the opcode of a row
@@ -32,6 +34,18 @@ pub by_opcode : {X : Type 0} (view : X → Kind × At) (r : Result X ReadFault) 
     → b ≡ n → form_in (row_of n) ≡ Some f → Gives view r (form_at f a) → Gives view r (plain_at place b a)
 by_opcode view r place b n f a same is g =
     subst (Gives view r) (sym (plain_is place b f a (ap (λ (x : ℕ). form_in (row_of x)) same ∙ is))) g
+
+-- ---- a sub-opcode
+
+abbrev zeros_behind : Prefixed × At → Result (Kind × At) ReadFault
+zeros_behind x = kept x.0.kind (times_at (exactly_at 0x00 cause.ZeroByteExpected) x.0.zeros x.1)
+
+pub by_sub_opcode : (a : At) (n : ℕ) (b : At) (r : Prefixed) → number_at a ≡ Ok (n, b) → prefixed_of n ≡ Some r
+    → form_at a_sub_opcode a ≡ zeros_behind (r, b)
+unfolding form_at reads checked
+by_sub_opcode a n b r e is =
+    ap (λ (x : Result (ℕ × At) ReadFault). (x >>= λ y. sub_opcode_of a.place y.0 >>= λ v. Ok (v, y.1)) >>= zeros_behind) e
+    ∙ ap (λ (o : Option Prefixed). (sub_opcode_in o a.place >>= λ v. Ok (v, b)) >>= zeros_behind) is
 
 -- ---- the opcode of an operator
 

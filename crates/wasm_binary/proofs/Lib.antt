@@ -1,6 +1,9 @@
+pub mod NoWindow
 pub mod Loop
 pub mod Utf8
 pub mod Instructions
 pub mod Items
+pub mod Blocks
 pub mod SectionLoop
 pub mod Result
+pub mod Kept

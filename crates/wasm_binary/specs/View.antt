@@ -41,6 +41,10 @@ seen x = (x.0, at x.1)
 abbrev pub value_in : {X : Type 0} → Result (X × spelling.At) ReadFault → Result X ReadFault
 value_in read = read >>= λ x. Ok x.0
 
+-- a value, with the place behind what was read
+abbrev pub kept : {X Y : Type 0} → Y → Result (X × spelling.At) ReadFault → Result (Y × spelling.At) ReadFault
+kept value read = read >>= λ x. Ok (value, x.1)
+
 -- this is the result, unless memory was wanting
 abbrev pub UnlessMemory : {A : Type 0} → Result A ReadFault → Result A ReadFault → Type 0
 UnlessMemory result expected = result ≢ Err Memory → result ≡ expected

@@ -1,17 +1,17 @@
 // Instructions and expressions (WebAssembly Core 1.0, 5.4; Core 2.0, 5.4.6, for the byte FC).
 ghost use Rattle.std.specs.Prelude.{◌≡◌, ◌==◌, ◌&&◌, Result, false, true, option_map};
-ghost use Rattle.wasm_tree.specs.Parts.{HasOp};
-ghost use Rattle.wasm_tree.specs.Instructions.{Kind as Tree, BrTable, CallIndirect, MemorySize, MemoryGrow, I32Const, I64Const};
-ghost use Rattle.wasm_tree.specs.InstructionTable.{labels, a_type, a_zero, an_i32, an_i64, a_sub_opcode, prefixed_of};
+ghost use Rattle.wasm_tree.specs.Instructions.{Kind as Tree, BrTable, CallIndirect};
+ghost use Rattle.wasm_tree.specs.Views.{kind_tree};
+ghost use Rattle.wasm_tree.specs.InstructionTable.{labels, a_type, a_sub_opcode, prefixed_of};
 ghost use Rattle.wasm_spelling.specs.declared.fault.ReadFault.{ReadFault as Fault};
 ghost use Rattle.wasm_spelling.specs.At.{At};
-ghost use Rattle.wasm_spelling.specs.Steps.{is_float as is_float_of, reads};
-ghost use Rattle.wasm_spelling.specs.Reading.{mem_arg_at, form_at, ender_place, block_of, if_closed, item_at, block_at, code_at, expression_at};
-ghost use Rattle.wasm_binary.specs.View.{Gives, at, seen};
+ghost use Rattle.wasm_spelling.specs.Steps.{is_float as is_float_of};
+ghost use Rattle.wasm_spelling.specs.Reading.{form_at, ender_place, item_at, block_at, code_at, expression_at};
+ghost use Rattle.wasm_binary.specs.View.{Gives, at, seen, kept};
 ghost use Rattle.wasm_binary.specs.Opcodes.{op_form, plain_at, fault_of, prefixed_row};
-ghost use Rattle.wasm_binary.specs.Enders.{as_kind, as_item, as_one, as_code, ender_of, head_of_opener, opener_head};
+ghost use Rattle.wasm_binary.specs.Enders.{as_kind, as_item, as_one, as_code, ender_of, head_of_opener, opener_head, takes_else, ended_block, opened_at};
 
-use crate::fields::{byte, exactly, number, signed32, signed64, zero};
+use crate::fields::{byte, exactly, number, signed32, signed64};
 use crate::rest::Rest;
 use crate::types::block_type;
 use crate::vectors::{Entry, times, vector};
@@ -50,17 +50,6 @@ fn no_instruction(place: u32, opcode: u8) -> ReadFault
     }
 }
 
-#[tactic(auto, unfolding(wasm_spelling::specs::Steps::reads, wasm_spelling::specs::Reading::mem_arg_at))]
-fn mem_arg(rest: Rest) -> Result<(MemArg, Rest), ReadFault>
-    ensures { Gives seen result (mem_arg_at (at rest.entry)) }
-{
-    let (align, rest) = number(rest)?;
-    match number(rest) {
-        Ok((offset, rest)) => Ok((MemArg { align, offset }, rest)),
-        Err(fault) => Err(fault),
-    }
-}
-
 #[tactic(auto, unfolding(wasm_spelling::specs::Steps::reads, wasm_spelling::specs::Reading::form_at))]
 fn branch_table(alloc: Global, rest: Rest) -> Result<(Kind, Rest), ReadFault>
     ensures { Gives as_kind result (form_at (labels BrTable) (at rest.entry)) }
@@ -72,58 +61,20 @@ fn branch_table(alloc: Global, rest: Rest) -> Result<(Kind, Rest), ReadFault>
     }
 }
 
-#[tactic(auto, unfolding(wasm_spelling::specs::Steps::reads, wasm_spelling::specs::Reading::form_at))]
+#[tactic(auto, unfolding(wasm_spelling::specs::Steps::reads, wasm_spelling::specs::Steps::checked, wasm_spelling::specs::Reading::form_at, wasm_spelling::specs::Reading::zero_at))]
 fn indirect_call(rest: Rest) -> Result<(Kind, Rest), ReadFault>
     ensures { Gives as_kind result (form_at (a_type CallIndirect) (at rest.entry)) }
 {
     let (type_index, rest) = number(rest)?;
-    match zero(rest) {
-        Ok(rest) => Ok((Kind::CallIndirect(type_index), rest)),
-        Err(fault) => Err(fault),
+    let place = rest.place;
+    let (table, rest) = number(rest)?;
+    if table != 0 {
+        return Err(ReadFault::Malformed(place, Cause::ZeroByteExpected));
     }
+    Ok((Kind::CallIndirect(type_index), rest))
 }
 
-#[tactic(auto, unfolding(wasm_spelling::specs::Steps::reads, wasm_spelling::specs::Reading::form_at))]
-fn memory_size(rest: Rest) -> Result<(Kind, Rest), ReadFault>
-    ensures { Gives as_kind result (form_at (a_zero MemorySize) (at rest.entry)) }
-{
-    match exactly(0x00, Cause::ZeroByteExpected, rest) {
-        Ok(rest) => Ok((Kind::MemorySize, rest)),
-        Err(fault) => Err(fault),
-    }
-}
-
-#[tactic(auto, unfolding(wasm_spelling::specs::Steps::reads, wasm_spelling::specs::Reading::form_at))]
-fn memory_grow(rest: Rest) -> Result<(Kind, Rest), ReadFault>
-    ensures { Gives as_kind result (form_at (a_zero MemoryGrow) (at rest.entry)) }
-{
-    match exactly(0x00, Cause::ZeroByteExpected, rest) {
-        Ok(rest) => Ok((Kind::MemoryGrow, rest)),
-        Err(fault) => Err(fault),
-    }
-}
-
-#[tactic(auto, unfolding(wasm_spelling::specs::Steps::reads, wasm_spelling::specs::Reading::form_at))]
-fn constant32(rest: Rest) -> Result<(Kind, Rest), ReadFault>
-    ensures { Gives as_kind result (form_at (an_i32 I32Const) (at rest.entry)) }
-{
-    match signed32(rest) {
-        Ok((constant, rest)) => Ok((Kind::I32Const(constant), rest)),
-        Err(fault) => Err(fault),
-    }
-}
-
-#[tactic(auto, unfolding(wasm_spelling::specs::Steps::reads, wasm_spelling::specs::Reading::form_at))]
-fn constant64(rest: Rest) -> Result<(Kind, Rest), ReadFault>
-    ensures { Gives as_kind result (form_at (an_i64 I64Const) (at rest.entry)) }
-{
-    match signed64(rest) {
-        Ok((constant, rest)) => Ok((Kind::I64Const(constant), rest)),
-        Err(fault) => Err(fault),
-    }
-}
-
-/// A byte 00 behind a sub-opcode.
+/// A byte 00 behind an opcode or a sub-opcode.
 struct ZeroByte;
 
 impl Entry for ZeroByte {
@@ -137,6 +88,19 @@ impl Entry for ZeroByte {
     fn read(_alloc: Global, rest: Rest) -> Result<(Self::Item, Rest), ReadFault> {
         let rest = exactly(0x00, Cause::ZeroByteExpected, rest)?;
         Ok(((), rest))
+    }
+}
+
+/// A value, where what stands behind it says nothing more.
+fn behind<T: Drop, U: Drop>(
+    value: T,
+    read: Result<(U, Rest), ReadFault>,
+) -> Result<(T, Rest), ReadFault>
+    ensures { (given : Result (U × At) Fault) → Gives seen read.entry given → Gives seen result (kept value given) }
+{
+    match read {
+        Ok((_, rest)) => Ok((value, rest)),
+        Err(fault) => Err(fault),
     }
 }
 
@@ -174,14 +138,14 @@ fn with_sub_opcode(alloc: Global, rest: Rest) -> Result<(Kind, Rest), ReadFault>
     match by_sub_opcode(sub_opcode) {
         None => Err(ReadFault::Malformed(place, Cause::BadOpcode)),
         Some(found) => {
-            let (_, rest) = times::<ZeroByte>(alloc, found.zeros, rest)?;
-            Ok((found.kind, rest))
+            let zeros = times::<ZeroByte>(alloc, found.zeros, rest);
+            behind(found.kind, zeros)
         }
     }
 }
 
 /// The instruction of an operator.
-#[tactic(auto, unfolding(wasm_spelling::specs::Steps::reads, wasm_spelling::specs::Reading::form_at))]
+#[tactic(auto, unfolding(wasm_spelling::specs::Steps::reads, wasm_spelling::specs::Reading::form_at, wasm_spelling::specs::Reading::mem_arg_at))]
 fn with_operator(op: Op, rest: Rest) -> Result<(Kind, Rest), ReadFault>
     ensures { Gives as_kind result (form_at (op_form op) (at rest.entry)) }
 {
@@ -191,44 +155,40 @@ fn with_operator(op: Op, rest: Rest) -> Result<(Kind, Rest), ReadFault>
             Ok((index, rest)) => Ok((op.kind(index), rest)),
             Err(fault) => Err(fault),
         },
-        Op::Access(op) => match mem_arg(rest) {
-            Ok((arg, rest)) => Ok((op.kind(arg), rest)),
-            Err(fault) => Err(fault),
-        },
+        Op::Access(op) => {
+            let (align, rest) = number(rest)?;
+            match number(rest) {
+                Ok((offset, rest)) => Ok((op.kind(MemArg { align, offset }), rest)),
+                Err(fault) => Err(fault),
+            }
+        }
         Op::Numeric(op) => Ok((op.kind(), rest)),
     }
 }
 
-/// The instruction of an opcode that is no operator's, which opens no block and closes none.
-#[tactic(auto, using(crate::proofs::Instructions::none_fails))]
-fn without_operator(
-    alloc: Global,
-    place: u32,
-    opcode: u8,
-    rest: Rest,
-) -> Result<(Kind, Rest), ReadFault>
-    requires { HasOp opcode → ⊥ }
-    ensures { Gives as_kind result (plain_at place opcode (at rest.entry)) }
-{
-    match opcode {
-        BR_TABLE => branch_table(alloc, rest),
-        CALL_INDIRECT => indirect_call(rest),
-        MEMORY_SIZE => memory_size(rest),
-        MEMORY_GROW => memory_grow(rest),
-        I32_CONST => constant32(rest),
-        I64_CONST => constant64(rest),
-        PREFIX => with_sub_opcode(alloc, rest),
-        _ => Err(no_instruction(place, opcode)),
-    }
-}
-
 /// The instruction of an opcode, which opens no block and closes none.
+#[tactic(auto, using(crate::proofs::Instructions::none_fails))]
 fn instruction(alloc: Global, place: u32, opcode: u8, rest: Rest) -> Result<(Kind, Rest), ReadFault>
     ensures { Gives as_kind result (plain_at place opcode (at rest.entry)) }
 {
     match Op::of_opcode(opcode) {
         Some(op) => with_operator(op, rest),
-        None => without_operator(alloc, place, opcode, rest),
+        None => match opcode {
+            BR_TABLE => branch_table(alloc, rest),
+            CALL_INDIRECT => indirect_call(rest),
+            MEMORY_SIZE => behind(Kind::MemorySize, ZeroByte::read(alloc, rest)),
+            MEMORY_GROW => behind(Kind::MemoryGrow, ZeroByte::read(alloc, rest)),
+            I32_CONST => match signed32(rest) {
+                Ok((constant, rest)) => Ok((Kind::I32Const(constant), rest)),
+                Err(fault) => Err(fault),
+            },
+            I64_CONST => match signed64(rest) {
+                Ok((constant, rest)) => Ok((Kind::I64Const(constant), rest)),
+                Err(fault) => Err(fault),
+            },
+            PREFIX => with_sub_opcode(alloc, rest),
+            _ => Err(no_instruction(place, opcode)),
+        },
     }
 }
 
@@ -249,6 +209,43 @@ enum Opener {
     Block,
     Loop,
     If,
+}
+
+impl Opener {
+    /// Whether an `else` may close its instructions.
+    fn may_else(self) -> bool
+        ensures { result ≡ takes_else (head_of_opener self) }
+    {
+        match self {
+            Opener::Block | Opener::Loop => false,
+            Opener::If => true,
+        }
+    }
+
+    /// The block whose instructions an `end` closed.
+    fn closed(self, ty: Option<ValType>, code: Code, end_place: u32) -> Kind
+        ensures { kind_tree result ≡ ended_block (head_of_opener self) ty code end_place }
+    {
+        let result = ty;
+        match self {
+            Opener::Block => Kind::Block {
+                result,
+                code,
+                end_place,
+            },
+            Opener::Loop => Kind::Loop {
+                result,
+                code,
+                end_place,
+            },
+            Opener::If => Kind::If {
+                result,
+                code,
+                otherwise: None,
+                end_place,
+            },
+        }
+    }
 }
 
 fn opener_of(opcode: u8) -> Option<Opener>
@@ -289,64 +286,12 @@ fn one(place: u32, read: Result<(Kind, Rest), ReadFault>) -> Result<(Item, Rest)
 #[cycle(instructions)]
 #[tactic(auto, unfolding(wasm_spelling::specs::Steps::reads))]
 fn opened(alloc: Global, room: u32, opener: Opener, rest: Rest) -> Result<(Kind, Rest), ReadFault>
-    ensures { Gives as_kind result (block_of (λ may_else. code_at room may_else) (head_of_opener opener) (at rest.entry)) }
+    ensures { Gives as_kind result (opened_at room (head_of_opener opener) (at rest.entry)) }
 {
-    let (result, rest) = block_type(rest)?;
-    match opener {
-        Opener::Block => match instructions(alloc, room, false, rest) {
-            Ok(((code, ender), rest)) => {
-                let end_place = ender.place();
-                Ok((
-                    Kind::Block {
-                        result,
-                        code,
-                        end_place,
-                    },
-                    rest,
-                ))
-            }
-            Err(fault) => Err(fault),
-        },
-        Opener::Loop => match instructions(alloc, room, false, rest) {
-            Ok(((code, ender), rest)) => {
-                let end_place = ender.place();
-                Ok((
-                    Kind::Loop {
-                        result,
-                        code,
-                        end_place,
-                    },
-                    rest,
-                ))
-            }
-            Err(fault) => Err(fault),
-        },
-        Opener::If => branches(alloc, room, result, rest),
-    }
-}
-
-/// The branches of an `if`.
-#[cycle(instructions)]
-#[tactic(auto, unfolding(wasm_spelling::specs::Steps::reads))]
-fn branches(
-    alloc: Global,
-    room: u32,
-    ty: Option<ValType>,
-    rest: Rest,
-) -> Result<(Kind, Rest), ReadFault>
-    ensures { Gives as_kind result (reads (code_at room true) (if_closed (code_at room false) ty) (at rest.entry)) }
-{
-    let ((first, ender), rest) = instructions(alloc, room, true, rest)?;
+    let (ty, rest) = block_type(rest)?;
+    let ((code, ender), rest) = instructions(alloc, room, opener.may_else(), rest)?;
     match ender {
-        Ender::End(end_place) => Ok((
-            Kind::If {
-                result: ty,
-                code: first,
-                otherwise: None,
-                end_place,
-            },
-            rest,
-        )),
+        Ender::End(end_place) => Ok((opener.closed(ty, code, end_place), rest)),
         Ender::Else(place) => {
             let ((second, ender), rest) = instructions(alloc, room, false, rest)?;
             let end_place = ender.place();
@@ -357,7 +302,7 @@ fn branches(
             Ok((
                 Kind::If {
                     result: ty,
-                    code: first,
+                    code,
                     otherwise,
                     end_place,
                 },

@@ -1,19 +1,19 @@
 // The entries of sections (WebAssembly Core 1.0, 5.5).
 ghost use Rattle.std.specs.Prelude.{◌≡◌};
-ghost use Rattle.wasm_spelling.specs.Reading.{first_of_results, func_type_at, import_kind_at, start_at};
+ghost use Rattle.wasm_spelling.specs.Reading.{first_of_results, import_kind_at};
 ghost use Rattle.wasm_binary.specs.View.{Gives, at, seen};
 
 use crate::code::expression;
 use crate::fields::{counted_bytes, exactly, name, number};
 use crate::rest::Rest;
-use crate::types::{kind, memory_type, mutability, table_type, value_type};
+use crate::types::{flag, kind, memory_type, table_type, value_type};
 use crate::vectors::{Entry, short_vector, vector};
 use std::alloc::Global;
 use w2c_base::{FuncType, PARAMETERS, RESULTS, ValType};
 use wasm_spelling::{Cause, ReadFault, Which};
 use wasm_tree::{
     ElementEntry, Export, ExportKind, FuncEntry, FuncRef, GlobalEntry, Import, ImportKind,
-    LimitsEntry, SegmentEntry, Start, TypeEntry,
+    LimitsEntry, SegmentEntry, TypeEntry,
 };
 
 impl Entry for ValType {
@@ -49,17 +49,6 @@ fn first_of(results: &[ValType]) -> Option<ValType>
     }
 }
 
-#[tactic(auto, unfolding(wasm_spelling::specs::Steps::reads, wasm_spelling::specs::Reading::func_type_at, wasm_spelling::specs::Reading::limited_at))]
-fn func_type(alloc: Global, rest: Rest) -> Result<(FuncType, Rest), ReadFault>
-    ensures { Gives seen result (func_type_at (at rest.entry)) }
-{
-    let rest = exactly(0x60, Cause::BadForm, rest)?;
-    let (params, rest) = short_vector::<ValType>(alloc, PARAMETERS, Which::Parameters, rest)?;
-    let (results, rest) = short_vector::<ValType>(alloc, RESULTS, Which::Results, rest)?;
-    let result = first_of(results.as_slice());
-    Ok((FuncType { params, result }, rest))
-}
-
 impl Entry for TypeEntry {
     ghost use Rattle.wasm_spelling.specs.Reading.{type_entry_at};
 
@@ -67,18 +56,25 @@ impl Entry for TypeEntry {
 
     ghost reading = { type_entry_at };
 
-    #[tactic(auto, unfolding(wasm_spelling::specs::Steps::reads, wasm_spelling::specs::Reading::type_entry_at))]
+    #[tactic(auto, unfolding(wasm_spelling::specs::Steps::reads, wasm_spelling::specs::Reading::type_entry_at, wasm_spelling::specs::Reading::func_type_at, wasm_spelling::specs::Reading::limited_at))]
     fn read(alloc: Global, rest: Rest) -> Result<(Self::Item, Rest), ReadFault> {
         let place = rest.place;
-        match func_type(alloc, rest) {
-            Ok((ty, rest)) => Ok((TypeEntry { place, ty }, rest)),
-            Err(fault) => Err(fault),
-        }
+        let rest = exactly(0x60, Cause::BadForm, rest)?;
+        let (params, rest) = short_vector::<ValType>(alloc, PARAMETERS, Which::Parameters, rest)?;
+        let (results, rest) = short_vector::<ValType>(alloc, RESULTS, Which::Results, rest)?;
+        let result = first_of(results.as_slice());
+        Ok((
+            TypeEntry {
+                place,
+                ty: FuncType { params, result },
+            },
+            rest,
+        ))
     }
 }
 
 /// What stands behind an import's kind.
-#[tactic(auto, unfolding(wasm_spelling::specs::Steps::reads, wasm_spelling::specs::Reading::import_kind_at))]
+#[tactic(auto, unfolding(wasm_spelling::specs::Steps::reads, wasm_spelling::specs::Reading::import_kind_at, wasm_spelling::specs::Reading::mutability_at))]
 fn imported(kind: ExportKind, rest: Rest) -> Result<(ImportKind, Rest), ReadFault>
     ensures { Gives seen result (import_kind_at kind (at rest.entry)) }
 {
@@ -97,7 +93,7 @@ fn imported(kind: ExportKind, rest: Rest) -> Result<(ImportKind, Rest), ReadFaul
         },
         ExportKind::Global => {
             let (ty, rest) = value_type(rest)?;
-            let (mutable, rest) = mutability(rest)?;
+            let (mutable, rest) = flag(Cause::BadMutability, rest)?;
             Ok((ImportKind::Global(ty, mutable), rest))
         }
     }
@@ -193,10 +189,10 @@ impl Entry for GlobalEntry {
 
     ghost reading = { global_entry_at };
 
-    #[tactic(auto, unfolding(wasm_spelling::specs::Steps::reads, wasm_spelling::specs::Reading::global_entry_at))]
+    #[tactic(auto, unfolding(wasm_spelling::specs::Steps::reads, wasm_spelling::specs::Reading::global_entry_at, wasm_spelling::specs::Reading::mutability_at))]
     fn read(alloc: Global, rest: Rest) -> Result<(Self::Item, Rest), ReadFault> {
         let (ty, rest) = value_type(rest)?;
-        let (mutable, rest) = mutability(rest)?;
+        let (mutable, rest) = flag(Cause::BadMutability, rest)?;
         let place = rest.place;
         let (code, rest) = expression(alloc, rest)?;
         Ok((
@@ -306,16 +302,5 @@ impl Entry for SegmentEntry {
             },
             rest,
         ))
-    }
-}
-
-#[tactic(auto, unfolding(wasm_spelling::specs::Steps::reads, wasm_spelling::specs::Reading::start_at))]
-pub fn start(rest: Rest) -> Result<(Start, Rest), ReadFault>
-    ensures { Gives seen result (start_at (at rest.entry)) }
-{
-    let place = rest.place;
-    match number(rest) {
-        Ok((index, rest)) => Ok((Start { index, place }, rest)),
-        Err(fault) => Err(fault),
     }
 }

@@ -2,7 +2,7 @@
 ghost use Rattle.std.specs.Prelude.{◌≡◌};
 ghost use Rattle.std.specs.Str.{is_utf8 as is_utf8_of};
 ghost use Rattle.wasm_spelling.specs.Steps.{cause_of as the_cause, byte_at, number_at, signed32_at, signed64_at, bytes_at, rest_at};
-ghost use Rattle.wasm_spelling.specs.Reading.{exactly_at, zero_at, limited_at, any_name_at, name_at, counted_bytes_at, utf8_at};
+ghost use Rattle.wasm_spelling.specs.Reading.{exactly_at, limited_at, name_at, counted_bytes_at, utf8_at};
 ghost use Rattle.wasm_spelling.specs.Limits.{most_name_bytes};
 ghost use Rattle.wasm_binary.specs.View.{Gives, at, seen};
 
@@ -116,20 +116,6 @@ pub fn signed64(rest: Rest) -> Result<(i64, Rest), ReadFault>
     }
 }
 
-/// The number 0, which may be padded.
-#[tactic(auto, unfolding(wasm_spelling::specs::Steps::checked, wasm_spelling::specs::Reading::zero_at))]
-pub fn zero(rest: Rest) -> Result<Rest, ReadFault>
-    ensures { Gives (λ x. (tt, at x)) result (zero_at (at rest.entry)) }
-{
-    let place = rest.place;
-    let (number, rest) = number(rest)?;
-    if number == 0 {
-        Ok(rest)
-    } else {
-        Err(ReadFault::Malformed(place, Cause::ZeroByteExpected))
-    }
-}
-
 /// A number of at most so much.
 #[tactic(auto, unfolding(wasm_spelling::specs::Steps::checked, wasm_spelling::specs::Reading::limited_at))]
 pub fn limited(most: u32, which: Which, rest: Rest) -> Result<(u32, Rest), ReadFault>
@@ -176,7 +162,7 @@ fn is_utf8(bytes: &[u8]) -> bool
 
 /// So many bytes, which are UTF-8.
 #[tactic(auto, unfolding(wasm_spelling::specs::Steps::checked, wasm_spelling::specs::Reading::utf8_at))]
-fn utf8(count: u32, rest: Rest) -> Result<(&[u8], Rest), ReadFault>
+pub fn utf8(count: u32, rest: Rest) -> Result<(&[u8], Rest), ReadFault>
     ensures { Gives (λ x. (x.0.now, at x.1)) result (utf8_at count (at rest.entry)) }
 {
     let place = rest.place;
@@ -187,15 +173,6 @@ fn utf8(count: u32, rest: Rest) -> Result<(&[u8], Rest), ReadFault>
     Ok((front, rest))
 }
 
-/// A name of any length.
-#[tactic(auto, unfolding(wasm_spelling::specs::Steps::reads, wasm_spelling::specs::Reading::any_name_at))]
-pub fn any_name(rest: Rest) -> Result<(&[u8], Rest), ReadFault>
-    ensures { Gives (λ x. (x.0.now, at x.1)) result (any_name_at (at rest.entry)) }
-{
-    let (count, rest) = number(rest)?;
-    utf8(count, rest)
-}
-
 /// The name of an import or an export.
 #[tactic(auto, unfolding(wasm_spelling::specs::Steps::reads, wasm_spelling::specs::Reading::name_at, wasm_spelling::specs::Reading::limited_at))]
 pub fn name(alloc: Global, rest: Rest) -> Result<(Bytes, Rest), ReadFault>
@@ -203,9 +180,8 @@ pub fn name(alloc: Global, rest: Rest) -> Result<(Bytes, Rest), ReadFault>
 {
     let (count, rest) = limited(NAME_LENGTH, Which::NameLength, rest)?;
     let (front, rest) = utf8(count, rest)?;
-    let mut name = Bytes::new(alloc);
-    name.extend(front)?;
-    Ok((name, rest))
+    let name = Vec::from_slice(alloc, front)?;
+    Ok((Bytes::from_vec(name), rest))
 }
 
 /// A count, and so many bytes.
@@ -215,7 +191,6 @@ pub fn counted_bytes(alloc: Global, rest: Rest) -> Result<(Bytes, Rest), ReadFau
 {
     let (count, rest) = number(rest)?;
     let (front, rest) = bytes(count, rest)?;
-    let mut counted = Bytes::new(alloc);
-    counted.extend(front)?;
-    Ok((counted, rest))
+    let counted = Vec::from_slice(alloc, front)?;
+    Ok((Bytes::from_vec(counted), rest))
 }

@@ -1,24 +1,23 @@
 // Sections (WebAssembly Core 1.0, 5.5.2 and 5.5.3; Core 2.0, 5.5.16, for where the data count stands).
 ghost use Rattle.std.specs.Prelude.{◌≡◌, Result, option_map};
-ghost use Rattle.wasm_tree.specs.declared.tree.Module.{Module as Tree};
 ghost use Rattle.wasm_spelling.specs.declared.fault.ReadFault.{ReadFault as Fault};
 ghost use Rattle.wasm_spelling.specs.At.{At};
 ghost use Rattle.wasm_spelling.specs.Steps.{part_of, section_id_at, bodies_done as are_done, data_done as is_done};
-ghost use Rattle.wasm_spelling.specs.ModuleFields.{rank_of, start as the_start, data_count as the_data_count};
-ghost use Rattle.wasm_spelling.specs.Reading.{content_at, custom_at, part_at, all_sections_at};
+ghost use Rattle.wasm_spelling.specs.ModuleFields.{rank_of, start as the_start};
+ghost use Rattle.wasm_spelling.specs.Reading.{content_at, all_sections_at};
 ghost use Rattle.wasm_binary.specs.View.{Gives, at, seen, counts_of};
 ghost use Rattle.wasm_binary.specs.Sections.{part_is, id_of_heading, behind_id, is_no_section};
 
 use crate::bodies::{bodies, function_entries};
 use crate::data::{data_count, segments};
-use crate::entries::{MemoryEntry, TableEntry, start};
-use crate::fields::any_name;
+use crate::entries::{MemoryEntry, TableEntry};
+use crate::fields::{number, utf8};
 use crate::rest::{Counts, Rest};
 use crate::vectors::vector;
 use crate::windows::{ended, window};
 use std::alloc::Global;
 use wasm_spelling::{Cause, ReadFault};
-use wasm_tree::{ElementEntry, Export, GlobalEntry, Import, Module, TypeEntry};
+use wasm_tree::{ElementEntry, Export, GlobalEntry, Import, Module, Start, TypeEntry};
 
 /// A section other than a custom one.
 #[derive(Clone, Copy)]
@@ -172,26 +171,15 @@ fn put<'a, T: Drop>(
     }
 }
 
-#[tactic(auto, unfolding(wasm_spelling::specs::Steps::reads, wasm_spelling::specs::Reading::content_at))]
-fn start_content<'a>(module: &mut Module, rest: Rest<'a>) -> Result<Rest<'a>, ReadFault>
+/// The start function, which is put into the module.
+#[tactic(auto, unfolding(wasm_spelling::specs::Steps::reads, wasm_spelling::specs::Reading::content_at, wasm_spelling::specs::Reading::start_at))]
+fn start<'a>(module: &mut Module, rest: Rest<'a>) -> Result<Rest<'a>, ReadFault>
     ensures { Gives (λ x. («module».new, at x)) result (content_at the_start «module».old (at rest.entry)) }
 {
-    match start(rest) {
-        Ok((entry, rest)) => {
-            module.start = Some(entry);
-            Ok(rest)
-        }
-        Err(fault) => Err(fault),
-    }
-}
-
-#[tactic(auto, unfolding(wasm_spelling::specs::Steps::reads, wasm_spelling::specs::Reading::content_at))]
-fn data_count_content<'a>(module: &mut Module, rest: Rest<'a>) -> Result<Rest<'a>, ReadFault>
-    ensures { Gives (λ x. («module».new, at x)) result (content_at the_data_count «module».old (at rest.entry)) }
-{
-    match data_count(rest) {
-        Ok((entry, rest)) => {
-            module.data_count = Some(entry);
+    let place = rest.place;
+    match number(rest) {
+        Ok((index, rest)) => {
+            module.start = Some(Start { index, place });
             Ok(rest)
         }
         Err(fault) => Err(fault),
@@ -216,45 +204,16 @@ fn content<'a>(
         Part::Memories => put(&mut module.memories, vector::<MemoryEntry>(alloc, rest)),
         Part::Globals => put(&mut module.globals, vector::<GlobalEntry>(alloc, rest)),
         Part::Exports => put(&mut module.exports, vector::<Export>(alloc, rest)),
-        Part::Start => start_content(module, rest),
+        Part::Start => start(module, rest),
         Part::Elements => put(&mut module.elements, vector::<ElementEntry>(alloc, rest)),
-        Part::DataCount => data_count_content(module, rest),
+        Part::DataCount => data_count(module, rest),
         Part::Code => put(&mut module.bodies, bodies(alloc, rest)),
         Part::Segments => put(&mut module.segments, segments(alloc, rest)),
     }
 }
 
-/// A section other than a custom one, behind its id.
-#[tactic(auto, unfolding(wasm_spelling::specs::Reading::part_at, wasm_spelling::specs::Reading::window_at))]
-fn part_section<'a>(
-    alloc: Global,
-    part: Part,
-    module: &mut Module,
-    rest: Rest<'a>,
-) -> Result<Rest<'a>, ReadFault>
-    ensures { Gives (λ x. («module».new, at x)) result (part_at (part_is part) «module».old (at rest.entry)) }
-{
-    let (inside, behind) = window(rest)?;
-    let inside = content(alloc, part, module, inside)?;
-    ended(Cause::SectionNotUsedUp, inside, behind)
-}
-
-/// A custom section behind its id. Its bytes are skipped, whatever the module is.
-#[tactic(auto, unfolding(wasm_spelling::specs::Steps::reads, wasm_spelling::specs::Reading::custom_at, wasm_spelling::specs::Reading::custom_content_at, wasm_spelling::specs::Reading::window_at))]
-fn custom_section(rest: Rest) -> Result<Rest, ReadFault>
-    ensures { (tree : Tree) → Gives (λ x. (tree, at x)) result (custom_at tree (at rest.entry)) }
-{
-    let (inside, behind) = window(rest)?;
-    let (_, inside) = any_name(inside)?;
-    Ok(Rest {
-        place: behind.place,
-        left: behind.left,
-        counts: inside.counts,
-    })
-}
-
-/// What stands behind a section's id.
-#[tactic(auto, unfolding(wasm_spelling::specs::Steps::reads))]
+/// What stands behind a section's id. A custom section's bytes are skipped, whatever the module is.
+#[tactic(auto, unfolding(wasm_spelling::specs::Steps::reads, wasm_spelling::specs::Reading::part_at, wasm_spelling::specs::Reading::custom_at, wasm_spelling::specs::Reading::custom_content_at, wasm_spelling::specs::Reading::any_name_at, wasm_spelling::specs::Reading::window_at))]
 fn section<'a>(
     alloc: Global,
     heading: Heading,
@@ -265,8 +224,21 @@ fn section<'a>(
 {
     match heading {
         Heading::End => Ok(rest),
-        Heading::Custom => custom_section(rest),
-        Heading::Part(part) => part_section(alloc, part, module, rest),
+        Heading::Custom => {
+            let (inside, behind) = window(rest)?;
+            let (length, inside) = number(inside)?;
+            let (_, inside) = utf8(length, inside)?;
+            Ok(Rest {
+                place: behind.place,
+                left: behind.left,
+                counts: inside.counts,
+            })
+        }
+        Heading::Part(part) => {
+            let (inside, behind) = window(rest)?;
+            let inside = content(alloc, part, module, inside)?;
+            ended(Cause::SectionNotUsedUp, inside, behind)
+        }
     }
 }
 

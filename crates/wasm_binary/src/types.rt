@@ -1,5 +1,6 @@
 // Types and limits (WebAssembly Core 1.0, 5.3).
-ghost use Rattle.wasm_spelling.specs.Reading.{type_at, block_type_at, mutability_at, flag_at, kind_at, maximum_at, limits_at, memory_type_at, table_type_at};
+ghost use Rattle.wasm_spelling.specs.Steps.{checked, byte_at, flag_of};
+ghost use Rattle.wasm_spelling.specs.Reading.{type_at, block_type_at, kind_at, limits_at, memory_type_at, table_type_at};
 ghost use Rattle.wasm_binary.specs.View.{Gives, at, seen};
 
 use crate::fields::{byte, exactly, limited, number};
@@ -37,31 +38,17 @@ pub fn block_type(rest: Rest) -> Result<(Option<ValType>, Rest), ReadFault>
     }
 }
 
-/// Whether a global may be set.
-#[tactic(auto, unfolding(wasm_spelling::specs::Steps::checked, wasm_spelling::specs::Reading::mutability_at))]
-pub fn mutability(rest: Rest) -> Result<(bool, Rest), ReadFault>
-    ensures { Gives seen result (mutability_at (at rest.entry)) }
+/// A byte that says no or yes: whether a global may be set, or whether limits have a maximum.
+#[tactic(auto, unfolding(wasm_spelling::specs::Steps::checked))]
+pub fn flag(cause: Cause, rest: Rest) -> Result<(bool, Rest), ReadFault>
+    ensures { Gives seen result (checked byte_at (flag_of cause) (at rest.entry)) }
 {
     let place = rest.place;
     let (code, rest) = byte(rest)?;
     match code {
         0x00 => Ok((false, rest)),
         0x01 => Ok((true, rest)),
-        _ => Err(ReadFault::Malformed(place, Cause::BadMutability)),
-    }
-}
-
-/// Whether limits have a maximum.
-#[tactic(auto, unfolding(wasm_spelling::specs::Steps::checked, wasm_spelling::specs::Reading::flag_at))]
-fn has_maximum(rest: Rest) -> Result<(bool, Rest), ReadFault>
-    ensures { Gives seen result (flag_at (at rest.entry)) }
-{
-    let place = rest.place;
-    let (code, rest) = byte(rest)?;
-    match code {
-        0x00 => Ok((false, rest)),
-        0x01 => Ok((true, rest)),
-        _ => Err(ReadFault::Malformed(place, Cause::BadLimitsFlag)),
+        _ => Err(ReadFault::Malformed(place, cause)),
     }
 }
 
@@ -81,28 +68,20 @@ pub fn kind(rest: Rest) -> Result<(ExportKind, Rest), ReadFault>
     }
 }
 
-#[tactic(auto, unfolding(wasm_spelling::specs::Steps::reads, wasm_spelling::specs::Reading::maximum_at))]
-fn maximum(is_there: bool, rest: Rest) -> Result<(Option<u32>, Rest), ReadFault>
-    ensures { Gives seen result (maximum_at is_there (at rest.entry)) }
-{
-    if !is_there {
-        return Ok((None, rest));
-    }
-    match number(rest) {
-        Ok((max, rest)) => Ok((Some(max), rest)),
-        Err(fault) => Err(fault),
-    }
-}
-
 /// Limits whose minimum is at most so much.
-#[tactic(auto, unfolding(wasm_spelling::specs::Steps::reads, wasm_spelling::specs::Reading::limits_at))]
+#[tactic(auto, unfolding(wasm_spelling::specs::Steps::reads, wasm_spelling::specs::Reading::limits_at, wasm_spelling::specs::Reading::flag_at, wasm_spelling::specs::Reading::maximum_at))]
 fn limits(most: u32, which: Which, rest: Rest) -> Result<(Limits, Rest), ReadFault>
     ensures { Gives seen result (limits_at most which (at rest.entry)) }
 {
     let place = rest.place;
-    let (is_there, rest) = has_maximum(rest)?;
+    let (has_maximum, rest) = flag(Cause::BadLimitsFlag, rest)?;
     let (min, rest) = limited(most, which, rest)?;
-    let (max, rest) = maximum(is_there, rest)?;
+    if !has_maximum {
+        let max = None;
+        return Ok((Limits { min, max, place }, rest));
+    }
+    let (max, rest) = number(rest)?;
+    let max = Some(max);
     Ok((Limits { min, max, place }, rest))
 }
 

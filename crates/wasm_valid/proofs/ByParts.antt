@@ -2,6 +2,8 @@
 use Rattle.std.proofs.Common.{◌≡◌, ℕ, refl, subst}
 use Rattle.wasm_tree.specs.declared.operators.IndexOp.{IndexOp}
 use Rattle.wasm_tree.specs.declared.operators.IndexOp.TheVariants.{Br}
+use Rattle.wasm_tree.specs.declared.operators.Numeric.{Numeric}
+use Rattle.wasm_tree.specs.declared.operators.Numeric.TheVariants as numeric
 use Rattle.wasm_tree.specs.declared.operators.Parts.{Parts}
 use Rattle.wasm_tree.specs.declared.operators.Parts.TheVariants as parts
 use Rattle.wasm_tree.specs.Instructions.{Kind, Unreachable}
@@ -27,3 +29,7 @@ by_parts kind p e = subst (λ (q : Parts). tree_of q kind ≡ kind) e (own_parts
 pub index_needs_nothing : (o : IndexOp) (index : ℕ) → needs_of (index_tree o index) ≡ Nothing
 index_needs_nothing Br index = refl
 index_needs_nothing _ index = refl
+
+pub numeric_needs_nothing : (o : Numeric) → needs_of (numeric_tree o) ≡ Nothing
+numeric_needs_nothing (numeric.Eqz t) = refl
+numeric_needs_nothing _ = refl

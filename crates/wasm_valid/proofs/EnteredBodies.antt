@@ -2,7 +2,6 @@
 use Rattle.std.proofs.Common.{◌≡◌, List, [], ◌∷◌, ◌++◌, map, Option, Some, None, refl, sym, subst, ap, ◌∙◌, ◌⊎◌, inl, inr, append_assoc}
 use Rattle.std.specs.Prelude.{ℕ, Ok, Err, option_map, slice_get, zip}
 use Rattle.std.proofs.lemmas.List.{append-nil}
-use Rattle.w2c_base.specs.declared.value.ValType.{ValType}
 use Rattle.w2c_base.specs.declared.signature.FuncType.{FuncType}
 use Rattle.wasm_tree.specs.declared.tree.Module.{Module}
 use Rattle.wasm_tree.specs.declared.entries.FuncEntry.{FuncEntry}
@@ -15,7 +14,7 @@ use Rattle.wasm_valid.specs.Checker.{Operands, refusal, check}
 use Rattle.wasm_valid.specs.ModuleFaults.{module_faults}
 use Rattle.wasm_valid.specs.Verdict.{Bodies, bodies_of, FaultsOfBodies, outcome_of, Verdict}
 use Rattle.wasm_valid.specs.Entered.{entered}
-use Rattle.wasm_valid.specs.Seen.{type_seen, context_seen, AreSpacesOf}
+use Rattle.wasm_valid.specs.Seen.{type_seen, AreSpacesOf}
 use Rattle.wasm_valid.specs.EnteredBodies.{typed_context_seen, body_context_seen, EntersBody, EntersBodies}
 use Rattle.wasm_valid.proofs.Entered.{entered-append, entered-first}
 use Rattle.wasm_valid.proofs.FirstFaults.{Tells, check_tells}
@@ -47,20 +46,20 @@ same_body_context s m func body a =
     ∙ ap (λ types. option_map (λ ty. context_of m ty body) (option_map (λ t. t.ty) (slice_get types func.type_index))) a.types
 
 -- a body that was checked: it has a typing, or its first fault is entered
-module _ (s : Spaces) (ty : FuncType) (body : BodyEntry) (locals : List ValType)
-    (same : locals ≡ ty.params ++ declared_locals body.runs) where
-  tells : Tells (typed_context_seen s body ty) body (check (context_seen s locals ty.result) body.code body.end_place)
-  tells = subst (λ ls. Tells (typed_context_seen s body ty) body (check (context_seen s ls ty.result) body.code body.end_place)) (sym same)
-      (check_tells (typed_context_seen s body ty) body)
-
-  pub typed_entered : (left : Operands) (old : Option Fault) → check (context_seen s locals ty.result) body.code body.end_place ≡ Ok left
+module _ (s : Spaces) (ty : FuncType) (body : BodyEntry) where
+  pub typed_entered : (left : Operands) (old : Option Fault) → check (typed_context_seen s body ty) body.code body.end_place ≡ Ok left
       → EntersBody (Some (typed_context_seen s body ty)) body old old
-  typed_entered left old e = ([], inl (subst (Tells (typed_context_seen s body ty) body) e tells, refl), refl)
+  typed_entered left old e =
+      ([], inl (subst (Tells (typed_context_seen s body ty) body) e (check_tells (typed_context_seen s body ty) body), refl), refl)
 
   pub fault_entered : (token : ℕ) (fault : Fault) (old new : Option Fault)
-      → check (context_seen s locals ty.result) body.code body.end_place ≡ Err (refusal token fault)
+      → check (typed_context_seen s body ty) body.code body.end_place ≡ Err (refusal token fault)
       → new ≡ entered old (fault ∷ []) → EntersBody (Some (typed_context_seen s body ty)) body old new
-  fault_entered token fault old new e is = (fault ∷ [], inr (fault, subst (Tells (typed_context_seen s body ty) body) e tells, refl), is)
+  fault_entered token fault old new e is = (
+    fault ∷ [],
+    inr (fault, subst (Tells (typed_context_seen s body ty) body) e (check_tells (typed_context_seen s body ty) body), refl),
+    is,
+  )
 
 -- what was entered of bodies so far, and what the bodies that are left have, is what all have
 abbrev pub Entering : Module → Bodies → Bodies → Option Fault → Option Fault → Type 0

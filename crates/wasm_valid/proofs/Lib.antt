@@ -6,6 +6,7 @@ pub mod Verdicts
 pub mod Files
 pub mod Piles
 pub mod Needs
+pub mod Steps
 pub mod CodeSizes
 pub mod RunLists
 pub mod RunBlocks

@@ -1,13 +1,14 @@
 -- The rows of faults outside the bodies, entered one behind another, are all of them.
 use Rattle.std.proofs.Common.{◌≡◌, List, [], ◌++◌, Option, sym, ap, ◌∙◌}
 use Rattle.std.specs.List.{flat_map}
+use Rattle.std.specs.Prelude.{is_none}
 use Rattle.std.proofs.lemmas.Grind.{flat_map-append}
 use Rattle.wasm_tree.specs.declared.tree.Module.{Module}
-use Rattle.wasm_tree.specs.IndexSpaces.{table_space, memory_space}
+use Rattle.wasm_tree.specs.IndexSpaces.{type_in, table_space, memory_space}
 use Rattle.wasm_valid.specs.declared.fault.Fault.{Fault}
 use Rattle.wasm_valid.specs.declared.fault.ValidCause.TheVariants as cause
 use Rattle.wasm_valid.specs.Entered.{entered}
-use Rattle.wasm_valid.specs.ModuleFaults.{module_faults, unknown_types, too_many, min_above_max, too_many_pages, expressions, constant_expected, unknown_global, type_mismatch, unknown_export, duplicate_exports, start_faults, unknown_segments, unknown_elements}
+use Rattle.wasm_valid.specs.ModuleFaults.{fault_if, is_no_first, module_faults, unknown_import_type, too_many, min_above_max, too_many_pages, expressions, constant_expected, unknown_global, type_mismatch, unknown_export, duplicate_exports, start_faults, unknown_elements}
 use Rattle.wasm_valid.proofs.Entered.{entered-append}
 
 -- from what was kept before to what is kept behind these faults
@@ -24,8 +25,9 @@ both : {A : Type 0} (f : A → List Fault) (xs ys : List A) (a b : Option Fault)
     → Enters a (flat_map f (xs ++ ys)) b
 both f xs ys a b e = record { kept = e.kept ∙ ap (entered a) (sym (flat_map-append f xs ys)) }
 
-pub all_rows : (m : Module) (a b c d e f g h i j k l n o p : Option Fault)
-    → Enters a (unknown_types m) b
+pub all_rows : (m : Module) (a q b c d e f g h i j k l n r o p : Option Fault)
+    → Enters a (flat_map (unknown_import_type m) m.imports) q
+    → Enters q (flat_map (λ func. fault_if (is_none (type_in m func.type_index)) func.place cause.UnknownType) m.funcs) b
     → Enters b (too_many cause.TooManyTables (table_space m)) c
     → Enters c (too_many cause.TooManyMemories (memory_space m)) d
     → Enters d (flat_map min_above_max (table_space m)) e
@@ -37,11 +39,13 @@ pub all_rows : (m : Module) (a b c d e f g h i j k l n o p : Option Fault)
     → Enters j (flat_map (unknown_export m) m.exports) k
     → Enters k (duplicate_exports [] m.exports) l
     → Enters l (start_faults m m.start) n
-    → Enters n (unknown_segments m) o
+    → Enters n (flat_map (λ element. fault_if (is_no_first (table_space m) element.table) element.place cause.UnknownTable) m.elements) r
+    → Enters r (flat_map (λ segment. fault_if (is_no_first (memory_space m) segment.memory) segment.place cause.UnknownMemory) m.segments) o
     → Enters o (unknown_elements m) p
     → Enters a (module_faults m) p
 unfolding module_faults
-all_rows m a b c d e f g h i j k l n o p types tables memories table_sizes memory_sizes pages constants globals mismatches exports names
-    start segments elements =
-    types then (tables then memories) then both min_above_max (table_space m) (memory_space m) d f (table_sizes then memory_sizes)
-    then pages then constants then globals then mismatches then exports then names then start then segments then elements
+all_rows m a q b c d e f g h i j k l n r o p imports funcs tables memories table_sizes memory_sizes pages constants globals mismatches
+    exports names start elements segments entries =
+    (imports then funcs) then (tables then memories) then both min_above_max (table_space m) (memory_space m) d f
+    (table_sizes then memory_sizes)
+    then pages then constants then globals then mismatches then exports then names then start then (elements then segments) then entries

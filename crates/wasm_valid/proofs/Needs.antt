@@ -18,7 +18,7 @@ use Rattle.wasm_valid.specs.Plain.{Plain}
 pub too_large : (exponent width : ℕ) → 32 ≤ exponent → width < 2 ^ 32 → nat_le (2 ^ exponent) width ≡ false
 too_large exponent width many small = lt-leb (2 ^ exponent) width (omega (arith, small, pow_mono many))
 
-not_none : {A : Type 0} (o : Option A) → is_some o ≡ true → is_none o ≡ false
+pub not_none : {A : Type 0} (o : Option A) → is_some o ≡ true → is_none o ≡ false
 not_none None e = cc
 not_none (Some a) e = refl
 

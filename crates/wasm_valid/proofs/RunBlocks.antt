@@ -1,5 +1,5 @@
 -- What the checker of a body answers of one instruction, of a block and of both branches of an `if`.
-use Rattle.std.proofs.Common.{◌≡◌, ℕ, ◌+◌, Option, Some, None, Result, Ok, Err, ◌∷◌, OnOk, refl, sym, ap, ◌∙◌, arith}
+use Rattle.std.proofs.Common.{◌≡◌, ℕ, ◌+◌, Option, Some, None, Result, Ok, Err, ◌∷◌, OnOk, refl, sym, ap, ◌∙◌}
 use Rattle.w2c_base.specs.declared.value.ValType.{ValType}
 use Rattle.w2c_base.specs.declared.value.ValType.TheVariants.{I32}
 use Rattle.wasm_tree.specs.declared.code.ElsePart.{ElsePart}
@@ -7,6 +7,7 @@ use Rattle.wasm_tree.specs.declared.code.Kind.{Kind as RustKind}
 use Rattle.wasm_tree.specs.declared.code.Kind.TheVariants as kind
 use Rattle.wasm_tree.specs.Instructions.{Code, Otherwise, no_else, If}
 use Rattle.wasm_tree.specs.Views.{kind_tree, otherwise_tree}
+use Rattle.wasm_valid.specs.declared.fault.Fault.{Fault}
 use Rattle.wasm_valid.specs.declared.fault.ValidCause.{ValidCause}
 use Rattle.wasm_valid.specs.declared.fault.ValidCause.TheVariants.{TypeMismatch}
 use Rattle.wasm_valid.specs.declared.fault.ValidRefusal.{ValidRefusal}
@@ -16,10 +17,10 @@ use Rattle.wasm_valid.specs.declared.stop.Stop.TheVariants as stop
 use Rattle.wasm_valid.specs.Context.{Context, Labels}
 use Rattle.wasm_valid.specs.Completion.{token_count}
 use Rattle.wasm_valid.specs.BodyFault.{cause_of, plain_token}
-use Rattle.wasm_valid.specs.Checker.{Operands, nothing, Ran, Refusal, refusal, or_refuse, and_then, later, pop_type, first_end, give, step, run_kind, run_else}
+use Rattle.wasm_valid.specs.Checker.{Operands, nothing, Ran, Refusal, refusal, or_refuse, and_then, later, pop_type, no_result, first_end, give, step, run_kind, run_else}
 use Rattle.wasm_valid.specs.Shown.{Steps}
 use Rattle.wasm_valid.specs.Plain.{Plain}
-use Rattle.wasm_valid.specs.RanTo.{RanTo, all_placed, run_block, run_branches}
+use Rattle.wasm_valid.specs.RanTo.{RanTo, all_placed, run_block, run_nested}
 
 pub placed_ran : (result : Result Unit Stop) (went : Option Operands) (cause : ValidCause) (place : ℕ) (new : Operands)
     → Plain result went cause new
@@ -49,40 +50,86 @@ pub placed_kept : (result : Result Unit Stop) (place : ℕ) (P Q : Type 0) → O
 placed_kept (Ok u) place P Q p f = f p
 placed_kept (Err s) place P Q p f = tt
 
--- an `if` without `else` that would have a result
-pub no_else_refused : (c : Context) (labels : Labels) (t : Option ValType) (u : ValType) (code : Code) (o : Option ElsePart) (e : ℕ)
-    → o ≡ None → t ≡ Some u → run_block c labels t t e code ≡ Ok nothing
-    → (x : ℕ) × (run_branches c labels t code (otherwise_tree o) e ≡ Err (refusal x (record { place = e; cause = TypeMismatch })))
-no_else_refused c labels t u code (Some other) e is te h = absurd (let f : ⊥ = cc in f)
-no_else_refused c labels None u code None e is te h = absurd (let f : ⊥ = cc in f)
-no_else_refused c labels (Some v) u code None e is te h = (
-  token_count code + 1,
-  ap (λ (r : Ran). and_then (later 1 r) (λ _. later (token_count code + 1) (run_else c (Some v ∷ labels) no_else (Some v) e))) h
-      ∙ ap (λ (n : ℕ). Err (refusal n (plain_token e))) (let z : 0 + (token_count code + 1) ≡ token_count code + 1 = omega arith in z),
-)
-
 went_on : (result : Result Unit Stop) (place : ℕ) (u : Unit) (went : Option Operands) (new : Operands) → Ok u ≡ all_placed result place
     → Steps result went new → went ≡ Some new
 went_on (Ok v) place u went new e h = h
 went_on (Err s) place u went new e h = absurd (let f : ⊥ = cc in f)
 
-both_refused : (a b : Ran) (f : Refusal) (s : Operands) → and_then a (λ _. b) ≡ Err f → and_then a (λ _. and_then b (λ _. Ok s)) ≡ Err f
-both_refused (Ok s') b f s h = ap (λ (r : Ran). and_then r (λ _. Ok s)) h
-both_refused (Err g) b f s h = h
+refused_later : (r : Ran) (n token : ℕ) (fault : Fault) (s : Operands) → and_then r (λ _. Ok s) ≡ Err (refusal token fault)
+    → and_then (later n r) (λ _. Ok s) ≡ Err (refusal (token + n) fault)
+refused_later (Ok x) n token fault s h = absurd (let f : ⊥ = cc in f)
+refused_later (Err f) n token fault s h =
+    ap (λ (g : Refusal). Err (refusal (g.token + n) g.fault)) (let e : f ≡ refusal token fault = cc in e)
 
--- an `if` of which a branch is refused
-pub if_refused : (c : Context) (labels : Labels) (place : ℕ) (t : Option ValType) (code : Code) (o : Otherwise) (e : ℕ)
-    (popped : Result Unit Stop) (u : Unit) (s s' x y : Operands)
-    → (r : ValidRefusal) → Ok u ≡ all_placed popped place → Steps popped (pop_type I32 s) s'
-    → RanTo {A = Unit} (Err r) (run_branches c labels t code o e) x
-    → RanTo {A = Unit} (Err r) (run_kind c labels place (If t code o e) s) y
-if_refused c labels place t code o e popped u s s' x y Memory ok h p = tt
-if_refused c labels place t code o e popped u s s' x y (Invalid at cause) ok h p =
-    let first : Ran = later 1 (run_block c labels t t (first_end o e) code) in
-    let second : Ran = later (token_count code + 1) (run_else c (t ∷ labels) o t e) in (
-      p.0,
-      ap (λ (w : Option Operands). and_then (or_refuse (refusal 0 (plain_token place)) w)
-          (λ s''. and_then first (λ _. and_then second (λ _. Ok (give t s'')))))
-          (went_on popped place u (pop_type I32 s) s' ok h)
-          ∙ both_refused first second (refusal p.0 (record { place = at; cause = cause })) (give t s') p.1,
-    )
+went_later : (r : Ran) (n : ℕ) (s new : Operands) → and_then r (λ _. Ok s) ≡ Ok new → and_then (later n r) (λ _. Ok s) ≡ Ok new
+went_later (Ok x) n s new h = h
+went_later (Err f) n s new h = absurd (let f : ⊥ = cc in f)
+
+-- an `if` whose condition was taken
+module _ (c : Context) (labels : Labels) (place : ℕ) (t : Option ValType) (code : Code) (e : ℕ)
+    (popped : Result Unit Stop) (u : Unit) (s s' : Operands)
+    (ok : Ok u ≡ all_placed popped place) (taken : Steps popped (pop_type I32 s) s') where
+  abbrev pub first : Otherwise → Ran
+  first o = run_block c labels t t (first_end o e) code
+
+  abbrev pub second : Otherwise → Ran
+  second o = later (token_count code + 1) (run_else c (t ∷ labels) o t e)
+
+  begun : (o : Otherwise) → run_kind c labels place (If t code o e) s
+      ≡ and_then (later 1 (first o)) (λ _. and_then (second o) (λ _. Ok (give t s')))
+  begun o = ap (λ (w : Option Operands). and_then (or_refuse (refusal 0 (plain_token place)) w)
+      (λ s''. and_then (later 1 (first o)) (λ _. and_then (second o) (λ _. Ok (give t s'')))))
+      (went_on popped place u (pop_type I32 s) s' ok taken)
+
+  -- behind the first branch
+  behind : (o : Otherwise) → first o ≡ Ok nothing → run_kind c labels place (If t code o e) s ≡ and_then (second o) (λ _. Ok (give t s'))
+  behind o h = begun o ∙ ap (λ (r : Ran). and_then (later 1 r) (λ _. and_then (second o) (λ _. Ok (give t s')))) h
+
+  -- the first branch is refused
+  pub first_refused : (o : Option ElsePart) (x y : Operands) (r : ValidRefusal) → RanTo {A = Unit} (Err r) (first (otherwise_tree o)) x
+      → RanTo {A = Unit} (Err r) (run_kind c labels place (If t code (otherwise_tree o) e) s) y
+  first_refused o x y Memory p = tt
+  first_refused o x y (Invalid at cause) p = (
+    p.0 + 1,
+    begun (otherwise_tree o)
+        ∙ ap (λ (r : Ran). and_then (later 1 r) (λ _. and_then (second (otherwise_tree o)) (λ _. Ok (give t s')))) p.1,
+  )
+
+  -- without `else`, and with a result
+  pub no_else_refused : (o : Option ElsePart) (v : ValType) → o ≡ None → t ≡ Some v → first no_else ≡ Ok nothing
+      → (x : ℕ)
+        × (run_kind c labels place (If t code (otherwise_tree o) e) s ≡ Err (refusal x (record { place = e; cause = TypeMismatch })))
+  no_else_refused (Some other) v is te h = absurd (let f : ⊥ = cc in f)
+  no_else_refused None v is te h = (
+    0 + (token_count code + 1),
+    behind no_else h
+        ∙ ap (λ (r : Option ValType). and_then (later (token_count code + 1) (or_refuse (refusal 0 (plain_token e)) (no_result r)))
+        (λ _. Ok (give t s'))) te,
+  )
+
+  -- without `else` and without a result
+  pub no_else_ran : (o : Option ElsePart) (new : Operands) → o ≡ None → t ≡ None → first no_else ≡ Ok nothing → new ≡ s'
+      → run_kind c labels place (If t code (otherwise_tree o) e) s ≡ Ok new
+  no_else_ran (Some other) new is te h same = absurd (let f : ⊥ = cc in f)
+  no_else_ran None new is te h same =
+      behind no_else h
+      ∙ ap (λ (r : Option ValType). and_then (later (token_count code + 1) (or_refuse (refusal 0 (plain_token e)) (no_result r)))
+      (λ _. Ok (give r s'))) te
+      ∙ ap Ok (sym same)
+
+  -- with `else`
+  pub else_ran : (other : ElsePart) (x new : Operands) (result : Result Unit ValidRefusal)
+      → run_block c labels t t other.place code ≡ Ok nothing → x ≡ s'
+      → RanTo result (run_nested c labels t t e other.code x) new
+      → RanTo result (run_kind c labels place (If t code (otherwise_tree (Some other)) e) s) new
+  else_ran other x new (Ok v) h same p =
+      behind (otherwise_tree (Some other)) h
+      ∙ went_later (later 1 (run_block c labels t t e other.code)) (token_count code + 1) (give t s') new
+      (ap (λ (y : Operands). run_nested c labels t t e other.code y) (sym same) ∙ p)
+  else_ran other x new (Err Memory) h same p = tt
+  else_ran other x new (Err (Invalid at cause)) h same p = (
+    p.0 + (token_count code + 1),
+    behind (otherwise_tree (Some other)) h
+        ∙ refused_later (later 1 (run_block c labels t t e other.code)) (token_count code + 1) p.0 (record { place = at; cause = cause })
+        (give t s') (ap (λ (y : Operands). run_nested c labels t t e other.code y) (sym same) ∙ p.1),
+  )

@@ -1,7 +1,7 @@
 -- What the checker of a body answers of code, as what the checker on trees says, and what it leaves as it was.
-use Rattle.std.specs.Prelude.{◌≡◌, ℕ, ◌+◌, ◌++◌, [], ◌∷◌, reverse, vec_len, Option, Result, Ok, Err}
+use Rattle.std.specs.Prelude.{◌≡◌, ℕ, ◌-◌, ◌++◌, [], ◌∷◌, reverse, take, vec_len, Option, Result, Ok, Err}
 use Rattle.w2c_base.specs.declared.value.ValType.{ValType}
-use Rattle.wasm_tree.specs.Instructions.{Code, Otherwise}
+use Rattle.wasm_tree.specs.Instructions.{Code}
 use Rattle.wasm_valid.specs.declared.fault.ValidRefusal.{ValidRefusal}
 use Rattle.wasm_valid.specs.declared.fault.ValidRefusal.TheVariants as refused
 use Rattle.wasm_valid.specs.declared.stop.Stop.{Stop}
@@ -10,8 +10,9 @@ use Rattle.wasm_valid.specs.declared.operands.Height.{Height}
 use Rattle.wasm_valid.specs.declared.plain.Surroundings.{Surroundings}
 use Rattle.wasm_valid.specs.declared.body.OpenBlocks.{OpenBlocks}
 use Rattle.wasm_valid.specs.Context.{Context, Labels}
+use Rattle.wasm_valid.specs.BodyFault.{plain_token}
 use Rattle.wasm_valid.specs.Seen.{context_seen}
-use Rattle.wasm_valid.specs.Checker.{Operands, nothing, Ran, refusal, and_then, later, at_end, first_end, give, run, run_else}
+use Rattle.wasm_valid.specs.Checker.{Operands, nothing, Ran, refusal, or_refuse, and_then, later, closes, at_end, give, run}
 use Rattle.wasm_valid.specs.Completion.{token_count}
 use Rattle.wasm_valid.specs.Shown.{shown, Keeps}
 
@@ -46,11 +47,9 @@ run_block c labels label r end_place code = at_end (token_count code) end_place 
 abbrev pub run_nested : Context → Labels → Option ValType → Option ValType → ℕ → Code → Operands → Ran
 run_nested c labels label r end_place code s = and_then (later 1 (run_block c labels label r end_place code)) (λ _. Ok (give r s))
 
--- behind the opcode of an `if`
-abbrev pub run_branches : Context → Labels → Option ValType → Code → Otherwise → ℕ → Ran
-run_branches c labels t code otherwise end_place =
-    and_then (later 1 (run_block c labels t t (first_end otherwise end_place) code))
-    (λ _. later (token_count code + 1) (run_else c (t ∷ labels) otherwise t end_place))
+-- an end: this token, at a place
+abbrev pub end_ran : ℕ → ℕ → Option ValType → Operands → Ran
+end_ran token place r s = or_refuse (refusal token (plain_token place)) (closes r s)
 
 -- what is not changed where code went on
 pub record Stays (old new : OpenBlocks) : Type 0 where
@@ -62,6 +61,12 @@ pub record Untouched (old new : OpenBlocks) : Type 0 where
   pub labels : new.labels.items ≡ old.labels.items
   pub slots : new.operands.slots.items ≡ old.operands.slots.items
   pub height : new.operands.height ≡ old.operands.height
+
+-- the innermost block has ended, and the height around it is back
+pub record Ended (outer : Height) (old new : OpenBlocks) : Type 0 where
+  pub labels : new.labels.items ≡ take (vec_len old.labels - 1) old.labels.items
+  pub slots : new.operands.slots.items ≡ take old.operands.height.below old.operands.slots.items
+  pub height : new.operands.height ≡ outer
 
 -- a block is open, and the height around it is kept
 pub record Opened (label : Option ValType) (outer : Height) (old new : OpenBlocks) : Type 0 where

@@ -1,5 +1,5 @@
 -- What the checker of a body has before it: the index spaces of its module, its locals and its result, seen as a context.
-use Rattle.std.specs.Prelude.{◌≡◌, ℕ, List, ◌++◌, map, length, flat_map, slice_get, Option, option_map}
+use Rattle.std.specs.Prelude.{◌≡◌, ℕ, List, [], ◌++◌, map, length, slice_get, Option, option_map}
 use Rattle.w2c_base.specs.declared.value.ValType.{ValType}
 use Rattle.w2c_base.specs.declared.signature.FuncType.{FuncType}
 use Rattle.wasm_tree.specs.declared.tree.Module.{Module}
@@ -32,14 +32,13 @@ pub record AreSpacesOf (s : Spaces) (m : Module) : Type 0 where
   pub globals : s.globals.items ≡ global_space m
   pub imported : s.imported_globals ≡ length (imported_global_space m)
 
--- the index spaces as far as the imports fill them
-pub record AreImportsOf (s : Spaces) (m : Module) : Type 0 where
+-- nothing of a module stands in the index spaces, but its types
+pub record AreEmptyOf (s : Spaces) (m : Module) : Type 0 where
   pub types : s.types.now ≡ m.types
-  pub funcs : s.funcs.items ≡ flat_map func_of_import m.imports
-  pub tables : s.tables.items ≡ flat_map table_of_import m.imports
-  pub memories : s.memories.items ≡ flat_map memory_of_import m.imports
-  pub globals : s.globals.items ≡ imported_global_space m
-  pub imported : s.imported_globals ≡ length (imported_global_space m)
+  pub funcs : s.funcs.items ≡ []
+  pub tables : s.tables.items ≡ []
+  pub memories : s.memories.items ≡ []
+  pub globals : s.globals.items ≡ []
 
 -- what an import brings comes at the end
 pub record HasOneMore (old new : Spaces) (i : Import) : Type 0 where

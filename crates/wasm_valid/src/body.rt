@@ -1,41 +1,42 @@
 // The checker of bodies (WebAssembly Core 1.0, appendix 7.3.2).
-ghost use Rattle.std.specs.Prelude.{◌≡◌, ◌-◌, Option, ◌≤◌, take, vec_len, Ok, OnOk, IfOk};
+ghost use Rattle.std.specs.Prelude.{◌≡◌, ℕ, Option, ◌≤◌, OnOk, IfOk};
+ghost use Rattle.wasm_tree.specs.Instructions.{If};
 ghost use Rattle.wasm_tree.specs.Views.{kind_tree, otherwise_tree};
-ghost use Rattle.wasm_valid.specs.Seen.{context_seen};
-ghost use Rattle.wasm_valid.specs.Checker.{check, give, nothing, run, run_kind};
+ghost use Rattle.wasm_valid.specs.EnteredBodies.{typed_context_seen};
+ghost use Rattle.wasm_valid.specs.Checker.{check, nothing, run, run_kind};
 ghost use Rattle.wasm_valid.specs.Checked.{Checked};
-ghost use Rattle.wasm_valid.specs.Shown.{shown, Keeps};
-ghost use Rattle.wasm_valid.specs.RanTo.{seen, labels_of, RanTo, all_placed, run_block, run_nested, run_branches, Stays, Untouched, Opened};
+ghost use Rattle.wasm_valid.specs.Shown.{shown};
+ghost use Rattle.wasm_valid.specs.RanTo.{seen, labels_of, RanTo, all_placed, end_ran, run_block, run_nested, Stays, Ended, Untouched, Opened};
 
-use crate::context::Spaces;
+use crate::context::{Spaces, locals_of};
 use crate::operands::{Height, OperandStack};
 use crate::plain::Surroundings;
 use crate::stop::Stop;
 use crate::{ValidCause, ValidRefusal};
 use std::alloc::Global;
-use w2c_base::{Memory, ValType};
+use w2c_base::{FuncType, Memory, ValType};
 use wasm_tree::{BodyEntry, Code, ElsePart, Instr, Kind};
 
-/// Checks the body of a function that has these locals and this result. It is refused by its first faulty token.
+/// Checks the body of a function of this type. It is refused by its first faulty token.
 pub(crate) fn check_body(
     alloc: Global,
     spaces: &Spaces,
-    locals: &[ValType],
-    outcome: Option<ValType>,
+    ty: &FuncType,
     body: &BodyEntry,
 ) -> Result<(), ValidRefusal>
-    ensures { Checked result (check (context_seen spaces.now locals.now outcome) body.now.code body.now.end_place) }
+    ensures { Checked result (check (typed_context_seen spaces.now body.now ty.now) body.now.code body.now.end_place) }
 {
+    let locals = locals_of(alloc, ty, body)?;
     let around = Surroundings {
         spaces,
-        locals,
-        result: outcome,
+        locals: locals.as_slice(),
+        result: ty.result,
     };
     let mut blocks = OpenBlocks {
         operands: OperandStack::new(alloc),
         labels: Vec::new(alloc),
     };
-    blocks.block(&around, Block::new(outcome, body.end_place), &body.code)
+    blocks.block(&around, Block::new(ty.result, body.end_place), &body.code)
 }
 
 /// A block: what its label carries, its result, and the place of its `end`.
@@ -69,17 +70,6 @@ fn at_place(outcome: Result<(), Stop>, place: u32) -> Result<(), ValidRefusal>
     }
 }
 
-// Puts what a block leaves.
-fn put(outcome: Option<ValType>, operands: &mut OperandStack) -> Result<(), ValidRefusal>
-    ensures step { RanTo result (Ok (give outcome (shown operands.old))) (shown operands.new) }
-    ensures kept { OnOk result (Keeps operands.old operands.new) }
-{
-    match operands.push_value(outcome) {
-        Ok(()) => Ok(()),
-        Err(_) => Err(ValidRefusal::Memory),
-    }
-}
-
 /// The open blocks: their operands, and what their labels carry, the innermost last.
 #[derive(Drop)]
 struct OpenBlocks {
@@ -96,15 +86,16 @@ impl OpenBlocks {
         Ok(self.operands.enter())
     }
 
-    // The innermost block has ended.
-    fn leave(&mut self, outer: Height)
-        requires { outer.below ≤ vec_len self.old.operands.slots }
-        ensures labels { self.new.labels.items ≡ take (vec_len self.old.labels - 1) self.old.labels.items }
-        ensures slots { self.new.operands.slots.items ≡ self.old.operands.slots.items }
-        ensures height { self.new.operands.height ≡ outer }
+    // The innermost block ends: it leaves its result alone.
+    fn end(&mut self, block: Block, outer: Height) -> Result<(), ValidRefusal>
+        requires { outer.below ≤ self.old.operands.height.below }
+        ensures step { (token : ℕ) → RanTo result (end_ran token block.end_place block.result (shown self.old.operands)) nothing }
+        ensures kept { OnOk result (Ended outer self.old self.new) }
     {
+        at_place(self.operands.close(block.result), block.end_place)?;
         let _ = self.labels.pop();
         self.operands.leave(outer);
+        Ok(())
     }
 
     // The code of a block and its end. No operand is left.
@@ -120,9 +111,7 @@ impl OpenBlocks {
     {
         let outer = self.enter(block.label)?;
         self.code(around, code)?;
-        at_place(self.operands.close(block.result), block.end_place)?;
-        self.leave(outer);
-        Ok(())
+        self.end(block, outer)
     }
 
     #[cycle(check)]
@@ -165,11 +154,7 @@ impl OpenBlocks {
                 code,
                 otherwise,
                 end_place,
-            } => {
-                at_place(self.operands.pop_type(ValType::I32), instr.place)?;
-                self.branches(around, *outcome, code, otherwise, *end_place)?;
-                put(*outcome, &mut self.operands)
-            }
+            } => self.branches(around, instr.place, *outcome, code, otherwise, *end_place),
             kind => at_place(
                 around.plain(self.labels.as_slice(), kind, &mut self.operands),
                 instr.place,
@@ -189,22 +174,24 @@ impl OpenBlocks {
         ensures kept { OnOk result (Stays self.old self.new) }
     {
         self.block(around, block, code)?;
-        put(block.result, &mut self.operands)
+        at_place(self.operands.push_value(block.result), block.end_place)
     }
 
-    // Both branches of an `if`. Without the second there is no result.
+    // An `if`: its condition, and both branches. Without the second there is no result.
     #[cycle(check)]
     fn branches(
         &mut self,
         around: &Surroundings,
+        place: u32,
         outcome: Option<ValType>,
         code: &Code,
         otherwise: &Option<ElsePart>,
         end_place: u32,
     ) -> Result<(), ValidRefusal>
-        ensures step { RanTo result (run_branches (seen around.now) (labels_of self.old) outcome code.now (otherwise_tree otherwise.now) end_place) nothing }
-        ensures kept { OnOk result (Untouched self.old self.new) }
+        ensures step { RanTo result (run_kind (seen around.now) (labels_of self.old) place (If outcome code.now (otherwise_tree otherwise.now) end_place) (shown self.old.operands)) (shown self.new.operands) }
+        ensures kept { OnOk result (Stays self.old self.new) }
     {
+        at_place(self.operands.pop_type(ValType::I32), place)?;
         match otherwise {
             None => {
                 self.block(around, Block::new(outcome, end_place), code)?;
@@ -215,7 +202,7 @@ impl OpenBlocks {
             }
             Some(other) => {
                 self.block(around, Block::new(outcome, other.place), code)?;
-                self.block(around, Block::new(outcome, end_place), &other.code)
+                self.nested(around, Block::new(outcome, end_place), &other.code)
             }
         }
     }

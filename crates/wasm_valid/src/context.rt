@@ -1,12 +1,13 @@
 // What stands around a body: the index spaces of its module, its locals and its result.
 ghost use Rattle.std.specs.Prelude.{◌≡◌, ◌++◌, map, slice_get, take, IfOk, OnOk};
 ghost use Rattle.std.specs.Option.{option_copied};
-ghost use Rattle.wasm_valid.specs.Seen.{type_seen, AreImportsOf, HasOneMore, AreSpacesOf};
+ghost use Rattle.wasm_tree.specs.IndexSpaces.{declared_locals};
+ghost use Rattle.wasm_valid.specs.Seen.{type_seen, AreEmptyOf, HasOneMore, AreSpacesOf};
 
 use std::alloc::Global;
 use w2c_base::{FuncType, Memory, ValType};
 use wasm_tree::{
-    FuncEntry, GlobalEntry, Import, ImportKind, Limits, LimitsEntry, Module, TypeEntry,
+    BodyEntry, FuncEntry, GlobalEntry, Import, ImportKind, Limits, LimitsEntry, Module, TypeEntry,
 };
 
 /// The index spaces of a module (WebAssembly Core 1.0, 2.5.1), imports first. They are made once, so that an index is
@@ -16,8 +17,8 @@ pub(crate) struct Spaces<'a> {
     types: &'a [TypeEntry],
     /// The index of each function's type.
     funcs: Vec<u32>,
-    tables: Vec<Limits>,
-    memories: Vec<Limits>,
+    pub(crate) tables: Vec<Limits>,
+    pub(crate) memories: Vec<Limits>,
     globals: Vec<(ValType, bool)>,
     imported_globals: usize,
 }
@@ -27,18 +28,6 @@ impl<'a> Spaces<'a> {
     pub(crate) fn new(alloc: Global, m: &'a Module) -> Result<Spaces<'a>, Memory>
         ensures { IfOk result (λ s. AreSpacesOf s m.now) }
     {
-        let mut spaces = Spaces::of_imports(alloc, m)?;
-        add_funcs(&mut spaces.funcs, m.funcs.as_slice())?;
-        add_limits(&mut spaces.tables, m.tables.as_slice())?;
-        add_limits(&mut spaces.memories, m.memories.as_slice())?;
-        add_globals(&mut spaces.globals, m.globals.as_slice())?;
-        Ok(spaces)
-    }
-
-    // The index spaces as far as the imports fill them.
-    fn of_imports(alloc: Global, m: &'a Module) -> Result<Spaces<'a>, Memory>
-        ensures { IfOk result (λ s. AreImportsOf s m.now) }
-    {
         let mut spaces = Spaces {
             types: m.types.as_slice(),
             funcs: Vec::new(alloc),
@@ -47,11 +36,24 @@ impl<'a> Spaces<'a> {
             globals: Vec::new(alloc),
             imported_globals: 0,
         };
-        for import in m.imports.as_slice() {
-            spaces.enter(import)?;
-        }
-        spaces.imported_globals = spaces.globals.len();
+        spaces.fill(m)?;
         Ok(spaces)
+    }
+
+    // What the module imports, and then what it declares.
+    fn fill(&mut self, m: &Module) -> Result<(), Memory>
+        requires { AreEmptyOf self.old m.now }
+        ensures { OnOk result (AreSpacesOf self.new m.now) }
+    {
+        for import in m.imports.as_slice() {
+            self.enter(import)?;
+        }
+        self.imported_globals = self.globals.len();
+        add_funcs(&mut self.funcs, m.funcs.as_slice())?;
+        add_limits(&mut self.tables, m.tables.as_slice())?;
+        add_limits(&mut self.memories, m.memories.as_slice())?;
+        add_globals(&mut self.globals, m.globals.as_slice())?;
+        Ok(())
     }
 
     fn enter(&mut self, import: &Import) -> Result<(), Memory>
@@ -100,39 +102,48 @@ impl<'a> Spaces<'a> {
             None
         }
     }
-
-    /// The limits of the tables.
-    pub(crate) fn tables(&self) -> &[Limits]
-        ensures { result.now ≡ self.now.tables.items }
-    {
-        self.tables.as_slice()
-    }
-
-    /// The limits of the memories.
-    pub(crate) fn memories(&self) -> &[Limits]
-        ensures { result.now ≡ self.now.memories.items }
-    {
-        self.memories.as_slice()
-    }
 }
 
 fn add_funcs(space: &mut Vec<u32>, funcs: &[FuncEntry]) -> Result<(), Memory>
     ensures { OnOk result (space.new.items ≡ space.old.items ++ map (λ f. f.type_index) funcs.now) }
 {
-    space.extend(funcs.iter().map(|f| f.type_index))?;
+    for func in funcs {
+        space.push(func.type_index)?;
+    }
     Ok(())
 }
 
 fn add_limits(space: &mut Vec<Limits>, entries: &[LimitsEntry]) -> Result<(), Memory>
     ensures { OnOk result (space.new.items ≡ space.old.items ++ map (λ t. t.limits) entries.now) }
 {
-    space.extend(entries.iter().map(|t| t.limits))?;
+    for entry in entries {
+        space.push(entry.limits)?;
+    }
     Ok(())
 }
 
 fn add_globals(space: &mut Vec<(ValType, bool)>, globals: &[GlobalEntry]) -> Result<(), Memory>
     ensures { OnOk result (space.new.items ≡ space.old.items ++ map (λ g. (g.ty, g.mutable)) globals.now) }
 {
-    space.extend(globals.iter().map(|g| (g.ty, g.mutable)))?;
+    for global in globals {
+        space.push((global.ty, global.mutable))?;
+    }
     Ok(())
+}
+
+/// The types of the parameters and of the declared locals.
+pub(crate) fn locals_of(
+    alloc: Global,
+    ty: &FuncType,
+    body: &BodyEntry,
+) -> Result<Vec<ValType>, Memory>
+    ensures { IfOk result (λ locals. locals.items ≡ ty.now.params ++ declared_locals body.now.runs) }
+{
+    let mut locals = Vec::from_slice(alloc, ty.params.as_slice())?;
+    for run in body.runs.as_slice() {
+        for _ in 0..run.count {
+            locals.push(run.ty)?;
+        }
+    }
+    Ok(locals)
 }

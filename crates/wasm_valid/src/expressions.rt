@@ -1,6 +1,5 @@
 // The faults of initial and offset expressions (WebAssembly Core 1.0, 3.3.7).
 ghost use Rattle.std.specs.Prelude.{◌≡◌, flat_map, slice_get};
-ghost use Rattle.wasm_tree.specs.declared.tree.Module.{Module as Tree};
 ghost use Rattle.wasm_valid.specs.Seen.{AreSpacesOf};
 ghost use Rattle.wasm_valid.specs.Entered.{entered};
 ghost use Rattle.wasm_valid.specs.ModuleFaults.{expressions, shape_of, shape_of_global, is_no_constant, is_got_unknown, has_other_type};
@@ -10,7 +9,7 @@ use crate::ValidCause;
 use crate::context::Spaces;
 use crate::first::FirstFault;
 use w2c_base::ValType;
-use wasm_tree::{Code, ElementEntry, GlobalEntry, Kind, Module, SegmentEntry};
+use wasm_tree::{Code, Kind, Module};
 
 /// Which globals an expression may get.
 #[derive(Clone, Copy)]
@@ -57,16 +56,9 @@ fn enter_initials(m: &Module, spaces: &Spaces, row: ExpressionRow, first: &mut F
     ensures { first.new.found ≡ entered first.old.found (flat_map (λ g. expression_fault row (initial_of m.now g)) m.now.globals) }
 {
     for global in m.globals.as_slice() {
-        enter_initial(global, spaces, row, first);
+        let shape = shape_of(spaces, Reach::Imported, &global.code);
+        enter_shape(row, shape, global.ty, global.place, first);
     }
-}
-
-fn enter_initial(global: &GlobalEntry, spaces: &Spaces, row: ExpressionRow, first: &mut FirstFault)
-    ensures { (m : Tree) → AreSpacesOf spaces.now m
-        → first.new.found ≡ entered first.old.found (expression_fault row (initial_of m global.now)) }
-{
-    let shape = shape_of(spaces, Reach::Imported, &global.code);
-    enter_shape(row, shape, global.ty, global.place, first);
 }
 
 #[tactic(auto, using(crate::proofs::Entered::entered_step))]
@@ -75,21 +67,9 @@ fn enter_element_offsets(m: &Module, spaces: &Spaces, row: ExpressionRow, first:
     ensures { first.new.found ≡ entered first.old.found (flat_map (λ e. expression_fault row (element_offset m.now e)) m.now.elements) }
 {
     for element in m.elements.as_slice() {
-        enter_element_offset(element, spaces, row, first);
+        let shape = shape_of(spaces, Reach::All, &element.offset);
+        enter_shape(row, shape, ValType::I32, element.offset_place, first);
     }
-}
-
-fn enter_element_offset(
-    element: &ElementEntry,
-    spaces: &Spaces,
-    row: ExpressionRow,
-    first: &mut FirstFault,
-)
-    ensures { (m : Tree) → AreSpacesOf spaces.now m
-        → first.new.found ≡ entered first.old.found (expression_fault row (element_offset m element.now)) }
-{
-    let shape = shape_of(spaces, Reach::All, &element.offset);
-    enter_shape(row, shape, ValType::I32, element.offset_place, first);
 }
 
 #[tactic(auto, using(crate::proofs::Entered::entered_step))]
@@ -98,21 +78,9 @@ fn enter_segment_offsets(m: &Module, spaces: &Spaces, row: ExpressionRow, first:
     ensures { first.new.found ≡ entered first.old.found (flat_map (λ s. expression_fault row (segment_offset m.now s)) m.now.segments) }
 {
     for segment in m.segments.as_slice() {
-        enter_segment_offset(segment, spaces, row, first);
+        let shape = shape_of(spaces, Reach::All, &segment.offset);
+        enter_shape(row, shape, ValType::I32, segment.offset_place, first);
     }
-}
-
-fn enter_segment_offset(
-    segment: &SegmentEntry,
-    spaces: &Spaces,
-    row: ExpressionRow,
-    first: &mut FirstFault,
-)
-    ensures { (m : Tree) → AreSpacesOf spaces.now m
-        → first.new.found ≡ entered first.old.found (expression_fault row (segment_offset m segment.now)) }
-{
-    let shape = shape_of(spaces, Reach::All, &segment.offset);
-    enter_shape(row, shape, ValType::I32, segment.offset_place, first);
 }
 
 fn shape_of(spaces: &Spaces, reach: Reach, code: &Code) -> Shape

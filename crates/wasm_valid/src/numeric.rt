@@ -123,20 +123,18 @@ fn access_type(op: AccessOp, arg: MemArg) -> Option<InstrType>
     }
 }
 
-fn numeric_type(op: Numeric) -> Option<InstrType>
-    ensures typing { typing_seen result ≡ table_type (numeric_tree op) }
-    ensures needed { needs_seen result ≡ needs_of (numeric_tree op) }
+// The operands and the result of an operator on numbers.
+fn numeric_type(op: Numeric) -> (&'static [ValType], ValType)
+    ensures { of_types result.0.now (result.1 ∷ []) ≡ table_type (numeric_tree op) }
 {
     match op {
-        Numeric::Eqz(ty) => of(one(ty), Some(ValType::I32), Needs::Nothing),
-        Numeric::Compare(ty, _) => of(two(ty), Some(ValType::I32), Needs::Nothing),
-        Numeric::Unary(ty, _) => of(one(ty), Some(ty), Needs::Nothing),
-        Numeric::Binary(ty, _) => of(two(ty), Some(ty), Needs::Nothing),
-        Numeric::I32WrapI64 => of(ONE_I64, Some(ValType::I32), Needs::Nothing),
-        Numeric::I64ExtendI32S | Numeric::I64ExtendI32U => {
-            of(ONE_I32, Some(ValType::I64), Needs::Nothing)
-        }
-        Numeric::Extend(op) => of(one(op.ty()), Some(op.ty()), Needs::Nothing),
+        Numeric::Eqz(ty) => (one(ty), ValType::I32),
+        Numeric::Compare(ty, _) => (two(ty), ValType::I32),
+        Numeric::Unary(ty, _) => (one(ty), ty),
+        Numeric::Binary(ty, _) => (two(ty), ty),
+        Numeric::I32WrapI64 => (ONE_I64, ValType::I32),
+        Numeric::I64ExtendI32S | Numeric::I64ExtendI32U => (ONE_I32, ValType::I64),
+        Numeric::Extend(op) => (one(op.ty()), op.ty()),
     }
 }
 
@@ -165,7 +163,10 @@ pub(crate) fn fixed_type(kind: &Kind) -> Option<InstrType>
         Parts::Simple(op) => simple_type(op),
         Parts::Index(_, _) => None,
         Parts::Access(op, arg) => access_type(op, arg),
-        Parts::Numeric(op) => numeric_type(op),
+        Parts::Numeric(op) => {
+            let (operands, ty) = numeric_type(op);
+            of(operands, Some(ty), Needs::Nothing)
+        }
         Parts::Other => other_type(kind),
     }
 }

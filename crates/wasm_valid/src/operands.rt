@@ -182,17 +182,9 @@ impl OperandStack {
         ensures step { Steps result (on_some (pop_type ty.I32 (shown self.old)) chosen) (shown self.new) }
         ensures kept { OnOk result (Keeps self.old self.new) }
     {
-        match self.pop_type(ValType::I32) {
-            Ok(()) => self.choose(),
-            Err(stop) => Err(stop),
+        if let Err(stop) = self.pop_type(ValType::I32) {
+            return Err(stop);
         }
-    }
-
-    // Two operands of one type leave one.
-    fn choose(&mut self) -> Result<(), Stop>
-        ensures step { Steps result (chosen (shown self.old)) (shown self.new) }
-        ensures kept { OnOk result (Keeps self.old self.new) }
-    {
         let second = match self.pop() {
             Ok(second) => second,
             Err(stop) => return Err(stop),

@@ -78,26 +78,7 @@ fn jump(carried: Option<ValType>, operands: &mut OperandStack) -> Result<(), Sto
     Ok(())
 }
 
-// Takes a condition, and of what is carried leaves a copy.
-fn jump_or_not(carried: Option<ValType>, operands: &mut OperandStack) -> Result<(), Stop>
-    ensures step { Steps result (turn (values carried ++ ty.I32 ∷ []) (values carried) (shown operands.old)) (shown operands.new) }
-    ensures kept { OnOk result (Keeps operands.old operands.new) }
-{
-    operands.pop_type(ValType::I32)?;
-    operands.pop_value(carried)?;
-    operands.push_value(carried)
-}
-
-// Takes an index, and jumps.
-fn jump_by_index(carried: Option<ValType>, operands: &mut OperandStack) -> Result<(), Stop>
-    ensures step { Steps result (jump (values carried ++ ty.I32 ∷ []) (shown operands.old)) (shown operands.new) }
-    ensures kept { OnOk result (Keeps operands.old operands.new) }
-{
-    operands.pop_type(ValType::I32)?;
-    jump(carried, operands)
-}
-
-// Takes an index, and then calls a function of this type.
+// Takes an index or a condition, then operands of these types, and puts the result.
 fn turn_by_index(
     params: &[ValType],
     outcome: Option<ValType>,
@@ -123,7 +104,7 @@ fn br_if(labels: &[Option<ValType>], label: u32, operands: &mut OperandStack) ->
     ensures kept { OnOk result (Keeps operands.old operands.new) }
 {
     let carried = carried_by(labels, label)?;
-    jump_or_not(carried, operands)
+    turn_by_index(carried.as_slice(), carried, operands)
 }
 
 // All labels carry the same.
@@ -138,7 +119,8 @@ fn br_table(
 {
     let carried = carried_by(labels, label)?;
     if all_carry(labels, others, carried)? {
-        jump_by_index(carried, operands)
+        operands.pop_type(ValType::I32)?;
+        jump(carried, operands)
     } else {
         Err(Stop::MISMATCH)
     }
@@ -216,7 +198,7 @@ impl<'a> Surroundings<'a> {
     fn memory(&self) -> Result<(), Stop>
         ensures { HasMemoryOr result (seen self.now) }
     {
-        if self.spaces.memories().is_empty() {
+        if self.spaces.memories.is_empty() {
             Err(Stop::Cause(ValidCause::UnknownMemory))
         } else {
             Ok(())
@@ -242,7 +224,7 @@ impl<'a> Surroundings<'a> {
     {
         match self.spaces.func_type(type_index) {
             Some(ty) => {
-                if self.spaces.tables().is_empty() {
+                if self.spaces.tables.is_empty() {
                     Err(Stop::Cause(ValidCause::UnknownTable))
                 } else {
                     turn_by_index(ty.params.as_slice(), ty.result, operands)

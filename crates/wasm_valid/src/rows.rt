@@ -5,7 +5,7 @@ ghost use Rattle.wasm_tree.specs.IndexSpaces.{type_in, table_space, memory_space
 ghost use Rattle.wasm_valid.specs.Seen.{type_seen, AreSpacesOf};
 ghost use Rattle.wasm_valid.specs.Entered.{entered};
 ghost use Rattle.wasm_valid.specs.declared.fault.ValidCause.TheVariants as causes;
-ghost use Rattle.wasm_valid.specs.ModuleFaults.{fault_if, is_out, is_no_first, module_faults, unknown_import_type, unknown_types, too_many, min_above_max, too_many_pages, unknown_export, duplicate_exports, start_faults, unknown_segments, unknown_elements};
+ghost use Rattle.wasm_valid.specs.ModuleFaults.{fault_if, is_out, is_no_first, module_faults, unknown_import_type, too_many, min_above_max, too_many_pages, unknown_export, duplicate_exports, start_faults, unknown_elements};
 
 use crate::ValidCause;
 use crate::context::Spaces;
@@ -14,9 +14,7 @@ use crate::first::FirstFault;
 use std::alloc::Global;
 use std::collections::BTreeSet;
 use w2c_base::Memory;
-use wasm_tree::{
-    ElementEntry, Export, ExportKind, Import, ImportKind, Limits, Module, SegmentEntry,
-};
+use wasm_tree::{ElementEntry, Export, ExportKind, Import, ImportKind, Limits, Module};
 
 /// The most pages that a memory's maximum names.
 const MOST_PAGES: u32 = 65_536;
@@ -31,29 +29,25 @@ pub(crate) fn enter_module_faults(
     requires { AreSpacesOf spaces.now m.now }
     ensures { OnOk result (first.new.found ≡ entered first.old.found (module_faults m.now)) }
 {
-    enter_unknown_types(m, spaces, first);
-    enter_too_many(ValidCause::TooManyTables, spaces.tables(), first);
-    enter_too_many(ValidCause::TooManyMemories, spaces.memories(), first);
-    enter_min_above_max(spaces.tables(), first);
-    enter_min_above_max(spaces.memories(), first);
-    enter_too_many_pages(spaces.memories(), first);
+    enter_import_types(m, spaces, first);
+    enter_func_types(m, spaces, first);
+    let tables = spaces.tables.as_slice();
+    let memories = spaces.memories.as_slice();
+    enter_too_many(ValidCause::TooManyTables, tables, first);
+    enter_too_many(ValidCause::TooManyMemories, memories, first);
+    enter_min_above_max(tables, first);
+    enter_min_above_max(memories, first);
+    enter_too_many_pages(memories, first);
     enter_expressions(m, spaces, ExpressionRow::ConstantExpected, first);
     enter_expressions(m, spaces, ExpressionRow::UnknownGlobal, first);
     enter_expressions(m, spaces, ExpressionRow::TypeMismatch, first);
     enter_unknown_exports(m, spaces, first);
     enter_duplicate_exports(alloc, m.exports.as_slice(), first)?;
     enter_start(m, spaces, first);
-    enter_unknown_segments(m, spaces, first);
+    enter_unknown_tables(m, spaces, first);
+    enter_unknown_memories(m, spaces, first);
     enter_unknown_elements(m, spaces, first);
     Ok(())
-}
-
-fn enter_unknown_types(m: &Module, spaces: &Spaces, first: &mut FirstFault)
-    requires { AreSpacesOf spaces.now m.now }
-    ensures { first.new.found ≡ entered first.old.found (unknown_types m.now) }
-{
-    enter_import_types(m, spaces, first);
-    enter_func_types(m, spaces, first);
 }
 
 #[tactic(auto, using(crate::proofs::Entered::entered_step))]
@@ -158,11 +152,11 @@ fn enter_unknown_export(export: &Export, spaces: &Spaces, first: &mut FirstFault
             first.enter_if(unknown, place, ValidCause::UnknownFunction);
         }
         ExportKind::Table => {
-            let unknown = spaces.tables().get(index as usize).is_none();
+            let unknown = spaces.tables.get(index as usize).is_none();
             first.enter_if(unknown, place, ValidCause::UnknownTable);
         }
         ExportKind::Memory => {
-            let unknown = spaces.memories().get(index as usize).is_none();
+            let unknown = spaces.memories.get(index as usize).is_none();
             first.enter_if(unknown, place, ValidCause::UnknownMemory);
         }
         ExportKind::Global => {
@@ -205,31 +199,17 @@ fn enter_start(m: &Module, spaces: &Spaces, first: &mut FirstFault)
     }
 }
 
-fn enter_unknown_segments(m: &Module, spaces: &Spaces, first: &mut FirstFault)
-    requires { AreSpacesOf spaces.now m.now }
-    ensures { first.new.found ≡ entered first.old.found (unknown_segments m.now) }
-{
-    enter_unknown_tables(m, spaces, first);
-    enter_unknown_memories(m, spaces, first);
-}
-
 #[tactic(auto, using(crate::proofs::Entered::entered_step))]
 fn enter_unknown_tables(m: &Module, spaces: &Spaces, first: &mut FirstFault)
     requires { AreSpacesOf spaces.now m.now }
     ensures { first.new.found ≡ entered first.old.found
         (flat_map (λ e. fault_if (is_no_first (table_space m.now) e.table) e.place causes.UnknownTable) m.now.elements) }
 {
+    let tables = spaces.tables.as_slice();
     for element in m.elements.as_slice() {
-        enter_unknown_table(element, spaces, first);
+        let unknown = is_no_first(tables, element.table);
+        first.enter_if(unknown, element.place, ValidCause::UnknownTable);
     }
-}
-
-fn enter_unknown_table(element: &ElementEntry, spaces: &Spaces, first: &mut FirstFault)
-    ensures { (m : Tree) → AreSpacesOf spaces.now m → first.new.found ≡ entered first.old.found
-        (fault_if (is_no_first (table_space m) element.now.table) element.now.place causes.UnknownTable) }
-{
-    let unknown = is_no_first(spaces.tables(), element.table);
-    first.enter_if(unknown, element.place, ValidCause::UnknownTable);
 }
 
 #[tactic(auto, using(crate::proofs::Entered::entered_step))]
@@ -238,17 +218,11 @@ fn enter_unknown_memories(m: &Module, spaces: &Spaces, first: &mut FirstFault)
     ensures { first.new.found ≡ entered first.old.found
         (flat_map (λ s. fault_if (is_no_first (memory_space m.now) s.memory) s.place causes.UnknownMemory) m.now.segments) }
 {
+    let memories = spaces.memories.as_slice();
     for segment in m.segments.as_slice() {
-        enter_unknown_memory(segment, spaces, first);
+        let unknown = is_no_first(memories, segment.memory);
+        first.enter_if(unknown, segment.place, ValidCause::UnknownMemory);
     }
-}
-
-fn enter_unknown_memory(segment: &SegmentEntry, spaces: &Spaces, first: &mut FirstFault)
-    ensures { (m : Tree) → AreSpacesOf spaces.now m → first.new.found ≡ entered first.old.found
-        (fault_if (is_no_first (memory_space m) segment.now.memory) segment.now.place causes.UnknownMemory) }
-{
-    let unknown = is_no_first(spaces.memories(), segment.memory);
-    first.enter_if(unknown, segment.place, ValidCause::UnknownMemory);
 }
 
 fn is_no_first(space: &[Limits], index: u32) -> bool

@@ -1,23 +1,22 @@
 // Valid modules (WebAssembly Core 1.0, 3.4.10).
-ghost use Rattle.std.specs.Prelude.{◌≡◌, ◌≢◌, ◌++◌, Some, Ok, Err, IfOk, OnOk};
+ghost use Rattle.std.specs.Prelude.{◌≡◌, ◌≢◌, Ok, Err, IfOk, OnOk};
 ghost use Rattle.wasm_tree.specs.declared.tree.Module.{Module as Tree};
-ghost use Rattle.wasm_tree.specs.IndexSpaces.{declared_locals};
 ghost use Rattle.wasm_spelling.specs.Places.{IsFormed};
 ghost use Rattle.wasm_valid.specs.declared.fault.Fault.{Fault as OneFault};
 ghost use Rattle.wasm_valid.specs.declared.fault.ValidRefusal.TheVariants.{Invalid as refused_by, Memory as memory_wanted};
-ghost use Rattle.wasm_valid.specs.Verdict.{Verdict, Invalid, IsValid, outcome_of, bodies_of};
+ghost use Rattle.wasm_valid.specs.Verdict.{Verdict, Invalid, IsValid, bodies_of};
 ghost use Rattle.wasm_valid.specs.SaysVerdict.{SaysVerdict};
 ghost use Rattle.wasm_valid.specs.Seen.{AreSpacesOf};
-ghost use Rattle.wasm_valid.specs.EnteredBodies.{typed_context_seen, body_context_seen, EntersBody, EntersBodies};
+ghost use Rattle.wasm_valid.specs.EnteredBodies.{body_context_seen, EntersBody, EntersBodies};
 
+use crate::ValidRefusal;
 use crate::body::check_body;
 use crate::context::Spaces;
 use crate::first::FirstFault;
 use crate::rows::enter_module_faults;
-use crate::{Fault, ValidRefusal};
 use std::alloc::Global;
 use std::marker::Model;
-use w2c_base::{FuncType, Memory, ValType};
+use w2c_base::Memory;
 use wasm_tree::{BodyEntry, FuncEntry, Module};
 
 /// A module that has a file, in which every body has a typing, and that has no fault outside its bodies. So it keeps
@@ -86,21 +85,22 @@ impl ValidModule {
 fn refuse_faults(alloc: Global, m: &Module) -> Result<(), ValidRefusal>
     ensures { SaysVerdict result m.now }
 {
-    match first_fault(alloc, m)? {
+    let spaces = Spaces::new(alloc, m)?;
+    refuse_first(alloc, m, &spaces)
+}
+
+// Refuses a module of these index spaces by its first fault.
+fn refuse_first(alloc: Global, m: &Module, spaces: &Spaces) -> Result<(), ValidRefusal>
+    requires { AreSpacesOf spaces.now m.now }
+    ensures { SaysVerdict result m.now }
+{
+    let mut first = FirstFault::new();
+    enter_module_faults(alloc, m, spaces, &mut first)?;
+    enter_body_faults(alloc, m, spaces, &mut first)?;
+    match first.found() {
         Some(fault) => Err(ValidRefusal::Invalid(fault.place, fault.cause)),
         None => Ok(()),
     }
-}
-
-// The first fault of a module, or none where it is valid.
-fn first_fault(alloc: Global, m: &Module) -> Result<Option<Fault>, Memory>
-    ensures { IfOk result (λ found. Verdict m.now (outcome_of found)) }
-{
-    let spaces = Spaces::new(alloc, m)?;
-    let mut first = FirstFault::new();
-    enter_module_faults(alloc, m, &spaces, &mut first)?;
-    enter_body_faults(alloc, m, &spaces, &mut first)?;
-    Ok(first.found())
 }
 
 fn enter_body_faults(
@@ -113,13 +113,13 @@ fn enter_body_faults(
     ensures { OnOk result (EntersBodies m.now (bodies_of m.now) first.old.found first.new.found) }
 {
     for (func, body) in m.funcs.as_slice().iter().zip(m.bodies.as_slice()) {
-        enter_fault_of(alloc, spaces, func, body, first)?;
+        enter_body_fault(alloc, spaces, func, body, first)?;
     }
     Ok(())
 }
 
 // The body of a function. Where the function has no type nothing is asked of the body.
-fn enter_fault_of(
+fn enter_body_fault(
     alloc: Global,
     spaces: &Spaces,
     func: &FuncEntry,
@@ -128,23 +128,10 @@ fn enter_fault_of(
 ) -> Result<(), Memory>
     ensures { OnOk result (EntersBody (body_context_seen spaces.now func.now body.now) body.now first.old.found first.new.found) }
 {
-    match spaces.func_type(func.type_index) {
-        Some(ty) => enter_body_fault(alloc, spaces, ty, body, first),
-        None => Ok(()),
-    }
-}
-
-fn enter_body_fault(
-    alloc: Global,
-    spaces: &Spaces,
-    ty: &FuncType,
-    body: &BodyEntry,
-    first: &mut FirstFault,
-) -> Result<(), Memory>
-    ensures { OnOk result (EntersBody (Some (typed_context_seen spaces.now body.now ty.now)) body.now first.old.found first.new.found) }
-{
-    let locals = locals_of(alloc, ty, body)?;
-    match check_body(alloc, spaces, locals.as_slice(), ty.result, body) {
+    let Some(ty) = spaces.func_type(func.type_index) else {
+        return Ok(());
+    };
+    match check_body(alloc, spaces, ty, body) {
         Ok(()) => Ok(()),
         Err(ValidRefusal::Invalid(place, cause)) => {
             first.enter(place, cause);
@@ -152,17 +139,4 @@ fn enter_body_fault(
         }
         Err(ValidRefusal::Memory) => Err(Memory),
     }
-}
-
-// The types of the parameters and of the declared locals.
-fn locals_of(alloc: Global, ty: &FuncType, body: &BodyEntry) -> Result<Vec<ValType>, Memory>
-    ensures { IfOk result (λ locals. locals.items ≡ ty.now.params ++ declared_locals body.now.runs) }
-{
-    let mut locals = Vec::from_slice(alloc, ty.params.as_slice())?;
-    for run in body.runs.as_slice() {
-        for _ in 0..run.count {
-            locals.push(run.ty)?;
-        }
-    }
-    Ok(locals)
 }

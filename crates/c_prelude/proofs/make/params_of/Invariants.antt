@@ -1,7 +1,7 @@
 use Rattle.std.proofs.Common.{◌≡◌, ◌++◌, drop, map}
-use Rattle.c_prelude.specs.Helpers.{param, all_of}
+use Rattle.c_prelude.specs.Helpers.{param}
 use Rattle.c_prelude.proofs.make.params_of.Given as goal
 
--- what is made, and what the names to come make, is the whole
-abbrev pub invariant-loop-c : goal.invariant-loop-c
-invariant-loop-c l = l.params ++ map param (all_of l.ty (drop l.c-index l.names)) ≡ map param (all_of l.ty l.names)
+-- what is made, and what the variables to come make, is the whole
+abbrev pub invariant-loop-variable : goal.invariant-loop-variable
+invariant-loop-variable l = l.params ++ map param (drop l.variable-index l.variables) ≡ map param l.variables

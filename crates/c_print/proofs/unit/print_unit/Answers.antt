@@ -1,21 +1,23 @@
-use Rattle.std.proofs.Common.{rules, ◌≡◌, subst, sym, ap, refl, ◌∙◌}
+use Rattle.std.proofs.Common.{rules, ◌≡◌, [], subst, sym, ap, refl, ◌∙◌}
 use Rattle.c_tree.specs.declared.token.Kind.TheVariants as kind
 use Rattle.c_tree.specs.declared.token.Tok.TheVariants as tok
 use Rattle.c_tree.specs.Spelled.{CSpells}
-use Rattle.c_tree.specs.Tokens.{fixed_text}
+use Rattle.c_tree.specs.Tokens.{Fixed, fixed_text}
 use Rattle.c_tree.specs.View.{unit_of}
-use Rattle.c_print.specs.Page.{items_onto}
+use Rattle.c_print.specs.Page.{printed, items_onto}
 use Rattle.c_print.specs.Print.{print_of}
 use Rattle.c_print.specs.declared.page.Page.{Page}
-use Rattle.c_print.proofs.PageText.{items_text}
+use Rattle.c_print.proofs.PageText.{include_put, items_text}
 use Rattle.c_print.proofs.Spells.{spells}
 use Rattle.c_print.proofs.unit.print_unit.Goals as goal
 
 pub returns-clause-printed : goal.returns-clause-printed
 returns-clause-printed c =
     let begun : Page = record { text = fixed_text tok.Include; last = kind.Fixed tok.Include } in
-    let put : c.put_items.new.page ≡ items_onto begun (unit_of c.args.u.now) = search rules in
-    ap (λ (page : Page). page.text) put ∙ items_text begun (unit_of c.args.u.now) refl
+    let empty : Page = record { text = []; last = kind.Fixed tok.Include } in
+    let put : c.put_items.new.page ≡ items_onto (printed empty (Fixed tok.Include)) (unit_of c.args.u.now) = search rules in
+    ap (λ (page : Page). page.text) (put ∙ ap (λ (page : Page). items_onto page (unit_of c.args.u.now)) include_put)
+    ∙ items_text begun (unit_of c.args.u.now) refl
 
 pub returns-clause-spells : goal.returns-clause-spells
 returns-clause-spells c =

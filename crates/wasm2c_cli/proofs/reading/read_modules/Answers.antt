@@ -1,44 +1,16 @@
-use Rattle.std.proofs.Common.{◌≡◌, rules, slice_get, Some, string_bytes}
 use Rattle.w2c_files.specs.Words.{names_of}
-use Rattle.w2c_files.specs.declared.reading.ReadStop.TheVariants as read
-use Rattle.wasm2c_cli.proofs.FileStops.{one_at, past, too_long, unread}
+use Rattle.wasm2c_cli.proofs.FileStops.{at_file, reading_stops}
 use Rattle.wasm2c_cli.proofs.reading.read_modules.Goals as goal
 
-pub returns-in_ok-named-in-Err-Unread-clause-stop : goal.returns-in_ok-named-in-Err-Unread-clause-stop
-returns-in_ok-named-in-Err-Unread-clause-stop g c =
+pub stop_for-requires : goal.stop_for-requires
+stop_for-requires g c =
     let files = g.F.Files in
-    let names = names_of c.args.inputs.now in
-    let name = string_bytes c.in_ok-named-in-Err-Unread.field-0 in
-    let at : slice_get names c.in-Err-Unread.k ≡ Some name = c.in_ok-named-in-Err-Unread.ensures in
-    let is : c.in-Err-Unread.field-0 ≡ read.Unread c.in-Err-Unread.k = search rules in (
-      one_at names c.in-Err-Unread.k name at,
-      unread (files.told c.args.files.now) names (files.read_faults c.args.files.now)
-          (files.read_faults c.read_files.new.files) (files.fault_name c.read_files.new.files) c.in-Err-Unread.k name at
-          c.in-Err-Unread.field-0 is c.in-Err-Unread.ensures.stop,
-    )
+    at_file (files.told c.args.files.now) (names_of c.args.inputs.now) (files.read_faults c.args.files.now)
+    (files.read_faults c.read_files.new.files) (files.fault_name c.read_files.new.files) c.in-Err.why c.in-Err.ensures.stop
 
-pub returns-in_ok-named-in-Err-TooLong-clause-stop : goal.returns-in_ok-named-in-Err-TooLong-clause-stop
-returns-in_ok-named-in-Err-TooLong-clause-stop g c =
+pub returns-in-Err-clause-stop : goal.returns-in-Err-clause-stop
+returns-in-Err-clause-stop g c =
     let files = g.F.Files in
-    let names = names_of c.args.inputs.now in
-    let name = string_bytes c.in_ok-named-in-Err-TooLong.field-0 in
-    let at : slice_get names c.in-Err-TooLong.k ≡ Some name = c.in_ok-named-in-Err-TooLong.ensures in
-    let is : c.in-Err-TooLong.field-0 ≡ read.TooLong c.in-Err-TooLong.k = search rules in (
-      one_at names c.in-Err-TooLong.k name at,
-      too_long (files.told c.args.files.now) names (files.read_faults c.args.files.now)
-          (files.read_faults c.read_files.new.files) (files.fault_name c.read_files.new.files) c.in-Err-TooLong.k name at
-          c.in-Err-TooLong.field-0 is c.in-Err-TooLong.ensures.stop,
-    )
-
-pub returns-in_ok-named-in-Err-Past-clause-stop : goal.returns-in_ok-named-in-Err-Past-clause-stop
-returns-in_ok-named-in-Err-Past-clause-stop g c =
-    let files = g.F.Files in
-    let names = names_of c.args.inputs.now in
-    let name = string_bytes c.in_ok-named-in-Err-Past.field-0 in
-    let at : slice_get names c.in-Err-Past.k ≡ Some name = c.in_ok-named-in-Err-Past.ensures in
-    let is : c.in-Err-Past.field-0 ≡ read.Past c.in-Err-Past.k c.in-Err-Past.place = search rules in (
-      one_at names c.in-Err-Past.k name at,
-      past (files.told c.args.files.now) names (files.read_faults c.args.files.now)
-          (files.read_faults c.read_files.new.files) (files.fault_name c.read_files.new.files) c.in-Err-Past.k name at
-          c.in-Err-Past.field-0 c.in-Err-Past.place is c.in-Err-Past.ensures.stop,
-    )
+    reading_stops (files.told c.args.files.now) (names_of c.args.inputs.now) (files.read_faults c.args.files.now)
+    (files.read_faults c.read_files.new.files) (files.fault_name c.read_files.new.files) c.in-Err.why c.stop_for.result
+    c.in-Err.ensures.stop c.stop_for.ensures

@@ -1,7 +1,7 @@
 use Rattle.w2c_files.specs.Words.{texts}
 use Rattle.wasm2c_cli.proofs.Passed.{distinct_outputs}
-use Rattle.wasm2c_cli.proofs.TopLaws.{are_linked, finish_complete, finish_done, finish_part, finish_stands, finish_summary, finish_units}
-use Rattle.wasm2c_cli.proofs.TopLaws.{stop_complete, stop_part, stop_refused, stop_stands, stop_unread, stop_unwritten}
+use Rattle.wasm2c_cli.proofs.TopLaws.{are_linked, finish_complete, finish_done, finish_no_stop, finish_part, finish_silent, finish_stands, finish_summary, finish_units}
+use Rattle.wasm2c_cli.proofs.TopLaws.{stop_complete, stop_current, stop_not, stop_part, stop_refused, stop_stands, stop_unread, stop_untouched, stop_unwritten}
 use Rattle.wasm2c_cli.proofs.top.wasm2c_top.Goals as goal
 
 -- ---- work that was finished
@@ -42,6 +42,21 @@ returns-in-Ok-clause-summary g c = λ zero.
     c.in-Ok.finished c.in-Ok.ensures.done
     (err.told c.args.err.now) (err.told c.summarize.new.err) (err.faults c.args.err.now) (err.faults c.summarize.new.err)
     (c.summarize.ensures.says zero)
+
+pub returns-in-Ok-clause-silent : goal.returns-in-Ok-clause-silent
+returns-in-Ok-clause-silent g c = λ zero.
+    let files = g.F.Files in
+    let err = g.E.Sink in
+    finish_silent (texts c.args.words.now) (files.told c.args.files.now) (files.told c.work.new.files)
+    c.in-Ok.finished c.in-Ok.ensures.done
+    (err.told c.args.err.now) (err.told c.summarize.new.err) (err.faults c.args.err.now) (err.faults c.summarize.new.err)
+    (c.summarize.ensures.says zero)
+
+pub returns-in-Ok-clause-untouched : goal.returns-in-Ok-clause-untouched
+returns-in-Ok-clause-untouched g c = finish_no_stop c.summarize.result c.summarize.ensures.status
+
+pub returns-in-Ok-clause-current : goal.returns-in-Ok-clause-current
+returns-in-Ok-clause-current g c = finish_no_stop c.summarize.result c.summarize.ensures.status
 
 pub returns-in-Ok-clause-stands : goal.returns-in-Ok-clause-stands
 returns-in-Ok-clause-stands g c = λ five.
@@ -93,6 +108,35 @@ returns-in-Err-clause-write_fault g c = λ four.
     (files.read_faults c.args.files.now) (files.read_faults c.work.new.files)
     (files.write_faults c.args.files.now) (files.write_faults c.work.new.files) (files.fault_name c.work.new.files)
     four c.in-Err.stop c.in-Err.ensures.stop c.report.ensures.status c.report.ensures.says
+
+pub returns-in-Err-clause-done : goal.returns-in-Err-clause-done
+returns-in-Err-clause-done g c = stop_not c.report.result c.in-Err.stop c.report.ensures.status
+
+pub returns-in-Err-clause-units : goal.returns-in-Err-clause-units
+returns-in-Err-clause-units g c = stop_not c.report.result c.in-Err.stop c.report.ensures.status
+
+pub returns-in-Err-clause-linked : goal.returns-in-Err-clause-linked
+returns-in-Err-clause-linked g c = stop_not c.report.result c.in-Err.stop c.report.ensures.status
+
+pub returns-in-Err-clause-summary : goal.returns-in-Err-clause-summary
+returns-in-Err-clause-summary g c = stop_not c.report.result c.in-Err.stop c.report.ensures.status
+
+pub returns-in-Err-clause-silent : goal.returns-in-Err-clause-silent
+returns-in-Err-clause-silent g c = stop_not c.report.result c.in-Err.stop c.report.ensures.status
+
+pub returns-in-Err-clause-untouched : goal.returns-in-Err-clause-untouched
+returns-in-Err-clause-untouched g c =
+    let files = g.F.Files in
+    stop_untouched (texts c.args.words.now) (files.told c.args.files.now) (files.told c.work.new.files)
+    (files.read_faults c.args.files.now) (files.read_faults c.work.new.files)
+    (files.write_faults c.args.files.now) (files.write_faults c.work.new.files) (files.fault_name c.work.new.files)
+    c.report.result c.in-Err.stop c.in-Err.ensures.stop c.report.ensures.status
+
+pub returns-in-Err-clause-current : goal.returns-in-Err-clause-current
+returns-in-Err-clause-current g c =
+    let files = g.F.Files in
+    stop_current (files.current c.args.files.now) (files.current c.work.new.files) c.report.result c.in-Err.stop
+    c.in-Err.ensures.current c.report.ensures.status
 
 pub returns-in-Err-clause-stands : goal.returns-in-Err-clause-stands
 returns-in-Err-clause-stands g c = λ five.

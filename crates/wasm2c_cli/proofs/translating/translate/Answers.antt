@@ -1,9 +1,11 @@
-use Rattle.std.proofs.Common.{◌≡◌, rules, arith, length, subst, ap}
+use Rattle.std.proofs.Common.{◌≡◌, OnOk, IfErr, rules, arith, length, subst, ap}
+use Rattle.w2c_files.specs.Standing.{written}
 use Rattle.w2c_files.specs.Words.{names_of}
 use Rattle.wasm2c_cli.specs.Job.{files_of}
 use Rattle.wasm2c_cli.specs.Parts.{AreTaken, StopsAccepting, StopsWriting, seen_targets}
+use Rattle.wasm2c_cli.proofs.LineStops.{all_kept}
 use Rattle.wasm2c_cli.proofs.Taken.{length-taken}
-use Rattle.wasm2c_cli.proofs.Translated.{accepting_stops, all_translated, writing_stops}
+use Rattle.wasm2c_cli.proofs.Translated.{accepting_stops, translation_finished, writing_stopped}
 use Rattle.wasm2c_cli.proofs.translating.translate.Goals as goal
 
 pub returns-in-Err-accept_modules-clause-stop : goal.returns-in-Err-accept_modules-clause-stop
@@ -26,17 +28,28 @@ write_modules-requires-clause-many g c =
     let three : length c.as_slice-2.result.now ≡ length c.in-Ok-accept_modules.modules.items = ap length seen-2 in
     omega (arith, one, two, three, c.in-Ok.ensures.many, c.requires.many)
 
-pub returns-in-Ok-write_modules-clause-done : goal.returns-in-Ok-write_modules-clause-done
-returns-in-Ok-write_modules-clause-done g c =
+pub returns-clause-done : goal.returns-clause-done
+returns-clause-done g c =
     let files = g.F.Files in
     let names = names_of c.args.inputs.now in
+    let targets = seen_targets c.args.targets.now in
     let modules = c.in-Ok-accept_modules.modules.items in
     let seen : c.as_slice.result.now ≡ c.in-Ok.sources.items = search rules in
     let seen-2 : c.as_slice-2.result.now ≡ modules = search rules in
     let taken : AreTaken c.in-Ok.sources.items modules = subst (λ l. AreTaken l modules) seen c.in-Ok-accept_modules.ensures.taken in
-    all_translated names (seen_targets c.args.targets.now) (files.told c.args.files.now) (files.told c.read_modules.new.files)
+    translation_finished names targets (files.told c.args.files.now) (files.told c.read_modules.new.files)
     c.in-Ok.sources.items c.in-Ok.ensures.told c.in-Ok.ensures.read modules taken (files.told c.write_modules.new.files)
-    c.in-Ok-write_modules.ensures.names (search rules)
+    c.write_modules.result c.write_modules.ensures.done c.write_modules.ensures.names
+    (subst (λ l. OnOk c.write_modules.result (files.told c.write_modules.new.files
+    ≡ written (files.told c.read_modules.new.files) (files_of targets l))) seen-2 c.write_modules.ensures.whole)
+
+pub returns-clause-current : goal.returns-clause-current
+returns-clause-current g c =
+    let files = g.F.Files in
+    all_kept (files.current c.args.files.now) (files.current c.write_modules.new.files) (files.told c.read_modules.new.files)
+    (files.told c.write_modules.new.files) (files_of (seen_targets c.args.targets.now) c.as_slice-2.result.now)
+    (files.write_faults c.read_modules.new.files) (files.write_faults c.write_modules.new.files)
+    (files.fault_name c.write_modules.new.files) c.write_modules.result c.write_modules.ensures.stop
 
 pub returns-clause-stop : goal.returns-clause-stop
 returns-clause-stop g c =
@@ -47,13 +60,11 @@ returns-clause-stop g c =
     let seen : c.as_slice.result.now ≡ c.in-Ok.sources.items = search rules in
     let seen-2 : c.as_slice-2.result.now ≡ modules = search rules in
     let taken : AreTaken c.in-Ok.sources.items modules = subst (λ l. AreTaken l modules) seen c.in-Ok-accept_modules.ensures.taken in
-    writing_stops names targets (files.told c.args.files.now) (files.told c.read_modules.new.files)
+    writing_stopped names targets (files.told c.args.files.now) (files.told c.read_modules.new.files)
     c.in-Ok.sources.items c.in-Ok.ensures.told c.in-Ok.ensures.read modules taken (files.told c.write_modules.new.files)
     (files.read_faults c.args.files.now) (files.read_faults c.write_modules.new.files) (files.write_faults c.args.files.now)
     (files.write_faults c.read_modules.new.files) (files.write_faults c.write_modules.new.files)
-    (files.fault_name c.write_modules.new.files)
-    c.in-Err-write_modules.stop c.in-Ok.ensures.writes
-    (subst (λ l. StopsWriting (files.told c.read_modules.new.files) (files.told c.write_modules.new.files) (files_of targets l)
-    (files.write_faults c.read_modules.new.files) (files.write_faults c.write_modules.new.files)
-    (files.fault_name c.write_modules.new.files)
-    c.in-Err-write_modules.stop) seen-2 c.in-Err-write_modules.ensures.stop)
+    (files.fault_name c.write_modules.new.files) c.write_modules.result c.in-Ok.ensures.writes
+    (subst (λ l. IfErr c.write_modules.result (StopsWriting (files.told c.read_modules.new.files) (files.told c.write_modules.new.files)
+    (files_of targets l) (files.write_faults c.read_modules.new.files) (files.write_faults c.write_modules.new.files)
+    (files.fault_name c.write_modules.new.files))) seen-2 c.write_modules.ensures.stop)

@@ -1,40 +1,50 @@
 use Rattle.std.proofs.Common.{◌≡◌, OnOk, IfErr, subst}
 use Rattle.w2c_files.specs.Standing.{written}
-use Rattle.wasm_valid.specs.Verdict.{Accepted}
-use Rattle.wasm_valid.specs.FileVerdict.{Read, IsVerdictOn}
 use Rattle.wasm2c_words.specs.Seen.{seen_generation}
 use Rattle.wasm2c_cli.specs.Job.{module_files}
 use Rattle.wasm2c_cli.specs.Parts.{IsNamed, IsTakenFile, StopsWriting, seen_target}
 use Rattle.wasm2c_cli.specs.Plan as plan
 use Rattle.wasm2c_cli.specs.Plan.{target}
-use Rattle.wasm2c_cli.proofs.LineStops.{all_generated, all_stopped}
+use Rattle.wasm2c_cli.proofs.LineStops.{all_generated, all_kept, all_stopped}
 use Rattle.wasm2c_cli.proofs.translating.write_generated.Goals as goal
 
 pub returns-in-Ok-clause-done : goal.returns-in-Ok-clause-done
 returns-in-Ok-clause-done g c =
     let files = g.F.Files in
+    let new = c.write_module-written.new.files in
     let line = seen_generation c.args.line in
     let m = c.in-Ok.module in
     let is : seen_target c.in_ok-target.target ≡ target line.output line.module_name = c.in_ok-target.ensures in
     let taken : IsTakenFile line c.args.bytes.now m =
     record { file = c.requires.file; are_bytes = c.requires.file.0; accepted = c.in-Ok.ensures.found } in
-    all_generated (files.told c.args.files.now) (files.told c.write_module.new.files) line c.args.bytes.now m c.write_module.result taken
-    (subst IsNamed is c.write_module.ensures.names)
-    (subst (λ t. OnOk c.write_module.result (files.told c.write_module.new.files
-    ≡ written (files.told c.args.files.now) (module_files t m))) is c.write_module.ensures.whole)
+    all_generated (files.told c.args.files.now) (files.told new) line c.args.bytes.now m c.write_module-written.result taken
+    (subst IsNamed is c.write_module-written.ensures.names)
+    (subst (λ t. OnOk c.write_module-written.result (files.told new
+    ≡ written (files.told c.args.files.now) (module_files t m))) is c.write_module-written.ensures.whole)
 
 pub returns-in-Ok-clause-stop : goal.returns-in-Ok-clause-stop
 returns-in-Ok-clause-stop g c =
     let files = g.F.Files in
+    let new = c.write_module-written.new.files in
     let line = seen_generation c.args.line in
     let m = c.in-Ok.module in
     let is : seen_target c.in_ok-target.target ≡ target line.output line.module_name = c.in_ok-target.ensures in
     let taken : IsTakenFile line c.args.bytes.now m =
     record { file = c.requires.file; are_bytes = c.requires.file.0; accepted = c.in-Ok.ensures.found } in
-    all_stopped (files.told c.args.files.now) (files.told c.write_module.new.files) 0 0 (files.write_faults c.args.files.now)
-    (files.write_faults c.write_module.new.files) (files.fault_name c.write_module.new.files)
-    line c.args.bytes.now m c.write_module.result taken
-    (subst (λ (t : plan.Target). IfErr c.write_module.result (StopsWriting (files.told c.args.files.now)
-    (files.told c.write_module.new.files) (module_files t m)
-    (files.write_faults c.args.files.now) (files.write_faults c.write_module.new.files) (files.fault_name c.write_module.new.files)))
-    is c.write_module.ensures.stop)
+    all_stopped (files.told c.args.files.now) (files.told new) (files.read_faults c.args.files.now)
+    (files.read_faults new) (files.write_faults c.args.files.now)
+    (files.write_faults new) (files.fault_name new)
+    line c.args.bytes.now m c.write_module-written.result taken
+    (subst (λ (t : plan.Target). IfErr c.write_module-written.result (StopsWriting (files.told c.args.files.now)
+    (files.told new) (module_files t m)
+    (files.write_faults c.args.files.now) (files.write_faults new) (files.fault_name new)))
+    is c.write_module-written.ensures.stop)
+
+pub returns-in-Ok-clause-current : goal.returns-in-Ok-clause-current
+returns-in-Ok-clause-current g c =
+    let files = g.F.Files in
+    let new = c.write_module-written.new.files in
+    all_kept (files.current c.args.files.now) (files.current new) (files.told c.args.files.now)
+    (files.told new) (module_files (seen_target c.in_ok-target.target) c.in-Ok.module)
+    (files.write_faults c.args.files.now) (files.write_faults new) (files.fault_name new)
+    c.write_module-written.result c.write_module-written.ensures.stop

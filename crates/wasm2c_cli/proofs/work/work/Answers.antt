@@ -2,14 +2,26 @@ use Rattle.std.proofs.Common.{◌≡◌, Some}
 use Rattle.w2c_files.specs.Words.{texts}
 use Rattle.wasm2c_words.specs.CommandLine.{Line, line_of}
 use Rattle.wasm2c_words.specs.Seen.{seen_line}
+use Rattle.wasm2c_cli.proofs.LineStops.{work_finished, work_stopped}
 use Rattle.wasm2c_cli.proofs.Passed.{passed}
 use Rattle.wasm2c_cli.proofs.work.work.Goals as goal
 
 pub work_on-requires : goal.work_on-requires
 work_on-requires g c = passed (texts c.args.words.now) (seen_line c.in_ok-line.line) c.in_ok-line.ensures.line
 
-pub returns-in-Ok-clause-done : goal.returns-in-Ok-clause-done
-returns-in-Ok-clause-done g c =
+pub returns-clause-done : goal.returns-clause-done
+returns-clause-done g c =
+    let files = g.F.Files in
+    let words = texts c.args.words.now in
     let line : Line = seen_line c.in_ok-line.line in
-    let is : line_of (texts c.args.words.now) ≡ Some line = c.in_ok-line.ensures.line in
-    (line, is, passed (texts c.args.words.now) line is, c.in-Ok.ensures.done)
+    let is : line_of words ≡ Some line = c.in_ok-line.ensures.line in
+    work_finished (files.told c.args.files.now) (files.told c.work_on.new.files) words line c.work_on.result is (passed words line is)
+    c.work_on.ensures.done
+
+pub returns-clause-stop : goal.returns-clause-stop
+returns-clause-stop g c =
+    let files = g.F.Files in
+    work_stopped (files.told c.args.files.now) (files.told c.work_on.new.files) (files.read_faults c.args.files.now)
+    (files.read_faults c.work_on.new.files) (files.write_faults c.args.files.now) (files.write_faults c.work_on.new.files)
+    (files.fault_name c.work_on.new.files) (texts c.args.words.now) (seen_line c.in_ok-line.line) c.work_on.result
+    c.in_ok-line.ensures.line c.work_on.ensures.stop

@@ -3,7 +3,7 @@ use Rattle.std.proofs.lemmas.Result.{err_from_is_err_and}
 use Rattle.wasm_binary.proofs.Result.{slice_bytes}
 use Rattle.w2c_files.proofs.Standing.{whole_begun}
 use Rattle.w2c_sim.specs.Translation.{text_of}
-use Rattle.wasm2c_cli.proofs.ModuleFiles.{put_part, put_whole}
+use Rattle.wasm2c_cli.proofs.ModuleFiles.{in_err, in_ok, put_part, put_whole}
 use Rattle.wasm2c_cli.proofs.writing.unit_to_file.Goals as goal
 
 pub returns-in_err-write_unit-clause-begun : goal.returns-in_err-write_unit-clause-begun
@@ -14,12 +14,11 @@ returns-in_err-write_unit-clause-begun g c =
     (files.current c.begin.new.self) c.args.file.now (text_of c.args.module.now c.args.module_name.now) c.in_ok-begin.ensures.begun
     c.in_ok-begin.ensures.current c.in_err-write_unit.ensures.part)
 
-pub returns-in_err-finish-clause-begun : goal.returns-in_err-finish-clause-begun
-returns-in_err-finish-clause-begun g c =
-    let p = err_from_is_err_and c.from_residual-in_err-finish.result c.from_residual-in_err-finish.ensures.1 in
+pub returns-clause-begun : goal.returns-clause-begun
+returns-clause-begun g c =
     let files = g.F.Files in
-    rw p.1 (whole_begun (files.told c.args.files.now) (files.told c.finish.new.self) c.args.file.now
-    (text_of c.args.module.now c.args.module_name.now) (c.in_err-finish.ensures.told
+    in_err c.finish.result (whole_begun (files.told c.args.files.now) (files.told c.finish.new.self) c.args.file.now
+    (text_of c.args.module.now c.args.module_name.now) (c.finish.ensures.told
     ∙ put_whole (files.told c.args.files.now) (files.told c.begin.new.self) (files.told c.write_unit.new.files)
     (files.current c.begin.new.self) c.args.file.now (text_of c.args.module.now c.args.module_name.now) c.in_ok-begin.ensures.begun
     c.in_ok-begin.ensures.current c.in_ok-write_unit.ensures.written))
@@ -27,19 +26,16 @@ returns-in_err-finish-clause-begun g c =
 pub returns-clause-whole : goal.returns-clause-whole
 returns-clause-whole g c =
     let files = g.F.Files in
-    c.in_ok-finish.ensures.told
+    in_ok c.finish.result (c.finish.ensures.told
     ∙ put_whole (files.told c.args.files.now) (files.told c.begin.new.self) (files.told c.write_unit.new.files)
     (files.current c.begin.new.self) c.args.file.now (text_of c.args.module.now c.args.module_name.now) c.in_ok-begin.ensures.begun
-    c.in_ok-begin.ensures.current c.in_ok-write_unit.ensures.written
+    c.in_ok-begin.ensures.current c.in_ok-write_unit.ensures.written)
 
 pub returns-in_err-begin-clause-bytes : goal.returns-in_err-begin-clause-bytes
 returns-in_err-begin-clause-bytes g c = slice_bytes c.args.module_name.now c.type_inv.module_name
 
 pub returns-in_err-write_unit-clause-bytes : goal.returns-in_err-write_unit-clause-bytes
 returns-in_err-write_unit-clause-bytes g c = slice_bytes c.args.module_name.now c.type_inv.module_name
-
-pub returns-in_err-finish-clause-bytes : goal.returns-in_err-finish-clause-bytes
-returns-in_err-finish-clause-bytes g c = slice_bytes c.args.module_name.now c.type_inv.module_name
 
 pub returns-clause-bytes : goal.returns-clause-bytes
 returns-clause-bytes g c = slice_bytes c.args.module_name.now c.type_inv.module_name

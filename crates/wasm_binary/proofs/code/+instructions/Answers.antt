@@ -1,12 +1,13 @@
-use Rattle.std.proofs.Common.{Ok, sym, ap, subst, ◌∙◌, arith}
+use Rattle.std.proofs.Common.{◌-◌, Ok, sym, ap, subst, ◌∙◌, arith}
 use Rattle.std.proofs.lemmas.Result.{err_from_is_err_and}
 use Rattle.wasm_tree.specs.Instructions.{Code}
 use Rattle.wasm_tree.specs.Views.{instr_tree}
 use Rattle.wasm_spelling.specs.Reading.{code_at}
 use Rattle.wasm_binary.specs.View.{Gives, at}
 use Rattle.wasm_binary.specs.declared.code.Item.{Item}
-use Rattle.wasm_binary.specs.Enders.{as_item, item_of, ender_of, head_of_opener}
+use Rattle.wasm_binary.specs.Enders.{as_item, as_one, item_of, ender_of, head_of_opener}
 use Rattle.wasm_binary.proofs.Items.{Ahead, at_start, goes_on, stops, is_done, shorter, byte_fails, end_item, else_item, no_room, block_item, plain_item, opens_as, opens_none}
+use Rattle.wasm_binary.proofs.Blocks.{opened_is}
 use Rattle.wasm_binary.proofs.code.+instructions.Goals as goal
 
 pub instructions-loop-code-init : goal.instructions-loop-code-init
@@ -69,7 +70,9 @@ next_item-returns-else-room-eq0 t c =
     block_item c.args.room c.args.may_else (at c.args.rest) c.in_ok-opcode.opcode (head_of_opener c.in-Some.opener)
     (at c.in_ok-opcode.rest) c.in_ok-opcode.ensures (opens_as c.in_ok-opcode.opcode (head_of_opener c.in-Some.opener) c.in-Some.ensures)
     (omega (arith, c.if-room-eq0.false)) in
-    subst (Gives as_item c.one.result) (sym item) (c.one.ensures _ c.opened.ensures)
+    subst (Gives as_item c.one.result)
+    (ap (as_one c.args.rest.place) (opened_is (c.args.room - 1) c.in-Some.opener (at c.in_ok-opcode.rest)) ∙ sym item)
+    (c.one.ensures _ c.opened.ensures)
 
 pub next_item-returns-in-None : goal.next_item-returns-in-None
 next_item-returns-in-None t c =

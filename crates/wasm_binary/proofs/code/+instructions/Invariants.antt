@@ -7,9 +7,6 @@ use Rattle.wasm_binary.proofs.code.+instructions.Given as goal
 abbrev pub decreases-opened : goal.decreases-opened
 decreases-opened l = 4 * l.room + 3
 
-abbrev pub decreases-branches : goal.decreases-branches
-decreases-branches l = 4 * l.room + 2
-
 abbrev pub decreases-instructions : goal.decreases-instructions
 decreases-instructions l = 4 * l.room + 1
 

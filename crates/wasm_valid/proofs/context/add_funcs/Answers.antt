@@ -1,14 +1,10 @@
-use Rattle.std.proofs.Common.{rules}
-use Rattle.std.proofs.lemmas.Iterator.{YieldsList-from_map, YieldsList-from_slice}
-use Rattle.std.proofs.lemmas.Iterator.Consumers.{YieldsList-at}
-use Rattle.std.proofs.lemmas.Iterator.Adapters.{items_from_extend}
+use Rattle.std.proofs.Common.{get_or, refl}
+use Rattle.wasm_valid.proofs.Gathered.{one_more_copied}
 use Rattle.wasm_valid.proofs.context.add_funcs.Goals as goal
 
-pub returns : goal.returns
-returns c =
-    let all =
-    items_from_extend c.extend.result c.extend.ensures.ran
-    (YieldsList-from_map _ (λ f. f.type_index)
-    (YieldsList-at c.map.ensures.source (YieldsList-from_slice c.args.funcs.now c.iter.ensures.rest)) c.map.ensures.closure
-    (λ x r q k. search rules)) in
-    search rules
+pub loop-func-preserved : goal.loop-func-preserved
+loop-func-preserved c =
+    let items = c.args.funcs.now in
+    let i = c.loop-func.func-index in
+    one_more_copied (λ f. f.type_index) items i (get_or items i _) _ _ _ _ c.loop-func-test.true refl c.in_ok-push.ensures.items
+    c.loop-func.invariant

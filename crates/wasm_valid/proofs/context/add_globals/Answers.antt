@@ -1,14 +1,8 @@
-use Rattle.std.proofs.Common.{rules}
-use Rattle.std.proofs.lemmas.Iterator.{YieldsList-from_map, YieldsList-from_slice}
-use Rattle.std.proofs.lemmas.Iterator.Consumers.{YieldsList-at}
-use Rattle.std.proofs.lemmas.Iterator.Adapters.{items_from_extend}
+use Rattle.wasm_valid.proofs.Gathered.{one_more_copied}
 use Rattle.wasm_valid.proofs.context.add_globals.Goals as goal
 
-pub returns : goal.returns
-returns c =
-    let all =
-    items_from_extend c.extend.result c.extend.ensures.ran
-    (YieldsList-from_map _ (λ g. (g.ty, g.mutable))
-    (YieldsList-at c.map.ensures.source (YieldsList-from_slice c.args.globals.now c.iter.ensures.rest)) c.map.ensures.closure
-    (λ x r q k. search rules)) in
-    search rules
+pub loop-global-preserved : goal.loop-global-preserved
+loop-global-preserved c =
+    one_more_copied (λ g. (g.ty, g.mutable)) c.args.globals.now c.loop-global.global-index c.global-item.result c.global-item.result _ _ _
+        c.loop-global-test.true
+    c.global-item.is c.in_ok-push.ensures.items c.loop-global.invariant

@@ -4,4 +4,4 @@ use Rattle.wasm_valid.proofs.expressions.enter_element_offsets.Goals as goal
 pub loop-element-preserved : goal.loop-element-preserved
 loop-element-preserved c =
     entered_next _ _ _ _ _ _ _ _ c.as_slice-element-items.ensures c.loop-element-test.true c.element-item.is
-    (c.enter_element_offset.ensures c.args.m.now c.requires) c.loop-element.invariant
+    (rw (c.shape_of-shape.ensures, c.requires.globals) at c.enter_shape.ensures) c.loop-element.invariant

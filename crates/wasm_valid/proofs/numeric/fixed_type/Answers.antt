@@ -3,7 +3,7 @@ use Rattle.wasm_tree.specs.declared.operators.Parts.TheVariants as parts
 use Rattle.wasm_tree.specs.Views.{kind_tree}
 use Rattle.wasm_valid.specs.Typing.{table_type}
 use Rattle.wasm_valid.specs.Needs.{needs_of}
-use Rattle.wasm_valid.proofs.ByParts.{by_parts, index_needs_nothing}
+use Rattle.wasm_valid.proofs.ByParts.{by_parts, index_needs_nothing, numeric_needs_nothing}
 use Rattle.wasm_valid.proofs.TableTypes.{index_typing}
 use Rattle.wasm_valid.proofs.numeric.fixed_type.Goals as goal
 
@@ -30,7 +30,10 @@ returns-in-Access c =
 pub returns-in-Numeric : goal.returns-in-Numeric
 returns-in-Numeric c =
     let same = by_parts (kind_tree c.args.kind.now) (parts.Numeric c.in-Numeric.op) (sym c.parts.ensures ∙ c.in-Numeric.is) in
-    record { typing = c.numeric_type.ensures.typing ∙ ap table_type same; needs = c.numeric_type.ensures.needed ∙ ap needs_of same }
+    record {
+      typing = c.of.ensures.typing ∙ c.numeric_type-ty.ensures ∙ ap table_type same;
+      needs = c.of.ensures.needed ∙ sym (numeric_needs_nothing c.in-Numeric.op) ∙ ap needs_of same;
+    }
 
 pub returns-in-Other : goal.returns-in-Other
 returns-in-Other c = record { typing = c.other_type.ensures.typing; needs = c.other_type.ensures.needed }

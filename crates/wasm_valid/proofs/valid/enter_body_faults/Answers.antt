@@ -17,9 +17,9 @@ loop-func-preserved c =
     let more = Zip-more before behind c.next.result (c.in-Some.func, c.in-Some.body) c.in-Some.is c.next.ensures.steps in
     one_pair_entered m (bodies_of m) (iter_rest (zip_first before)) (iter_rest (zip_first behind)) (iter_rest (zip_second before))
     (iter_rest (zip_second behind))
-    func body c.args.first.now.found c.loop-func.first.found c.enter_fault_of.new.first.found more.0 more.1 c.loop-func.invariant
-    (subst (λ context. EntersBody context body c.loop-func.first.found c.enter_fault_of.new.first.found)
-    (same_body_context c.args.spaces.now m func body c.requires) c.in_ok-enter_fault_of.ensures)
+    func body c.args.first.now.found c.loop-func.first.found c.enter_body_fault.new.first.found more.0 more.1 c.loop-func.invariant
+    (subst (λ context. EntersBody context body c.loop-func.first.found c.enter_body_fault.new.first.found)
+    (same_body_context c.args.spaces.now m func body c.requires) c.in_ok-enter_body_fault.ensures)
 
 pub returns : goal.returns
 returns c =

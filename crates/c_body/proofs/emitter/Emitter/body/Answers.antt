@@ -5,4 +5,4 @@ use Rattle.c_body.proofs.emitter.Emitter.body.Goals as goal
 pub code-requires : goal.code-requires
 code-requires c =
     let around = c.args.around.now in
-    body_ready (setting_of around).context c.in_ok-emitter.emitter around.result c.args.code.now c.in_ok-emitter.ensures c.requires
+    body_ready (setting_of around).context c.begin.new.self around.result c.args.code.now c.in_ok-begin.ensures c.requires.ready

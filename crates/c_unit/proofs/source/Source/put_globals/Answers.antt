@@ -10,7 +10,7 @@ pub loop-global-preserved : goal.loop-global-preserved
 loop-global-preserved c =
     let tree = c.args.self.now.tree.now in
     let made = c.set.ensures
-    ∙ ap (λ name. set name (expr_of c.in_ok-value.value)) c.in_ok-own_global.ensures
+    ∙ ap (λ name. set name (expr_of c.in_ok-value.value)) c.in_ok-name.ensures
     ∙ ap (λ e. set (global_name (imported_globals tree + c.loop-global.number)) e) c.in_ok-value.ensures in
     record {
       at = ap (λ n. n + 1) c.loop-global.invariant.at;

@@ -1,16 +1,17 @@
-use Rattle.std.proofs.Common.{◌≡◌, option_map, IfOk, subst, refl}
+use Rattle.std.proofs.Common.{◌≡◌, option_map, IfOk, subst, refl, ap}
+use Rattle.c_tree.specs.Tree.{Function}
 use Rattle.c_tree.specs.View.{item_of}
 use Rattle.c_unit.specs.Sources.{module_of}
 use Rattle.c_unit.specs.Tails.{from_init}
 use Rattle.c_unit.proofs.Standing.{read, missing, counted_anew, export_there, export_past}
 use Rattle.c_unit.proofs.unit_items.UnitItems.at_exports.Goals as goal
 
-pub returns-in_ok-export_item-in-Some : goal.returns-in_ok-export_item-in-Some
-returns-in_ok-export_item-in-Some c =
+pub returns-in_ok-export_func-in-Some : goal.returns-in_ok-export_func-in-Some
+returns-in_ok-export_func-in-Some c =
     let items = c.as_slice-exports.result.now in
     export_there (module_of c.args.self.now.source) c.args.n _ _
     (read items _ c.args.n _ c.as_slice-exports.ensures c.in-Some.ensures.lookup.3.0 c.in-Some.ensures.lookup.1)
-    c.in_ok-export_item-in-Some.ensures
+    (ap Function c.in_ok-export_func-in-Some.ensures)
 
 pub returns-in-None : goal.returns-in-None
 returns-in-None c =

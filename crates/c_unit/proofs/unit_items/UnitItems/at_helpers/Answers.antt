@@ -1,15 +1,16 @@
-use Rattle.std.proofs.Common.{◌≡◌, option_map, IfOk, subst, refl}
+use Rattle.std.proofs.Common.{◌≡◌, option_map, IfOk, subst, refl, ap}
+use Rattle.c_tree.specs.Tree.{Function}
 use Rattle.c_tree.specs.View.{item_of}
 use Rattle.c_unit.specs.Sources.{module_of}
 use Rattle.c_unit.proofs.Standing.{read, missing, counted_anew, helper_there, helper_past}
 use Rattle.c_unit.proofs.unit_items.UnitItems.at_helpers.Goals as goal
 
-pub returns-in_ok-helper_item-in-Some : goal.returns-in_ok-helper_item-in-Some
-returns-in_ok-helper_item-in-Some c =
+pub returns-in_ok-helper-in-Some : goal.returns-in_ok-helper-in-Some
+returns-in_ok-helper-in-Some c =
     let items = c.as_slice-helpers.result.now in
     helper_there (module_of c.args.self.now.source) c.args.self.now.listed.helpers.items c.args.n _ _ c.args.self.now.helpers_are
     (read items _ c.args.n _ c.as_slice-helpers.ensures.value c.in-Some.ensures.lookup.3.0 c.in-Some.ensures.lookup.1)
-    c.in_ok-helper_item-in-Some.ensures
+    (ap Function c.in_ok-helper-in-Some.ensures.tree)
 
 pub returns-in-None : goal.returns-in-None
 returns-in-None c =

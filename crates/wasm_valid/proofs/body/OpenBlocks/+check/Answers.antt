@@ -7,25 +7,51 @@ use Rattle.wasm_valid.specs.declared.fault.ValidRefusal.{ValidRefusal}
 use Rattle.wasm_valid.specs.declared.body.Block.{Block}
 use Rattle.wasm_tree.specs.Size.{code_size, kind_size, otherwise_size}
 use Rattle.wasm_tree.specs.Views.{code_tree, kind_tree, otherwise_tree}
-use Rattle.wasm_tree.specs.Instructions.{Code}
+use Rattle.wasm_tree.specs.Instructions.{Code, If}
 use Rattle.wasm_valid.specs.Checker.{nothing, run, run_kind, step}
+use Rattle.wasm_valid.specs.Context.{Labels}
 use Rattle.wasm_valid.specs.Shown.{shown}
-use Rattle.wasm_valid.specs.RanTo.{seen, labels_of, run_block, RanTo, Stays}
+use Rattle.wasm_valid.specs.RanTo.{seen, labels_of, run_block, run_nested, RanTo, Stays}
 use Rattle.wasm_valid.specs.Plain.{Plain, Does}
 use Rattle.wasm_valid.specs.BodyFault.{cause_of}
-use Rattle.wasm_valid.proofs.CodeSizes.{instr_smaller, code_below_block, block_below_nested, first_below_branches, second_below_branches, inside_below_instr, instr_below_code}
+use Rattle.wasm_valid.proofs.CodeSizes.{instr_smaller, code_below_block, block_below_nested, first_below_branches, second_below_branches, inside_below_instr, branches_below_instr, instr_below_code}
 use Rattle.wasm_valid.proofs.RunLists.{later_none, run_more, list_refused, run_all}
-use Rattle.wasm_valid.proofs.RunBlocks.{plain_ran, placed_kept, no_else_refused, if_refused}
+use Rattle.wasm_valid.proofs.RunBlocks.{plain_ran, placed_kept, no_else_refused, else_ran}
 use Rattle.wasm_valid.proofs.body.OpenBlocks.+check.Goals as goal
 
 pub branches-returns-in-Some-outcome-clause-step : goal.branches-returns-in-Some-outcome-clause-step
 branches-returns-in-Some-outcome-clause-step t c =
-    no_else_refused (seen c.args.around.now)
-    (labels_of c.args.self.now) c.args.outcome c.in-Some-outcome.field-0 c.args.code.now c.args.otherwise.now
-    c.args.end_place c.in-None.is c.in-Some-outcome.is
+    no_else_refused (seen c.args.around.now) (labels_of c.args.self.now) c.args.place c.args.outcome c.args.code.now c.args.end_place
+    c.pop_type.result tt (shown c.args.self.now.operands) (shown c.pop_type.new.self) c.in_ok-at_place.ensures c.pop_type.ensures.step
+    c.args.otherwise.now c.in-Some-outcome.field-0 c.in-None.is c.in-Some-outcome.is
     (subst (λ (b : Block). run_block (seen c.args.around.now) (labels_of c.args.self.now) b.label b.result b.end_place c.args.code.now
     ≡ Ok nothing)
     c.new.ensures c.in_ok-block-in-None.ensures.step)
+
+pub branches-returns-in_ok-block-in-Some-clause-step : goal.branches-returns-in_ok-block-in-Some-clause-step
+branches-returns-in_ok-block-in-Some-clause-step t c =
+    let around = seen c.args.around.now in
+    let labels = labels_of c.args.self.now in
+    let kept = c.in_ok-block-in-Some.ensures.kept in
+    subst (λ (o : Option ElsePart). RanTo c.nested.result
+    (run_kind around labels c.args.place (If c.args.outcome c.args.code.now (otherwise_tree o) c.args.end_place)
+    (shown c.args.self.now.operands)) (shown c.nested.new.self.operands))
+    (sym c.in-Some.is)
+    (else_ran around labels c.args.place c.args.outcome c.args.code.now c.args.end_place
+    c.pop_type.result tt (shown c.args.self.now.operands) (shown c.pop_type.new.self) c.in_ok-at_place.ensures c.pop_type.ensures.step
+    c.in-Some.other (shown c.block-in-Some.new.self.operands) (shown c.nested.new.self.operands) c.nested.result
+    (subst (λ (b : Block). run_block around labels b.label b.result b.end_place c.args.code.now ≡ Ok nothing)
+    c.new-in-Some.ensures c.in_ok-block-in-Some.ensures.step)
+    (cc)
+    (subst (λ (b : Block). RanTo c.nested.result
+    (run_nested around labels b.label b.result b.end_place c.in-Some.other.code (shown c.block-in-Some.new.self.operands))
+    (shown c.nested.new.self.operands))
+    c.new-in-Some-2.ensures
+    (subst (λ (ls : Labels). RanTo c.nested.result
+    (run_nested around ls c.new-in-Some-2.result.label c.new-in-Some-2.result.result c.new-in-Some-2.result.end_place c.in-Some.other.code
+    (shown c.block-in-Some.new.self.operands))
+    (shown c.nested.new.self.operands))
+    (ap reverse kept.labels) c.nested.ensures.step)))
 
 pub code-loop-instr-init : goal.code-loop-instr-init
 code-loop-instr-init t c = record {
@@ -79,21 +105,6 @@ code-returns-clause-step t c =
     ∙ run_all (seen c.args.around.now) (labels_of c.args.self.now) c.as_slice-instr-items.result.now c.loop-instr.instr-index
     (shown c.loop-instr.self.operands) _ i.ran.0 c.loop-instr-test.false i.ran.1
 
-pub instr-returns-in_err-branches-in-If-clause-step : goal.instr-returns-in_err-branches-in-If-clause-step
-instr-returns-in_err-branches-in-If-clause-step t c =
-    let i = c.in-If in
-    let r = c.in_err-branches-in-If.field-0.0 in
-    let p = err_from_is_err_and c.from_residual-in_err-branches-in-If.result c.from_residual-in_err-branches-in-If.ensures.1 in
-    rw (p.1, p.2)
-    (subst (λ (k : RustKind). RanTo {A = Unit} (Err r)
-    (run_kind (seen c.args.around.now) (labels_of c.args.self.now) c.args.instr.now.place (kind_tree k)
-    (shown c.args.self.now.operands)) (shown c.branches.new.self.operands))
-    (sym i.is)
-    (if_refused (seen c.args.around.now) (labels_of c.args.self.now) c.args.instr.now.place i.outcome i.code
-    (otherwise_tree i.otherwise) i.end_place
-    c.pop_type.result tt (shown c.args.self.now.operands) (shown c.pop_type.new.self) nothing (shown c.branches.new.self.operands)
-    r c.in_ok-at_place-in-If.ensures c.pop_type.ensures.step c.in_err-branches-in-If.ensures.step))
-
 pub instr-returns-in_default : goal.instr-returns-in_default
 instr-returns-in_default t c =
     let d = c.in_default in
@@ -107,12 +118,12 @@ instr-returns-in_default t c =
       step = subst (λ (r : Result Unit ValidRefusal). RanTo r
           (run_kind (seen c.args.around.now) (labels_of c.args.self.now) c.args.instr.now.place (kind_tree c.args.instr.now.kind)
           (shown c.args.self.now.operands)) (shown c.plain.new.operands))
-          (sym c.at_place-in_default.ensures)
+          (sym c.at_place.ensures)
           (plain_ran (seen c.args.around.now) (labels_of c.args.self.now) c.args.instr.now.place c.args.instr.now.kind c.plain.result
           (shown c.args.self.now.operands) (shown c.plain.new.operands) d.not-Block d.not-Loop d.not-If step);
       kept = subst (λ (r : Result Unit ValidRefusal). OnOk r
           (Stays c.args.self.now record { operands = c.plain.new.operands; labels = c.args.self.now.labels }))
-          (sym c.at_place-in_default.ensures)
+          (sym c.at_place.ensures)
           (placed_kept c.plain.result c.args.instr.now.place _ _ c.plain.ensures.kept (λ h. record { labels = refl; operands = h }));
     }
 
@@ -130,8 +141,8 @@ pub branches-block-requires-in-Some : goal.branches-block-requires-in-Some
 branches-block-requires-in-Some t c =
     (first_below_branches (code_size c.args.code.now) (otherwise_size (otherwise_tree c.args.otherwise.now)) t c.decreases, tt)
 
-pub branches-block-requires-in-Some-2 : goal.branches-block-requires-in-Some-2
-branches-block-requires-in-Some-2 t c =
+pub branches-nested-requires : goal.branches-nested-requires
+branches-nested-requires t c =
     let size : Option ElsePart → ℕ = λ o. otherwise_size (otherwise_tree o) in (
       second_below_branches (code_size c.args.code.now) (size c.args.otherwise.now) (code_size c.in-Some.other.code) t
           (ap size c.in-Some.is) c.decreases,
@@ -151,7 +162,7 @@ instr-nested-requires-in-Loop t c =
 pub instr-branches-requires : goal.instr-branches-requires
 instr-branches-requires t c =
     let size : RustKind → ℕ = λ k. kind_size (kind_tree k) in (
-      inside_below_instr (size c.args.instr.now.kind) (code_size c.in-If.code + otherwise_size (otherwise_tree c.in-If.otherwise)) t
+      branches_below_instr (size c.args.instr.now.kind) (code_size c.in-If.code + otherwise_size (otherwise_tree c.in-If.otherwise)) t
           (ap size c.in-If.is) c.decreases,
       tt,
     )

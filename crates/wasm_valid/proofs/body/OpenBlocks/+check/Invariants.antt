@@ -16,7 +16,7 @@ abbrev pub decreases-nested : goal.decreases-nested
 decreases-nested l = 8 * code_size l.code.now + 2
 
 abbrev pub decreases-branches : goal.decreases-branches
-decreases-branches l = 8 * (code_size l.code.now + otherwise_size (otherwise_tree l.otherwise.now)) + 2
+decreases-branches l = 8 * (code_size l.code.now + otherwise_size (otherwise_tree l.otherwise.now)) + 3
 
 abbrev pub decreases-instr : goal.decreases-instr
 decreases-instr l = 8 * kind_size (kind_tree l.instr.now.kind) + 3

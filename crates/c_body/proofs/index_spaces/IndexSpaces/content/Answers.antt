@@ -1,0 +1,13 @@
+use Rattle.std.proofs.Common.{List, ◌∙◌, ◌++◌, ap, sym, subst}
+use Rattle.w2c_base.specs.declared.value.ValType.{ValType}
+use Rattle.c_body.specs.Around.{context_with}
+use Rattle.c_body.specs.Ready.{BodyIsReady}
+use Rattle.c_body.proofs.index_spaces.IndexSpaces.content.Goals as goal
+
+pub whole_body-requires-clause-ready : goal.whole_body-requires-clause-ready
+whole_body-requires-clause-ready c =
+    let ty = c.args.ty.now in
+    let all = c.as_slice-2.ensures.value ∙ c.in_ok-all.ensures
+    ∙ ap (λ (own : List ValType). ty.params ++ own) (c.as_slice.ensures.value ∙ c.in_ok-own.ensures) in
+    subst (λ (locals : List ValType). BodyIsReady (context_with c.args.self.now.tree.now locals ty.result) c.args.body.now.code)
+    (sym all) c.requires

@@ -1,0 +1,29 @@
+use Rattle.std.proofs.Common.{rules}
+use Rattle.w2c_files.proofs.Standing.{at_first}
+use Rattle.wasm2c_cli.specs.Parts.{runtime_under}
+use Rattle.wasm2c_cli.specs.Runtime.{runtime_header, runtime_source}
+use Rattle.wasm2c_cli.proofs.ModuleFiles.{second_at, stops_at}
+use Rattle.wasm2c_cli.proofs.runtime.write_texts.Goals as goal
+
+pub returns-in-Err-clause-stop : goal.returns-in-Err-clause-stop
+returns-in-Err-clause-stop g c =
+    let files = g.F.Files in
+    stops_at (files.told c.args.files.now) (files.told c.write_file.new.files)
+    (runtime_under c.args.header_file.now c.args.source_file.now) (files.write_faults c.args.files.now)
+    (files.write_faults c.write_file.new.files) (files.fault_name c.write_file.new.files) c.in-Err.answer c.args.header_file.now
+    c.stop_for.result
+    (at_first (files.told c.args.files.now) (files.told c.write_file.new.files) c.args.header_file.now runtime_header _ (search rules))
+    (λ failed. record { rose = search rules; named = search rules })
+    (search rules)
+
+pub returns-in-Err-write_file-clause-stop : goal.returns-in-Err-write_file-clause-stop
+returns-in-Err-write_file-clause-stop g c =
+    let files = g.F.Files in
+    stops_at (files.told c.args.files.now) (files.told c.write_file-2.new.files)
+    (runtime_under c.args.header_file.now c.args.source_file.now) (files.write_faults c.args.files.now)
+    (files.write_faults c.write_file-2.new.files) (files.fault_name c.write_file-2.new.files) c.in-Err-write_file.answer
+    c.args.source_file.now c.stop_for-in-Err-write_file.result
+    (second_at (files.told c.args.files.now) (files.told c.write_file.new.files) (files.told c.write_file-2.new.files)
+    c.args.header_file.now c.args.source_file.now runtime_header runtime_source (search rules) (search rules))
+    (λ failed. record { rose = search rules; named = search rules })
+    (search rules)

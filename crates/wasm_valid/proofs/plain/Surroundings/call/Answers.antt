@@ -1,0 +1,19 @@
+use Rattle.std.proofs.Common.{◌≡◌, Option, Some, map, slice_get, option_map, reverse, sym, ap, ◌∙◌}
+use Rattle.std.specs.Option.{option_copied}
+use Rattle.std.proofs.lemmas.Option.{slice_get-map}
+use Rattle.wasm_valid.specs.Seen.{type_seen}
+use Rattle.wasm_valid.specs.Shown.{shown}
+use Rattle.wasm_valid.specs.RanTo.{seen}
+use Rattle.wasm_valid.proofs.Steps.{called}
+use Rattle.wasm_valid.proofs.plain.Surroundings.call.Goals as goal
+
+pub returns-in-Some-func_type-clause-step : goal.returns-in-Some-func_type-clause-step
+returns-in-Some-func_type-clause-step c labels =
+    let spaces = c.args.self.now.spaces.now in
+    let ty = c.in-Some-func_type.ty.now in
+    let there : slice_get (map (type_seen spaces) spaces.funcs.items) c.args.index ≡ Some (Some ty) =
+    slice_get-map (type_seen spaces) spaces.funcs.items c.args.index
+    ∙ ap (option_map (type_seen spaces)) (sym c.type_index.ensures ∙ c.in-Some.is)
+    ∙ ap Some (sym c.func_type.ensures ∙ ap option_copied c.in-Some-func_type.is) in
+    called (seen c.args.self.now) (reverse labels) c.turn.result (shown c.args.operands.now) (shown c.turn.new.self) c.args.index ty
+    c.as_slice.result.now there c.as_slice.ensures c.turn.ensures.step
