@@ -29,7 +29,7 @@ of_its_parts helper.Fill = refl
 pub is_whole : (which : Helper) (f : tree.Func) (result : CType) (name : List ℕ) (params : List tree.Param) (locals : List tree.Local)
     (stmts : List tree.Stmt)
     → f
-        ≡ record { is_static = true; result = result; name = name; params = params; body = Some (record { locals = locals; stmts = stmts }) }
+    ≡ record { is_static = true; result = result; name = name; params = params; body = Some (record { locals = locals; stmts = stmts }) }
     → result ≡ (helper_of which).result → name ≡ (helper_of which).name → params ≡ (helper_of which).params
     → locals ≡ locals_of (helper_of which) → stmts ≡ stmts_of (helper_of which) → f ≡ helper_of which
 is_whole which f result name params locals stmts e r n p l s = rw (e, r, n, p, l, s) (sym (of_its_parts which))

@@ -98,7 +98,7 @@ module _ (c : Context) (labels : Labels) (place : ℕ) (t : Option ValType) (cod
   -- without `else`, and with a result
   pub no_else_refused : (o : Option ElsePart) (v : ValType) → o ≡ None → t ≡ Some v → first no_else ≡ Ok nothing
       → (x : ℕ)
-        × (run_kind c labels place (If t code (otherwise_tree o) e) s ≡ Err (refusal x (record { place = e; cause = TypeMismatch })))
+      × (run_kind c labels place (If t code (otherwise_tree o) e) s ≡ Err (refusal x (record { place = e; cause = TypeMismatch })))
   no_else_refused (Some other) v is te h = absurd (let f : ⊥ = cc in f)
   no_else_refused None v is te h = (
     0 + (token_count code + 1),

@@ -5,4 +5,4 @@ use Rattle.wasm_valid.proofs.context.add_globals.Given as goal
 abbrev pub invariant-loop-global : goal.invariant-loop-global
 invariant-loop-global l =
     l.space.items ++ map (λ g. (g.ty, g.mutable)) (drop l.global-index l.globals)
-        ≡ l.initial.space.items ++ map (λ g. (g.ty, g.mutable)) l.globals
+    ≡ l.initial.space.items ++ map (λ g. (g.ty, g.mutable)) l.globals

@@ -8,4 +8,4 @@ returns-in_ok-pop_type-clause-step c context =
     jumped_by_table context (reverse c.args.labels.now) c.jump.result (shown c.args.operands.now) (shown c.jump.new.operands)
     c.args.others.now c.args.label c.in_ok-carried.carried (shown c.pop_type.new.self)
     c.in_ok-carried.ensures (c.in_ok-all_carry.ensures.0 ∙ c.if-branch.true) c.in_ok-all_carry.ensures.1
-        c.in_ok-pop_type.ensures.step c.jump.ensures.step
+    c.in_ok-pop_type.ensures.step c.jump.ensures.step
