@@ -7,7 +7,7 @@ import sys
 import tempfile
 
 OPTIONS = ["--disable-reference-types", "--disable-multi-value", "--disable-saturating-float-to-int", "--disable-simd"]
-# Core 1.0 validates offsets in the whole context (3.4.4, 3.4.5); WABT lets them get imported globals alone.
+# Core 1.0 validates offsets in the whole context (3.4.5, 3.4.6); WABT lets them get imported globals alone.
 KNOWN = {"initializer expression can only reference an imported global", "call_indirect reserved value must be 0"}
 # Rows that WABT accepts although Core 1.0 does not: expressions that end with their section or body in place of an `end`
 # (5.4.6), an offset of no instruction (3.3.7), and an instruction that Core 1.0 does not have. And those that Core 2.0 refuses (5.5.16):

@@ -5,7 +5,7 @@ use Rattle.std.specs.List.{list_any}
 use Rattle.std.proofs.Math.Bool.{or-false, or_assoc}
 use Rattle.std.proofs.lemmas.List.{drop_all}
 use Rattle.w2c_base.specs.Lookup.{named}
-use Rattle.wasm_tree.specs.Instructions.{Kind, Code, then_code, end_code, Nop}
+use Rattle.wasm_tree.specs.Instructions.{Kind, Code, Nop}
 use Rattle.wasm_tree.specs.declared.code.Instr.{Instr}
 use Rattle.wasm_tree.specs.declared.entries.BodyEntry.{BodyEntry}
 use Rattle.wasm_tree.specs.declared.tree.Module.{Module}
@@ -24,7 +24,7 @@ use Rattle.c_body.specs.Stack.{ends}
 use Rattle.c_body.specs.Needs.{named_by, calls, calls_helper, helpers_of}
 use Rattle.c_body.specs.Called.{HasMore, KnowsCalls, is_known}
 use Rattle.c_body.proofs.CodeLists.{code_more, code_done}
-use Rattle.c_body.proofs.Grown.{read_again}
+use Rattle.c_symbols.proofs.Grown.{read_again}
 
 -- ---- helpers
 

@@ -30,7 +30,7 @@ use Rattle.c_meaning.proofs.Ways.{stays, join}
 use Rattle.alike.specs.Alike.{func_name}
 use Rattle.c_prelude.proofs.CallStatements.{named_here}
 use Rattle.c_body.specs.Names.{slot}
-use Rattle.c_body.specs.Symbols.{func_imports, import_symbol, is_usable}
+use Rattle.c_symbols.specs.Symbols.{func_imports, import_symbol, is_usable}
 use Rattle.c_body.specs.Objects.{callee}
 use Rattle.c_body.specs.Stack.{stands, after, after_call}
 use Rattle.c_body.specs.Passing.{StandsFor, called, given}

@@ -15,7 +15,7 @@ use Rattle.wasm_tree.specs.IndexSpaces.{func_of_import, func_space, type_in, is_
 use Rattle.wasm_tree.proofs.BehindImports.{defined_behind_imports}
 use Rattle.wasm_meaning.specs.LinkedSet as link
 use Rattle.c_body.specs.Agree.{IsDefined, IsCallable}
-use Rattle.c_body.specs.Symbols.{func_imports}
+use Rattle.c_symbols.specs.Symbols.{func_imports}
 use Rattle.c_body.proofs.Lists.{get_left, get_behind, get_joined, get_mapped, get_unmapped, get_numbered, get_kept, get_none, all_at}
 use Rattle.c_body.proofs.Spaces.{module_is, ResolvesAs, callable_later, looked_up, func_owner, func_count}
 

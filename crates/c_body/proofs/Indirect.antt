@@ -41,7 +41,7 @@ use Rattle.c_prelude.specs.Operators.{number, IsSigned, element_found}
 use Rattle.c_prelude.specs.Statements.{ComesWithin}
 use Rattle.c_prelude.proofs.EachHelper.{helper_right}
 use Rattle.c_body.specs.Names.{element_name}
-use Rattle.c_body.specs.Symbols.{c_func_type}
+use Rattle.c_symbols.specs.Symbols.{c_func_type}
 use Rattle.c_body.specs.Stack.{stands, after_call}
 use Rattle.c_body.specs.Objects.{table_arg}
 use Rattle.c_body.specs.Passing.{StandsFor, called}

@@ -10,16 +10,23 @@ use Rattle.wasm_tree.specs.IndexSpaces.{imported_funcs}
 use Rattle.wasm_meaning.specs.LinkedSet.{NamedModule}
 use Rattle.alike.specs.Alike.{func_name}
 use Rattle.c_tree.specs.Scope.{Name}
-use Rattle.c_body.specs.Reached.{usable_symbol}
+use Rattle.c_symbols.specs.Reached.{usable_symbol}
 use Rattle.c_body.specs.Objects.{callee}
-use Rattle.c_body.specs.Symbols.{func_imports}
+use Rattle.c_symbols.specs.Symbols.{func_imports}
 
-pub is_some_within : {A : Type 0} (xs : List A) (i : ℕ) → i < length xs → true ≡ is_some (slice_get xs i)
-is_some_within [] i h = absurd (omega (arith, h))
-is_some_within (x ∷ xs) i h = rw (slice_get-get_or (x ∷ xs) i x h) refl
+-- what is made of each item of a list stands where the item does
+pub reached_within : {A B : Type 0} (f : A → B) (made : List B) (xs : List A) (i : ℕ) → made ≡ map f xs → i < length made
+    → true ≡ is_some (slice_get xs i)
+reached_within f made [] i is less = absurd (omega (arith, less, ap length is))
+reached_within f made (x ∷ xs) i is less =
+    let within : i < length (x ∷ xs) = omega (arith, less, ap length is, length-map (x ∷ xs) f) in
+    rw (slice_get-get_or (x ∷ xs) i x within) refl
 
-pub is_some_past : {A : Type 0} (xs : List A) (i : ℕ) → length xs ≤ i → false ≡ is_some (slice_get xs i)
-is_some_past xs i h = rw (slice_get_past xs i h) refl
+pub reached_past : {A B : Type 0} (f : A → B) (made : List B) (xs : List A) (i : ℕ) → made ≡ map f xs → length made ≤ i
+    → false ≡ is_some (slice_get xs i)
+reached_past f made xs i is past =
+    let beyond : length xs ≤ i = omega (arith, past, ap length is, length-map xs f) in
+    rw (slice_get_past xs i beyond) refl
 
 pub at_index_map : {A B : Type 0} (f : A → Option B) (xs : List A) (i : ℕ) → at_index (map f xs) i ≡ if_found (slice_get xs i) f
 at_index_map {A} {B} f xs i = ap (λ found. if_found found (λ entry. entry)) (slice_get-map f xs i) ∙ by_case (slice_get xs i)

@@ -23,7 +23,7 @@ use Rattle.c_meaning.specs.Linking.{Program, definition_at, func_type, c_type_of
 use Rattle.c_meaning.specs.Primitives.{primitive}
 use Rattle.c_meaning.proofs.Ways.{stays}
 use Rattle.alike.specs.Alike.{func_name}
-use Rattle.c_body.specs.Symbols.{c_func_type}
+use Rattle.c_symbols.specs.Symbols.{c_func_type}
 use Rattle.c_body.specs.Limits.{BodyHasLimits, HasLimits}
 use Rattle.c_body.specs.Passing.{StandsFor, called, given}
 use Rattle.c_body.specs.Agree.{IsDefined}

@@ -31,7 +31,7 @@ use Rattle.c_meaning.proofs.Takes.{put_number}
 use Rattle.alike.specs.Alike.{memory_name, table_name, global_name, first_global}
 use Rattle.c_body.specs.Names.{pointer_name}
 use Rattle.c_body.specs.Limits.{HasLimits}
-use Rattle.c_body.specs.Symbols.{table_imports, memory_imports, global_imports}
+use Rattle.c_symbols.specs.Symbols.{table_imports, memory_imports, global_imports}
 use Rattle.c_body.specs.Objects.{memory_arg, table_arg, global_value, set_global}
 use Rattle.c_body.specs.Agree.{MemoryAgrees, TableAgrees, PointsTo, PointersAreSet, IsMade, IsCallableIfAny}
 use Rattle.c_body.specs.Follows.{Site, StandsAt, state_at}

@@ -17,7 +17,7 @@ use Rattle.c_meaning.specs.Linking.{Program}
 use Rattle.c_meaning.specs.Machine.{no_memory, no_table, var_in}
 use Rattle.alike.specs.Alike.{memory_name, table_name, global_name, GlobalsAlike, SameElement, first_global}
 use Rattle.c_body.specs.Names.{slot, local_name, element_name, pointer_name}
-use Rattle.c_body.specs.Symbols.{table_imports, memory_imports, global_imports}
+use Rattle.c_symbols.specs.Symbols.{table_imports, memory_imports, global_imports}
 use Rattle.c_body.specs.Passing.{StandsFor}
 
 -- ---- objects

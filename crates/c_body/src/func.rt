@@ -12,12 +12,12 @@ ghost use Rattle.c_body.specs.Finished as finished;
 ghost use Rattle.c_body.specs.Ready.{BodyIsReady};
 
 use crate::around::Around;
-use crate::call::c_result;
 use crate::content::{declared, params, put_element, put_slots};
 use crate::emitter::Emitter;
 use crate::index_spaces::IndexSpaces;
 use crate::mark::Mark;
 use crate::naming::func_name;
+use c_symbols::c_result;
 use c_tree::{Body, CType, Func, Locals, Name, Params, Stmts};
 use std::alloc::Global;
 use w2c_base::{FuncType, Memory, ValType};

@@ -1,5 +1,5 @@
 // What a body's translation reads of its module, made once for all bodies.
-ghost use Rattle.std.specs.Prelude.{◌≡◌, map, length, slice_get, is_some, option_map, IfOk};
+ghost use Rattle.std.specs.Prelude.{◌≡◌, map, slice_get, is_some, option_map, IfOk};
 ghost use Rattle.std.specs.Option.{option_copied};
 ghost use Rattle.w2c_base.specs.Lookup.{at_index};
 ghost use Rattle.wasm_tree.specs.IndexSpaces.{func_space, global_space, type_in, imported_funcs as imported_func_count};
@@ -9,18 +9,19 @@ ghost use Rattle.c_tree.specs.View.{arg_of, expr_of, stmt_of};
 ghost use Rattle.c_body.specs.Names.{pointer_name};
 ghost use Rattle.c_body.specs.Objects as objects;
 ghost use Rattle.c_body.specs.Plain.{operand};
-ghost use Rattle.c_body.specs.Symbols.{global_imports, memory_imports, table_imports, func_imports};
+ghost use Rattle.c_symbols.specs.Symbols.{global_imports, memory_imports, table_imports, func_imports};
 ghost use Rattle.c_body.specs.Ready.{HaveFewParams};
-ghost use Rattle.c_body.specs.Reached.{usable_symbol};
+ghost use Rattle.c_symbols.specs.Reached.{usable_symbol};
+ghost use Rattle.c_symbols.specs.Named.{named_of as symbols_of};
+ghost use Rattle.c_symbols.specs.Usable.{AreReached};
 
 use crate::naming::{func_name, global_name, global_pointer, name_of, slot};
 use crate::pieces::set_to_operand;
-use crate::symbols::callees;
-use crate::types_by_index::TypesByIndex;
+use c_symbols::{Reached, Symbols};
 use c_tree::{Arg, Expr, Name, Stmt};
 use std::alloc::Global;
 use w2c_base::{FuncType, Memory, ValType};
-use wasm_tree::{ImportKind, Module};
+use wasm_tree::Module;
 use wasm_valid::ValidModule;
 
 /// The index spaces of a module under its name, and how its functions, globals, memory and table are
@@ -30,53 +31,16 @@ pub struct IndexSpaces<'a> {
     pub(crate) checked: &'a ValidModule,
     pub(crate) tree: &'a Module,
     pub(crate) name: &'a [u8],
-    types: TypesByIndex<'a>,
-    /// The symbols of the imported functions, where they may be called.
-    callees: Vec<Option<Name>>,
-    imported_globals: usize,
-    imports_memory: bool,
-    imports_table: bool,
+    symbols: Symbols<'a>,
+    reached: Reached,
     ghost same: { checked.now ≡ tree.now },
     ghost few_params: { HaveFewParams tree.now },
-    ghost types_are: { types.tree.now ≡ tree.now },
-    ghost callees_are: { callees.items ≡ map (usable_symbol (record { name = name.now; tree = tree.now })) (func_imports tree.now) },
-    ghost globals_imported: { imported_globals ≡ length (global_imports tree.now) },
-    ghost memory_imported: { imports_memory ≡ is_some (slice_get (memory_imports tree.now) 0) },
-    ghost table_imported: { imports_table ≡ is_some (slice_get (table_imports tree.now) 0) },
-}
-
-fn count_globals(m: &Module) -> usize
-    ensures { result ≡ length (global_imports m.now) }
-{
-    let mut count = 0usize;
-    for import in m.imports.as_slice() {
-        if let ImportKind::Global(_, _) = import.kind {
-            count += 1;
-        }
-    }
-    count
-}
-
-fn imports_memory(m: &Module) -> bool
-    ensures { result ≡ is_some (slice_get (memory_imports m.now) 0) }
-{
-    for import in m.imports.as_slice() {
-        if let ImportKind::Memory(_) = import.kind {
-            return true;
-        }
-    }
-    false
-}
-
-fn imports_table(m: &Module) -> bool
-    ensures { result ≡ is_some (slice_get (table_imports m.now) 0) }
-{
-    for import in m.imports.as_slice() {
-        if let ImportKind::Table(_) = import.kind {
-            return true;
-        }
-    }
-    false
+    ghost tree_is: { symbols.indexes.tree.now ≡ tree.now },
+    ghost name_is: { symbols.indexes.name.now ≡ name.now },
+    ghost funcs_are: { reached.funcs.items ≡ map (usable_symbol (record { name = name.now; tree = tree.now })) (func_imports tree.now) },
+    ghost tables_are: { reached.tables.items ≡ map (usable_symbol (record { name = name.now; tree = tree.now })) (table_imports tree.now) },
+    ghost memories_are: { reached.memories.items ≡ map (usable_symbol (record { name = name.now; tree = tree.now })) (memory_imports tree.now) },
+    ghost globals_are: { reached.globals.items ≡ map (usable_symbol (record { name = name.now; tree = tree.now })) (global_imports tree.now) },
 }
 
 fn copied(alloc: Global, name: &Option<Name>) -> Result<Option<Name>, Memory>
@@ -106,18 +70,29 @@ impl<'a> IndexSpaces<'a> {
         ensures { IfOk result (λ s. named_of s ≡ record { name = name.now; tree = m.now }) }
     {
         let tree = m.module();
-        let types = TypesByIndex::new(alloc, tree)?;
-        let callees = callees(alloc, name, &types)?;
+        let symbols = Symbols::new(alloc, tree, name)?;
+        let reached = Reached::new(alloc, &symbols)?;
         Ok(IndexSpaces {
             checked: m,
             tree,
             name,
-            types,
-            callees,
-            imported_globals: count_globals(tree),
-            imports_memory: imports_memory(tree),
-            imports_table: imports_table(tree),
+            symbols,
+            reached,
         })
+    }
+
+    /// The symbols of the module, with their types in its unit.
+    pub fn symbols(&self) -> &Symbols<'a>
+        ensures { symbols_of result.now.indexes ≡ named_of self.now }
+    {
+        &self.symbols
+    }
+
+    /// The symbols of the imports, where they may be used.
+    pub fn reached(&self) -> &Reached
+        ensures { AreReached result.now (named_of self.now) }
+    {
+        &self.reached
     }
 
     /// How many functions are imported.
@@ -125,7 +100,7 @@ impl<'a> IndexSpaces<'a> {
     pub fn imported_funcs(&self) -> usize
         ensures { result ≡ imported_func_count self.now.tree.now }
     {
-        self.callees.len()
+        self.reached.funcs.len()
     }
 
     /// The type with an index.
@@ -133,7 +108,7 @@ impl<'a> IndexSpaces<'a> {
     pub fn ty(&self, type_index: u32) -> Option<&'a FuncType>
         ensures { option_copied result ≡ slice_get (map (λ t. t.ty) self.now.tree.now.types) type_index }
     {
-        self.types.ty(type_index)
+        self.symbols.indexes().ty(type_index)
     }
 
     /// The type of the function with an index.
@@ -141,14 +116,14 @@ impl<'a> IndexSpaces<'a> {
     pub(crate) fn func_type(&self, index: u32) -> Option<&'a FuncType>
         ensures { option_copied result ≡ at_index (map (type_in self.now.tree.now) (func_space self.now.tree.now)) index }
     {
-        self.types.func_type(index)
+        self.symbols.indexes().func_type(index)
     }
 
     /// The type of the global with an index.
     pub(crate) fn global_type(&self, index: u32) -> Option<ValType>
         ensures { result ≡ option_map (λ g. g.0) (slice_get (global_space self.now.tree.now) index) }
     {
-        match self.types.global_type(index) {
+        match self.symbols.indexes().global_type(index) {
             Some((ty, _)) => Some(ty),
             None => None,
         }
@@ -159,17 +134,31 @@ impl<'a> IndexSpaces<'a> {
     pub fn callee(&self, alloc: Global, index: u32) -> Result<Option<Name>, Memory>
         ensures { IfOk result (λ name. name ≡ objects.callee (named_of self.now) index) }
     {
-        match self.callees.get(index as usize) {
+        match self.reached.funcs.get(index as usize) {
             None => Ok(Some(func_name(alloc, index)?)),
             Some(name) => copied(alloc, name),
         }
+    }
+
+    #[tactic(auto, using(crate::proofs::LookedUp::reached_within, crate::proofs::LookedUp::reached_past))]
+    fn imports_memory(&self) -> bool
+        ensures { result ≡ is_some (slice_get (memory_imports self.now.tree.now) 0) }
+    {
+        0 < self.reached.memories.len()
+    }
+
+    #[tactic(auto, using(crate::proofs::LookedUp::reached_within, crate::proofs::LookedUp::reached_past))]
+    fn imports_table(&self) -> bool
+        ensures { result ≡ is_some (slice_get (table_imports self.now.tree.now) 0) }
+    {
+        0 < self.reached.tables.len()
     }
 
     /// A pointer to the memory.
     pub fn memory_arg(&self, alloc: Global) -> Result<Arg, Memory>
         ensures { IfOk result (λ a. arg_of a ≡ objects.memory_arg self.now.tree.now) }
     {
-        if self.imports_memory {
+        if self.imports_memory() {
             Ok(Arg::Value(Expr::Name(name_of(alloc, b"pm0")?)))
         } else {
             Ok(Arg::Address(name_of(alloc, b"m0")?))
@@ -180,18 +169,18 @@ impl<'a> IndexSpaces<'a> {
     pub fn table_arg(&self, alloc: Global) -> Result<Arg, Memory>
         ensures { IfOk result (λ a. arg_of a ≡ objects.table_arg self.now.tree.now) }
     {
-        if self.imports_table {
+        if self.imports_table() {
             Ok(Arg::Value(Expr::Name(name_of(alloc, b"pt0")?)))
         } else {
             Ok(Arg::Address(name_of(alloc, b"t0")?))
         }
     }
 
-    #[tactic(auto, using(crate::proofs::LookedUp::is_some_within, crate::proofs::LookedUp::is_some_past))]
+    #[tactic(auto, using(crate::proofs::LookedUp::reached_within, crate::proofs::LookedUp::reached_past))]
     fn is_imported_global(&self, index: u32) -> bool
         ensures { result ≡ is_some (slice_get (global_imports self.now.tree.now) index) }
     {
-        (index as usize) < self.imported_globals
+        (index as usize) < self.reached.globals.len()
     }
 
     /// The value of a global.

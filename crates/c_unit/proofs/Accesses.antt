@@ -5,8 +5,8 @@ use Rattle.std.proofs.lemmas.Option.{slice_get-map}
 use Rattle.wasm_tree.specs.declared.entries.Import.{Import}
 use Rattle.wasm_meaning.specs.LinkedSet.{NamedModule}
 use Rattle.c_tree.specs.Scope.{Name}
-use Rattle.c_body.specs.Reached.{usable_symbol}
-use Rattle.c_body.specs.Symbols.{Typed, export_symbol, export_type, table_imports, memory_imports, global_imports}
+use Rattle.c_symbols.specs.Reached.{usable_symbol}
+use Rattle.c_symbols.specs.Symbols.{Typed, export_symbol, export_type, table_imports, memory_imports, global_imports}
 use Rattle.alike.specs.Alike.{memory_name, table_name, global_name}
 use Rattle.wasm_tree.specs.declared.entries.Export.{Export}
 use Rattle.wasm_tree.specs.declared.entries.ExportKind.TheVariants.{Table as ExportTable, Memory as ExportMemory, Global as ExportGlobal}

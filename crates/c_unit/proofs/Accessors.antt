@@ -26,7 +26,7 @@ use Rattle.c_meaning.specs.State.{FuncAddress, UnitFunc, ObjectAddress}
 use Rattle.c_meaning.specs.Linking.{Program, definition_at, external_func, func_named, func_type}
 use Rattle.c_meaning.specs.Primitives.{primitive}
 use Rattle.alike.specs.Alike.{memory_name, table_name, global_name, first_global}
-use Rattle.c_body.specs.Symbols.{accessor_type, global_accessor_type, import_symbol, import_type, is_usable, export_symbol, export_type}
+use Rattle.c_symbols.specs.Symbols.{accessor_type, global_accessor_type, import_symbol, import_type, is_usable, export_symbol, export_type}
 use Rattle.c_unit.specs.Exports.{result_name, export_func, passes_on, external, accessor, usable_symbol}
 use Rattle.c_unit.specs.Sets.{IsAcceptedSet, program_of}
 use Rattle.c_unit.proofs.Defined.{IsExternal, export_external, export_is_no_primitive, kind_of, kind_of_global, symbol_is}

@@ -13,7 +13,7 @@ use Rattle.wasm_meaning.specs.Run.{Task, Take}
 use Rattle.c_tree.specs.Tree as c
 use Rattle.c_meaning.specs.State as state
 use Rattle.alike.specs.Alike.{memory_name, table_name, global_name}
-use Rattle.c_body.specs.Symbols.{table_imports, memory_imports, global_imports}
+use Rattle.c_symbols.specs.Symbols.{table_imports, memory_imports, global_imports}
 use Rattle.c_unit.specs.Init.{set_pointer, test_limits, take_stmts, takes_from, asks_something, has_test}
 use Rattle.c_unit.proofs.InitStatements.{Seat}
 use Rattle.c_unit.proofs.InitRuns.{FollowsTask, FollowsTasks, and_others}

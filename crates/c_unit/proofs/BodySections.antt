@@ -19,7 +19,7 @@ use Rattle.c_tree.specs.Rules.{may_both_stand, defines, is_value_type, proper_pa
 use Rattle.c_meaning.specs.Linking.{c_result_of}
 use Rattle.alike.specs.Alike.{func_name}
 use Rattle.c_prelude.specs.Helpers.{helper_of}
-use Rattle.c_body.specs.Symbols.{declared_symbols}
+use Rattle.c_symbols.specs.Symbols.{declared_symbols}
 use Rattle.c_body.specs.Objects.{pointers_of}
 use Rattle.c_body.specs.Needs.{helpers_of}
 use Rattle.c_body.specs.Body.{func_of, body_of, params_from, params_of}

@@ -24,7 +24,7 @@ use Rattle.c_body.specs.Labels.{any_in}
 use Rattle.c_body.specs.Needs.{calls_helper, helpers_of}
 use Rattle.c_body.specs.Objects.{pointers_of}
 use Rattle.c_body.specs.Ready.{HaveFewParams}
-use Rattle.c_body.specs.Symbols.{import_symbol, global_imports, memory_imports, table_imports, firsts, declared_symbols, declared_type, symbol_type}
+use Rattle.c_symbols.specs.Symbols.{import_symbol, global_imports, memory_imports, table_imports, firsts, declared_symbols, declared_type, symbol_type}
 use Rattle.c_body.proofs.Lists.{filter_few}
 use Rattle.c_unit.specs.Entries.{entries}
 use Rattle.c_unit.specs.Items.{objects_of, data_item, data_of, bodies, items}

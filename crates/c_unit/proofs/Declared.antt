@@ -24,7 +24,7 @@ use Rattle.c_meaning.specs.Machine as machine
 use Rattle.c_meaning.proofs.Lookups.{bytes_equal, bytes_differ}
 use Rattle.alike.specs.Alike.{memory_name, table_name, global_name}
 use Rattle.c_body.specs.Names.{pointer_name}
-use Rattle.c_body.specs.Symbols.{table_imports, memory_imports, global_imports, pointer_type}
+use Rattle.c_symbols.specs.Symbols.{table_imports, memory_imports, global_imports, pointer_type}
 use Rattle.c_body.specs.Objects.{pointers_of}
 use Rattle.c_unit.specs.Init.{data_name}
 use Rattle.c_unit.specs.Items.{objects_of, data_of, items}

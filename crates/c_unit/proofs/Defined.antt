@@ -37,7 +37,7 @@ use Rattle.c_prelude.specs.Helpers.{helper_of}
 use Rattle.c_prelude.proofs.Functions.{listed, names_differ, made_static}
 use Rattle.alike.specs.Alike.{func_name, memory_name, table_name, global_name}
 use Rattle.c_body.specs.Objects.{callee}
-use Rattle.c_body.specs.Symbols.{table_imports, memory_imports, global_imports, export_symbol, export_type, global_symbol, global_kind}
+use Rattle.c_symbols.specs.Symbols.{table_imports, memory_imports, global_imports, export_symbol, export_type, global_symbol, global_kind}
 use Rattle.c_body.specs.Body.{defined_at, func_of, body_of}
 use Rattle.c_body.specs.Agree.{IsDefined}
 use Rattle.c_body.specs.Needs.{helpers_of, needs_of}

@@ -20,7 +20,7 @@ use Rattle.c_tree.specs.Scope.{Name, is_among, pointer_to, is_object_type}
 use Rattle.c_tree.specs.Rules.{proper_types, is_void, is_symbol}
 use Rattle.c_meaning.specs.Linking.{c_type_of, c_params_of}
 use Rattle.alike.specs.Alike.{memory_name, table_name, global_name}
-use Rattle.c_body.specs.Symbols.{c_func_type, c_func_type_if, accessor_type, pointer_type, global_accessor_type, import_symbol, import_type, is_usable, table_imports, memory_imports, global_imports}
+use Rattle.c_symbols.specs.Symbols.{c_func_type, c_func_type_if, accessor_type, pointer_type, global_accessor_type, import_symbol, import_type, is_usable, table_imports, memory_imports, global_imports}
 use Rattle.c_body.specs.Objects.{callee, pointers_of}
 use Rattle.c_body.proofs.BodyRules.{vars_in, funcs_in}
 use Rattle.c_unit.specs.Exports.{accessor, passes_on, usable_symbol}

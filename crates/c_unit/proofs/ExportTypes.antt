@@ -19,7 +19,7 @@ use Rattle.c_tree.specs.Scope.{Name, Scope, is_among, pointer_to, is_object_type
 use Rattle.c_tree.specs.Rules.{is_symbol, is_void, proper_types}
 use Rattle.c_meaning.specs.Linking.{c_type_of, c_params_of}
 use Rattle.c_meaning.proofs.Lookups.{bytes_equal}
-use Rattle.c_body.specs.Symbols.{c_func_type_if, accessor_type, import_symbol, import_type, symbol_type, is_usable, declared_symbols, firsts}
+use Rattle.c_symbols.specs.Symbols.{c_func_type_if, accessor_type, import_symbol, import_type, symbol_type, is_usable, declared_symbols, firsts}
 use Rattle.c_body.proofs.Rules.{address_arg, return_passes}
 use Rattle.c_body.proofs.OwnNames.{named_in}
 use Rattle.c_body.proofs.BodyRules.{vars_in, funcs_in}

@@ -27,7 +27,7 @@ use Rattle.c_tree.specs.Spelled.{FitsExpr, FitsArg, FitsStmt, depth_limit}
 use Rattle.c_prelude.specs.Pieces as pieces
 use Rattle.alike.specs.Alike.{memory_name, table_name, global_name}
 use Rattle.c_body.specs.Names.{pointer_name}
-use Rattle.c_body.specs.Symbols.{is_usable, import_symbol, global_imports, memory_imports, table_imports}
+use Rattle.c_symbols.specs.Symbols.{is_usable, import_symbol, global_imports, memory_imports, table_imports}
 use Rattle.c_body.specs.Objects.{callee, memory_arg, table_arg}
 use Rattle.wasm_spelling.specs.Within.{IsMaximum}
 use Rattle.c_body.proofs.FormedCode.{Fits, signature_below}

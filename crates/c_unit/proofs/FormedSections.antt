@@ -33,7 +33,7 @@ use Rattle.c_tree.proofs.Names.{numbered as numbered_name}
 use Rattle.c_meaning.specs.Linking.{c_type_of, c_params_of}
 use Rattle.c_prelude.specs.Helpers.{helper_of}
 use Rattle.alike.specs.Alike.{memory_name, table_name, func_name, global_name}
-use Rattle.c_body.specs.Symbols.{Typed, c_func_type_if, accessor_type, pointer_type, global_accessor_type, import_symbol, import_type, is_usable, symbol_type, exported_symbols, imported_symbols, export_symbol, export_type, func_imports, memory_imports, table_imports, global_imports, declared_symbols, firsts}
+use Rattle.c_symbols.specs.Symbols.{Typed, c_func_type_if, accessor_type, pointer_type, global_accessor_type, import_symbol, import_type, is_usable, symbol_type, exported_symbols, imported_symbols, export_symbol, export_type, func_imports, memory_imports, table_imports, global_imports, declared_symbols, firsts}
 use Rattle.c_body.specs.Objects.{callee, pointers_of}
 use Rattle.c_body.specs.Body.{params_of, func_of, body_of, stmts_of}
 use Rattle.c_body.specs.Needs.{helpers_of}

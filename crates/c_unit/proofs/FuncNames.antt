@@ -7,7 +7,7 @@ use Rattle.wasm_tree.specs.declared.entries.Import.{Import}
 use Rattle.alike.specs.Alike.{func_name}
 use Rattle.c_tree.specs.Scope.{Name}
 use Rattle.c_body.specs.Objects.{function_name}
-use Rattle.c_body.specs.Symbols.{func_imports, import_symbol}
+use Rattle.c_symbols.specs.Symbols.{func_imports, import_symbol}
 
 pub named_import : (m : Module) (names : List Name) (index : ℕ) (name : Name) → names ≡ map import_symbol (func_imports m)
     → slice_get names index ≡ Some name → name ≡ function_name m index

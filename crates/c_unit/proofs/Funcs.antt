@@ -17,7 +17,7 @@ use Rattle.wasm_valid.specs.ModuleFaults.{module_faults, unknown_types, fault_if
 use Rattle.wasm_tree.proofs.BehindImports.{defined_behind_imports}
 use Rattle.wasm_valid.specs.Verdict.{IsValid, bodies_of}
 use Rattle.wasm_meaning.specs.LinkedSet.{LinkedSet, NamedModule, Instance, External, FuncAddress, ModuleFunc, IsFunc, IsTable, IsMemory, IsGlobal, as_func, instances, meaning_of, func_at, func_type, import_at, module_at, type_at}
-use Rattle.c_body.specs.Symbols.{func_imports}
+use Rattle.c_symbols.specs.Symbols.{func_imports}
 use Rattle.c_body.specs.Agree.{IsDefined}
 use Rattle.c_body.specs.Body.{defined_at}
 use Rattle.c_unit.specs.Sets.{IsAccepted, IsAcceptedSet}

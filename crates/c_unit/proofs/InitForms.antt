@@ -27,7 +27,7 @@ use Rattle.c_tree.specs.Rules.{is_runtime_name, is_void, proper_types, labels_of
 use Rattle.c_meaning.specs.Linking.{c_type_of}
 use Rattle.alike.specs.Alike.{memory_name, table_name, global_name}
 use Rattle.c_body.specs.Names.{pointer_name, label_name}
-use Rattle.c_body.specs.Symbols.{c_func_type, accessor_type, pointer_type, import_symbol, import_type, is_usable, memory_imports, table_imports, global_imports}
+use Rattle.c_symbols.specs.Symbols.{c_func_type, accessor_type, pointer_type, import_symbol, import_type, is_usable, memory_imports, table_imports, global_imports}
 use Rattle.c_body.specs.Objects.{callee, function_name, memory_arg, table_arg, global_value}
 use Rattle.c_body.proofs.Rules.{Passes, IsTyped, IsArg, name_typed, star_typed, n32_typed, n64_typed, op_typed, wide_typed, value_arg, null_passes, set_passes, call_passes, call_passes_as, if_passes}
 use Rattle.c_body.proofs.RulesOfKinds.{no_object}

@@ -21,7 +21,7 @@ use Rattle.c_meaning.proofs.Lookups.{bytes_equal}
 use Rattle.c_prelude.specs.Pieces as pieces
 use Rattle.alike.specs.Alike.{memory_name, table_name, global_name}
 use Rattle.c_body.specs.Names.{label_name, pointer_name}
-use Rattle.c_body.specs.Symbols.{is_usable, import_symbol}
+use Rattle.c_symbols.specs.Symbols.{is_usable, import_symbol}
 use Rattle.c_body.specs.Objects.{callee}
 use Rattle.c_unit.specs.Init.{limits_label, bounds_label, loop_label, set_pointer, test_limits, test_min, test_max, take_stmts, takes_from, make_table, make_memory, make_global, test_elements, test_data, write_elements, write_element, write_data, start_stmts, call_start, trap_if, tests_limits, tests_bounds}
 use Rattle.c_unit.proofs.DataWrites.{labels_differ, past_segment}

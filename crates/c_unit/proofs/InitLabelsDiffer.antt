@@ -20,7 +20,7 @@ use Rattle.c_prelude.specs.Pieces as pieces
 use Rattle.alike.specs.Alike.{memory_name, table_name, global_name}
 use Rattle.c_body.specs.Names.{label_name, pointer_name}
 use Rattle.c_body.specs.Objects.{callee}
-use Rattle.c_body.specs.Symbols.{is_usable, import_symbol}
+use Rattle.c_symbols.specs.Symbols.{is_usable, import_symbol}
 use Rattle.c_body.proofs.RulesOfCode.{labels-append}
 use Rattle.c_body.proofs.RulesOfLabels.{Within, none, one, upward, downward, wider, behind_one, labels_differ}
 use Rattle.c_unit.specs.Init.{limits_label, bounds_label, loop_label, set_pointer, test_min, test_max, test_limits, take_stmts, takes_from, make_table, make_memory, make_global, test_elements, test_data, write_element, write_elements, write_data, call_start, start_stmts, trap_if, tests_limits, tests_bounds, init_stmts}

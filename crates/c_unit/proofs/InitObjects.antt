@@ -21,7 +21,7 @@ use Rattle.c_meaning.specs.Step.{as_object, number_in}
 use Rattle.c_body.specs.Agree.{Agrees, AreReady, PointersAreSet, PointsTo}
 use Rattle.alike.specs.Alike.{memory_name, table_name, global_name, first_global}
 use Rattle.c_body.specs.Names.{pointer_name}
-use Rattle.c_body.specs.Symbols.{table_imports, memory_imports, global_imports}
+use Rattle.c_symbols.specs.Symbols.{table_imports, memory_imports, global_imports}
 use Rattle.c_body.specs.Objects.{table_arg, memory_arg, global_value}
 use Rattle.c_body.proofs.Store.{table_object, memory_object, global_object, global_seen}
 use Rattle.c_unit.proofs.InitStatements.{Seat, Evaluates, Gets}

@@ -32,7 +32,7 @@ use Rattle.c_prelude.specs.Pieces as pieces
 use Rattle.c_prelude.specs.Helpers.{helper_of}
 use Rattle.alike.specs.Alike.{memory_name, table_name, func_name, global_name}
 use Rattle.c_body.specs.Names.{pointer_name, label_name}
-use Rattle.c_body.specs.Symbols.{accessor_type, import_symbol, symbol_type, is_usable, func_imports, table_imports, memory_imports, global_imports, declared_symbols, firsts}
+use Rattle.c_symbols.specs.Symbols.{accessor_type, import_symbol, symbol_type, is_usable, func_imports, table_imports, memory_imports, global_imports, declared_symbols, firsts}
 use Rattle.c_body.specs.Objects.{function_name, pointers_of}
 use Rattle.c_body.specs.Needs.{helpers_of}
 use Rattle.c_body.proofs.Rules.{Passes, IsArg, name_typed, value_arg, address_arg, function_arg, null_passes, return_none_passes}

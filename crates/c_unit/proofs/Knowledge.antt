@@ -18,7 +18,7 @@ use Rattle.c_tree.specs.Scope.{Name}
 use Rattle.c_meaning.specs.Linking.{c_type_of}
 use Rattle.alike.specs.Alike.{memory_name, table_name, global_name}
 use Rattle.c_body.specs.Names.{pointer_name}
-use Rattle.c_body.specs.Symbols.{import_type, memory_imports, table_imports, global_imports, pointer_type}
+use Rattle.c_symbols.specs.Symbols.{import_type, memory_imports, table_imports, global_imports, pointer_type}
 use Rattle.c_body.specs.Objects.{pointers_of}
 use Rattle.c_body.proofs.BodyRules.{vars_in}
 use Rattle.c_body.proofs.Classes.{class, class_lettered, class_pointer}

@@ -10,7 +10,7 @@ use Rattle.wasm_tree.specs.declared.entries.LimitsEntry.{LimitsEntry}
 use Rattle.wasm_tree.specs.IndexSpaces.{func_space, table_space, memory_space, table_of_import, memory_of_import, is_func_import, is_table_import, is_memory_import, is_global_import}
 use Rattle.wasm_meaning.specs.LinkedSet.{LinkedSet, NamedModule, External, IsTable, IsMemory, IsGlobal, import_at}
 use Rattle.c_meaning.specs.State as state
-use Rattle.c_body.specs.Symbols.{table_imports, memory_imports, global_imports}
+use Rattle.c_symbols.specs.Symbols.{table_imports, memory_imports, global_imports}
 use Rattle.c_body.specs.Serves.{Defines}
 use Rattle.c_body.specs.Bodies.{BodiesFollow}
 use Rattle.c_body.proofs.Lists.{all_at}

@@ -28,7 +28,7 @@ use Rattle.c_prelude.specs.declared.operation.Helper.{Helper}
 use Rattle.c_prelude.specs.Helpers.{helper_of}
 use Rattle.c_prelude.specs.Functions.{helper_type}
 use Rattle.c_body.specs.Labels.{any_in}
-use Rattle.c_body.specs.Symbols.{Typed, c_func_type, c_func_type_if, accessor_type, import_symbol, import_type, symbol_type, is_usable, func_imports, declared_symbols, firsts}
+use Rattle.c_symbols.specs.Symbols.{Typed, c_func_type, c_func_type_if, accessor_type, import_symbol, import_type, symbol_type, is_usable, func_imports, declared_symbols, firsts}
 use Rattle.c_body.specs.Objects.{callee, pointers_of}
 use Rattle.c_body.specs.Body.{body_of}
 use Rattle.c_body.specs.Needs.{helpers_of, calls_helper}

@@ -5,6 +5,7 @@ use Rattle.std.specs.List.{range_with_len}
 use Rattle.std.proofs.lemmas.List.{map_push}
 use Rattle.w2c_base.specs.Lookup.{numbered}
 use Rattle.c_tree.proofs.Tested.{at_front}
+use Rattle.c_symbols.proofs.Grown.{read_again}
 
 -- numbered items from one on
 numbered_from : {A : Type 0} (k : ℕ) (xs : List A) (i : ℕ) (x : A) → i < length xs → x ≡ get_or xs i x
@@ -33,11 +34,6 @@ front xs items same i x less read =
     let within : i < length xs = omega (arith, less, ap length same) in
     let start : 0 + i ≡ i = omega arith in
     numbered_from 0 xs i x within (read ∙ ap (λ ys. get_or ys i x) same) ∙ ap (λ n. (n, x) ∷ drop (i + 1) (numbered xs)) start
-
-pub read_again : {A : Type 0} (xs : List A) (i : ℕ) (d : A) → get_or xs i d ≡ get_or xs i (get_or xs i d)
-read_again [] i d = refl
-read_again (y ∷ xs) zero d = refl
-read_again (y ∷ xs) (suc i) d = read_again xs i d
 
 -- one more item
 pub pushed : {A B : Type 0} (f : A → B) (before after : List A) (x : A) (y : B) → after ≡ before ++ x ∷ [] → f x ≡ y

@@ -14,7 +14,7 @@ use Rattle.wasm_tree.specs.declared.entries.LimitsEntry.{LimitsEntry}
 use Rattle.wasm_tree.specs.declared.entries.GlobalEntry.{GlobalEntry}
 use Rattle.wasm_tree.specs.IndexSpaces.{table_space, memory_space, global_space, imported_global_space, table_of_import, memory_of_import, global_of_import, is_table_import, is_memory_import, is_global_import}
 use Rattle.wasm_meaning.specs.LinkedSet.{LinkedSet, NamedModule, GlobalAddress, External, IsTable, IsMemory, IsGlobal, as_table, as_memory, as_global, import_at, module_at, global_type, Resolves, IsLinked}
-use Rattle.c_body.specs.Symbols.{table_imports, memory_imports, global_imports}
+use Rattle.c_symbols.specs.Symbols.{table_imports, memory_imports, global_imports}
 use Rattle.c_body.proofs.Lists.{all_at, get_numbered, get_mapped, get_unmapped, get_joined}
 use Rattle.c_body.proofs.Spaces.{IfAny, IsEarlier, HasObject, looked_up, import_fits, first_fit, ResolvesAs, module_is as tree_at}
 use Rattle.c_unit.proofs.InitObjects.{TableOwner, MemoryOwner, GlobalOwner}

@@ -26,7 +26,7 @@ use Rattle.c_tree.specs.Rules.{is_own_name, is_symbol, is_void, is_value_type, i
 use Rattle.c_meaning.specs.Linking.{c_type_of, c_params_of, c_result_of}
 use Rattle.alike.specs.Alike.{memory_name, table_name, global_name}
 use Rattle.c_body.specs.Names.{pointer_name}
-use Rattle.c_body.specs.Symbols.{Typed, c_func_type_if, accessor_type, import_symbol, import_type, exported_symbols, imported_symbols, symbol_type, export_symbol, export_type, global_accessor_type, memory_imports, table_imports, global_imports, declared_symbols, firsts}
+use Rattle.c_symbols.specs.Symbols.{Typed, c_func_type_if, accessor_type, import_symbol, import_type, exported_symbols, imported_symbols, symbol_type, export_symbol, export_type, global_accessor_type, memory_imports, table_imports, global_imports, declared_symbols, firsts}
 use Rattle.c_body.specs.Objects.{pointers_of}
 use Rattle.c_body.proofs.RulesOfFunctions.{all_at}
 use Rattle.c_body.proofs.Classes.{class}

@@ -11,7 +11,7 @@ use Rattle.wasm_tree.specs.IndexSpaces.{is_table_import, is_memory_import, is_gl
 use Rattle.wasm_meaning.specs.LinkedSet.{LinkedSet, NamedModule, Instance, External, GlobalAddress, IsFunc, IsTable, IsMemory, IsGlobal, as_table, as_memory, as_global, instances, import_at, meaning_of}
 use Rattle.c_meaning.specs.State.{ObjectAddress}
 use Rattle.alike.specs.Alike.{memory_name, table_name, global_name, first_global}
-use Rattle.c_body.specs.Symbols.{table_imports, memory_imports, global_imports}
+use Rattle.c_symbols.specs.Symbols.{table_imports, memory_imports, global_imports}
 use Rattle.c_unit.proofs.Instances.{IsPlaced, earlier_is, spaces_at}
 use Rattle.c_unit.proofs.Small.{some_same, less_or_not, there_in}
 use Rattle.c_body.proofs.Lists.{get_behind, get_front, get_unmapped, get_numbered}

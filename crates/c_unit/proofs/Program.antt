@@ -18,7 +18,7 @@ use Rattle.c_meaning.specs.Linking.{defined, defined_for_all, definition_at, fun
 use Rattle.c_meaning.specs.Primitives.{primitive}
 use Rattle.c_prelude.specs.declared.operation.Helper.{Helper}
 use Rattle.c_prelude.specs.Helpers.{helper_of}
-use Rattle.c_body.specs.Symbols.{func_imports, export_symbol}
+use Rattle.c_symbols.specs.Symbols.{func_imports, export_symbol}
 use Rattle.c_body.specs.Agree.{IsDefined}
 use Rattle.c_body.specs.Body.{body_of}
 use Rattle.c_body.specs.Needs.{helpers_of}

@@ -16,7 +16,7 @@ use Rattle.c_meaning.specs.State.{ObjectAddress}
 use Rattle.c_meaning.specs.Linking.{defined, func_named}
 use Rattle.c_meaning.specs.Primitives.{primitive}
 use Rattle.alike.specs.Alike.{func_name}
-use Rattle.c_body.specs.Symbols.{func_imports, import_symbol, is_usable}
+use Rattle.c_symbols.specs.Symbols.{func_imports, import_symbol, is_usable}
 use Rattle.c_body.specs.Objects.{callee, function_name}
 use Rattle.c_unit.specs.Init.{init_func}
 use Rattle.c_unit.specs.Items.{items}

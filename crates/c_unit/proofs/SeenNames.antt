@@ -10,9 +10,9 @@ use Rattle.c_tree.specs.Scope.{Name, is_among}
 use Rattle.c_tree.proofs.Tested.{at_front}
 use Rattle.c_scope.proofs.NameTables.{either_way}
 use Rattle.c_unit.specs.Seen.{PutsFirst, SeesMore, typed}
-use Rattle.c_unit.specs.declared.indexes.Symbol.{Symbol}
-use Rattle.c_unit.specs.Named.{pair_of}
-use Rattle.c_body.specs.Symbols.{Typed, import_symbol, declared_symbols, firsts}
+use Rattle.c_symbols.specs.declared.indexes.Symbol.{Symbol}
+use Rattle.c_symbols.specs.Named.{pair_of}
+use Rattle.c_symbols.specs.Symbols.{Typed, import_symbol, declared_symbols, firsts}
 
 -- the table has the names so far, and what was put and what is left are all
 abbrev pub Declares : {A : Type 0} → NamedModule → List (Name × A) → List Typed → List Import → List Name → Type 0

@@ -16,7 +16,7 @@ use Rattle.c_tree.specs.Scope.{func_type_of}
 use Rattle.c_meaning.specs.Linking.{Definition, defined, c_params_of, c_result_of}
 use Rattle.c_meaning.proofs.Lookups.{bytes_equal}
 use Rattle.alike.specs.Alike.{func_name}
-use Rattle.c_body.specs.Symbols.{c_func_type_if, export_symbol, export_type}
+use Rattle.c_symbols.specs.Symbols.{c_func_type_if, export_symbol, export_type}
 use Rattle.c_body.specs.Agree.{IsDefined}
 use Rattle.c_body.specs.Body.{params_of, func_of, body_of, stmts_of}
 use Rattle.c_unit.specs.Exports.{export_func}

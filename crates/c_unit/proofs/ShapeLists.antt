@@ -29,7 +29,7 @@ use Rattle.c_prelude.specs.Helpers.{helper_of}
 use Rattle.c_prelude.proofs.Functions.{made_static}
 use Rattle.alike.specs.Alike.{memory_name, table_name, global_name}
 use Rattle.c_body.specs.Names.{pointer_name}
-use Rattle.c_body.specs.Symbols.{Typed, accessor_type, import_symbol, import_type, symbol_type, exported_symbols, imported_symbols, export_symbol, export_type, memory_imports, table_imports, global_imports, declared_symbols, firsts}
+use Rattle.c_symbols.specs.Symbols.{Typed, accessor_type, import_symbol, import_type, symbol_type, exported_symbols, imported_symbols, export_symbol, export_type, memory_imports, table_imports, global_imports, declared_symbols, firsts}
 use Rattle.c_body.specs.Objects.{pointers_of}
 use Rattle.c_body.specs.Body.{body_of}
 use Rattle.c_body.specs.Needs.{helpers_of}

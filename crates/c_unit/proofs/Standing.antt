@@ -43,12 +43,12 @@ use Rattle.c_tree.specs.Scope.{Name}
 use Rattle.c_prelude.specs.declared.operation.Helper.{Helper}
 use Rattle.c_prelude.specs.Helpers.{helper_of}
 use Rattle.c_body.specs.Names.{pointer_name}
-use Rattle.c_body.specs.Reached.{usable_symbol}
-use Rattle.c_body.specs.Symbols.{table_imports, memory_imports, global_imports, declared_symbols}
+use Rattle.c_symbols.specs.Reached.{usable_symbol}
+use Rattle.c_symbols.specs.Symbols.{table_imports, memory_imports, global_imports, declared_symbols}
 use Rattle.c_body.specs.Needs.{helpers_of}
 use Rattle.c_body.specs.Body.{body_of}
-use Rattle.c_unit.specs.declared.indexes.Symbol.{Symbol}
-use Rattle.c_unit.specs.Named.{pair_of}
+use Rattle.c_symbols.specs.declared.indexes.Symbol.{Symbol}
+use Rattle.c_symbols.specs.Named.{pair_of}
 use Rattle.c_unit.specs.Pointers.{pointed}
 use Rattle.c_unit.specs.Arrays.{array_of, bytes_of, byte_segments}
 use Rattle.c_unit.specs.Exports.{export_func}

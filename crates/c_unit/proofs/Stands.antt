@@ -31,7 +31,7 @@ use Rattle.c_meaning.specs.Run.{Pending}
 use Rattle.c_meaning.specs.Reaches.{Reaches}
 use Rattle.c_meaning.proofs.Ways.{stays, join}
 use Rattle.alike.specs.Alike.{FunctionsAlike, func_name, memory_name, table_name, global_name}
-use Rattle.c_body.specs.Symbols.{c_func_type, c_func_type_if, accessor_type, global_symbol, global_accessor_type, table_imports, memory_imports, global_imports, import_symbol, is_usable, export_symbol, export_type}
+use Rattle.c_symbols.specs.Symbols.{c_func_type, c_func_type_if, accessor_type, global_symbol, global_accessor_type, table_imports, memory_imports, global_imports, import_symbol, is_usable, export_symbol, export_type}
 use Rattle.c_body.specs.Objects.{callee}
 use Rattle.c_body.specs.Agree.{IsDefined, IsCallable}
 use Rattle.c_body.specs.Limits.{HasLimits}

@@ -34,7 +34,7 @@ use Rattle.c_meaning.proofs.Ways.{join}
 use Rattle.alike.specs.Alike.{memory_name, table_name, global_name}
 use Rattle.c_body.specs.Names.{pointer_name}
 use Rattle.wasm_spelling.specs.Within.{IsMaximum}
-use Rattle.c_body.specs.Symbols.{import_symbol, is_usable, table_imports, memory_imports}
+use Rattle.c_symbols.specs.Symbols.{import_symbol, is_usable, table_imports, memory_imports}
 use Rattle.c_body.specs.Agree.{PointsTo, ObjectsAgree, MemoryAgrees, TableAgrees}
 use Rattle.c_body.specs.Follows.{Together}
 use Rattle.c_body.proofs.Names.{global_at_another_place}

@@ -11,8 +11,8 @@ use Rattle.c_tree.specs.Scope.{Name}
 use Rattle.c_tree.specs.declared.tree.COp.TheVariants as op
 use Rattle.c_tree.proofs.Tested.{at_front}
 use Rattle.c_body.specs.Names.{label_name, pointer_name}
-use Rattle.c_body.specs.Reached.{usable_symbol}
-use Rattle.c_body.specs.Symbols.{is_usable, import_symbol}
+use Rattle.c_symbols.specs.Reached.{usable_symbol}
+use Rattle.c_symbols.specs.Symbols.{is_usable, import_symbol}
 use Rattle.c_unit.specs.Init.{test_min, primitive, size_name, n64, limits_label, set_pointer, take_stmts, takes_from}
 use Rattle.c_unit.specs.Pointers.{pointer_set}
 

@@ -40,7 +40,7 @@ use Rattle.c_prelude.specs.Helpers.{helper_of}
 use Rattle.c_prelude.proofs.Functions.{made_static}
 use Rattle.alike.specs.Alike.{memory_name, table_name, func_name, global_name}
 use Rattle.c_body.specs.Names.{pointer_name}
-use Rattle.c_body.specs.Symbols.{Typed, import_symbol, import_type, global_kind, global_symbol, export_symbol, memory_imports, table_imports, global_imports, declared_symbols, firsts}
+use Rattle.c_symbols.specs.Symbols.{Typed, import_symbol, import_type, global_kind, global_symbol, export_symbol, memory_imports, table_imports, global_imports, declared_symbols, firsts}
 use Rattle.c_body.specs.Objects.{pointers_of}
 use Rattle.c_body.specs.Body.{body_of}
 use Rattle.c_body.specs.Needs.{helpers_of}

@@ -19,7 +19,7 @@ use Rattle.c_meaning.specs.Linking.{c_type_of}
 use Rattle.c_meaning.proofs.Lookups.{bytes_equal}
 use Rattle.alike.specs.Alike.{memory_name, table_name, func_name, global_name}
 use Rattle.c_prelude.specs.Helpers.{helper_of}
-use Rattle.c_body.specs.Symbols.{declared_symbols}
+use Rattle.c_symbols.specs.Symbols.{declared_symbols}
 use Rattle.c_body.specs.Objects.{pointers_of}
 use Rattle.c_body.specs.Needs.{helpers_of}
 use Rattle.c_body.specs.Body.{body_of}

@@ -1,5 +1,5 @@
 -- The items of a unit one after the other.
-use Rattle.std.proofs.Common.{◌≡◌, ℕ, ◌+◌, List, [], ◌∷◌, ◌++◌, append_assoc, map, drop, None, refl, sym, ap, ◌∙◌}
+use Rattle.std.proofs.Common.{◌≡◌, ℕ, List, [], ◌∷◌, ◌++◌, append_assoc, map, drop, None, refl, sym, ap, ◌∙◌}
 use Rattle.std.specs.Prelude.{slice_get, flat_map}
 use Rattle.w2c_base.specs.Lookup.{numbered}
 use Rattle.wasm_tree.specs.declared.entries.Import.{Import}
@@ -12,7 +12,7 @@ use Rattle.c_tree.specs.declared.tree.CType.TheVariants as c_type
 use Rattle.c_tree.specs.Tree as tree
 use Rattle.c_tree.specs.Scope.{Name}
 use Rattle.c_body.specs.Names.{pointer_name}
-use Rattle.c_body.specs.Symbols.{table_imports, memory_imports, global_imports, import_type}
+use Rattle.c_symbols.specs.Symbols.{table_imports, memory_imports, global_imports, import_type}
 use Rattle.c_body.specs.Objects.{pointers_of}
 use Rattle.c_unit.specs.Items.{variable, global_item, data_item, data_of, items}
 use Rattle.c_unit.specs.Arrays.{array_of, bytes_if}

@@ -28,7 +28,7 @@ use Rattle.c_tree.specs.Scope.{Name}
 use Rattle.c_prelude.specs.Pieces as pieces
 use Rattle.alike.specs.Alike.{memory_name, table_name, global_name}
 use Rattle.c_body.specs.Names.{pointer_name, label_name}
-use Rattle.c_body.specs.Symbols.{import_symbol, is_usable}
+use Rattle.c_symbols.specs.Symbols.{import_symbol, is_usable}
 use Rattle.c_body.specs.Objects.{function_name, callee, memory_arg, table_arg, global_value}
 
 -- ---- names: the labels of both traps, those of the loops over segments from 2 on, the local variables,

@@ -19,7 +19,7 @@ use Rattle.c_tree.specs.Rules.{proper_types}
 use Rattle.c_meaning.specs.Linking.{c_type_of}
 use Rattle.c_prelude.specs.Helpers.{helper_of}
 use Rattle.alike.specs.Alike.{memory_name, table_name, global_name}
-use Rattle.c_body.specs.Symbols.{Typed, export_symbol, export_type}
+use Rattle.c_symbols.specs.Symbols.{Typed, export_symbol, export_type}
 use Rattle.c_body.specs.Body.{body_of}
 use Rattle.c_body.specs.Needs.{needs_of}
 use Rattle.c_unit.specs.Init.{data_name, init_func}

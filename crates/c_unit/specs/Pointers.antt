@@ -6,7 +6,7 @@ use Rattle.c_tree.specs.declared.tree.CType.{CType}
 use Rattle.c_tree.specs.Tree as tree
 use Rattle.c_tree.specs.Scope.{Name}
 use Rattle.c_body.specs.Names.{pointer_name}
-use Rattle.c_body.specs.Symbols.{import_type}
+use Rattle.c_symbols.specs.Symbols.{import_type}
 
 abbrev pub pointer_set : Option Name → Name → tree.Stmt
 pointer_set None object = tree.Null

@@ -3,7 +3,7 @@ use Rattle.std.specs.Prelude.{◌≡◌, ◌||◌, ◌&&◌, not, if◌then◌el
 use Rattle.w2c_base.specs.Lookup.{named}
 use Rattle.wasm_meaning.specs.LinkedSet.{NamedModule}
 use Rattle.c_tree.specs.Scope.{Name}
-use Rattle.c_body.specs.Symbols.{Typed, declared_type, symbol_type}
+use Rattle.c_symbols.specs.Symbols.{Typed, declared_type, symbol_type}
 
 -- this name too, unless it was seen before
 abbrev pub SeesMore : {A : Type 0} → List (Name × A) → List (Name × A) → Bool → Name → Type 0

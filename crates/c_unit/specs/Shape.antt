@@ -16,7 +16,7 @@ use Rattle.c_tree.specs.WellFormed.{IsWellFormed}
 use Rattle.c_meaning.specs.Linking.{Definition, defined, defined_for_all, external_functions, c_type_of}
 use Rattle.alike.specs.Alike.{memory_name, table_name, func_name, global_name}
 use Rattle.w2c_base.specs.Lookup.{numbered}
-use Rattle.c_body.specs.Symbols.{c_func_type_if, import_symbol, symbol_type, export_symbol, export_type}
+use Rattle.c_symbols.specs.Symbols.{c_func_type_if, import_symbol, symbol_type, export_symbol, export_type}
 use Rattle.c_body.specs.Agree.{IsDefined}
 use Rattle.c_unit.specs.Exports.{export_func}
 use Rattle.c_unit.specs.Items.{items_of}

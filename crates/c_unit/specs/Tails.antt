@@ -4,14 +4,12 @@ use Rattle.w2c_base.specs.Lookup.{numbered}
 use Rattle.wasm_tree.specs.declared.entries.Import.{Import}
 use Rattle.wasm_tree.specs.declared.entries.LimitsEntry.{LimitsEntry}
 use Rattle.wasm_meaning.specs.LinkedSet.{NamedModule}
-use Rattle.c_tree.specs.declared.tree.CType.{CType}
 use Rattle.c_tree.specs.declared.tree.CType.TheVariants as c_type
 use Rattle.c_tree.specs.Tree as tree
-use Rattle.c_tree.specs.Scope.{Name}
 use Rattle.c_prelude.specs.Helpers.{helper_of}
 use Rattle.alike.specs.Alike.{memory_name, table_name, global_name}
 use Rattle.c_body.specs.Names.{pointer_name}
-use Rattle.c_body.specs.Symbols.{table_imports, memory_imports, global_imports, import_type, declared_symbols}
+use Rattle.c_symbols.specs.Symbols.{table_imports, memory_imports, global_imports, import_type, declared_symbols}
 use Rattle.c_body.specs.Needs.{helpers_of}
 use Rattle.c_unit.specs.declared.unit_items.UnitItems.{UnitItems}
 use Rattle.c_unit.specs.Arrays.{array_of, byte_segments}

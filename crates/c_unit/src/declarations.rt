@@ -1,15 +1,13 @@
 // The symbols that the unit declares.
 ghost use Rattle.std.specs.Prelude.{◌≡◌, ◌++◌, ◌∷◌, [], is_some, map, IfOk, OnOk};
 ghost use Rattle.w2c_base.specs.Lookup.{named};
-ghost use Rattle.c_body.specs.Symbols.{declared_symbols};
-ghost use Rattle.c_unit.specs.Named.{named_of, pair_of};
+ghost use Rattle.c_symbols.specs.Symbols.{declared_symbols};
+ghost use Rattle.c_symbols.specs.Named.{named_of, pair_of};
 ghost use Rattle.c_unit.specs.Seen.{PutsFirst, SeesMore};
-ghost use Rattle.c_unit.specs.Typed.{type_of};
+ghost use Rattle.c_symbols.specs.Typed.{type_of};
 
-use crate::indexes::Symbol;
-use crate::symbols::Symbols;
-use crate::types::SymbolType;
 use c_scope::NameTable;
+use c_symbols::{Symbol, SymbolType, Symbols};
 use c_tree::Name;
 use std::alloc::Global;
 use w2c_base::Memory;
@@ -49,8 +47,9 @@ pub(crate) fn declared<'a>(alloc: Global, symbols: &Symbols<'a>) -> Result<Vec<S
 {
     let mut seen: NameTable<()> = NameTable::new(alloc);
     let mut list: Vec<Symbol<'a>> = Vec::new(alloc);
-    for import in symbols.indexes.tree.imports.as_slice() {
-        let name = symbols.indexes.import(alloc, import)?.name;
+    let spaces = symbols.indexes();
+    for import in spaces.tree().imports.as_slice() {
+        let name = spaces.import(alloc, import)?.name;
         put_if(alloc, symbols, &mut seen, &mut list, name)?;
     }
     Ok(list)

@@ -1,9 +1,9 @@
 // The pointers to imported globals.
 ghost use Rattle.std.specs.Prelude.{◌≡◌, map, IfOk};
-ghost use Rattle.c_body.specs.Symbols.{global_imports};
+ghost use Rattle.c_symbols.specs.Symbols.{global_imports};
 ghost use Rattle.c_unit.specs.Pointers.{pointed};
 
-use c_body::pointer_type;
+use c_symbols::pointer_type;
 use c_tree::CType;
 use std::alloc::Global;
 use w2c_base::Memory;

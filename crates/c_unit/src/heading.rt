@@ -2,10 +2,10 @@
 ghost use Rattle.std.specs.Prelude.{◌≡◌, ◌++◌, ◌∷◌, [], IfOk, OnOk};
 ghost use Rattle.c_unit.specs.Items.{header_of};
 ghost use Rattle.c_unit.specs.Lines.{line_of};
-ghost use Rattle.c_unit.specs.Named.{named_of};
+ghost use Rattle.c_symbols.specs.Named.{named_of};
 
-use crate::indexes::Indexes;
-use c_body::{c_types, name_of};
+use c_body::name_of;
+use c_symbols::{Indexes, c_types};
 use c_tree::{CType, CTypes, Header, HeaderLines};
 use std::alloc::Global;
 use w2c_base::Memory;
@@ -22,11 +22,11 @@ pub fn header(alloc: Global, m: &ValidModule, name: &[u8]) -> Result<Header, Mem
     header_by(alloc, &indexes)
 }
 
-/// The same by the module's index spaces.
-pub(crate) fn header_by(alloc: Global, indexes: &Indexes) -> Result<Header, Memory>
+// The same by the module's index spaces.
+fn header_by(alloc: Global, indexes: &Indexes) -> Result<Header, Memory>
     ensures { IfOk result (λ header. header ≡ header_of indexes.now.tree.now indexes.now.name.now) }
 {
-    let module = name_of(alloc, indexes.name)?;
+    let module = name_of(alloc, indexes.name())?;
     let lines = header_lines(alloc, indexes)?;
     Ok(Header { module, lines })
 }
@@ -34,16 +34,16 @@ pub(crate) fn header_by(alloc: Global, indexes: &Indexes) -> Result<Header, Memo
 fn header_lines(alloc: Global, indexes: &Indexes) -> Result<HeaderLines, Memory>
     ensures { IfOk result (λ lines. lines ≡ (header_of indexes.now.tree.now indexes.now.name.now).lines) }
 {
-    let init = init_symbol(alloc, indexes.name)?;
+    let init = init_symbol(alloc, indexes.name())?;
     let mut lines = HeaderLines::new(alloc);
     lines.push((CType::Void, init, CTypes::new(alloc)))?;
-    for export in indexes.tree.exports.as_slice() {
+    for export in indexes.tree().exports.as_slice() {
         put_line(alloc, &mut lines, indexes, export)?;
     }
     Ok(lines)
 }
 
-#[tactic(auto, using(crate::proofs::SameTypes::proper_params))]
+#[tactic(auto, using(c_symbols::proofs::SameTypes::proper_params))]
 fn put_line(
     alloc: Global,
     lines: &mut HeaderLines,

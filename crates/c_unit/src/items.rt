@@ -11,13 +11,13 @@ ghost use Rattle.alike.specs.Alike.{memory_name, table_name};
 ghost use Rattle.c_body.specs.Body.{body_of, defined_at, no_func};
 ghost use Rattle.c_unit.specs.Init.{data_name};
 ghost use Rattle.c_unit.specs.Items as of;
-ghost use Rattle.c_unit.specs.Named.{pair_of};
+ghost use Rattle.c_symbols.specs.Named.{pair_of};
 ghost use Rattle.c_unit.specs.Prototypes.{prototype_of, bare_params as bare_params_of};
 
-use crate::indexes::Symbol;
 use crate::passing::no_params;
 use crate::source::Source;
-use c_body::{c_result, c_type, func_name, name_of, with_number};
+use c_body::{func_name, name_of, with_number};
+use c_symbols::{Symbol, c_result, c_type};
 use c_tree::{CType, Func, Item, Name, Params};
 use std::alloc::Global;
 use w2c_base::{FuncType, Memory, ValType};
@@ -61,7 +61,7 @@ fn some_bare_params(alloc: Global, types: &[ValType]) -> Result<Params, Memory>
 }
 
 // Parameters without names.
-#[tactic(auto, using(crate::proofs::SameTypes::params_none, crate::proofs::SameTypes::params_there))]
+#[tactic(auto, using(c_symbols::proofs::SameTypes::params_none, c_symbols::proofs::SameTypes::params_there))]
 fn bare_params(alloc: Global, types: &[ValType]) -> Result<Params, Memory>
     ensures { IfOk result (λ params. params ≡ bare_params_of (c_params_of types.now)) }
 {

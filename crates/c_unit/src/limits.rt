@@ -129,7 +129,7 @@ impl<'a> Source<'a> {
     fn put_pointer(&self, stmts: &mut Stmts, import: &Import, object: &[u8]) -> Result<(), Memory>
         ensures { OnOk result (map stmt_of stmts.new ≡ map stmt_of stmts.old ++ of.set_pointer (module_of self.now) import.now object.now ∷ []) }
     {
-        let symbol = self.symbols.usable(self.alloc, import)?;
+        let symbol = self.symbols().usable(self.alloc, import)?;
         stmts.push(set_pointer(self.alloc, symbol, object)?)?;
         Ok(())
     }

@@ -4,10 +4,10 @@ ghost use Rattle.c_tree.specs.Tree as tree;
 ghost use Rattle.c_tree.specs.View.{arg_of, func_of, stmt_of};
 ghost use Rattle.c_meaning.specs.Linking.{c_type_of};
 ghost use Rattle.c_unit.specs.Exports as of;
-ghost use Rattle.c_unit.specs.Typed.{type_of};
+ghost use Rattle.c_symbols.specs.Typed.{type_of};
 
-use crate::types::SymbolType;
-use c_body::{c_type, name_of, with_number};
+use c_body::{name_of, with_number};
+use c_symbols::{SymbolType, c_type};
 use c_tree::{Arg, Args, Body, CType, Callee, Expr, Func, Locals, Name, Num, Params, Stmt, Stmts};
 use std::alloc::Global;
 use w2c_base::{Memory, ValType};
@@ -77,7 +77,7 @@ fn args(alloc: Global, types: &[ValType]) -> Result<Args, Memory>
     Ok(args)
 }
 
-#[tactic(auto, using(crate::proofs::SameTypes::proper_params))]
+#[tactic(auto, using(c_symbols::proofs::SameTypes::proper_params))]
 fn external(
     alloc: Global,
     ty: SymbolType,
@@ -180,7 +180,7 @@ fn passes_value(
 }
 
 /// A function that passes calls on to a name, where that may be called.
-#[tactic(auto, using(crate::proofs::SameTypes::proper_params))]
+#[tactic(auto, using(c_symbols::proofs::SameTypes::proper_params))]
 pub(crate) fn passes_on(
     alloc: Global,
     ty: SymbolType,

@@ -1,39 +1,32 @@
 // What the items of a unit are made of.
 ghost use Rattle.std.specs.Prelude.{◌≡◌, ◌<◌, ◌^◌, map, IfOk};
 ghost use Rattle.c_body.specs.Around as around;
-ghost use Rattle.c_body.specs.Reached.{usable_symbol};
-ghost use Rattle.c_body.specs.Symbols.{import_symbol, func_imports, table_imports, memory_imports, global_imports};
+ghost use Rattle.c_symbols.specs.Symbols.{import_symbol, func_imports};
 ghost use Rattle.c_unit.specs.Entries.{entries};
-ghost use Rattle.c_unit.specs.Named.{named_of};
+ghost use Rattle.c_symbols.specs.Named.{named_of};
+ghost use Rattle.c_symbols.specs.Usable.{AreReached};
 
-use crate::import_symbols::{Reached, func_symbols};
+use crate::import_symbols::func_symbols;
 use crate::items::prototype_if;
-use crate::symbols::Symbols;
 use c_body::IndexSpaces;
+use c_symbols::{Reached, Symbols};
 use c_tree::{Func, Item, Name};
 use std::alloc::Global;
 use w2c_base::Memory;
 use wasm_tree::Module;
 use wasm_valid::ValidModule;
 
-/// A module under its name, with its symbols and what its bodies read of it.
+/// A module under its name, with what its bodies read of it, its symbols among that.
 pub(crate) struct Source<'a> {
     pub(crate) alloc: Global,
     pub(crate) tree: &'a Module,
     pub(crate) name: &'a [u8],
-    pub(crate) symbols: Symbols<'a>,
     pub(crate) spaces: IndexSpaces<'a>,
     /// The symbols of the imported functions.
     pub(crate) func_symbols: Vec<Name>,
-    /// The symbols of the imported objects, where they may be used.
-    pub(crate) reached: Reached,
     ghost few_entries: { entries tree.now < 2 ^ 32 },
-    ghost symbols_are: { named_of symbols.indexes ≡ record { name = name.now; tree = tree.now } },
     ghost spaces_are: { around.named_of spaces ≡ record { name = name.now; tree = tree.now } },
     ghost func_symbols_are: { func_symbols.items ≡ map import_symbol (func_imports tree.now) },
-    ghost tables_are: { reached.tables.items ≡ map (usable_symbol (record { name = name.now; tree = tree.now })) (table_imports tree.now) },
-    ghost memories_are: { reached.memories.items ≡ map (usable_symbol (record { name = name.now; tree = tree.now })) (memory_imports tree.now) },
-    ghost globals_are: { reached.globals.items ≡ map (usable_symbol (record { name = name.now; tree = tree.now })) (global_imports tree.now) },
 }
 
 // By hand, so that each place which drops it is proved by one call.
@@ -43,10 +36,8 @@ impl Drop for Source<'_> {
             alloc: _,
             tree: _,
             name: _,
-            symbols: _,
             spaces: _,
             func_symbols: _,
-            reached: _,
         } = self;
     }
 }
@@ -65,18 +56,28 @@ impl<'a> Source<'a> {
     {
         let tree = m.module();
         let func_symbols = func_symbols(alloc, tree)?;
-        let symbols = Symbols::new(alloc, tree, name)?;
-        let reached = Reached::new(alloc, &symbols)?;
         let spaces = IndexSpaces::new(alloc, m, name)?;
         Ok(Source {
             alloc,
             tree,
             name,
-            symbols,
             spaces,
             func_symbols,
-            reached,
         })
+    }
+
+    /// Its symbols, with their types in the unit.
+    pub(crate) fn symbols(&self) -> &Symbols<'a>
+        ensures { named_of result.now.indexes ≡ module_of self.now }
+    {
+        self.spaces.symbols()
+    }
+
+    /// The symbols of its imports, where they may be used.
+    pub(crate) fn reached(&self) -> &Reached
+        ensures { AreReached result.now (module_of self.now) }
+    {
+        self.spaces.reached()
     }
 
     // The index of the function that the module defines with a number.

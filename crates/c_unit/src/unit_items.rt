@@ -2,26 +2,25 @@
 ghost use Rattle.std.specs.Prelude.{◌≡◌, ◌+◌, map, slice_get, option_map, IfOk, OnErr};
 ghost use Rattle.c_tree.specs.View.{item_of};
 ghost use Rattle.alike.specs.Alike.{global_name};
-ghost use Rattle.c_body.specs.Symbols.{declared_symbols, global_imports};
+ghost use Rattle.c_symbols.specs.Symbols.{declared_symbols, global_imports};
 ghost use Rattle.c_body.specs.Needs.{helpers_of};
 ghost use Rattle.c_body.specs.Names.{pointer_name as pointer_name_of};
 ghost use Rattle.c_unit.specs.Items as of;
-ghost use Rattle.c_unit.specs.Named.{pair_of};
+ghost use Rattle.c_symbols.specs.Named.{pair_of};
 ghost use Rattle.c_unit.specs.Sources.{module_of};
 ghost use Rattle.c_unit.specs.Pointers.{pointed};
 ghost use Rattle.c_unit.specs.Arrays.{bytes_of, byte_segments};
 
 use crate::declarations::declared;
 use crate::global_pointers::global_pointers;
-use crate::heading::header_by;
-use crate::indexes::Symbol;
 use crate::items::{array, declaration, memory, table, variable};
 use crate::source::Source;
 use crate::statements::pointer_name;
 use crate::with_bytes::with_bytes;
 use c_body::{helpers, with_number};
 use c_prelude::{Helper, helper};
-use c_tree::{CType, Header, Item};
+use c_symbols::Symbol;
+use c_tree::{CType, Item};
 use std::alloc::Global;
 use w2c_base::Memory;
 use wasm_tree::SegmentEntry;
@@ -91,7 +90,7 @@ impl<'a> Listed<'a> {
         let alloc = source.alloc;
         let pointers = global_pointers(alloc, source.tree)?;
         let arrays = with_bytes(alloc, source.tree)?;
-        let declared = declared(alloc, &source.symbols)?;
+        let declared = declared(alloc, source.symbols())?;
         let helpers = helpers(alloc, source.tree)?;
         Ok(Listed {
             pointers,
@@ -120,13 +119,6 @@ impl<'a> UnitItems<'a> {
         })
     }
 
-    /// The module's header.
-    pub fn header(&self) -> Result<Header, Memory>
-        ensures { IfOk result (λ header. header ≡ of.header_of (module_of self.now.source).tree (module_of self.now.source).name) }
-    {
-        header_by(self.source.alloc, &self.source.symbols.indexes)
-    }
-
     fn at_memories(&self, n: usize) -> Result<Option<Item>, Memory>
         ensures { IfOk result (λ item. option_map item_of item ≡ slice_get (tail.from_memories (module_of self.now.source)) n) }
     {
@@ -151,7 +143,8 @@ impl<'a> UnitItems<'a> {
         ensures { IfOk result (λ item. option_map item_of item ≡ slice_get (tail.from_pointers (module_of self.now.source)) n) }
     {
         let alloc = self.source.alloc;
-        let memories = self.source.reached.memories.as_slice();
+        let imports = self.source.reached();
+        let memories = imports.memories.as_slice();
         match memories.get(n) {
             Some(_) => Ok(Some(pointer(alloc, CType::PtrMem, b"m0")?)),
             None => self.at_table_pointers(n.saturating_sub(memories.len())),
@@ -162,7 +155,8 @@ impl<'a> UnitItems<'a> {
         ensures { IfOk result (λ item. option_map item_of item ≡ slice_get (tail.from_table_pointers (module_of self.now.source)) n) }
     {
         let alloc = self.source.alloc;
-        let tables = self.source.reached.tables.as_slice();
+        let imports = self.source.reached();
+        let tables = imports.tables.as_slice();
         match tables.get(n) {
             Some(_) => Ok(Some(pointer(alloc, CType::PtrTab, b"t0")?)),
             None => self.at_global_pointers(n.saturating_sub(tables.len())),

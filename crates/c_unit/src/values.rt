@@ -105,7 +105,7 @@ impl<'a> Source<'a> {
         requires { number < length self.now.tree.now.globals }
         ensures { IfOk result (λ name. name ≡ global_name (imported_globals self.now.tree.now + number)) }
     {
-        with_number(self.alloc, b"g", self.reached.globals.len() + number)
+        with_number(self.alloc, b"g", self.reached().globals.len() + number)
     }
 
     /// The globals that the module defines.

@@ -20,7 +20,7 @@ use Rattle.c_tree.specs.Runtime.{same_type, same_types}
 use Rattle.c_meaning.specs.State.{UnitFunc}
 use Rattle.c_meaning.specs.Linking.{Program, called_func, c_params_of, c_result_of, c_func_type_of, defined_for_all, fits, func_type}
 use Rattle.c_body.proofs.Indirect.{same_c_types}
-use Rattle.c_body.specs.Symbols.{export_symbol}
+use Rattle.c_symbols.specs.Symbols.{export_symbol}
 use Rattle.c_unit.specs.Sets.{IsAcceptedSet, program_of, symbol_call}
 use Rattle.c_unit.proofs.Linked.{ExportedBy, exported_by}
 use Rattle.c_unit.proofs.External.{SymbolFound, symbol_found}

@@ -217,7 +217,7 @@ abbrev pub onto : ℕ → Option (List Value) → List Value → store.State →
 onto n None under state = Stops Stuck state
 onto n (Some values) under state = Normal n (values ++ under) state
 
--- the end of a block (4.4.5). Its code ran on an operand stack of its own; `under` is what lay below
+-- the end of a block (4.4.6). Its code ran on an operand stack of its own; `under` is what lay below
 abbrev pub leave : Option ValType → List Value → Result → Result
 leave t under (Normal n stack state) = Normal n (stack ++ under) state
 leave t under (Branch zero n stack state) = onto n (top t stack) under state

@@ -98,7 +98,7 @@ max_fits given None = true
 max_fits None (Some want) = false
 max_fits (Some given) (Some want) = nat_le given want
 
--- a given table or memory fits an import's limits (4.5.1)
+-- a given table or memory fits an import's limits (4.5.2)
 abbrev pub limits_fit : ℕ → Option ℕ → Limits → Bool
 limits_fit size max want = nat_le want.min size && max_fits max want.max
 

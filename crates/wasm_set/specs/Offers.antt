@@ -1,4 +1,4 @@
--- What a module offers: its exports with their types (WebAssembly Core 1.0, 3.4.7), each type by the module's own index
+-- What a module offers: its exports with their types (WebAssembly Core 1.0, 3.4.8), each type by the module's own index
 -- spaces. And whether an offer is what an import asks for (4.5.4), limits left out.
 use Rattle.std.specs.Prelude.{◌&&◌, ℕ, Bool, true, false, List, map, slice_get, Option, Some, None, option_map}
 use Rattle.w2c_base.specs.declared.value.ValType.{ValType}

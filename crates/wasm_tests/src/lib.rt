@@ -11,6 +11,8 @@ mod operators;
 #[cfg(test)]
 mod reading;
 #[cfg(test)]
+mod symbols;
+#[cfg(test)]
 mod units;
 #[cfg(test)]
 mod writing;

@@ -119,7 +119,7 @@ unknown_global e = fault_if (is_got_unknown (shape_of e.globals e.code)) e.place
 abbrev pub type_mismatch : Expression → List Fault
 type_mismatch e = fault_if (has_other_type e.ty (shape_of e.globals e.code)) e.place cause.TypeMismatch
 
--- an export of something that is not there (3.4.7): at the index
+-- an export of something that is not there (3.4.8): at the index
 abbrev pub unknown_export : Module → Export → List Fault
 unknown_export m e = elim e.kind [
   | ExportFunc ↦ fault_if (is_out (func_space m) e.index) e.index_place cause.UnknownFunction
@@ -135,7 +135,7 @@ duplicate_exports earlier (e ∷ exports) =
     fault_if (list_any (λ other. bytes_eq other.name e.name) earlier) e.name_place cause.DuplicateExport
     ++ duplicate_exports (earlier ++ e ∷ []) exports
 
--- the start function (3.4.6) is unknown, or has another type than [] → []: at the index. Of a function without a type
+-- the start function (3.4.7) is unknown, or has another type than [] → []: at the index. Of a function without a type
 -- nothing is said here
 abbrev pub is_other_than_start : Option FuncType → Bool
 is_other_than_start None = false
@@ -147,7 +147,7 @@ start_faults m (Some s) =
     fault_if (is_out (func_space m) s.index) s.place cause.UnknownFunction
     ++ fault_if (is_other_than_start (func_type_in m s.index)) s.place cause.StartType
 
--- a segment (3.4.4, 3.4.5) of another table or memory than the first, or of one that is not there: at the index
+-- a segment (3.4.5, 3.4.6) of another table or memory than the first, or of one that is not there: at the index
 abbrev pub is_no_first : {A : Type 0} → List A → ℕ → Bool
 is_no_first space index = not (index == 0) || is_out space 0
 

@@ -1,6 +1,8 @@
-use Rattle.std.proofs.Common.{map, ap}
-use Rattle.c_body.specs.Symbols.{Typed}
-use Rattle.c_unit.specs.Named.{named_of, pair_of}
+use Rattle.std.proofs.Common.{map, ap, ◌∙◌}
+use Rattle.wasm_tree.specs.declared.tree.Module.{Module}
+use Rattle.c_symbols.specs.declared.indexes.Indexes.{Indexes}
+use Rattle.c_symbols.specs.Symbols.{Typed}
+use Rattle.c_symbols.specs.Named.{named_of, pair_of}
 use Rattle.c_unit.proofs.SeenNames.{declares_next, declares_all}
 use Rattle.c_unit.proofs.declarations.declared.Goals as goal
 
@@ -10,12 +12,12 @@ loop-import-preserved c =
     (map pair_of c.put_if.new.list.items)
     c.args.symbols.now.indexes.tree.now.imports c.as_slice-import-items.result.now c.loop-import.import-index c.import-item.result
     _
-    c.as_slice-import-items.ensures c.loop-import-test.true c.import-item.is (ap (λ (t : Typed). t.0) c.in_ok-name.ensures)
+    (c.as_slice-import-items.ensures ∙ ap (λ (m : Module). m.imports) (c.tree.ensures ∙ ap (λ (i : Indexes). i.tree.now) c.indexes-spaces.ensures)) c.loop-import-test.true c.import-item.is (ap (λ (t : Typed). t.0) c.in_ok-name.ensures)
     c.in_ok-put_if.ensures.seen c.in_ok-put_if.ensures.list c.loop-import.invariant
 
 pub returns : goal.returns
 returns c =
     declares_all (named_of c.args.symbols.now.indexes) c.loop-import.seen (map pair_of c.loop-import.list.items)
     c.args.symbols.now.indexes.tree.now.imports
-    c.as_slice-import-items.result.now c.loop-import.import-index c.as_slice-import-items.ensures c.loop-import-test.false
+    c.as_slice-import-items.result.now c.loop-import.import-index (c.as_slice-import-items.ensures ∙ ap (λ (m : Module). m.imports) (c.tree.ensures ∙ ap (λ (i : Indexes). i.tree.now) c.indexes-spaces.ensures)) c.loop-import-test.false
     c.loop-import.invariant

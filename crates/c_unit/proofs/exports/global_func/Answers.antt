@@ -3,7 +3,7 @@ use Rattle.c_tree.specs.Scope.{Name}
 use Rattle.c_tree.specs.Tree as tree
 use Rattle.c_tree.specs.View.{func_of}
 use Rattle.c_unit.specs.Accessors.{accessor_by}
-use Rattle.c_unit.specs.Named.{pair_of}
+use Rattle.c_symbols.specs.Named.{pair_of}
 use Rattle.c_unit.proofs.exports.global_func.Goals as goal
 
 pub returns : goal.returns

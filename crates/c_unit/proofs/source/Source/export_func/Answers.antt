@@ -3,8 +3,8 @@ use Rattle.wasm_meaning.specs.LinkedSet.{NamedModule}
 use Rattle.alike.specs.Alike.{memory_name, table_name, global_name}
 use Rattle.c_tree.specs.Tree as tree
 use Rattle.c_tree.specs.View.{func_of}
-use Rattle.c_body.specs.Symbols.{export_symbol, export_type, table_imports, memory_imports, global_imports}
-use Rattle.c_unit.specs.Named.{pair_of}
+use Rattle.c_symbols.specs.Symbols.{export_symbol, export_type, table_imports, memory_imports, global_imports}
+use Rattle.c_symbols.specs.Named.{named_of, pair_of}
 use Rattle.c_unit.specs.Sources.{module_of}
 use Rattle.c_unit.proofs.Accesses.{given_at, table_export, memory_export, global_export}
 use Rattle.c_unit.proofs.source.Source.export_func.Goals as goal
@@ -15,9 +15,10 @@ returns-in-Table c =
     let m = module_of source in
     let e = c.args.export.now in
     subst (λ (f : tree.Func). IfOk c.object_func.result (λ r. func_of r ≡ f))
-    (given_at m e (pair_of c.in_ok-symbol.symbol) source.reached.tables.items (table_imports m.tree) table_name
-    (c.in_ok-symbol.ensures ∙ ap (λ (n : NamedModule). (export_symbol n e, export_type n.tree e)) source.symbols_are)
-    source.tables_are ∙ table_export m e c.in-Table.is) c.object_func.ensures
+    (given_at m e (pair_of c.in_ok-symbol.symbol) c.reached-imports.result.now.tables.items (table_imports m.tree) table_name
+    (c.in_ok-symbol.ensures
+    ∙ ap (λ (n : NamedModule). (export_symbol n e, export_type n.tree e)) (ap named_of c.indexes.ensures ∙ c.symbols.ensures))
+    c.reached-imports.ensures.tables ∙ table_export m e c.in-Table.is) c.object_func.ensures
 
 pub returns-in-Memory : goal.returns-in-Memory
 returns-in-Memory c =
@@ -25,9 +26,10 @@ returns-in-Memory c =
     let m = module_of source in
     let e = c.args.export.now in
     subst (λ (f : tree.Func). IfOk c.object_func-in-Memory.result (λ r. func_of r ≡ f))
-    (given_at m e (pair_of c.in_ok-symbol.symbol) source.reached.memories.items (memory_imports m.tree) memory_name
-    (c.in_ok-symbol.ensures ∙ ap (λ (n : NamedModule). (export_symbol n e, export_type n.tree e)) source.symbols_are)
-    source.memories_are ∙ memory_export m e c.in-Memory.is) c.object_func-in-Memory.ensures
+    (given_at m e (pair_of c.in_ok-symbol.symbol) c.reached-imports.result.now.memories.items (memory_imports m.tree) memory_name
+    (c.in_ok-symbol.ensures
+    ∙ ap (λ (n : NamedModule). (export_symbol n e, export_type n.tree e)) (ap named_of c.indexes.ensures ∙ c.symbols.ensures))
+    c.reached-imports.ensures.memories ∙ memory_export m e c.in-Memory.is) c.object_func-in-Memory.ensures
 
 pub returns-in-Global : goal.returns-in-Global
 returns-in-Global c =
@@ -35,6 +37,7 @@ returns-in-Global c =
     let m = module_of source in
     let e = c.args.export.now in
     subst (λ (f : tree.Func). IfOk c.global_func.result (λ r. func_of r ≡ f))
-    (given_at m e (pair_of c.in_ok-symbol.symbol) source.reached.globals.items (global_imports m.tree) (global_name e.index)
-    (c.in_ok-symbol.ensures ∙ ap (λ (n : NamedModule). (export_symbol n e, export_type n.tree e)) source.symbols_are)
-    source.globals_are ∙ global_export m e c.in-Global.is) c.global_func.ensures
+    (given_at m e (pair_of c.in_ok-symbol.symbol) c.reached-imports.result.now.globals.items (global_imports m.tree) (global_name e.index)
+    (c.in_ok-symbol.ensures
+    ∙ ap (λ (n : NamedModule). (export_symbol n e, export_type n.tree e)) (ap named_of c.indexes.ensures ∙ c.symbols.ensures))
+    c.reached-imports.ensures.globals ∙ global_export m e c.in-Global.is) c.global_func.ensures

@@ -1,7 +1,7 @@
 use Rattle.std.proofs.Common.{ap, ◌∙◌}
 use Rattle.wasm_meaning.specs.LinkedSet.{NamedModule}
 use Rattle.c_tree.specs.View.{stmt_of}
-use Rattle.c_body.specs.Reached.{usable_symbol}
+use Rattle.c_symbols.specs.Reached.{usable_symbol}
 use Rattle.c_unit.specs.Pointers.{pointer_set}
 use Rattle.c_unit.specs.Sources.{module_of}
 use Rattle.c_unit.proofs.Numberings.{pushed}
@@ -15,5 +15,5 @@ returns c =
     pushed stmt_of c.args.stmts.now c.push.new.self _ _ c.in_ok-push.ensures.ok
     (c.in_ok-set_pointer.ensures
     ∙ ap (λ s. pointer_set s object)
-    (c.in_ok-symbol.ensures ∙ ap (λ (m : NamedModule). usable_symbol m import) c.args.self.now.symbols_are)
+    (c.in_ok-symbol.ensures ∙ ap (λ (m : NamedModule). usable_symbol m import) c.symbols.ensures)
     ∙ pointer_is_set (module_of c.args.self.now) import object)

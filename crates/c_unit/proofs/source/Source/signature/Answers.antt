@@ -1,5 +1,6 @@
+use Rattle.std.proofs.Common.{ap, ◌∙◌}
 use Rattle.c_body.specs.Around as around
-use Rattle.c_unit.specs.Named.{named_of}
+use Rattle.c_symbols.specs.Named.{named_of}
 use Rattle.c_unit.specs.Sources.{module_of}
 use Rattle.c_unit.proofs.Countable.{few_params_at}
 use Rattle.c_unit.proofs.source.Source.signature.Goals as goal
@@ -7,5 +8,5 @@ use Rattle.c_unit.proofs.source.Source.signature.Goals as goal
 pub sig_number-requires : goal.sig_number-requires
 sig_number-requires c =
     let source = c.args.self.now in
-    few_params_at (module_of source) (around.named_of source.spaces) (named_of source.symbols.indexes) c.args.func c.in-Some.ty.now
-    source.spaces_are source.symbols_are source.spaces.few_params c.in-Some.ensures
+    few_params_at (module_of source) (around.named_of source.spaces) (named_of c.indexes.result.now) c.args.func c.in-Some.ty.now
+    source.spaces_are (ap named_of c.indexes.ensures ∙ c.symbols.ensures) source.spaces.few_params c.in-Some.ensures

@@ -1,0 +1,5 @@
+pub mod Grown
+pub mod ByKind
+pub mod SameTypes
+mod Founds
+mod Reaches

@@ -1,0 +1,25 @@
+-- The symbols of a module's imports, import by import.
+use Rattle.std.proofs.Common.{◌≡◌, ℕ, ◌+◌, ◌<◌, ◌≤◌, Bool, List, ◌++◌, length, get_or, drop, map, filter, Option, refl}
+use Rattle.wasm_tree.specs.declared.entries.Import.{Import}
+use Rattle.wasm_meaning.specs.LinkedSet.{NamedModule}
+use Rattle.c_tree.specs.Scope.{Name}
+use Rattle.c_symbols.specs.Reached.{usable_symbol}
+use Rattle.c_symbols.specs.Usable.{if_kind}
+use Rattle.c_symbols.proofs.ByKind.{kind_next, none_more}
+
+abbrev pub of_kind : NamedModule → (Import → Bool) → List Import → List (Option Name)
+of_kind m is imports = map (usable_symbol m) (filter is imports)
+
+-- what the imports so far brought, and what the others bring
+abbrev pub ReachesSoFar : NamedModule → (Import → Bool) → List (Option Name) → ℕ → Type 0
+ReachesSoFar m is made i = made ++ of_kind m is (drop i m.tree.imports) ≡ of_kind m is m.tree.imports
+
+pub reaches_next : (m : NamedModule) (is : Import → Bool) (before after : List (Option Name)) (items : List Import) (i : ℕ) (x : Import)
+    → items ≡ m.tree.imports → i < length items → x ≡ get_or items i x → after ≡ before ++ if_kind is x (usable_symbol m x)
+    → ReachesSoFar m is before i → ReachesSoFar m is after (i + 1)
+reaches_next m is before after items i x same less read grown so_far =
+    kind_next is (usable_symbol m) before after _ _ m.tree.imports items i x same less read refl grown so_far
+
+pub reaches_all : (m : NamedModule) (is : Import → Bool) (made : List (Option Name)) (items : List Import) (i : ℕ) → items ≡ m.tree.imports
+    → length items ≤ i → ReachesSoFar m is made i → made ≡ of_kind m is m.tree.imports
+reaches_all m is made items i same past so_far = none_more (of_kind m is) made _ m.tree.imports items i same refl past so_far

@@ -1,0 +1,8 @@
+-- promised: cited by contracts of what is offered
+pub mod Symbols
+pub mod Reached
+pub mod Typed
+pub mod Named
+pub mod Usable
+-- of the code and the proofs alone
+pub mod Found

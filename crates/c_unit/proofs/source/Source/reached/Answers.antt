@@ -1,0 +1,7 @@
+use Rattle.std.proofs.Common.{subst}
+use Rattle.wasm_meaning.specs.LinkedSet.{NamedModule}
+use Rattle.c_symbols.specs.Usable.{AreReached}
+use Rattle.c_unit.proofs.source.Source.reached.Goals as goal
+
+pub returns : goal.returns
+returns c = subst (λ (m : NamedModule). AreReached c.reached.result.now m) c.args.self.now.spaces_are c.reached.ensures

@@ -1,8 +1,0 @@
-use Rattle.c_unit.proofs.Founds.{both}
-use Rattle.c_unit.proofs.symbols.Symbols.new.Goals as goal
-
-pub invariant_of-result : goal.invariant_of-result
-invariant_of-result c = record {
-  found = both c.new-types.result c.enter_exports.new.table c.enter_imports.new.table _ _ c.new-types.ensures
-      c.in_ok-enter_exports.ensures c.in_ok-enter_imports.ensures;
-}
