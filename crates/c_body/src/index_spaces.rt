@@ -15,8 +15,9 @@ ghost use Rattle.c_symbols.specs.Reached.{usable_symbol};
 ghost use Rattle.c_symbols.specs.Named.{named_of as symbols_of};
 ghost use Rattle.c_symbols.specs.Usable.{AreReached};
 
-use crate::naming::{func_name, global_name, global_pointer, name_of, slot};
+use crate::naming::{func_name, global_name, global_pointer, slot};
 use crate::pieces::set_to_operand;
+use c_prelude::name_of;
 use c_symbols::{Reached, Symbols};
 use c_tree::{Arg, Expr, Name, Stmt};
 use std::alloc::Global;

@@ -3,7 +3,7 @@ ghost use Rattle.std.specs.Prelude.{◌≡◌, ◌∷◌, OnOk};
 ghost use Rattle.c_tree.specs.View.{expr_of, stmt_of};
 ghost use Rattle.c_prelude.specs.Pieces.{top, below_top, with_stack, with_stmt, with_call, placed, all_placed, staged, made_by, nothing_made};
 
-use crate::parts::{cast_to, letter, literal, named, number_in, operation, primitive_name, trap};
+use crate::parts::{cast_to, letter, literal, name_of, number_in, operation, primitive_name, trap};
 use crate::piece::{Piece, Setting};
 use c_tree::{Arg, Args, Callee, Expr, Name, Num, Stmt, Stmts};
 use std::alloc::Global;
@@ -142,7 +142,7 @@ impl Builder {
     fn call(&mut self, target: Option<Name>, name: &[u8]) -> Result<(), Memory>
         ensures { OnOk result (made_by self.new ≡ with_call (made_by self.old) target name.now) }
     {
-        let callee = Callee::Named(named(self.alloc, name)?);
+        let callee = Callee::Named(name_of(self.alloc, name)?);
         let args = mem::replace(&mut self.args, Args::new(self.alloc));
         self.add(Stmt::Call(target, callee, args))
     }

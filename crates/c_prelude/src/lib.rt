@@ -23,5 +23,5 @@ pub use laws::{
 };
 pub use make::{helper, helper_name};
 pub use operation::{HELPERS, Helper, NumOp};
-pub use parts::trap;
+pub use parts::{name_of, to_32, to_64, trap};
 pub use wasm_tree::{LoadOp, StoreOp};

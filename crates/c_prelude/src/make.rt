@@ -14,7 +14,7 @@ use crate::body::{
 use crate::builder::Builder;
 use crate::object_tables::{ACCESS, COPY, ELEMENT, FILL, LOAD, LOAD_S, SIZE, STORE};
 use crate::operation::Helper;
-use crate::parts::{letter, named};
+use crate::parts::{letter, name_of};
 use crate::piece::{Piece, Setting};
 use crate::rows::{Row, form_name, load_name, number_row, prefix, store_name};
 use c_tree::{Body, CType, Func, Locals, Name, Num, Params, Stmts};
@@ -53,16 +53,16 @@ pub fn helper_name(alloc: Global, which: Helper) -> Result<Name, Memory>
     match which {
         Helper::Num(op) => {
             let row = number_row(op);
-            let mut name = named(alloc, prefix(row.ty))?;
+            let mut name = name_of(alloc, prefix(row.ty))?;
             name.extend(form_name(row.form))?;
             Ok(name)
         }
-        Helper::Load(op) => named(alloc, load_name(op)),
-        Helper::Store(op) => named(alloc, store_name(op)),
-        Helper::Size => named(alloc, b"memory_size"),
-        Helper::Element => named(alloc, b"table_element"),
-        Helper::Copy => named(alloc, b"memory_copy"),
-        Helper::Fill => named(alloc, b"memory_fill"),
+        Helper::Load(op) => name_of(alloc, load_name(op)),
+        Helper::Store(op) => name_of(alloc, store_name(op)),
+        Helper::Size => name_of(alloc, b"memory_size"),
+        Helper::Element => name_of(alloc, b"table_element"),
+        Helper::Copy => name_of(alloc, b"memory_copy"),
+        Helper::Fill => name_of(alloc, b"memory_fill"),
     }
 }
 

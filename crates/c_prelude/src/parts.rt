@@ -12,7 +12,7 @@ use std::boxed::Box;
 use w2c_base::{Memory, TrapKind, ValType};
 
 /// A name of these bytes.
-pub fn named(alloc: Global, text: &[u8]) -> Result<Name, Memory>
+pub fn name_of(alloc: Global, text: &[u8]) -> Result<Name, Memory>
     ensures { IfOk result (λ name. name ≡ text.now) }
 {
     let mut name = Name::new(alloc);
@@ -108,13 +108,15 @@ pub fn operation(alloc: Global, op: COp, left: Expr, right: Expr) -> Result<Expr
     Ok(Expr::Op(op, Box::new(alloc, left)?, Box::new(alloc, right)?))
 }
 
-fn to_32(alloc: Global, e: Expr) -> Result<Expr, Memory>
+/// An expression as a u32.
+pub fn to_32(alloc: Global, e: Expr) -> Result<Expr, Memory>
     ensures { IfOk result (λ cast. expr_of cast ≡ tree.To32 (expr_of e)) }
 {
     Ok(Expr::To32(Box::new(alloc, e)?))
 }
 
-fn to_64(alloc: Global, e: Expr) -> Result<Expr, Memory>
+/// An expression as a u64.
+pub fn to_64(alloc: Global, e: Expr) -> Result<Expr, Memory>
     ensures { IfOk result (λ cast. expr_of cast ≡ tree.To64 (expr_of e)) }
 {
     Ok(Expr::To64(Box::new(alloc, e)?))
@@ -177,7 +179,7 @@ fn put_name(size: u32) -> &'static [u8]
 pub fn trap(alloc: Global, kind: TrapKind) -> Result<Stmt, Memory>
     ensures { IfOk result (λ s. stmt_of s ≡ made.trap kind) }
 {
-    let name = named(alloc, b"w2c_trap")?;
+    let name = name_of(alloc, b"w2c_trap")?;
     let mut args = Args::new(alloc);
     args.push(Arg::Value(Expr::Num(Num::N32(kind.code()))))?;
     Ok(Stmt::Call(None, Callee::Named(name), args))

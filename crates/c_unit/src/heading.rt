@@ -4,7 +4,7 @@ ghost use Rattle.c_unit.specs.Items.{header_of};
 ghost use Rattle.c_unit.specs.Lines.{line_of};
 ghost use Rattle.c_symbols.specs.Named.{named_of};
 
-use c_body::name_of;
+use c_prelude::name_of;
 use c_symbols::{Indexes, c_types};
 use c_tree::{CType, CTypes, Header, HeaderLines};
 use std::alloc::Global;

@@ -16,7 +16,8 @@ ghost use Rattle.c_unit.specs.Prototypes.{prototype_of, bare_params as bare_para
 
 use crate::passing::no_params;
 use crate::source::Source;
-use c_body::{func_name, name_of, with_number};
+use c_body::{func_name, with_number};
+use c_prelude::name_of;
 use c_symbols::{Symbol, c_result, c_type};
 use c_tree::{CType, Func, Item, Name, Params};
 use std::alloc::Global;

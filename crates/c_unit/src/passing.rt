@@ -6,7 +6,8 @@ ghost use Rattle.c_meaning.specs.Linking.{c_type_of};
 ghost use Rattle.c_unit.specs.Exports as of;
 ghost use Rattle.c_symbols.specs.Typed.{type_of};
 
-use c_body::{name_of, with_number};
+use c_body::with_number;
+use c_prelude::name_of;
 use c_symbols::{SymbolType, c_type};
 use c_tree::{Arg, Args, Body, CType, Callee, Expr, Func, Locals, Name, Num, Params, Stmt, Stmts};
 use std::alloc::Global;

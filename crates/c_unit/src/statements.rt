@@ -6,8 +6,8 @@ ghost use Rattle.c_body.specs.Names as names;
 ghost use Rattle.c_prelude.specs.Pieces.{trap as trap_of};
 ghost use Rattle.c_unit.specs.Init as of;
 
-use c_body::{label, name_of, one_arg};
-use c_prelude::trap;
+use c_body::{label, one_arg};
+use c_prelude::{name_of, trap};
 use c_tree::{Arg, Args, COp, Callee, Expr, Name, Num, Stmt, Stmts};
 use std::alloc::Global;
 use w2c_base::{Memory, TrapKind};

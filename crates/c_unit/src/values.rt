@@ -12,7 +12,8 @@ ghost use Rattle.c_unit.specs.Single.{single_of};
 
 use crate::source::Source;
 use crate::statements::{max_number, n32, n64, primitive, set};
-use c_body::{name_of, operation, pattern_32, pattern_64, three_args, to_64, with_number};
+use c_body::{operation, pattern_32, pattern_64, three_args, with_number};
+use c_prelude::{name_of, to_64};
 use c_tree::{Arg, COp, Expr, Name, Stmt, Stmts};
 use std::alloc::Global;
 use w2c_base::Memory;
