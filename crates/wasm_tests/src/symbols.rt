@@ -15,9 +15,11 @@ const MODULE: [u8; 40] = [
 ];
 
 fn module(alloc: Global) -> Result<Module, Fail> {
-    Ok(read_module(alloc, &MODULE)
-        .ok()
-        .ok_or("the bytes are a module")?)
+    Ok(
+        read_module(alloc, &MODULE)
+            .ok()
+            .ok_or("the bytes are a module")?,
+    )
 }
 
 #[test]
@@ -25,7 +27,7 @@ fn index_spaces(rt: HostRuntime) -> Result<(), Fail> {
     let tree = module(rt.alloc())?;
     let symbols = Symbols::new(rt.alloc(), &tree, b"own")?;
     let indexes = symbols.indexes();
-    assert!(rt; indexes.name() == b"own");
+    assert!(rt; indexes.name() == b"own".as_slice());
     assert_eq!(rt; indexes.tree().exports.len(), 1);
     assert!(rt; indexes.ty(0).is_some());
     assert!(rt; indexes.ty(1).is_none());
@@ -44,12 +46,15 @@ fn imports_and_exports(rt: HostRuntime) -> Result<(), Fail> {
     let symbols = Symbols::new(rt.alloc(), &tree, b"own")?;
     let export = tree.exports.as_slice().first().ok_or("an export")?;
     let exported = symbols.indexes().export(rt.alloc(), export)?;
-    assert!(rt; exported.name.as_slice() == b"w2cZ_ownZ_cZ_g");
+    assert!(rt; exported.name.as_slice() == b"w2cZ_ownZ_cZ_g".as_slice());
     assert_eq!(rt; exported.ty.result, CType::PtrU32);
     let import = tree.imports.as_slice().first().ok_or("an import")?;
     let imported = symbols.indexes().import(rt.alloc(), import)?;
-    assert!(rt; imported.name.as_slice() == b"w2cZ_mZ_fZ_f");
-    assert_eq!(rt; symbols.declared_type(imported.name.as_slice()).result, CType::U64);
+    assert!(rt; imported.name.as_slice() == b"w2cZ_mZ_fZ_f".as_slice());
+    assert_eq!(rt;
+        symbols.declared_type(imported.name.as_slice()).result,
+        CType::U64
+    );
     assert!(rt; symbols.usable(rt.alloc(), import)?.is_some());
     let reached = Reached::new(rt.alloc(), &symbols)?;
     assert_eq!(rt; reached.funcs.len(), 1);
