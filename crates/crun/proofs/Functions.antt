@@ -294,7 +294,7 @@ module _ {H : Type 0} (m : HostModule H) (before behind : Engine H) where
         (over_program (λ p. AreFuncTypes (naming_of p.units) p before.startup.types) was.types_are);
     symbols_are = subst (λ s. AreSymbols (naming_in behind) (program_in m behind) s.value) (sym same.symbols)
         (over_program (λ p. AreSymbols (naming_of p.units) p before.startup.symbols.value) was.symbols_are);
-    no_bytes = ap (λ l. l.bytes) same.not_made ∙ was.no_bytes;
+    not_made = same.not_made ∙ was.not_made;
   }
     where
       units_same : behind.startup.units.items ≡ before.startup.units.items

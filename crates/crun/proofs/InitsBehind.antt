@@ -69,7 +69,7 @@ use Rattle.crun.specs.Engines.{
   IsReady,
   SameProgram,
 }
-use Rattle.crun.specs.Sessions.{last_value, trail_of, BehindAt, IsFirst, IsOutcome}
+use Rattle.crun.specs.Sessions.{last_value, trail_of, AreBegun, BehindAt, IsFirst, IsOutcome}
 use Rattle.crun.proofs.Functions.{alone_in, init_gives_none, same_program, void_ends}
 use Rattle.crun.proofs.History.{
   all_ended,
@@ -98,6 +98,13 @@ init_at p names inits are k within = ap (λ fs. slice_get fs k) (sym are) ∙ sl
 pub inits_count : (p : Program) (names : Naming) (inits : List UnitItem) → map (address_in names) inits ≡ init_functions p
     → length inits ≡ length (init_functions p)
 inits_count p names inits are = sym (length-map inits (address_in names)) ∙ ap length are
+
+-- where one of them did not end it was begun
+pub some_begun : (o : Outcome) (begun all : ℕ) → ((value : Option Value) → o ≡ outcome.Ended value → ⊥) → 1 ≤ begun → AreBegun o begun all
+some_begun (outcome.Ended value) begun all never some = absurd (never value refl)
+some_begun (outcome.Trapped kind) begun all never some = some
+some_begun (outcome.Undefined u) begun all never some = some
+some_begun outcome.OutOfSteps begun all never some = some
 
 -- a list around one of its items
 around : {A : Type 0} (xs : List A) (k : ℕ) (x : A) → slice_get xs k ≡ Some x → xs ≡ take k xs ++ x ∷ drop (k + 1) xs

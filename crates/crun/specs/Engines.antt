@@ -55,7 +55,7 @@ pub record IsStarted {H : Type 0} (m : HostModule H) (e : Engine H) : Type 0 whe
   pub units_are : IsLinked (naming_in e) (program_in m e) e.startup.units.items
   pub types_are : AreFuncTypes (naming_in e) (program_in m e) e.startup.types
   pub symbols_are : AreSymbols (naming_in e) (program_in m e) e.startup.symbols.value
-  pub no_bytes : e.not_made.bytes ≡ []
+  pub not_made : e.not_made ≡ record { bytes = []; most = Some 0 }
 
 -- the objects are there, and hold what their types say
 pub record IsReady {H : Type 0} (m : HostModule H) (e : Engine H) : Type 0 where

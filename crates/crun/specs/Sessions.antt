@@ -5,7 +5,7 @@ use Rattle.w2c_base.specs.Run.{CallEnded, Event, Phase, Init, Reply, Trail, asks
 use Rattle.c_tree.specs.declared.tree.Item.{Item}
 use Rattle.c_tree.specs.View.{unit_of}
 use Rattle.c_meaning.specs.State.{Objects, Trapped, Undefined, UnitFunc}
-use Rattle.c_meaning.specs.Linking.{Program, SymbolCall, called_func}
+use Rattle.c_meaning.specs.Linking.{Program, SymbolCall, called_func, init_functions}
 use Rattle.c_meaning.specs.Machine.{fresh}
 use Rattle.c_meaning.specs.Run.{CRun, Ended, Entry, OutOfSteps, Stopped, after, begin_entry, entries_of}
 use Rattle.c_link.specs.declared.host_symbol.HostSymbol.{HostSymbol}
@@ -72,6 +72,18 @@ pub record IsOutcome (o : Outcome) (phase : Phase) (journal : List Asked) (told 
   pub events : run.events ≡ told
   pub asks : asks_in run.events ≡ map ask_of journal
   pub objects : run.units ≡ units
+
+-- how many functions of a program run first
+abbrev pub init_count : Program → ℕ
+init_count p = length (init_functions p)
+
+-- how many of all functions that run first were begun where these came to an outcome: each of them where it is an end, else at
+-- least one
+abbrev pub AreBegun : Outcome → ℕ → ℕ → Type 0
+AreBegun (outcome.Ended value) begun all = begun ≡ all
+AreBegun (outcome.Trapped kind) begun all = 1 ≤ begun
+AreBegun (outcome.Undefined u) begun all = 1 ≤ begun
+AreBegun outcome.OutOfSteps begun all = 1 ≤ begun
 
 -- what was told behind a call that asked this: the end of a call that ended is told
 abbrev pub told_by : List Event → List Asked → Outcome → List Event

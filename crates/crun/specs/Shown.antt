@@ -7,6 +7,7 @@ use Rattle.c_meaning.specs.State.{Name, CValue, Number, Pointer, FuncPointer, Fu
 use Rattle.c_meaning.specs.State as state
 use Rattle.c_machine.specs.Names.{number_in, Finds}
 use Rattle.c_objects.specs.declared.store.UnitObjects.{UnitObjects}
+use Rattle.c_objects.specs.Objects.{maximum_of}
 use Rattle.c_objects.specs.Stores.{objects_of}
 use Rattle.c_objects.specs.Views.{Naming, UnitNames, item_name}
 use Rattle.c_thread.specs.declared.scope.ObjectTables.{ObjectTables}
@@ -37,6 +38,13 @@ bytes_of m = m.bytes
 
 abbrev pub bytes_in : Linear → List ℕ
 bytes_in m = m.bytes
+
+-- a memory's maximum in pages; 4294967296 means none
+abbrev pub max_of : state.Memory → ℕ
+max_of m = m.max
+
+abbrev pub max_in : Linear → ℕ
+max_in m = maximum_of m.most
 
 abbrev pub elements_count : state.Table → ℕ
 elements_count t = length t.elements

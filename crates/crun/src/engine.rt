@@ -23,7 +23,7 @@ use w2c_base::{Memory, Value};
 
 /// What lasts from one function's run to the next: the units with their tables and objects, w2c_depth,
 /// the hosts with their journal, and the steps that are left. A memory that was not made is lent as
-/// one without bytes.
+/// one without bytes whose maximum is 0.
 #[derive(Drop)]
 pub struct Engine<H: HostModule> {
     pub linked: Linked,

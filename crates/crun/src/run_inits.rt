@@ -10,7 +10,7 @@ ghost use Rattle.c_hosts.specs.Journals.{ask_of, events_in, replies_in};
 ghost use Rattle.c_hosts.specs.Running.{Asks};
 ghost use Rattle.crun.specs.declared.outcome.Outcome.TheVariants as outcomes;
 ghost use Rattle.crun.specs.Engines.{naming_in, program_in, units_at, IfEnded, IsReady, SameProgram};
-ghost use Rattle.crun.specs.Sessions.{BehindAt, IsFirst, IsLast, IsOutcome};
+ghost use Rattle.crun.specs.Sessions.{init_count, AreBegun, BehindAt, IsFirst, IsLast, IsOutcome};
 
 use crate::engine::Engine;
 use crate::outcome::Outcome;
@@ -20,7 +20,7 @@ use w2c_base::Memory;
 
 impl<H: HostModule> Engine<H> {
     /// Runs the functions that run first, by the numbers of their units and items, until one does not end, and counts
-    /// those that were begun.
+    /// those that were begun, also before it wants memory.
     pub fn run_inits(
         &mut self,
         alloc: Global,
@@ -34,6 +34,8 @@ impl<H: HostModule> Engine<H> {
         ensures ran { IfOk result (λ o. (rest : List SymbolCall) → IsLast o rest
             → IsOutcome o (Init (inits_run.new - 1)) self.new.hosts.journal (events_in self.new.hosts.journal) (units_at self.new)
             (c_run (program_in H.HostModule self.old) rest self.old.left (replies_in self.new.hosts.journal))) }
+        ensures most { inits_run.new ≤ init_count (program_in H.HostModule self.old) }
+        ensures begun { IfOk result (λ o. AreBegun o inits_run.new (init_count (program_in H.HostModule self.old))) }
         ensures ended { IfOk result (λ o. IfEnded o ((o ≡ outcomes.Ended None)
             × BehindAt (program_in H.HostModule self.old) self.new.depth (units_at self.new) self.new.hosts.journal (self.old.left - self.new.left)
             (entries_of (program_in H.HostModule self.old) []) (Init (inits_run.new - 1)) (events_in self.new.hosts.journal))) }

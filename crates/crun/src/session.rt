@@ -1,5 +1,5 @@
 // Sessions.
-ghost use Rattle.std.specs.Prelude.{◌≡◌, ◌≢◌, ◌∷◌, ◌++◌, ◌-◌, ◌<◌, [], ℕ, slice_get, Some, List, Option, length, map, true, Err, IfErr, IfOk, OnErr, OnOk, None, option_map, option_copied};
+ghost use Rattle.std.specs.Prelude.{◌≡◌, ◌≢◌, ◌∷◌, ◌++◌, ◌-◌, ◌≤◌, ◌<◌, [], ℕ, slice_get, Some, List, Option, length, map, true, Err, IfErr, IfOk, OnErr, OnOk, None, option_map, option_copied};
 ghost use Rattle.w2c_base.specs.declared.value.Value.{Value as AnyValue};
 ghost use Rattle.w2c_base.specs.Lookup.{at_index, if_found};
 ghost use Rattle.w2c_base.specs.Run.{asks_in, Ask, Call, Event, Init};
@@ -19,8 +19,8 @@ ghost use Rattle.crun.specs.declared.outcome.Outcome.TheVariants as outcomes;
 ghost use Rattle.crun.specs.declared.outcome.Phase.TheVariants as phases;
 ghost use Rattle.crun.specs.declared.outcome.Standing.TheVariants as standing;
 ghost use Rattle.crun.specs.declared.outcome.Stop.TheVariants as stops;
-ghost use Rattle.crun.specs.Shown.{bytes_in, bytes_of, element_seen, elements_count, memories_of, number_held, object_in, tables_of, vars_of};
-ghost use Rattle.crun.specs.Sessions.{objects_of, phase_of, program_of, standing_of, told_by, IfOver, IsLast, IsOutcome, Stands};
+ghost use Rattle.crun.specs.Shown.{bytes_in, bytes_of, element_seen, elements_count, max_in, max_of, memories_of, number_held, object_in, tables_of, vars_of};
+ghost use Rattle.crun.specs.Sessions.{init_count, objects_of, phase_of, program_of, standing_of, told_by, AreBegun, IfOver, IsLast, IsOutcome, Stands};
 
 use crate::engine::Engine;
 use crate::inits::init_functions;
@@ -103,7 +103,7 @@ impl<H: HostModule> Session<H> {
         &self.engine.linked
     }
 
-    /// How many init functions were begun.
+    /// How many init functions were begun: none before `init`, and each of them where that came to an end.
     pub fn inits_run(&self) -> usize
         ensures { result ≡ self.now.inits_run }
     {
@@ -140,10 +140,11 @@ impl<H: HostModule> Session<H> {
         self.engine.variable(unit, name)
     }
 
-    /// A memory of a unit, one that was not made without bytes. None exactly where the unit has none of
-    /// this name.
+    /// A memory of a unit, one that was not made without bytes and with the maximum 0. None exactly where the
+    /// unit has none of this name.
     pub fn memory(&self, unit: usize, name: &[u8]) -> Option<&LinMem>
-        ensures { option_map bytes_in (option_copied result) ≡ option_map bytes_of (object_in (objects_of self.now) unit memories_of name.now) }
+        ensures bytes { option_map bytes_in (option_copied result) ≡ option_map bytes_of (object_in (objects_of self.now) unit memories_of name.now) }
+        ensures maximum { option_map max_in (option_copied result) ≡ option_map max_of (object_in (objects_of self.now) unit memories_of name.now) }
     {
         self.engine.memory(unit, name)
     }
@@ -172,6 +173,8 @@ impl<H: HostModule> Session<H> {
         ensures ran { IfOk result (λ o. (rest : List SymbolCall) → IsLast o rest
             → IsOutcome o (Init (self.new.inits_run - 1)) self.new.journal (events_in self.new.journal) (objects_of self.new)
             (c_run (program_of H.HostModule self.old) rest self.old.steps (replies_in self.new.journal))) }
+        ensures most { self.new.inits_run ≤ init_count (program_of H.HostModule self.old) }
+        ensures begun { IfOk result (λ o. AreBegun o self.new.inits_run (init_count (program_of H.HostModule self.old))) }
         ensures stands { IfOk result (λ o. self.new.standing ≡ standing.Ready → Stands H.HostModule self.new [] (events_in self.new.journal)) }
         ensures standing { IfOk result (λ o. self.new.standing ≡ standing_of o) }
         ensures value { IfOk result (λ o. (v : Option AnyValue) → o ≡ outcomes.Ended v → v ≡ None) }

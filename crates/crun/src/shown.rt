@@ -4,7 +4,7 @@ ghost use Rattle.w2c_base.specs.Lookup.{at_index, if_found};
 ghost use Rattle.c_objects.specs.Objects.{element_of, memory_of, table_of};
 ghost use Rattle.c_objects.specs.Views.{value_of, Naming};
 ghost use Rattle.crun.specs.Engines.{naming_in, units_at, IsStarted};
-ghost use Rattle.crun.specs.Shown.{bytes_in, bytes_of, element_seen, elements_count, memories_of, number_held, object_in, tables_of, vars_of, AreFound};
+ghost use Rattle.crun.specs.Shown.{bytes_in, bytes_of, element_seen, elements_count, max_in, max_of, memories_of, number_held, object_in, tables_of, vars_of, AreFound};
 
 use crate::engine::Engine;
 use c_hosts::HostModule;
@@ -39,10 +39,11 @@ impl<H: HostModule> Engine<H> {
         number_of(held)
     }
 
-    /// A memory of a unit, one that was not made without bytes.
+    /// A memory of a unit, one that was not made without bytes and with the maximum 0.
     pub fn memory(&self, unit: usize, name: &[u8]) -> Option<&LinMem>
         requires { IsStarted H.HostModule self.now }
-        ensures { option_map bytes_in (option_copied result) ≡ option_map bytes_of (object_in (units_at self.now) unit memories_of name.now) }
+        ensures bytes { option_map bytes_in (option_copied result) ≡ option_map bytes_of (object_in (units_at self.now) unit memories_of name.now) }
+        ensures maximum { option_map max_in (option_copied result) ≡ option_map max_of (object_in (units_at self.now) unit memories_of name.now) }
     {
         let cell = self.cell(unit, name)?;
         match cell {

@@ -30,7 +30,7 @@ impl<H: HostModule> Engine<H> {
         ensures ready { IfOk result (λ e. IsReady H.HostModule e) }
         ensures first { IfOk result (λ e. IsFirst H.HostModule e) }
     {
-        let not_made = LinMem::new(alloc, 0, None)?;
+        let not_made = LinMem::new(alloc, 0, Some(0))?;
         let counts = function_counts(alloc, hosts.as_slice())?;
         let startup = start_up(alloc, &linked, counts.as_slice())?;
         // The units keep the rules and link: that is a clause of their number.

@@ -12,5 +12,5 @@ pub returns-in-Some : goal.returns-in-Some
 returns-in-Some g c =
     writes_text c.show_pages.result _ _ _ _ _ _
     (memory_there (objects_of c.args.session.now) c.args.unit c.args.name.now c.in-Some.memory.now.bytes
-    (sym (ap (λ r. option_map bytes_in (option_copied r)) c.in-Some.is) ∙ c.memory.ensures))
+    (sym (ap (λ r. option_map bytes_in (option_copied r)) c.in-Some.is) ∙ c.memory.ensures.bytes))
     c.show_pages.ensures

@@ -1,4 +1,4 @@
-use Rattle.std.proofs.Common.{◌≡◌, ℕ, ◌+◌, ◌-◌, ◌≤◌, [], slice_index_or, refl, sym, subst, arith, map, None}
+use Rattle.std.proofs.Common.{◌≡◌, ℕ, ◌+◌, ◌-◌, ◌≤◌, [], slice_index_or, length, refl, sym, ◌∙◌, subst, arith, map, None}
 use Rattle.w2c_base.specs.Run.{Init}
 use Rattle.c_tree.specs.View.{unit_of}
 use Rattle.c_meaning.specs.Run.{c_run, entries_of}
@@ -23,6 +23,7 @@ use Rattle.crun.proofs.InitsBehind.{
   one_ran,
   out_of,
   same_on,
+  some_begun,
 }
 use Rattle.crun.proofs.engine.Engine.run_inits.Goals as goal
 
@@ -60,6 +61,13 @@ returns-in-Err-clause-asked g c rest =
     c.loop-k-test.true)
     came.0 came.1 c.in-Err.ensures.fewer rest came.2
 
+pub returns-in-Err-clause-most : goal.returns-in-Err-clause-most
+returns-in-Err-clause-most g c =
+    let within = c.loop-k-test.true in
+    subst (λ n. c.loop-k.k + 1 ≤ n)
+    (inits_count (program_in g.H.HostModule c.args.self.now) (naming_in c.args.self.now) c.args.inits.now c.requires.inits)
+    (omega (arith, within))
+
 pub returns-in-Err-clause-same : goal.returns-in-Err-clause-same
 returns-in-Err-clause-same g c = same_on g.H.HostModule c.args.self.now c.loop-k.invariant.ran.same c.in-Err.ensures.same
 
@@ -86,6 +94,10 @@ returns-in_default g c =
           (init_at (program_in g.H.HostModule c.args.self.now) (naming_in c.args.self.now) c.args.inits.now c.requires.inits c.loop-k.k
           c.loop-k-test.true)
           came.0 came.1 c.in-Ok.ensures.fewer c.in-Ok.outcome (c.loop-k.self.left - c.run_function.new.self.left) came.2));
+      most = subst (λ n. c.loop-k.k + 1 ≤ n)
+          (inits_count (program_in g.H.HostModule c.args.self.now) (naming_in c.args.self.now) c.args.inits.now c.requires.inits)
+          (let within = c.loop-k-test.true in omega (arith, within));
+      begun = some_begun c.in-Ok.outcome (c.loop-k.k + 1) _ c.in_default.not-Ended (omega arith);
       ended = if_ended c.in-Ok.outcome _ (λ value is. absurd (c.in_default.not-Ended value is));
       ready = if_ended c.in-Ok.outcome _ (λ value is. absurd (c.in_default.not-Ended value is));
       stored = subst (λ l. AreStored (naming_of (map unit_of l.0)) c.run_function.new.self.startup.store.units.items)
@@ -150,6 +162,22 @@ returns-clause-ran g c rest none =
     (subst (λ n. n ≤ c.loop-k.k)
     (inits_count (program_in g.H.HostModule c.args.self.now) (naming_in c.args.self.now) c.args.inits.now c.requires.inits)
     c.loop-k-test.false)))
+
+pub returns-clause-most : goal.returns-clause-most
+returns-clause-most g c =
+    let within = c.loop-k.auto.k-end in
+    let counted = c.loop-k.invariant.counted in
+    subst (λ n. c.loop-k.inits_run ≤ n)
+    (inits_count (program_in g.H.HostModule c.args.self.now) (naming_in c.args.self.now) c.args.inits.now c.requires.inits)
+    (omega (arith, within, counted))
+
+pub returns-clause-begun : goal.returns-clause-begun
+returns-clause-begun g c =
+    let within = c.loop-k.auto.k-end in
+    let behind = c.loop-k-test.false in
+    let counted = c.loop-k.invariant.counted in
+    let all : c.loop-k.inits_run ≡ length c.args.inits.now = omega (arith, within, behind, counted) in
+    all ∙ inits_count (program_in g.H.HostModule c.args.self.now) (naming_in c.args.self.now) c.args.inits.now c.requires.inits
 
 pub returns-clause-ended : goal.returns-clause-ended
 returns-clause-ended g c = (

@@ -30,7 +30,7 @@ returns-clause-ready g c =
         units_are = c.in_ok-startup.ensures.linked (program_in g.H.HostModule e) program counted;
         types_are = c.in_ok-startup.ensures.types (program_in g.H.HostModule e) program counted;
         symbols_are = c.in_ok-startup.ensures.symbols (program_in g.H.HostModule e) program counted;
-        no_bytes = ap (λ l. l.bytes) c.in_ok-not_made.ensures;
+        not_made = c.in_ok-not_made.ensures;
       };
       stored = c.in_ok-startup.ensures.stored;
       typed = first_typed g.H.HostModule e c.requires typed

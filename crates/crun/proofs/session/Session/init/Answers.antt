@@ -1,11 +1,11 @@
-use Rattle.std.proofs.Common.{◌≡◌, ◌-◌, List, ◌++◌, [], length, map, refl, sym, ap, ◌∙◌, subst, arith}
+use Rattle.std.proofs.Common.{◌≡◌, ◌-◌, ◌≤◌, List, ◌++◌, [], length, map, refl, sym, ap, ◌∙◌, subst, arith}
 use Rattle.w2c_base.specs.Run.{Ask, Init, asks_in}
 use Rattle.c_meaning.specs.Run.{c_run, entries_of}
 use Rattle.crun.specs.Inits.{address_in}
 use Rattle.c_hosts.specs.Journals.{ask_of, events_in, replies_in}
 use Rattle.crun.specs.declared.outcome.Kept.TheVariants as kept
 use Rattle.crun.specs.Engines.{machine_with, naming_in, program_in, units_at}
-use Rattle.crun.specs.Sessions.{phase_of, program_of, trail_of, BehindAt}
+use Rattle.crun.specs.Sessions.{init_count, phase_of, program_of, trail_of, BehindAt}
 use Rattle.crun.proofs.Functions.{same_program, still_started}
 use Rattle.crun.proofs.History.{no_values_told}
 use Rattle.crun.proofs.Keeping.{is_fresh, keeps_behind, keeps_over, ready_ended}
@@ -18,6 +18,12 @@ returns-in-Err-clause-asked g c rest =
       ap (λ j. map ask_of j ++ asks_in (c_run (program_of g.H.HostModule c.args.self.now) rest c.args.self.now.steps
           (replies_in c.self.inside.engine.hosts.journal)).events) (sym start.journal),
     )
+
+pub returns-in-Err-clause-most : goal.returns-in-Err-clause-most
+returns-in-Err-clause-most g c =
+    let start = c.self.invariant.fresh (is_fresh c.self.inside.standing (ap (λ s. phase_of s.standing) c.self.view_is ∙ c.requires)) in
+    let none = start.none_begun in
+    omega (arith, none)
 
 pub run_inits-requires-clause-first : goal.run_inits-requires-clause-first
 run_inits-requires-clause-first g c =
@@ -40,6 +46,10 @@ invariant_of-self-in-Err-run_inits g c =
     keeps_over g.H.HostModule c.run_inits.new.self c.self.inside.steps c.run_inits.new.inits_run
     (still_started g.H.HostModule c.self.inside.engine c.run_inits.new.self c.in-Err-run_inits.ensures.same c.self.invariant.started)
     (omega (arith, less, fewer)) kept.Memory
+
+pub returns-in-Err-run_inits-clause-most : goal.returns-in-Err-run_inits-clause-most
+returns-in-Err-run_inits-clause-most g c =
+    subst (λ s. c.run_inits.new.inits_run ≤ init_count (program_of g.H.HostModule s)) c.self.view_is c.in-Err-run_inits.ensures.most
 
 pub returns-in-Err-run_inits-clause-asked : goal.returns-in-Err-run_inits-clause-asked
 returns-in-Err-run_inits-clause-asked g c rest =
