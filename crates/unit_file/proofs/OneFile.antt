@@ -8,9 +8,10 @@ pub put_whole : (old begun new : Told) (current : Option Name) (name : Name) (te
     → current ≡ Some name → new ≡ appending begun current text → new ≡ holding old name text
 put_whole old begun new current name text is_begun is_current put = put_more old begun new current name [] text is_begun is_current put
 
-pub put_part : (old begun new : Told) (current : Option Name) (name : Name) (text : List ℕ) → begun ≡ holding old name []
-    → current ≡ Some name → AppendsPart begun new current text → IsBegun old new name text
-put_part old begun new current name text is_begun is_current (inl same) =
-    part_begun old new name text [] text refl (same ∙ is_begun)
-put_part old begun new current name text is_begun is_current (inr (part, (rest, cut), put)) =
-    part_begun old new name text part rest cut (put_more old begun new current name [] part is_begun is_current put)
+-- the file is given up after a part
+pub put_part : (old begun part_put new : Told) (current : Option Name) (name : Name) (text : List ℕ) → begun ≡ holding old name []
+    → current ≡ Some name → AppendsPart begun part_put current text → new ≡ part_put → IsBegun old new name text
+put_part old begun part_put new current name text is_begun is_current (inl same) given_up =
+    part_begun old new name text [] text refl (given_up ∙ same ∙ is_begun)
+put_part old begun part_put new current name text is_begun is_current (inr (part, (rest, cut), put)) given_up =
+    part_begun old new name text part rest cut (given_up ∙ put_more old begun part_put current name [] part is_begun is_current put)

@@ -12,6 +12,7 @@ use c_check::CheckedUnit;
 use c_print::{print_item_to, printed_units_are_read_again};
 use c_tree::Tok;
 use std::alloc::Global;
+use w2c_files::give_up;
 use w2c_io::{Files, WriteAnswer};
 
 /// Writes a file with the text of a unit: the include line, then each item. The text spells the unit. The text of one
@@ -39,7 +40,10 @@ pub fn write_unit<F: Files>(
     let _ = unit.unit();
     printed_units_are_read_again();
     files.begin(file)?;
-    put_unit(alloc, unit, files)?;
+    if let Err(answer) = put_unit(alloc, unit, files) {
+        give_up(files);
+        return Err(answer);
+    }
     files.finish()?;
     Ok(())
 }

@@ -1,5 +1,5 @@
 // Writes files one after another.
-ghost use Rattle.std.specs.Prelude.{◌≡◌, ◌≤◌, Some, OnOk, OnErr, IfErr, IsErrOf};
+ghost use Rattle.std.specs.Prelude.{◌≡◌, ◌≤◌, Some, None, IsSome, OnOk, OnErr, IfErr, IsErrOf};
 ghost use Rattle.w2c_io.specs.declared.answers.WriteAnswer.TheVariants as writing;
 ghost use Rattle.w2c_io.specs.Contents.{holding};
 ghost use Rattle.w2c_io.specs.Causes.{WriteCause};
@@ -57,9 +57,25 @@ pub fn write_file<F: Files>(name: &str, text: &[u8], files: &mut F) -> Result<()
     let mut rest = text;
     while !rest.is_empty() {
         let (piece, after) = rest.split_at(rest.len().min(PIECE));
-        files.put(piece)?;
+        if let Err(answer) = files.put(piece) {
+            give_up(files);
+            return Err(answer);
+        }
         rest = after;
     }
     files.finish()?;
     Ok(())
+}
+
+/// Ends the current file, of which a part is written. Left open it would take what the program writes to a standard
+/// stream, where that was closed and the file has its descriptor.
+pub fn give_up<F: Files>(files: &mut F)
+    requires { IsSome (F.current files.old) }
+    ensures told { F.told files.new ≡ F.told files.old }
+    ensures closed { F.current files.new ≡ None }
+    ensures later { F.write_faults files.old ≤ F.write_faults files.new }
+    ensures named { F.fault_name files.old ≡ F.current files.old → F.fault_name files.new ≡ F.current files.old }
+    ensures reads { F.read_faults files.new ≡ F.read_faults files.old }
+{
+    let _ = files.finish();
 }

@@ -15,6 +15,7 @@ use crate::plan::Target;
 use crate::stop::Stop;
 use crate::work::Finished;
 use std::alloc::Global;
+use w2c_files::give_up;
 use w2c_io::{Files, WriteAnswer};
 use w2c_sim::{write_header, write_unit};
 use wasm_valid::ValidModule;
@@ -102,7 +103,10 @@ fn unit_to_file<F: Files>(
     ensures bytes { AreBytes module_name.now }
 {
     files.begin(file)?;
-    write_unit(alloc, module, module_name, files)?;
+    if let Err(answer) = write_unit(alloc, module, module_name, files) {
+        give_up(files);
+        return Err(answer);
+    }
     files.finish()
 }
 
@@ -123,6 +127,9 @@ fn header_to_file<F: Files>(
     ensures named { IsErrOf result writing.Failed → F.fault_name files.new ≡ Some file.now }
 {
     files.begin(file)?;
-    write_header(alloc, module, module_name, files)?;
+    if let Err(answer) = write_header(alloc, module, module_name, files) {
+        give_up(files);
+        return Err(answer);
+    }
     files.finish()
 }

@@ -6,13 +6,13 @@ use Rattle.c_print.specs.Print.{print_of}
 use Rattle.unit_file.proofs.OneFile.{put_part, put_whole}
 use Rattle.unit_file.proofs.writing.write_unit.Goals as goal
 
-pub returns-in_err-put_unit-clause-begun : goal.returns-in_err-put_unit-clause-begun
-returns-in_err-put_unit-clause-begun g c =
-    let p = err_from_is_err_and c.from_residual-in_err-put_unit.result c.from_residual-in_err-put_unit.ensures.1 in
+pub returns-in-Err-clause-begun : goal.returns-in-Err-clause-begun
+returns-in-Err-clause-begun g c =
     let files = g.F.Files in
-    rw p.1 (put_part (files.told c.args.files.now) (files.told c.begin.new.self) (files.told c.put_unit.new.files)
-    (files.current c.begin.new.self) c.args.file.now (print_of (unit_of c.args.unit.now)) c.in_ok-begin.ensures.begun
-    c.in_ok-begin.ensures.current c.in_err-put_unit.ensures.part)
+    put_part (files.told c.args.files.now) (files.told c.begin.new.self) (files.told c.put_unit.new.files)
+    (files.told c.give_up.new.files) (files.current c.begin.new.self) c.args.file.now
+    (print_of (unit_of c.args.unit.now)) c.in_ok-begin.ensures.begun c.in_ok-begin.ensures.current
+    c.in-Err.ensures.part c.give_up.ensures.told
 
 pub returns-in_err-finish-clause-begun : goal.returns-in_err-finish-clause-begun
 returns-in_err-finish-clause-begun g c =
@@ -22,7 +22,7 @@ returns-in_err-finish-clause-begun g c =
     (print_of (unit_of c.args.unit.now)) (c.in_err-finish.ensures.told
     ∙ put_whole (files.told c.args.files.now) (files.told c.begin.new.self) (files.told c.put_unit.new.files)
     (files.current c.begin.new.self) c.args.file.now (print_of (unit_of c.args.unit.now)) c.in_ok-begin.ensures.begun
-    c.in_ok-begin.ensures.current c.in_ok-put_unit.ensures.written))
+    c.in_ok-begin.ensures.current c.in_default.ensures.written))
 
 pub returns-clause-whole : goal.returns-clause-whole
 returns-clause-whole g c =
@@ -30,4 +30,4 @@ returns-clause-whole g c =
     c.in_ok-finish.ensures.told
     ∙ put_whole (files.told c.args.files.now) (files.told c.begin.new.self) (files.told c.put_unit.new.files)
     (files.current c.begin.new.self) c.args.file.now (print_of (unit_of c.args.unit.now)) c.in_ok-begin.ensures.begun
-    c.in_ok-begin.ensures.current c.in_ok-put_unit.ensures.written
+    c.in_ok-begin.ensures.current c.in_default.ensures.written

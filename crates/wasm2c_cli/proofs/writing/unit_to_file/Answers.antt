@@ -1,18 +1,17 @@
 use Rattle.std.proofs.Common.{◌∙◌}
-use Rattle.std.proofs.lemmas.Result.{err_from_is_err_and}
 use Rattle.wasm_binary.proofs.Result.{slice_bytes}
 use Rattle.w2c_files.proofs.Standing.{whole_begun}
 use Rattle.w2c_sim.specs.Translation.{text_of}
 use Rattle.wasm2c_cli.proofs.ModuleFiles.{in_err, in_ok, put_part, put_whole}
 use Rattle.wasm2c_cli.proofs.writing.unit_to_file.Goals as goal
 
-pub returns-in_err-write_unit-clause-begun : goal.returns-in_err-write_unit-clause-begun
-returns-in_err-write_unit-clause-begun g c =
-    let p = err_from_is_err_and c.from_residual-in_err-write_unit.result c.from_residual-in_err-write_unit.ensures.1 in
+pub returns-in-Err-clause-begun : goal.returns-in-Err-clause-begun
+returns-in-Err-clause-begun g c =
     let files = g.F.Files in
-    rw p.1 (put_part (files.told c.args.files.now) (files.told c.begin.new.self) (files.told c.write_unit.new.files)
-    (files.current c.begin.new.self) c.args.file.now (text_of c.args.module.now c.args.module_name.now) c.in_ok-begin.ensures.begun
-    c.in_ok-begin.ensures.current c.in_err-write_unit.ensures.part)
+    put_part (files.told c.args.files.now) (files.told c.begin.new.self) (files.told c.write_unit.new.files)
+    (files.told c.give_up.new.files) (files.current c.begin.new.self) c.args.file.now
+    (text_of c.args.module.now c.args.module_name.now) c.in_ok-begin.ensures.begun c.in_ok-begin.ensures.current
+    c.in-Err.ensures.part c.give_up.ensures.told
 
 pub returns-clause-begun : goal.returns-clause-begun
 returns-clause-begun g c =
@@ -21,7 +20,7 @@ returns-clause-begun g c =
     (text_of c.args.module.now c.args.module_name.now) (c.finish.ensures.told
     ∙ put_whole (files.told c.args.files.now) (files.told c.begin.new.self) (files.told c.write_unit.new.files)
     (files.current c.begin.new.self) c.args.file.now (text_of c.args.module.now c.args.module_name.now) c.in_ok-begin.ensures.begun
-    c.in_ok-begin.ensures.current c.in_ok-write_unit.ensures.written))
+    c.in_ok-begin.ensures.current c.in_default.ensures.written))
 
 pub returns-clause-whole : goal.returns-clause-whole
 returns-clause-whole g c =
@@ -29,13 +28,13 @@ returns-clause-whole g c =
     in_ok c.finish.result (c.finish.ensures.told
     ∙ put_whole (files.told c.args.files.now) (files.told c.begin.new.self) (files.told c.write_unit.new.files)
     (files.current c.begin.new.self) c.args.file.now (text_of c.args.module.now c.args.module_name.now) c.in_ok-begin.ensures.begun
-    c.in_ok-begin.ensures.current c.in_ok-write_unit.ensures.written)
+    c.in_ok-begin.ensures.current c.in_default.ensures.written)
 
 pub returns-in_err-begin-clause-bytes : goal.returns-in_err-begin-clause-bytes
 returns-in_err-begin-clause-bytes g c = slice_bytes c.args.module_name.now c.type_inv.module_name
 
-pub returns-in_err-write_unit-clause-bytes : goal.returns-in_err-write_unit-clause-bytes
-returns-in_err-write_unit-clause-bytes g c = slice_bytes c.args.module_name.now c.type_inv.module_name
+pub returns-in-Err-clause-bytes : goal.returns-in-Err-clause-bytes
+returns-in-Err-clause-bytes g c = slice_bytes c.args.module_name.now c.type_inv.module_name
 
 pub returns-clause-bytes : goal.returns-clause-bytes
 returns-clause-bytes g c = slice_bytes c.args.module_name.now c.type_inv.module_name
