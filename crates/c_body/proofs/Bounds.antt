@@ -5,7 +5,7 @@ use Rattle.wasm_tree.specs.declared.entries.BodyEntry.{BodyEntry}
 use Rattle.wasm_tree.specs.Instructions.{Code, end_code, then_code, Kind, Otherwise, no_else, else_code, Select, Block, Loop, If, BrIf, BrTable}
 use Rattle.wasm_tree.specs.Size.{code_size, kind_size, otherwise_size}
 use Rattle.wasm_spelling.specs.Places.{IsFormed}
-use Rattle.wasm_spelling.specs.Within.{IsWithin, BodyIsWithin, some_in, some_inside, some_in_else, least_bytes, least_bytes_of, least_bytes_of_else}
+use Rattle.wasm_spelling.specs.Within.{WithinLimits, BodyIsWithin, some_in, some_inside, some_in_else, least_bytes, least_bytes_of, least_bytes_of_else}
 use Rattle.wasm_spelling.proofs.WithinPlaces.{formed_is_within}
 use Rattle.c_body.specs.Stack.{ends}
 use Rattle.c_body.specs.Labels.{labels_in, labels_of, labels_in_else, any_in, any_inside, any_in_else}
@@ -95,7 +95,7 @@ body_limits b h =
 
 pub within_of : (m : Module) → IsFormed m → HasLimits m
 within_of m formed =
-    let h : IsWithin m = formed_is_within m formed in
+    let h : WithinLimits m = formed_is_within m formed in
     record {
       imports = let n = h.imports in omega (arith, n);
       types = let n = h.types in omega (arith, n);

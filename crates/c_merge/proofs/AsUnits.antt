@@ -10,7 +10,7 @@ use Rattle.c_link.specs.Refusals.{first_refusal}
 use Rattle.c_link.proofs.Readers.{link_of}
 use Rattle.c_renaming.proofs.Runs.{runs_same}
 use Rattle.c_renaming.proofs.Types.{calls_fit}
-use Rattle.c_merge.specs.Merge.{AreLinked, RunsAsUnits, as_one, merge_names, merge_of}
+use Rattle.c_merge.specs.Merge.{AreLinked, RunsAsUnits, as_one, merge_names, merged}
 use Rattle.c_merge.proofs.OneLinks.{found_same, one_links, one_renames, type_same}
 
 runs_as : (p : Program) → AreLinked p → RunsAsUnits p (as_one p)
@@ -31,8 +31,8 @@ module _ (units : List (List tree.Item)) (checked : AllChecked units) (hosts : L
       kept u items at = (checked u items (ap (λ us. slice_get us u) (sym is.units_are) ∙ at)).1
 
   -- in the place of the units
-  pub runs_as_units : (one : List tree.Item) → one ≡ merge_of units → (p : Program) → IsProgramOf p units hosts
+  pub runs_as_units : (one : List tree.Item) → one ≡ merged units → (p : Program) → IsProgramOf p units hosts
       → RunsAsUnits p (record { units = one ∷ []; hosts = p.hosts })
-  runs_as_units one merged p is =
+  runs_as_units one same p is =
       subst (λ (items : List tree.Item). RunsAsUnits p (record { units = items ∷ []; hosts = p.hosts }))
-      (ap merge_of is.units_are ∙ sym merged) (runs_as p (are_linked p is))
+      (ap merged is.units_are ∙ sym same) (runs_as p (are_linked p is))

@@ -20,7 +20,7 @@ use Rattle.c_sound.proofs.Choices.{by_test}
 use Rattle.c_renaming.specs.Renaming.{Renaming}
 use Rattle.c_renaming.specs.Renamed as renamed
 use Rattle.c_renaming.specs.NewNames.{decimal_text, is_outside, name_in}
-use Rattle.c_merge.specs.Merge.{merge_names, merge_of}
+use Rattle.c_merge.specs.Merge.{merge_names, merged}
 use Rattle.c_merge.proofs.NewNames.{new, new_var}
 use Rattle.c_merge.proofs.Places.{placed_at}
 
@@ -230,13 +230,13 @@ module _ (p : Program) (u : ℕ) where
 
 -- units that texts spell become one that some text spells
 pub one_formed : (p : Program) → ((u : ℕ) (items : List tree.Item) → slice_get p.units u ≡ Some items → Formed items)
-    → Formed (merge_of p.units)
-one_formed p each = formed (merge_of p.units) (record {
-  named = all_from NamedItem (merge_of p.units) named;
-  fits = all_from (FitsItem depth_limit) (merge_of p.units) fits;
+    → Formed (merged p.units)
+one_formed p each = formed (merged p.units) (record {
+  named = all_from NamedItem (merged p.units) named;
+  fits = all_from (FitsItem depth_limit) (merged p.units) fits;
 })
   where
-    named : (k : ℕ) (y : tree.Item) → slice_get (merge_of p.units) k ≡ Some y → NamedItem y
+    named : (k : ℕ) (y : tree.Item) → slice_get (merged p.units) k ≡ Some y → NamedItem y
     named k y at =
         let from = (placed_at p k y at).from in
         let u = (placed_at p k y at).unit in
@@ -245,7 +245,7 @@ one_formed p each = formed (merge_of p.units) (record {
         (all_at NamedItem from.items (well_formed from.items (each u from.items from.there)).named from.number from.item
         from.at))
 
-    fits : (k : ℕ) (y : tree.Item) → slice_get (merge_of p.units) k ≡ Some y → FitsItem depth_limit y
+    fits : (k : ℕ) (y : tree.Item) → slice_get (merged p.units) k ≡ Some y → FitsItem depth_limit y
     fits k y at =
         let from = (placed_at p k y at).from in
         let u = (placed_at p k y at).unit in

@@ -22,7 +22,7 @@ use Rattle.c_renaming.specs.NewNames.{is_outside, name_in}
 use Rattle.c_renaming.proofs.Merged.{split}
 use Rattle.c_renaming.proofs.Merging.{merging_names}
 use Rattle.c_renaming.proofs.NewNames.{new_names}
-use Rattle.c_merge.specs.Merge.{may_name, merge_names, merge_of}
+use Rattle.c_merge.specs.Merge.{may_name, merge_names, merged}
 use Rattle.c_merge.proofs.Together.{FitTogether}
 use Rattle.c_merge.proofs.NewItems.{any_map, any_behind, any_front, and_false, is_some_map, declared_once, name_free, own_names, locals_free, stands_by}
 use Rattle.c_merge.proofs.NewNames.{new, new_var, own_new, own_var, SameNew, new_same, new_keeps, item_name}
@@ -118,7 +118,7 @@ module _ (p : Program) (are : FitTogether p.units) (u : ℕ) (items : List tree.
   defines_same n (tree.Var t x number) = and_false (bytes_eq (new_var u x) (new u n)) ∙ sym (and_false (bytes_eq x n))
   defines_same n (tree.Function f) = λ i. new_keeps u f.name n i && is_some_map (renamed.body ρ u) f.body i
 
-  defined_there : (n : Name) → list_any (defines n) items ≡ true → list_any (defines (new u n)) (merge_of p.units) ≡ true
+  defined_there : (n : Name) → list_any (defines n) items ≡ true → list_any (defines (new u n)) (merged p.units) ≡ true
   defined_there n is =
       let here : list_any (defines (new u n)) (map (renamed.item ρ u) items)
       ≡ true = any_map (renamed.item ρ u) (defines (new u n)) (defines n) (defines_same n) items ∙ is in
@@ -130,11 +130,11 @@ module _ (p : Program) (are : FitTogether p.units) (u : ℕ) (items : List tree.
       (any_front (defines (new u n)) (map (renamed.item ρ u) items) (joined ρ (0 + u + 1) (drop (suc u) p.units)) here)
 
   static_defined : (k i : ℕ) (item : tree.Item) → is_defined_if_static (record { unit = items; number = i; item = item }) ≡ true
-      → is_defined_if_static (record { unit = merge_of p.units; number = k; item = renamed.item ρ u item }) ≡ true
+      → is_defined_if_static (record { unit = merged p.units; number = k; item = renamed.item ρ u item }) ≡ true
   static_defined k i (tree.Array n count bytes) is = refl
   static_defined k i (tree.Var t n number) is = refl
   static_defined k i (tree.Function f) is = or_gives (not f.is_static) (list_any (defines f.name) items)
-      (list_any (defines (new u f.name)) (merge_of p.units)) is (defined_there f.name)
+      (list_any (defines (new u f.name)) (merged p.units)) is (defined_there f.name)
 
   -- ---- rule 6
 
@@ -149,12 +149,12 @@ module _ (p : Program) (are : FitTogether p.units) (u : ℕ) (items : List tree.
   distinct_same (n ∷ names) = λ i. not (among_map (new_var u) vars_keep n names i) && distinct_same names i
 
   -- a name of file scope of the one unit that is a new name of this unit was one of its own
-  among_own : (n : Name) → is_own_name n ≡ true → is_among (new_var u n) (map name_of (merge_of p.units)) ≡ true
+  among_own : (n : Name) → is_own_name n ≡ true → is_among (new_var u n) (map name_of (merged p.units)) ≡ true
       → is_among n (map name_of items) ≡ true
   among_own n own is =
-      let found = any_from (bytes_eq (new_var u n)) (map name_of (merge_of p.units)) is in
-      let item = from_map name_of (merge_of p.units) found.0 found.1 found.2 in
-      let place : Placed p (take found.0 (merge_of p.units)) item.0 = placed_at p found.0 item.0 item.1 in
+      let found = any_from (bytes_eq (new_var u n)) (map name_of (merged p.units)) is in
+      let item = from_map name_of (merged p.units) found.0 found.1 found.2 in
+      let place : Placed p (take found.0 (merged p.units)) item.0 = placed_at p found.0 item.0 item.1 in
       let from = place.from in
       let w = place.unit in
       let named_so : name_of item.0 ≡ new w (name_of from.item) =
@@ -197,7 +197,7 @@ module _ (p : Program) (are : FitTogether p.units) (u : ℕ) (items : List tree.
       ]
 
   hidden_none : (names : List Name) → list_all is_own_name names ≡ true → hides_none items names ≡ true
-      → hides_none (merge_of p.units) (map (new_var u) names) ≡ true
+      → hides_none (merged p.units) (map (new_var u) names) ≡ true
   hidden_none [] own none = refl
   hidden_none (n ∷ names) own none =
       let owns = and_parts (is_own_name n) (list_all is_own_name names) own in
@@ -205,14 +205,14 @@ module _ (p : Program) (are : FitTogether p.units) (u : ℕ) (items : List tree.
       λ i. not_among n owns.0 nones.0 i && hidden_none names owns.1 nones.1 i
     where
       not_among : (n : Name) → is_own_name n ≡ true → not (is_among n (map name_of items)) ≡ true
-          → not (is_among (new_var u n) (map name_of (merge_of p.units))) ≡ true
-      not_among n own none = by_test (is_among (new_var u n) (map name_of (merge_of p.units)))
+          → not (is_among (new_var u n) (map name_of (merged p.units))) ≡ true
+      not_among n own none = by_test (is_among (new_var u n) (map name_of (merged p.units)))
           (λ is. absurd (false≢true (sym (ap not (among_own n own is)) ∙ none)))
           (λ is. ap not is)
 
   names_distinct : (k i : ℕ) (item : tree.Item) → list_all is_own_name (local_names item) ≡ true
       → own_names_are_distinct (record { unit = items; number = i; item = item }) ≡ true
-      → own_names_are_distinct (record { unit = merge_of p.units; number = k; item = renamed.item ρ u item }) ≡ true
+      → own_names_are_distinct (record { unit = merged p.units; number = k; item = renamed.item ρ u item }) ≡ true
   names_distinct k i (tree.Array n count bytes) own is = refl
   names_distinct k i (tree.Var t n number) own is = refl
   names_distinct k i (tree.Function f) own is =
@@ -222,14 +222,14 @@ module _ (p : Program) (are : FitTogether p.units) (u : ℕ) (items : List tree.
       let new_ones = own_names p are u items at_u (tree.Function f) in
       λ j. (named_same f ∙ parts.0) j
       && ((ap are_distinct new_ones ∙ distinct_same names ∙ both.0) j
-      && (ap (hides_none (merge_of p.units)) new_ones ∙ hidden_none names own both.1) j)
+      && (ap (hides_none (merged p.units)) new_ones ∙ hidden_none names own both.1) j)
 
   -- ---- all of them
 
   pub item_keeps : (others : List tree.Item) → Each (Before p u) others → (k i : ℕ) (x : tree.Item) → slice_get items i ≡ Some x
-      → take k (merge_of p.units) ≡ others ++ map (renamed.item ρ u) (take i items)
+      → take k (merged p.units) ≡ others ++ map (renamed.item ρ u) (take i items)
       → Keeps item_rules (record { unit = items; number = i; item = x })
-      → Keeps item_rules (record { unit = merge_of p.units; number = k; item = renamed.item ρ u x })
+      → Keeps item_rules (record { unit = merged p.units; number = k; item = renamed.item ρ u x })
   item_keeps others front k i x at front_is h =
       let frees = and_parts (file_name_is_free x) (list_all is_own_name (local_names x)) h.1.0 in
       let once = ap (list_all (stands_by p are u items at_u (renamed.item ρ u x))) front_is
@@ -237,9 +237,9 @@ module _ (p : Program) (are : FitTogether p.units) (u : ℕ) (items : List tree.
       let names = ap (list_all is_own_name) (own_names p are u items at_u x) ∙ locals_free p are u items at_u (local_names x) frees.1 in
       let free' : (file_name_is_free (renamed.item ρ u x) && list_all is_own_name (local_names (renamed.item ρ u x))) ≡ true =
       λ j. name_free p are u items at_u x frees.0 j && names j in
-      let proper = types_same items (merge_of p.units) k i x ∙ h.1.1.0 in
-      let first = first_same items (merge_of p.units) k i x ∙ h.1.1.1.0 in
+      let proper = types_same items (merged p.units) k i x ∙ h.1.1.0 in
+      let first = first_same items (merged p.units) k i x ∙ h.1.1.1.0 in
       let static = static_defined k i x h.1.1.1.1.0 in
       let own = names_distinct k i x frees.1 h.1.1.1.1.1.0 in
-      let filled = filled_same items (merge_of p.units) k i x ∙ h.1.1.1.1.1.1.0 in
+      let filled = filled_same items (merged p.units) k i x ∙ h.1.1.1.1.1.1.0 in
       (once, (free', (proper, (first, (static, (own, (filled, tt)))))))

@@ -19,7 +19,7 @@ use Rattle.c_renaming.proofs.Merged.{merged_made}
 use Rattle.c_renaming.proofs.MergedExternals.{merged_externals, merged_renames}
 use Rattle.c_renaming.proofs.Merging.{merging_names}
 use Rattle.c_renaming.proofs.Types.{type_found}
-use Rattle.c_merge.specs.Merge.{AreLinked, as_one, may_name, merge_names, merge_of}
+use Rattle.c_merge.specs.Merge.{AreLinked, as_one, may_name, merge_names, merged}
 use Rattle.c_merge.proofs.Linked.{external_of, linked_fit, not_twice, not_unresolved}
 use Rattle.c_merge.proofs.NewNames.{outside_stays}
 use Rattle.c_merge.proofs.Places.{placed_at}
@@ -76,7 +76,7 @@ module _ (p : Program) (are : AreLinked p) where
   q = as_one p
 
   abbrev one : List tree.Item
-  one = merge_of p.units
+  one = merged p.units
 
   may : MayMerge p name_in is_outside (may_name p)
   may = units_may_merge p (linked_fit p are)

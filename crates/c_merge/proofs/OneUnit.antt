@@ -7,7 +7,7 @@ use Rattle.c_meaning.specs.Linking.{Program}
 use Rattle.c_sound.proofs.Choices.{by_option}
 use Rattle.c_renaming.specs.Renaming.{Renaming}
 use Rattle.c_renaming.specs.Renamed as renamed
-use Rattle.c_merge.specs.Merge.{merge_names, merge_of}
+use Rattle.c_merge.specs.Merge.{merge_names, merged}
 use Rattle.c_merge.proofs.Together.{FitTogether}
 use Rattle.c_merge.proofs.NewFunctions.{item_keeps}
 use Rattle.c_merge.proofs.NewStatements.{stmt_keeps}
@@ -19,7 +19,7 @@ module _ (p : Program) (are : FitTogether p.units) where
   ρ = merge_names p
 
   abbrev one : List tree.Item
-  one = merge_of p.units
+  one = merged p.units
 
   new_item : (k : ℕ) (y : tree.Item) → slice_get one k ≡ Some y → Keeps item_rules (record { unit = one; number = k; item = y })
   new_item k y at =
@@ -112,5 +112,5 @@ module _ (p : Program) (are : FitTogether p.units) where
       }))
       (sym (upto p k (tree.Function g) at place)) now)))
 
-  pub one_keeps : KeepsRules (merge_of p.units)
-  one_keeps = all_keep (merge_of p.units) (record { item = new_item; stmt = new_stmt })
+  pub one_keeps : KeepsRules (merged p.units)
+  one_keeps = all_keep (merged p.units) (record { item = new_item; stmt = new_stmt })

@@ -7,7 +7,7 @@ use Rattle.c_renaming.specs.Renamed as renamed
 use Rattle.c_renaming.specs.Kept.{Each}
 use Rattle.c_renaming.specs.Merging.{joined}
 use Rattle.c_renaming.proofs.Merged.{each-append}
-use Rattle.c_merge.specs.Merge.{merge_names, merge_of}
+use Rattle.c_merge.specs.Merge.{merge_names, merged}
 use Rattle.c_merge.proofs.Units.{each_from}
 
 -- ---- lists
@@ -118,18 +118,18 @@ module _ (p : Program) where
           subst (λ l. Placed l y) (append_assoc done (map (renamed.item ρ v) items) (take j (joined ρ (v + 1) units))
           ∙ ap (λ l. done ++ l) (sym front)) (behind j y here)
 
-  pub placed_at : (k : ℕ) (y : tree.Item) → slice_get (merge_of p.units) k ≡ Some y → Placed (take k (merge_of p.units)) y
+  pub placed_at : (k : ℕ) (y : tree.Item) → slice_get (merged p.units) k ≡ Some y → Placed (take k (merged p.units)) y
   placed_at k y at = find 0 p.units []
       (λ j items there. let e : j ≡ 0 + j = omega arith in subst (λ n. slice_get p.units n ≡ Some items) e there) tt k y at
 
   -- the items up to it
-  pub upto : (k : ℕ) (y : tree.Item) → slice_get (merge_of p.units) k ≡ Some y → (place : Placed (take k (merge_of p.units)) y)
-      → take (k + 1) (merge_of p.units) ≡ place.others ++ map (renamed.item ρ place.unit) (take (place.from.number + 1) place.from.items)
+  pub upto : (k : ℕ) (y : tree.Item) → slice_get (merged p.units) k ≡ Some y → (place : Placed (take k (merged p.units)) y)
+      → take (k + 1) (merged p.units) ≡ place.others ++ map (renamed.item ρ place.unit) (take (place.from.number + 1) place.from.items)
   upto k y at place =
       let one : k + 1 ≡ suc k = omega arith in
       let next : place.from.number + 1 ≡ suc place.from.number = omega arith in
-      ap (λ n. take n (merge_of p.units)) one
-      ∙ take_next (merge_of p.units) k y at
+      ap (λ n. take n (merged p.units)) one
+      ∙ take_next (merged p.units) k y at
       ∙ (λ i. place.front_is i ++ place.from.is i ∷ [])
       ∙ append_assoc place.others (map (renamed.item ρ place.unit) (take place.from.number place.from.items))
       (renamed.item ρ place.unit place.from.item ∷ [])

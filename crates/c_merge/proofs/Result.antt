@@ -14,7 +14,7 @@ use Rattle.c_link.specs.Offers.{c_symbols}
 use Rattle.c_link.specs.Programs.{AllChecked}
 use Rattle.c_link.specs.Refusals.{first_refusal}
 use Rattle.c_renaming.specs.Merging.{joined}
-use Rattle.c_merge.specs.Merge.{merge_of, new_names}
+use Rattle.c_merge.specs.Merge.{merged, new_names}
 use Rattle.c_merge.proofs.FirstRefusal.{not_refused_fit}
 use Rattle.c_merge.proofs.Formed.{one_formed}
 use Rattle.c_merge.proofs.OneUnit.{one_keeps}
@@ -24,7 +24,7 @@ module _ (units : List (List tree.Item)) (one : List tree.Item) (is : one ≡ jo
   abbrev p : Program
   p = record { units = units; hosts = [] }
 
-  pub is_merged : one ≡ merge_of units
+  pub is_merged : one ≡ merged units
   is_merged = is ∙ one_same p
 
   module _ (checked : AllChecked units) where

@@ -33,8 +33,8 @@ abbrev pub merge_names : Program → Renaming
 merge_names p = merging p name_in is_outside (may_name p)
 
 -- the one unit, in which hosts have no part
-abbrev pub merge_of : List (List tree.Item) → List tree.Item
-merge_of units = joined (merge_names (record { units = units; hosts = [] })) 0 units
+abbrev pub merged : List (List tree.Item) → List tree.Item
+merged units = joined (merge_names (record { units = units; hosts = [] })) 0 units
 
 -- the new names, which hang on no unit's items
 abbrev pub new_names : Renaming
@@ -42,7 +42,7 @@ new_names = merge_names (record { units = []; hosts = [] })
 
 -- the program of the one unit and the same hosts
 abbrev pub as_one : Program → Program
-as_one p = record { units = merge_of p.units ∷ []; hosts = p.hosts }
+as_one p = record { units = merged p.units ∷ []; hosts = p.hosts }
 
 -- units that link, and of which each keeps the rules
 pub record AreLinked (p : Program) : Type 0 where

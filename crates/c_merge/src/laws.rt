@@ -12,7 +12,7 @@ ghost use Rattle.c_renaming.specs.Merging.{MayMerge};
 ghost use Rattle.c_renaming.specs.NewNames.{is_outside, name_in};
 ghost use Rattle.c_renaming.specs.Renaming.{address};
 ghost use Rattle.c_renaming.specs.Same.{SameRun};
-ghost use Rattle.c_merge.specs.Merge.{AreLinked, as_one, may_name, merge_names, merge_of};
+ghost use Rattle.c_merge.specs.Merge.{AreLinked, as_one, may_name, merge_names, merged};
 
 /// The law that units which link, and of which each keeps the rules, may become one.
 pub fn linked_units_may_merge()
@@ -21,13 +21,13 @@ pub fn linked_units_may_merge()
 
 /// The law that the one unit keeps every rule that the linked units keep.
 pub fn merged_units_keep_the_rules()
-    ensures { (p : Program) → AreLinked p → KeepsRules (merge_of p.units) }
+    ensures { (p : Program) → AreLinked p → KeepsRules (merged p.units) }
 {}
 
 /// The law that some text spells the one unit where some text spells each of the units.
 pub fn merged_units_are_spelled()
     ensures { (p : Program) → ((u : ℕ) (items : List tree.Item) → slice_get p.units u ≡ Some items → Formed items)
-        → Formed (merge_of p.units) }
+        → Formed (merged p.units) }
 {}
 
 /// The law that the one unit runs as the linked units do: with the same calls, which fit it alike, the

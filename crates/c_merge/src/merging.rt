@@ -4,7 +4,7 @@ ghost use Rattle.c_tree.specs.View.{unit_of};
 ghost use Rattle.c_meaning.specs.Linking.{Program};
 ghost use Rattle.c_link.specs.Programs.{IsProgramOf};
 ghost use Rattle.c_renaming.specs.Merging.{joined};
-ghost use Rattle.c_merge.specs.Merge.{RunsAsUnits, merge_of, new_names};
+ghost use Rattle.c_merge.specs.Merge.{RunsAsUnits, merged, new_names};
 
 use crate::items::put_items;
 use c_check::{CheckRefusal, CheckedUnit};
@@ -17,7 +17,7 @@ use w2c_base::Memory;
 /// an array, a static function, a parameter, a local variable and a label as `u<j>_s`. The one unit
 /// keeps the rules, links with the same hosts, and runs as the units do.
 pub fn merge(alloc: Global, linked: &Linked) -> Result<CheckedUnit, Memory>
-    ensures merged { IfOk result (λ one. unit_of one ≡ merge_of (map unit_of linked.now.0)) }
+    ensures merged { IfOk result (λ one. unit_of one ≡ merged (map unit_of linked.now.0)) }
     ensures runs { IfOk result (λ one. (p : Program) → IsProgramOf p (map unit_of linked.now.0) linked.now.1
         → RunsAsUnits p (record { units = unit_of one ∷ []; hosts = p.hosts })) }
 {

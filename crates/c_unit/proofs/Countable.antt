@@ -12,7 +12,7 @@ use Rattle.wasm_tree.specs.declared.entries.LimitsEntry.{LimitsEntry}
 use Rattle.wasm_tree.specs.declared.entries.SegmentEntry.{SegmentEntry}
 use Rattle.wasm_tree.specs.IndexSpaces.{is_func_import, is_table_import, is_memory_import, is_global_import, imported_funcs, imported_globals, type_in, func_space, func_type_in, table_of_import, memory_of_import}
 use Rattle.wasm_spelling.specs.Places.{IsFormed}
-use Rattle.wasm_spelling.specs.Within.{IsWithin}
+use Rattle.wasm_spelling.specs.Within.{WithinLimits}
 use Rattle.wasm_spelling.proofs.WithinPlaces.{formed_is_within}
 use Rattle.wasm_valid.specs.Verdict.{IsValid}
 use Rattle.wasm_meaning.specs.LinkedSet.{NamedModule}
@@ -41,7 +41,7 @@ behind_few xs f ys few =
 
 pub few_entries : (m : Module) → IsValid m → IsFormed m → entries m < 2 ^ 32
 few_entries m valid formed =
-    let within : IsWithin m = formed_is_within m formed in
+    let within : WithinLimits m = formed_is_within m formed in
     let imports = within.imports in
     let funcs = within.funcs in
     let globals = within.globals in

@@ -64,7 +64,7 @@ pub record DefinesExternal (unit : List tree.Item) (name : Name) (ty : tree.Func
 abbrev pub IsDefinedAs : List tree.Item → Name → tree.Func → Type 0
 IsDefinedAs unit name func = (d : Definition) × (defined_for_all unit name ≡ Some d) × (d.func ≡ func)
 
-pub record IsShape (m : NamedModule) (unit : List tree.Item) : Type 0 where
+pub record HasShape (m : NamedModule) (unit : List tree.Item) : Type 0 where
   -- the external functions that it defines are the init function and one for each export
   pub defines : HaveSame (defined_names unit) (own_symbols m)
   -- those that it declares besides are its imports' symbols; of several imports with one symbol the first
@@ -90,7 +90,7 @@ pub record IsShape (m : NamedModule) (unit : List tree.Item) : Type 0 where
 pub record IsUnit (m : NamedModule) (unit : List tree.Item) : Type 0 where
   pub well_formed : IsWellFormed unit
   pub keeps_rules : KeepsRules unit
-  pub shape : IsShape m unit
+  pub shape : HasShape m unit
 
 abbrev pub UnitsAreProper : Type 0
 UnitsAreProper = (m : NamedModule) → IsAccepted m → IsUnit m (items_of m.tree m.name)

@@ -19,7 +19,7 @@ use Rattle.host_replay.specs.declared.replay.ReplayHost.{ReplayHost}
 use Rattle.host_replay.specs.Reading.{empty, lines_of as journal_lines_of, IsJournal}
 use Rattle.host_replay.specs.Replayed.{AreReplays, replaying}
 use Rattle.host_replay.specs.Runs.{asked_events, run_with, IsAnsweredRun}
-use Rattle.host_replay.specs.Texts.{text_of, Recorded}
+use Rattle.host_replay.specs.Texts.{journal_text, Recorded}
 use Rattle.host_replay.proofs.Again.{asks_again}
 use Rattle.host_replay.proofs.Given.{hosts_same}
 use Rattle.host_replay.proofs.Verdicts.{none_distinct, one_read}
@@ -87,15 +87,15 @@ module _ {G : Type 0} (n : HostModule G) (gs : List G) (line : RunLine) (units :
 
   -- the text that was left
   left_text : (m left : Contents) (name : Name) (text : List ℕ) → old.files.told ≡ Some m → new.files.told ≡ Some left
-      → line.journal ≡ Some name → get left name ≡ Some text → (text ≡ text_of journal) × IsJournal text journal
+      → line.journal ≡ Some name → get left name ≡ Some text → (text ≡ journal_text journal) × IsJournal text journal
   left_text m left name text told told' named held =
       let written : IsJournaled (Some name) journal old.files.told new.files.told =
       subst (λ o. IsJournaled o journal old.files.told new.files.told) named played.written in
-      let files : Some left ≡ holding (Some m) name (text_of journal) =
-      sym told' ∙ written.0 ∙ ap (λ t. holding t name (text_of journal)) told in
-      let same : get left name ≡ Some (text_of journal) =
-      ap (λ (o : Option Contents). got o) files ∙ get_here m name (text_of journal) in
-      let is : text ≡ text_of journal = (let both = sym held ∙ same in cc) in
+      let files : Some left ≡ holding (Some m) name (journal_text journal) =
+      sym told' ∙ written.0 ∙ ap (λ t. holding t name (journal_text journal)) told in
+      let same : get left name ≡ Some (journal_text journal) =
+      ap (λ (o : Option Contents). got o) files ∙ get_here m name (journal_text journal) in
+      let is : text ≡ journal_text journal = (let both = sym held ∙ same in cc) in
       (is, subst (λ t. IsJournal t journal) (sym is) written.1)
     where
       got : Option Contents → Option (List ℕ)
@@ -124,8 +124,8 @@ module _ {G : Type 0} (n : HostModule G) (gs : List G) (line : RunLine) (units :
     same_status : (other : ℕ) → HasStatus (run_with replaying replays units calls steps asks).outcome other → other ≡ status
     same_status other has = one_status _ other status (subst (λ (r : CRun). HasStatus r.outcome other) same_run has) played.run.has_status
 
-    same_text : text_of (record { hosts = hosts_of replaying replays; entries = asks }) ≡ text_of journal
-    same_text = λ i. text_of (record { hosts = same_hosts i; entries = same_asks i })
+    same_text : journal_text (record { hosts = hosts_of replaying replays; entries = asks }) ≡ journal_text journal
+    same_text = λ i. journal_text (record { hosts = same_hosts i; entries = same_asks i })
 
     same_lines : (shown : Bool) → lines_of (hosts_of replaying replays) shown (run_with replaying replays units calls steps asks)
         ≡ lines_of (hosts_of n gs) shown (run_with n gs units calls line.steps played.run.asks)
@@ -223,7 +223,7 @@ module _ {H : Type 0} (hm : HostModule H) (words' : List Name) (line again : Run
     (read : AreInputs m line.units line.calls texts calls_text) where
   module _ {G : Type 0} (n : HostModule G) (gs : List G) (played : HasPlayed n gs line units calls old new status)
       (of : IsTextsJob line (symbols_of (hosts_of n gs)) texts calls_text (Run units calls line.steps line.shows_state)) where
-    the_text : (text ≡ text_of (journal n gs line units calls old new status played))
+    the_text : (text ≡ journal_text (journal n gs line units calls old new status played))
         × IsJournal text (journal n gs line units calls old new status played)
     the_text = left_text n gs line units calls old new status played m left r.name text told told' r.written r.left_is
 

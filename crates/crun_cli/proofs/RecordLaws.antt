@@ -18,7 +18,7 @@ use Rattle.c_hosts.specs.Asking.{hosts_of}
 use Rattle.host_replay.specs.declared.file.JournalFile.{JournalFile}
 use Rattle.host_replay.specs.Reading.{symbol_of}
 use Rattle.host_replay.specs.Recording.{recorded}
-use Rattle.host_replay.specs.Texts.{text_of, Recorded}
+use Rattle.host_replay.specs.Texts.{journal_text, Recorded}
 use Rattle.host_replay.specs.Writable.{symbols_of as symbols_of_modules, AreDistinct}
 use Rattle.host_replay.proofs.Distinct.{symbols_distinct}
 use Rattle.crun_words.specs.CommandLine.{RunLine}
@@ -80,13 +80,13 @@ module _ {H : Type 0} (m : HostModule H) (hosts : List H) where
   is_journaled (Some name) None filled asks old new distinct blank is written = absurd blank
   is_journaled (Some name) (Some file) None asks old new distinct blank is written = absurd is
   is_journaled (Some name) (Some file) (Some filled) asks old new distinct blank is written =
-      let both = subst (λ (j : Recorded). (new ≡ holding old name (text_of j)) × IsText j) is written in
+      let both = subst (λ (j : Recorded). (new ≡ holding old name (journal_text j)) × IsText j) is written in
       (both.0, both.1 distinct)
 
   pub record IsPart (name : Option Name) (asks : List Asked) (old new : Told) : Type 0 where
     pub file : Name
     pub named : name ≡ Some file
-    pub begun : IsBegun old new file (text_of (journal_of m hosts asks))
+    pub begun : IsBegun old new file (journal_text (journal_of m hosts asks))
 
   is_part : (name : Option Name) (file filled : Option JournalFile) (asks : List Asked) (old new : Told)
       → IsFilled m hosts asks file filled → IsBlankFor m hosts name file → IsWrittenPart name filled old new → IsPart name asks old new
@@ -96,7 +96,7 @@ module _ {H : Type 0} (m : HostModule H) (hosts : List H) where
   is_part (Some name) (Some file) (Some filled) asks old new is blank part = record {
     file = name;
     named = refl;
-    begun = subst (λ (j : Recorded). IsBegun old new name (text_of j)) is part;
+    begun = subst (λ (j : Recorded). IsBegun old new name (journal_text j)) is part;
   }
 
 -- no file changes but the one that is named

@@ -13,7 +13,7 @@ use Rattle.c_hosts.specs.declared.host.HostModule.{Ghosts as HostModule}
 use Rattle.c_hosts.specs.Asking.{hosts_of}
 use Rattle.host_replay.specs.declared.replay.ReplayHost.{ReplayHost}
 use Rattle.host_replay.specs.Replayed.{AreReplays, replaying}
-use Rattle.host_replay.specs.Texts.{text_of, Recorded}
+use Rattle.host_replay.specs.Texts.{journal_text, Recorded}
 use Rattle.host_replay.proofs.Given.{hosts_same}
 use Rattle.crun_words.specs.declared.inputs.InputStop.{InputStop}
 use Rattle.crun_words.specs.declared.inputs.InputStop.TheVariants as input
@@ -81,7 +81,8 @@ module _ {G : Type 0} (n : HostModule G) (gs : List G) (line : RunLine) (start m
     run = j.run;
     name = j.name;
     named = j.named;
-    begun = subst (λ t. IsBegun t new.files.told j.name (text_of (record { hosts = hosts_of n gs; entries = j.run.asks }))) told j.begun;
+    begun = subst (λ t. IsBegun t new.files.told j.name (journal_text (record { hosts = hosts_of n gs; entries = j.run.asks })))
+        told j.begun;
   })
 
   pub ran_from : (texts : List (List ℕ)) (text : List ℕ) (status : ℕ)

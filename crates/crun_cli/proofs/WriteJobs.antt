@@ -2,7 +2,7 @@
 use Rattle.std.proofs.Common.{◌≡◌, inl, inr, ℕ, List, [], ◌∷◌, slice_get, Option, Some, sym, ap, ◌∙◌, subst}
 use Rattle.w2c_io.specs.Contents.{Name, Contents}
 use Rattle.c_tree.specs.Tree as tree
-use Rattle.c_merge.specs.Merge.{merge_of}
+use Rattle.c_merge.specs.Merge.{merged}
 use Rattle.c_trim.specs.Trim.{IsTrimmed}
 use Rattle.c_trim.proofs.Needed.{one_trimmed}
 use Rattle.crun_words.specs.CommandLine.{MergeLine, TrimLine}
@@ -41,7 +41,7 @@ one_file names k n name other same at at' =
 one_merged : (line : MergeLine) (symbols : Symbols) (texts : List (List ℕ)) (a b : Job) → IsMerged line symbols texts a
     → IsMerged line symbols texts b → a ≡ b
 one_merged line symbols texts a b (inl (units, linked, is)) (inl (others, linked', is')) =
-    is ∙ ap (λ us. Write line.output (merge_of us)) (one_units texts units others linked.0 linked'.0) ∙ sym is'
+    is ∙ ap (λ us. Write line.output (merged us)) (one_units texts units others linked.0 linked'.0) ∙ sym is'
 one_merged line symbols texts a b (inl (units, linked, is)) (inr (k, file, why, at, refused, is')) =
     absurd (linked_apart texts symbols k why units refused linked)
 one_merged line symbols texts a b (inr (k, file, why, at, refused, is')) (inl (units, linked, is)) =

@@ -20,7 +20,7 @@ use Rattle.host_replay.specs.Replayed.{AreReplays, replaying}
 use Rattle.c_hosts.specs.Journals.{events_in}
 use Rattle.host_replay.specs.Runs.{asked_events, run_with}
 use Rattle.host_replay.specs.Reading.{IsJournal}
-use Rattle.host_replay.specs.Texts.{text_of, Recorded}
+use Rattle.host_replay.specs.Texts.{journal_text, Recorded}
 use Rattle.crun_words.specs.CommandLine.{RunLine, Line, line_of, runs}
 use Rattle.crun_job.specs.Job.{Job, Run, Stops, Write}
 use Rattle.crun_job.specs.Lines.{
@@ -69,7 +69,7 @@ journal_of m hosts asks = record { hosts = hosts_of m hosts; entries = asks }
 -- The file that is named for the journal, if one is, holds its text, which is that of this journal alone; no other file changed.
 abbrev pub IsJournaled : Option Name → Recorded → Told → Told → Type 0
 IsJournaled None j old new = new ≡ old
-IsJournaled (Some name) j old new = (new ≡ holding old name (text_of j)) × IsJournal (text_of j) j
+IsJournaled (Some name) j old new = (new ≡ holding old name (journal_text j)) × IsJournal (journal_text j) j
 
 -- the stream has gained the lines of a whole run, and then its journal was written
 pub record HasPlayed {H : Type 0} (m : HostModule H) (hosts : List H) (line : RunLine) (units : List (List tree.Item))
@@ -84,7 +84,7 @@ pub record HasJournalPart {H : Type 0} (m : HostModule H) (hosts : List H) (line
   pub run : HasRun m hosts units calls line.steps line.shows_state old.out.told new.out.told status
   pub name : Name
   pub named : line.journal ≡ Some name
-  pub begun : IsBegun old.files.told new.files.told name (text_of (journal_of m hosts run.asks))
+  pub begun : IsBegun old.files.told new.files.told name (journal_text (journal_of m hosts run.asks))
 
 -- a part of the lines is written and no file, or all lines and a part of the journal
 abbrev pub HasPlayedPart : {H : Type 0} → HostModule H → List H → RunLine → List (List tree.Item) → List SymbolCall → Outside → Outside

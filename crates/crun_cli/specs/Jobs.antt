@@ -7,7 +7,7 @@ use Rattle.w2c_io.specs.Contents.{Name, Contents}
 use Rattle.c_tree.specs.Tree as tree
 use Rattle.c_link.specs.Offers.{c_symbols}
 use Rattle.c_trim.specs.Trim.{IsTrimmed}
-use Rattle.c_merge.specs.Merge.{merge_of}
+use Rattle.c_merge.specs.Merge.{merged}
 use Rattle.crun.specs.HostSymbols.{symbols_of_hosts}
 use Rattle.host_replay.specs.Reading.{IsJournal, IsRefusedAt}
 use Rattle.host_replay.specs.Texts.{Recorded}
@@ -77,7 +77,7 @@ IsRunJob line handed contents job =
 -- the texts are those of linked units, as one unit; or the first refusal
 abbrev pub IsMerged : MergeLine → Symbols → List (List ℕ) → Job → Type 0
 IsMerged line symbols texts job =
-    ((units : List (List tree.Item)) × AreLinked texts symbols units × (job ≡ Write line.output (merge_of units)))
+    ((units : List (List tree.Item)) × AreLinked texts symbols units × (job ≡ Write line.output (merged units)))
     ⊎ ((number : ℕ) × (file : Name) × (why : Cause) × (slice_get line.units number ≡ Some file)
     × IsRefusedUnit texts symbols number why × (job ≡ Stops (Refused file why)))
 

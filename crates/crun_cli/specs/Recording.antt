@@ -11,7 +11,7 @@ use Rattle.host_replay.specs.declared.file.JournalFile.{JournalFile}
 use Rattle.host_replay.specs.Fitting.{fits}
 use Rattle.host_replay.specs.Reading.{IsJournal}
 use Rattle.host_replay.specs.Recording.{recorded}
-use Rattle.host_replay.specs.Texts.{text_of, Recorded}
+use Rattle.host_replay.specs.Texts.{journal_text, Recorded}
 use Rattle.host_replay.specs.Writable.{AreDistinct}
 use Rattle.crun_cli.specs.Ends.{journal_of}
 use Rattle.crun_cli.specs.Runs.{HasRun}
@@ -71,16 +71,16 @@ IsNamed (Some name) (Some file) = ⊤
 
 -- the text is that of this journal alone, where no two functions have one symbol
 abbrev pub IsText : Recorded → Type 0
-IsText j = AreDistinct j.hosts → IsJournal (text_of j) j
+IsText j = AreDistinct j.hosts → IsJournal (journal_text j) j
 
 -- the file of the name, if there is one, holds the journal's text; no other file changed
 abbrev pub IsWritten : Option Name → Option JournalFile → Told → Told → Type 0
 IsWritten None file old new = new ≡ old
 IsWritten (Some name) None old new = ⊥
-IsWritten (Some name) (Some file) old new = (new ≡ holding old name (text_of (recorded file))) × IsText (recorded file)
+IsWritten (Some name) (Some file) old new = (new ≡ holding old name (journal_text (recorded file))) × IsText (recorded file)
 
 -- it is untouched, or holds a part of it
 abbrev pub IsWrittenPart : Option Name → Option JournalFile → Told → Told → Type 0
 IsWrittenPart None file old new = ⊥
 IsWrittenPart (Some name) None old new = ⊥
-IsWrittenPart (Some name) (Some file) old new = IsBegun old new name (text_of (recorded file))
+IsWrittenPart (Some name) (Some file) old new = IsBegun old new name (journal_text (recorded file))

@@ -50,7 +50,8 @@ one_place (x ∷ xs) (suc f) (suc g) s distinct at at' =
 front_distinct : (xs ys : List Name) → are_distinct (xs ++ ys) ≡ true → are_distinct xs ≡ true
 front_distinct [] ys distinct = refl
 front_distinct (x ∷ xs) ys distinct =
-    λ i. fresh (is_among x xs) refl i && front_distinct xs ys (right_holds (not (is_among x (xs ++ ys))) (are_distinct (xs ++ ys)) distinct) i
+    let rest = right_holds (not (is_among x (xs ++ ys))) (are_distinct (xs ++ ys)) distinct in
+    λ i. fresh (is_among x xs) refl i && front_distinct xs ys rest i
   where
     fresh : (b : Bool) → is_among x xs ≡ b → not b ≡ true
     fresh false is = refl

@@ -64,7 +64,8 @@ reply_of_next functions (x ∷ entries) zero e fit at i is r reply_is =
         let given = (both_hold (equal_types f.ty.params (types_of e.args)) (is_reply f.ty.result e.reply) here).1 in
         subst (IsReply f) (sym reply_is) (reply_fits f e.reply given)
 reply_of_next functions (x ∷ entries) (suc used) e fit at i is r reply_is =
-    reply_of_next functions entries used e (both_hold (fits_own functions x) (list_all (fits_own functions) entries) fit).1 at i is r reply_is
+    let rest = (both_hold (fits_own functions x) (list_all (fits_own functions) entries) fit).1 in
+    reply_of_next functions entries used e rest at i is r reply_is
 
 pub module_at : (modules : List JournalModule) (k : ℕ) (m : JournalModule) → k < length (modules_of modules)
     → m ≡ slice_index_or modules k m

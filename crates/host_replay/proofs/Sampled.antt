@@ -7,7 +7,7 @@ use Rattle.journal_lines.specs.declared.line.JournalLine.TheVariants as line
 use Rattle.journal_lines.specs.Lines.{IsBytes}
 use Rattle.host_replay.specs.Reading.{lines_of, Adds, AddsModule, IsRefusedAt, Says}
 use Rattle.host_replay.specs.Samples.{env, ticks}
-use Rattle.host_replay.specs.Texts.{text_of, Recorded}
+use Rattle.host_replay.specs.Texts.{journal_text, Recorded}
 use Rattle.host_replay.specs.Writable.{AreDistinct, IsWritable}
 use Rattle.host_replay.proofs.Spelled.{spelled}
 use Rattle.host_replay.proofs.Verdicts.{one_said}
@@ -66,11 +66,11 @@ no_module l after says adds =
     let added : AddsModule ticks (codes "env") after = subst (λ (l : JournalLine). Adds ticks l after) same adds in
     (let none = added.no_entries in cc)
 
-pub behind : lines_of (text_of ticks ++ codes "module env\n") ≡ lines_of (text_of ticks) ++ codes "module env\n" ∷ []
-    → length (lines_of (text_of ticks)) ≡ 6
-    → IsRefusedAt (text_of ticks ++ codes "module env\n") 7
+pub behind : lines_of (journal_text ticks ++ codes "module env\n") ≡ lines_of (journal_text ticks) ++ codes "module env\n" ∷ []
+    → length (lines_of (journal_text ticks)) ≡ 6
+    → IsRefusedAt (journal_text ticks ++ codes "module env\n") 7
 behind lines count = record {
-  front = lines_of (text_of ticks);
+  front = lines_of (journal_text ticks);
   text_line = codes "module env\n";
   rest = [];
   lines_are = lines;

@@ -24,7 +24,7 @@ use Rattle.c_hosts.specs.declared.host.HostReply.TheVariants as reply
 use Rattle.c_hosts.specs.declared.journal.Asked.{Asked}
 use Rattle.host_replay.specs.Fitting.{fits, fits_function, function_at, is_reply}
 use Rattle.host_replay.specs.Reading.{empty, ended, lines_of, IsJournal, Read}
-use Rattle.host_replay.specs.Texts.{entry_text, function_texts, module_text, text_of, Recorded}
+use Rattle.host_replay.specs.Texts.{entry_text, function_texts, module_text, journal_text, Recorded}
 use Rattle.host_replay.specs.Writable.{HasName, HasNames, HasNumbers, IsWritable}
 use Rattle.host_replay.proofs.Chains.{entry_said, function_said, journal_chain, module_said, reply_said, said, same_reply, Chain}
 
@@ -79,7 +79,7 @@ entries_text hosts (a ∷ entries) = λ i.
     replied_line (host_name hosts a.host) (function_name hosts a.host a.function) a.args (same_reply a.reply i)
     ++ entries_text hosts entries i
 
-said_text : (j : Recorded) → flat_map line_text (said j) ≡ text_of j
+said_text : (j : Recorded) → flat_map line_text (said j) ≡ journal_text j
 said_text j =
     flat_map-append line_text (flat_map module_said j.hosts) (map (entry_said j.hosts) j.entries)
     ∙ (λ i. modules_text j.hosts i ++ entries_text j.hosts j.entries i)
@@ -159,11 +159,11 @@ chain_read : (before after : Recorded) (ls : List JournalLine) → Chain before 
 chain_read before after [] chain are = chain
 chain_read before after (l ∷ ls) chain are = (l, chain.0, (are.0, refl), chain.1, chain_read chain.0 after ls chain.2 are.1)
 
-pub spelled : (j : Recorded) → IsWritable j → IsJournal (text_of j) j
+pub spelled : (j : Recorded) → IsWritable j → IsJournal (journal_text j) j
 spelled j is =
     subst (λ (lines : List (List ℕ)). Read empty lines j)
     (sym (ap lines_of (sym (said_text j)) ∙ lines_of_texts (said j) (said_proper j is)))
     (chain_read empty j (said j) (journal_chain j is.distinct is.fitting) (said_proper j is))
 
-pub read_back : (j : Recorded) (text : List ℕ) → text ≡ text_of j → IsWritable j → IsJournal text j
+pub read_back : (j : Recorded) (text : List ℕ) → text ≡ journal_text j → IsWritable j → IsJournal text j
 read_back j text is writable = subst (λ (t : List ℕ). IsJournal t j) (sym is) (spelled j writable)

@@ -25,5 +25,5 @@ module_text m = module_line m.name ++ function_texts m.functions
 abbrev pub entry_text : List Host → Asked → List ℕ
 entry_text hosts a = host_line hosts (ask_of a) (Some (reply_in a))
 
-abbrev pub text_of : Recorded → List ℕ
-text_of j = flat_map module_text j.hosts ++ flat_map (entry_text j.hosts) j.entries
+abbrev pub journal_text : Recorded → List ℕ
+journal_text j = flat_map module_text j.hosts ++ flat_map (entry_text j.hosts) j.entries

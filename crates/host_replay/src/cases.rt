@@ -5,22 +5,22 @@ ghost use Rattle.c_hosts.specs.declared.host.HostReply.TheVariants as reply;
 ghost use Rattle.host_replay.specs.Reading.{empty, lines_of, IsJournal, IsRefusedAt};
 ghost use Rattle.host_replay.specs.Replaying.{Replays};
 ghost use Rattle.host_replay.specs.Samples.{tick, ticks};
-ghost use Rattle.host_replay.specs.Texts.{text_of};
+ghost use Rattle.host_replay.specs.Texts.{journal_text};
 
 /// Texts of journals.
 pub fn text_cases()
-    ensures written { text_of ticks ≡ codes "module env\nfunction put_i32 i32 = none\nfunction put_i64 i64 = none\n"
+    ensures written { journal_text ticks ≡ codes "module env\nfunction put_i32 i32 = none\nfunction put_i64 i64 = none\n"
         ++ codes "function tick = i64\nhost env tick = i64:1\nhost env tick = i64:2\n" }
-    ensures nothing { text_of empty ≡ [] }
+    ensures nothing { journal_text empty ≡ [] }
     ensures lines { lines_of (codes "module a\n\nb") ≡ codes "module a\n" ∷ codes "\n" ∷ codes "b" ∷ [] }
     ensures no_lines { lines_of [] ≡ [] }
 {}
 
 /// Texts that are read, and lines that are refused.
 pub fn reading_cases()
-    ensures read { IsJournal (text_of ticks) ticks }
+    ensures read { IsJournal (journal_text ticks) ticks }
     ensures nothing { IsJournal [] empty }
-    ensures module_behind_a_call { IsRefusedAt (text_of ticks ++ codes "module env\n") 7 }
+    ensures module_behind_a_call { IsRefusedAt (journal_text ticks ++ codes "module env\n") 7 }
 {}
 
 /// What hosts reply again.

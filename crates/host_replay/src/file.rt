@@ -26,7 +26,7 @@ impl JournalFile {
     ghost use Rattle.c_hosts.specs.Asking.{hosts_of};
     ghost use Rattle.host_replay.specs.Reading.{empty, named_function, with_function, IsJournal};
     ghost use Rattle.host_replay.specs.Recording.{recorded};
-    ghost use Rattle.host_replay.specs.Texts.{text_of};
+    ghost use Rattle.host_replay.specs.Texts.{journal_text};
     ghost use Rattle.host_replay.specs.Writable.{AreDistinct};
 
     // No modules and no calls. It takes no memory.
@@ -72,7 +72,7 @@ impl JournalFile {
     /// The text: for each module a line and a line for each of its functions, then a line for each call. It is the text
     /// of this journal alone, where no two functions have one symbol.
     pub fn text(&self, alloc: Global) -> Result<Bytes, Memory>
-        ensures text { IfOk result (λ text. text ≡ text_of (recorded self.now)) }
+        ensures text { IfOk result (λ text. text ≡ journal_text (recorded self.now)) }
         ensures read_back { IfOk result (λ text. AreDistinct (recorded self.now).hosts → IsJournal text (recorded self.now)) }
     {
         let mut text = Bytes::new(alloc);

@@ -12,7 +12,7 @@ ghost use Rattle.host_replay.specs.Fitting.{fits};
 ghost use Rattle.host_replay.specs.Reading.{IsJournal, IsRefusedAt};
 ghost use Rattle.host_replay.specs.Replayed.{replaying, AreReplays};
 ghost use Rattle.host_replay.specs.Runs.{run_with, IsAnsweredRun};
-ghost use Rattle.host_replay.specs.Texts.{text_of, Recorded};
+ghost use Rattle.host_replay.specs.Texts.{journal_text, Recorded};
 ghost use Rattle.host_replay.specs.Writable.{symbols_of, AreDistinct, IsWritable};
 
 use c_hosts::HostModule;
@@ -26,7 +26,7 @@ pub fn one_verdict()
 
 /// The law that the text of a journal is that journal, where it has distinct symbols, names of bytes, and calls that fit.
 pub fn texts_are_read_back()
-    ensures { (j : Recorded) → IsWritable j → IsJournal (text_of j) j }
+    ensures { (j : Recorded) → IsWritable j → IsJournal (journal_text j) j }
 {}
 
 /// The law that no two functions of a journal that is read have one symbol.

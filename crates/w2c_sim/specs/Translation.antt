@@ -12,7 +12,7 @@ use Rattle.c_print.specs.Print.{print_of}
 use Rattle.c_print.specs.Header.{header_text}
 use Rattle.wasm_spelling.specs.Bytes.{AreBytes}
 use Rattle.c_unit.specs.Items.{items_of, header_of}
-use Rattle.c_unit.specs.Shape.{IsShape}
+use Rattle.c_unit.specs.Shape.{HasShape}
 use Rattle.w2c_sim.specs.declared.translation.Texts.{Texts}
 
 -- the file is accepted, and this is its module; the module gets this name, of 1 to 1,024 bytes
@@ -43,4 +43,4 @@ pub record SpellsUnit (m : NamedModule) (text : List ℕ) : Type 0 where
   pub spells : CSpells unit text
   pub only : (other : List tree.Item) → CSpells other text → other ≡ unit
   pub keeps_rules : KeepsRules unit
-  pub shape : IsShape m unit
+  pub shape : HasShape m unit

@@ -15,7 +15,7 @@ use Rattle.wasm_tree.specs.Instructions.{Code, end_code, then_code, Kind, no_els
 use Rattle.wasm_tree.specs.IndexSpaces.{table_of_import, memory_of_import, table_space, memory_space}
 use Rattle.wasm_spelling.specs.Limits.{most_parameters, most_functions, most_memory_pages, most_table_elements, most_module_bytes}
 use Rattle.wasm_spelling.specs.Places.{bare_code, bare_kind, bare_type, bare_import_kind, bare_import, bare_func, bare_limits_entry, bare_global, bare_export, bare_func_ref, bare_element, bare_segment, bare_body, bare_module, IsFormed}
-use Rattle.wasm_spelling.specs.Within.{has_wide, some_in, some_inside, least_bytes, least_bytes_of, block_depth, block_depth_of, BodyIsWithin, IsMaximum, IsName, IsWithin}
+use Rattle.wasm_spelling.specs.Within.{has_wide, some_in, some_inside, least_bytes, least_bytes_of, block_depth, block_depth_of, BodyIsWithin, IsMaximum, IsName, WithinLimits}
 use Rattle.wasm_spelling.proofs.Behind.{all_append, all_more}
 use Rattle.wasm_spelling.proofs.WithinModule.{KindIsWithin, ImportIsWithin, SegmentIsWithin, LimitsAreWithin, PartsAreWithin, spelled_within}
 
@@ -243,7 +243,7 @@ differ_in_places t u e h = record {
     bodies : map bare_body t.bodies ≡ map bare_body u.bodies
     bodies = ap (λ (m : Module). m.bodies) e
 
-parts_within : (m : Module) → PartsAreWithin m → IsWithin m
+parts_within : (m : Module) → PartsAreWithin m → WithinLimits m
 parts_within m h =
     let tables = tables_within m h.imports.1 h.tables in
     let memories = memories_within m h.imports.1 h.memories in
@@ -269,5 +269,5 @@ parts_within m h =
       bodies = h.code;
     }
 
-pub formed_is_within : (m : Module) → IsFormed m → IsWithin m
+pub formed_is_within : (m : Module) → IsFormed m → WithinLimits m
 formed_is_within m (bytes, are, (u, same, spelled)) = parts_within m (differ_in_places m u same (spelled_within u bytes are spelled))

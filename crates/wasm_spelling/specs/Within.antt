@@ -87,7 +87,7 @@ IsMaximum (Some max) = max < 2 ^ 32
 abbrev pub IsName : List ℕ → Type 0
 IsName name = AreBytes name × (length name ≤ most_name_bytes)
 
-pub record IsWithin (m : Module) : Type 0 where
+pub record WithinLimits (m : Module) : Type 0 where
   pub types : length m.types ≤ most_module_bytes
   pub imports : length m.imports ≤ most_module_bytes
   pub funcs : length m.funcs ≤ most_functions

@@ -6,7 +6,7 @@ ghost use Rattle.wasm_spelling.specs.ModuleFields.{Spells};
 ghost use Rattle.wasm_spelling.specs.Bytes.{AreBytes};
 ghost use Rattle.wasm_spelling.specs.Places.{IsFormed};
 ghost use Rattle.wasm_spelling.specs.Table.{Upto};
-ghost use Rattle.wasm_spelling.specs.Within.{IsWithin};
+ghost use Rattle.wasm_spelling.specs.Within.{WithinLimits};
 
 /// Bytes of at most 8,388,608 spell exactly one module or have exactly one first fault.
 pub fn each_file_has_one_reading()
@@ -22,6 +22,6 @@ pub fn each_file_has_one_reading()
 
 /// A module that has a file, places aside, keeps within the limits of reading. What a file spells has a file.
 pub fn a_formed_module_keeps_within_the_limits()
-    ensures within { (tree : Tree) → IsFormed tree → IsWithin tree }
+    ensures within { (tree : Tree) → IsFormed tree → WithinLimits tree }
     ensures spelled { (tree : Tree) (bytes : List ℕ) → AreBytes bytes → Spells tree bytes → IsFormed tree }
 {}

@@ -4,7 +4,7 @@ use Rattle.std.proofs.lemmas.List.{take_all}
 use Rattle.c_hosts.specs.declared.journal.Asked.{Asked}
 use Rattle.host_replay.specs.Modules.{modules_of}
 use Rattle.host_replay.specs.Recording.{recorded}
-use Rattle.host_replay.specs.Texts.{entry_text, module_text, text_of}
+use Rattle.host_replay.specs.Texts.{entry_text, module_text, journal_text}
 use Rattle.host_replay.specs.Writable.{HasNumbers}
 use Rattle.host_replay.proofs.Spelled.{read_back}
 use Rattle.host_replay.proofs.file.JournalFile.text.Goals as goal
@@ -14,7 +14,7 @@ returns-clause-read_back c = λ distinct.
     let entries = c.args.self.now.entries.items in
     let past : length c.args.self.now.entries.items ≤ c.loop-entry.entry-index = search rules in
     let all = take_all c.loop-entry.entry-index entries past in
-    let text : c.loop-entry.text ≡ text_of (recorded c.args.self.now) =
+    let text : c.loop-entry.text ≡ journal_text (recorded c.args.self.now) =
     c.loop-entry.invariant.text
     ∙ ap (λ (es : List Asked). flat_map module_text (modules_of c.args.self.now.modules.items)
     ++ flat_map (entry_text (modules_of c.args.self.now.modules.items)) es) all in
