@@ -10,7 +10,7 @@ ghost use Rattle.c_body.specs.Steps as steps;
 
 use crate::steps::{Step, Way, step_of};
 use c_prelude::{HELPERS, Helper, NumOp, helper_name};
-use c_scope::NameTable;
+use c_scope::{NameTable, Salted};
 use std::alloc::Global;
 use w2c_base::Memory;
 use wasm_tree::{Code, ElsePart, Kind, Module};
@@ -150,7 +150,8 @@ fn enter_else(
 fn called(alloc: Global, m: &Module) -> Result<NameTable<()>, Memory>
     ensures { IfOk result (λ table. KnowsCalls table m.now) }
 {
-    let mut table = NameTable::new(alloc);
+    // Names of the translator's own.
+    let mut table = NameTable::new(alloc, Salted::new());
     for body in m.bodies.as_slice() {
         enter_code(alloc, &mut table, &body.code)?;
     }

@@ -15,7 +15,7 @@ ghost use Rattle.c_check.specs.UnitNames.{FindsFirst, by_names, defined_of, none
 ghost use Rattle.c_check.specs.Places.{item_place};
 
 use crate::names::{has_body, name_of};
-use c_scope::{FileScope, NameTable};
+use c_scope::{FileScope, NameTable, Salted};
 use c_tree::{CType, Func, Item, Name};
 use c_types::same_type;
 use std::alloc::Global;
@@ -29,14 +29,14 @@ pub struct Earlier<'a> {
 }
 
 impl<'a> Earlier<'a> {
-    /// No declarations. It takes no memory.
-    pub fn new(alloc: Global) -> Self
+    /// No declarations, whose names will be hashed by a key. It takes no memory.
+    pub fn new(alloc: Global, salt: Salted) -> Self
         ensures first { result.first ≡ [] }
         ensures defined { result.defined ≡ [] }
     {
         Earlier {
-            first: NameTable::new(alloc),
-            defined: NameTable::new(alloc),
+            first: NameTable::new(alloc, salt),
+            defined: NameTable::new(alloc, salt),
         }
     }
 }

@@ -7,7 +7,7 @@ ghost use Rattle.c_tree.specs.Rules.{label_of, labels_of, has_body};
 ghost use Rattle.c_scope.specs.Tables.{Knows};
 ghost use Rattle.c_check.specs.UnitNames.{some_name, defined_name, names_of, defined_of};
 
-use c_scope::NameTable;
+use c_scope::{NameTable, Salted};
 use c_tree::{Item, Stmt};
 use std::alloc::Global;
 use w2c_base::Memory;
@@ -73,10 +73,10 @@ pub fn label_name(stmt: &Stmt) -> Option<&[u8]>
 }
 
 /// The names that items declare.
-pub fn declared_names(alloc: Global, items: &[Item]) -> Result<NameTable<()>, Memory>
+pub fn declared_names(alloc: Global, salt: Salted, items: &[Item]) -> Result<NameTable<()>, Memory>
     ensures { IfOk result (λ set. Knows set (names_of (map item_of items.now))) }
 {
-    let mut set = NameTable::new(alloc);
+    let mut set = NameTable::new(alloc, salt);
     for item in items {
         put(alloc, &mut set, Some(name_of(item)))?;
     }
@@ -84,10 +84,10 @@ pub fn declared_names(alloc: Global, items: &[Item]) -> Result<NameTable<()>, Me
 }
 
 /// The names of the functions that items define.
-pub fn defined_names(alloc: Global, items: &[Item]) -> Result<NameTable<()>, Memory>
+pub fn defined_names(alloc: Global, salt: Salted, items: &[Item]) -> Result<NameTable<()>, Memory>
     ensures { IfOk result (λ set. Knows set (defined_of (map item_of items.now))) }
 {
-    let mut set = NameTable::new(alloc);
+    let mut set = NameTable::new(alloc, salt);
     for item in items {
         put(alloc, &mut set, defined_name(item))?;
     }
@@ -95,10 +95,10 @@ pub fn defined_names(alloc: Global, items: &[Item]) -> Result<NameTable<()>, Mem
 }
 
 /// The labels of statements.
-pub fn label_names(alloc: Global, stmts: &[Stmt]) -> Result<NameTable<()>, Memory>
+pub fn label_names(alloc: Global, salt: Salted, stmts: &[Stmt]) -> Result<NameTable<()>, Memory>
     ensures { IfOk result (λ set. Knows set (labels_of (map stmt_of stmts.now))) }
 {
-    let mut set = NameTable::new(alloc);
+    let mut set = NameTable::new(alloc, salt);
     for stmt in stmts {
         put(alloc, &mut set, label_name(stmt))?;
     }

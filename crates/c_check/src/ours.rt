@@ -10,7 +10,7 @@ ghost use Rattle.c_check.specs.UnitNames.{names_of};
 ghost use Rattle.c_check.specs.Places.{alone, item_place};
 
 use crate::shapes::{file_name_is_free, is_own_name, proper_params};
-use c_scope::{FileScope, NameTable, Variable, own_variables};
+use c_scope::{FileScope, NameTable, Salted, Variable, own_variables};
 use c_tree::{CType, Func, Item, Name};
 use std::alloc::Global;
 use w2c_base::Memory;
@@ -78,10 +78,10 @@ fn name_at<'a>(own: &[Variable<'a>], i: usize) -> &'a [u8]
 }
 
 /// Whether no two names are one.
-fn are_distinct(alloc: Global, own: &[Variable]) -> Result<bool, Memory>
+fn are_distinct(alloc: Global, salt: Salted, own: &[Variable]) -> Result<bool, Memory>
     ensures { IfOk result (λ b. b ≡ are_distinct (map (λ v. v.name.now) own.now)) }
 {
-    let mut behind: NameTable<()> = NameTable::new(alloc);
+    let mut behind: NameTable<()> = NameTable::new(alloc, salt);
     let mut i = own.len();
     while i > 0 {
         i -= 1;
@@ -125,7 +125,7 @@ pub fn own_names_are_distinct(
     requires own { map (λ v. v.name.now) own.now ≡ local_names (item_of item.now) }
     ensures { IfOk result (λ b. b ≡ own_names_are_distinct (item_place file.now item.now)) }
 {
-    let distinct = are_distinct(alloc, own)?;
+    let distinct = are_distinct(alloc, file.salt, own)?;
     let hide_none = hide_none(file, names, own);
     match item {
         Item::Func(f) => Ok(params_are_named(f) && distinct && hide_none),

@@ -29,8 +29,9 @@ fn broken_in_statements(alloc: Global, s: &Scope, item: usize) -> Result<Option<
     ensures { IfOk result (λ r. option_map broken_at r ≡ first_in_stmts (scope_of s.now) item 0) }
 {
     let stmts = s.body.stmts.as_slice();
-    let labels = label_names(alloc, stmts)?;
-    let mut earlier: NameTable<()> = NameTable::new(alloc);
+    let salt = s.file.salt;
+    let labels = label_names(alloc, salt, stmts)?;
+    let mut earlier: NameTable<()> = NameTable::new(alloc, salt);
     for (i, stmt) in stmts.iter().enumerate() {
         let statement = i + 1;
         match stmt_rule(alloc, s, &labels, &earlier, statement, stmt)? {
@@ -102,7 +103,7 @@ fn broken_in_definition(
     ensures { IfOk result (λ r. option_map broken_at r ≡ first_in_body (map item_of file.now.items.now) i (tree.Function (func_of f.now))) }
 {
     let own = own_variables(alloc, f)?;
-    let table = own_table(alloc, own.as_slice())?;
+    let table = own_table(alloc, file.salt, own.as_slice())?;
     let scope = Scope::new(file, &table, f, body);
     let found = broken_in_statements(alloc, &scope, i)?;
     Ok(found)

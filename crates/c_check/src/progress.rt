@@ -9,7 +9,7 @@ ghost use Rattle.c_check.specs.UnitNames.{FindsFirst, names_of, defined_of, none
 
 use crate::declarations::{Earlier, enter_first};
 use crate::names::{declared_names, defined_name, defined_names, put};
-use c_scope::{FileScope, NameTable};
+use c_scope::{FileScope, NameTable, salt_of};
 use c_tree::Item;
 use std::alloc::Global;
 use w2c_base::Memory;
@@ -46,10 +46,11 @@ impl<'a> Progress<'a> {
         ensures count { IfOk result (λ progress. progress.file.count ≡ 0) }
         ensures first { IfOk result (λ progress. FindsFirst progress.earlier.first (declared progress.file)) }
     {
-        let names = declared_names(alloc, items)?;
-        let defined = defined_names(alloc, items)?;
-        let earlier = Earlier::new(alloc);
-        let file = FileScope::new(alloc, items);
+        let salt = salt_of(items);
+        let names = declared_names(alloc, salt, items)?;
+        let defined = defined_names(alloc, salt, items)?;
+        let earlier = Earlier::new(alloc, salt);
+        let file = FileScope::new(alloc, salt, items);
         Ok(Progress {
             file,
             names,

@@ -11,8 +11,21 @@ use crate::host_symbol::HostSymbol;
 use crate::offers::Offers;
 use crate::refusal::LinkRefusal;
 use c_check::CheckedUnit;
+use c_scope::{Salted, absorb_unit};
 use c_tree::{Func, Item};
 use std::alloc::Global;
+
+// The key of all names of hosts and units.
+fn salt_of_all(units: &[CheckedUnit], hosts: &[HostSymbol]) -> Salted {
+    let mut salt = Salted::new();
+    for host in hosts {
+        salt.absorb(host.symbol.as_slice());
+    }
+    for unit in units {
+        absorb_unit(&mut salt, unit.unit().as_slice());
+    }
+    salt.sealed()
+}
 
 /// What hosts and units define, where no unit defines what a host or an earlier unit does.
 pub fn define_all(
@@ -25,7 +38,7 @@ pub fn define_all(
     ensures kept { IfOk result (λ _. AllChecked (map unit_of units.now)) }
     ensures first { IfErr result (λ r. IsRefusal r (first_twice (map unit_of units.now) (c_symbols hosts.now))) }
 {
-    let mut table = Offers::of_hosts(alloc, hosts)?;
+    let mut table = Offers::of_hosts(alloc, salt_of_all(units, hosts), hosts)?;
     for (u, unit) in units.iter().enumerate() {
         let items = unit.unit().as_slice();
         match define_once(alloc, &table, u, items) {

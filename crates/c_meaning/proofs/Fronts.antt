@@ -6,15 +6,16 @@ use Rattle.std.proofs.lemmas.List.{append-nil, map-append}
 use Rattle.std.specs.List.{range_with_len, AllByRecursion}
 use Rattle.w2c_base.specs.declared.value.Value.{Value}
 use Rattle.w2c_base.specs.Lookup.{numbered}
-use Rattle.w2c_base.specs.Run.{Phase, Init, Call, Reply, CallEnded, values_in}
+use Rattle.w2c_base.specs.Run.{Phase, Init, Call, Reply, Event, CallEnded, values_in}
 use Rattle.w2c_base.proofs.Events.{values_behind}
-use Rattle.c_meaning.specs.State.{FuncAddress, CValue, Number, Pointer, FuncPointer, Machine, Stop, Stuck}
+use Rattle.c_meaning.specs.State.{FuncAddress, CValue, Number, Pointer, FuncPointer, Objects, Machine, Stop, Stuck}
 use Rattle.c_meaning.specs.Linking.{Program, SymbolCall, called_func, init_functions}
 use Rattle.c_meaning.specs.Machine.{fresh}
 use Rattle.c_meaning.specs.Step.{Step, Next, Back, Stops, call, c_step}
 use Rattle.c_meaning.specs.Run.{CRun, Ended, Stopped, OutOfSteps, Entry, Pending, Progress, Going, Over, over, begun, begin_entry, told_end, came_back, go_on, after, run_of, c_start, c_run, entries_of}
 use Rattle.c_meaning.proofs.Longer.{after_sum}
-use Rattle.c_meaning.proofs.Told.{machine_of, call_same, step_same}
+use Rattle.c_meaning.proofs.StepsKeep.{KeptByObjects, KeptByAsks, KeptByEnds, OfMachine, trail_kept, entry_keeps, after_keeps}
+use Rattle.c_meaning.proofs.Told.{machine_of, asked_same, call_same, step_same}
 
 -- the same with more entries behind
 abbrev longer : List Entry → Pending → Pending
@@ -145,35 +146,6 @@ start_follows p calls more n replies =
 
 -- values
 
-abbrev values_of : Progress → List (Option Value)
-values_of (Going pending s) = values_in s.machine.trail.events
-values_of (Over run) = values_in run.events
-
-run_values : (x : Progress) → values_in (run_of x).events ≡ values_of x
-run_values (Going pending s) = refl
-run_values (Over run) = refl
-
-begun_values : (pending : Pending) (st : Step) → values_of (begun pending st) ≡ values_in (machine_of st).trail.events
-begun_values pending (Next s) = refl
-begun_values pending (Back m value) = refl
-begun_values pending (Stops m why) = refl
-
--- where an entry is begun the values are those of the machine
-entry_values : (p : Program) (m : Machine) (last : Phase) (es : List Entry) → values_of (begin_entry p m last es) ≡ values_in m.trail.events
-entry_values p m last [] = refl
-entry_values p m last (e ∷ es) = go e.func
-  where
-    pending : Pending
-    pending = record { phase = e.phase; entries = es }
-
-    go : (f : Option FuncAddress) → values_of (elim f [
-      | None ↦ Over (over pending m (Stopped Stuck))
-      | Some f ↦ begun pending
-          (call p f m (map Number e.args) [])
-    ]) ≡ values_in m.trail.events
-    go None = refl
-    go (Some f) = begun_values pending (call p f m (map Number e.args) []) ∙ call_same p f m (map Number e.args) []
-
 -- a call's end is one value more
 one_told : (m : Machine) (v : Option Value) → values_in (told_end m v).trail.events ≡ values_in m.trail.events ++ v ∷ []
 one_told m v = values_behind m.trail.events (CallEnded v ∷ [])
@@ -185,36 +157,17 @@ BeginsWith front values = (rest : List (Option Value)) × (values ≡ front ++ r
 one_behind : (front values : List (Option Value)) (v : Option Value) → BeginsWith front values → BeginsWith front (values ++ v ∷ [])
 one_behind front values v (rest, is) = (rest ++ v ∷ [], ap (λ l. l ++ v ∷ []) is ∙ append_assoc front rest (v ∷ []))
 
-begins_as : (p : Program) (front : List (Option Value)) (m : Machine) (last : Phase) (es : List Entry)
-    → BeginsWith front (values_in m.trail.events) → BeginsWith front (values_of (begin_entry p m last es))
-begins_as p front m last es begins = subst (BeginsWith front) (sym (entry_values p m last es)) begins
+-- so what has begun with them goes on so, whatever is told
+abbrev BeginWith : List (Option Value) → List Event → List Objects → Type 0
+BeginWith front events units = BeginsWith front (values_in events)
 
-begins_behind : (p : Program) (front : List (Option Value)) (m : Machine) (v : Option Value) (last : Phase) (es : List Entry)
-    → BeginsWith front (values_in m.trail.events) → BeginsWith front (values_of (begin_entry p (told_end m v) last es))
-begins_behind p front m v last es begins = begins_as p front (told_end m v) last es
-    (subst (BeginsWith front) (sym (one_told m v)) (one_behind front (values_in m.trail.events) v begins))
-
-grows_back : (p : Program) (front : List (Option Value)) (pending : Pending) (m : Machine) (phase : Phase) (value : Option CValue)
-    → BeginsWith front (values_in m.trail.events) → BeginsWith front (values_of (came_back p pending m phase value))
-grows_back p front pending m (Init k) None begins = begins_as p front m (Init k) pending.entries begins
-grows_back p front pending m (Call k) None begins = begins_behind p front m None (Call k) pending.entries begins
-grows_back p front pending m (Call k) (Some (Number v)) begins = begins_behind p front m (Some v) (Call k) pending.entries begins
-grows_back p front pending m (Call k) (Some (Pointer to)) begins = begins
-grows_back p front pending m (Call k) (Some (FuncPointer to)) begins = begins
-grows_back p front pending m (Init k) (Some v) begins = begins
-
-grows_on : (p : Program) (front : List (Option Value)) (pending : Pending) (st : Step)
-    → BeginsWith front (values_in (machine_of st).trail.events) → BeginsWith front (values_of (go_on p pending st))
-grows_on p front pending (Next s) begins = begins
-grows_on p front pending (Back m value) begins = grows_back p front pending m pending.phase value begins
-grows_on p front pending (Stops m why) begins = begins
-
-grows_after : (p : Program) (front : List (Option Value)) (n : ℕ) (x : Progress) → BeginsWith front (values_of x)
-    → BeginsWith front (values_of (after p n x))
-grows_after p front zero x begins = begins
-grows_after p front (suc n) (Going pending s) begins = grows_after p front n (go_on p pending (c_step p s))
-    (grows_on p front pending (c_step p s) (subst (BeginsWith front) (sym (step_same p s)) begins))
-grows_after p front (suc n) (Over run) begins = begins
+begins_kept : (p : Program) (front : List (Option Value))
+    → KeptByObjects (OfMachine (BeginWith front)) × KeptByAsks p (OfMachine (BeginWith front)) × KeptByEnds (OfMachine (BeginWith front))
+begins_kept p front = (
+  trail_kept (λ t. BeginsWith front (values_in t.events)),
+  λ m a reply replies is begins. subst (BeginsWith front) (sym (asked_same m a reply replies)) begins,
+  λ m v begins. subst (BeginsWith front) (sym (one_told m v)) (one_behind front (values_in m.trail.events) v begins),
+)
 
 -- one entry of a call alone: where the run ends it has one value more, and else none
 abbrev IsOne : List (Option Value) → Progress → Type 0
@@ -351,10 +304,10 @@ stops_the_same p calls more n replies apart = stopped_same p (entries_behind p (
 goes_on_with : (p : Program) (m : Machine) (last : Phase) (left : ℕ) (more : List Entry)
     → BeginsWith (values_in m.trail.events) (values_in (run_of (after p left (begin_entry p m last more))).events)
 goes_on_with p m last left more =
-    let x = begin_entry p m last more in
-    let values : List (Option Value) = values_in m.trail.events in
-    let grows = grows_after p values left x (begins_as p values m last more ([], sym (append-nil values))) in
-    (grows.0, run_values (after p left x) ∙ grows.1)
+    let front : List (Option Value) = values_in m.trail.events in
+    let from = begins_kept p front in
+    after_keeps p (BeginWith front) from.0 from.1 from.2 left (begin_entry p m last more)
+    (entry_keeps p (BeginWith front) from.0 from.1 from.2 m last more ([], sym (append-nil front)))
 
 stay_by : (p : Program) (more : List Entry) (run : CRun) (y : Progress) → EndedAt p more run y
     → BeginsWith (values_in run.events) (values_in (run_of y).events)

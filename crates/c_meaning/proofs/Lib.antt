@@ -5,5 +5,6 @@ pub mod OnTheWay
 pub mod Ways
 pub mod Goes
 pub mod Fronts
+pub mod StepsKeep
 pub mod Told
 pub mod Takes

@@ -4,7 +4,7 @@ use mathlib.Core.Logic.{inl, inr}
 use Rattle.std.specs.Prelude.{cond, nat_eq, bit_and}
 use native.Mathlib.Nat.{mod-eq_of_lt, pow-suc, mul-le-mul_right, mul-le-mul_left, add-mul-div_right, add_comm, add_assoc, mod-lt, le_refl}
 use lib.Bits.{and_block, and_mask, and_le_r, and_zero_r}
-use lib.Count.{ones, ones_in, ones_cat}
+use lib.Count.{ones, ones_in, ones_cat, ones-le}
 use Rattle.std.proofs.lemmas.Nat.{pow-add, pow_pos, shr_below, div-mul-add, mod-mul-add, div-add-mod', shl_below, pow_below}
 use lib.Pow.{pow_mono, ones_lt}
 use Rattle.std.proofs.lemmas.Bool.Decides.{nat_tests, eqb_tells}
@@ -163,3 +163,104 @@ sums-ones (suc k) x h =
       sums-ones k v q,
     )
     (sym (ones_cat (2 ^ k) u v q))
+
+-- ---- the last stages at once: the highest byte of a product is the sum of all bytes
+
+-- two bytes after the first three stages
+record Pair (y n : ℕ) : Type 0 where
+  high : ℕ
+  low : ℕ
+  high-few : high ≤ 8
+  low-few : low ≤ 8
+  are : y ≡ high * 256 + low
+  sum : n ≡ high + low
+
+pair_at : (x : ℕ) → x < 2 ^ 16 → Pair (sums 3 4 x) (ones x)
+pair_at x h =
+    let d : x / 2 ^ 8 * 2 ^ 8 + x % 2 ^ 8 ≡ x = div-add-mod' x (2 ^ 8) in
+    let p : x / 2 ^ 8 < 2 ^ 8 = shr_below x 8 8 h in
+    let q : x % 2 ^ 8 < 2 ^ 8 = mod-lt x (pow_pos 8) in
+    let f : sums 3 4 (x / 2 ^ 8 * 2 ^ 8 + x % 2 ^ 8) ≡ sums 3 3 (x / 2 ^ 8) * 2 ^ 8 + sums 3 3 (x % 2 ^ 8) = sums-halves 3 3 (x / 2 ^ 8)
+    (x % 2 ^ 8) (omega arith) p q in
+    record {
+      high = ones (x / 2 ^ 8);
+      low = ones (x % 2 ^ 8);
+      high-few = ones-le 8 (x / 2 ^ 8) p;
+      low-few = ones-le 8 (x % 2 ^ 8) q;
+      are = ap (sums 3 4) (sym d)
+          ∙ (f ∙ (ap (λ v. v * 2 ^ 8 + sums 3 3 (x % 2 ^ 8)) (sums-ones 3 (x / 2 ^ 8) p)
+          ∙ ap (λ v. ones (x / 2 ^ 8) * 2 ^ 8 + v) (sums-ones 3 (x % 2 ^ 8) q)));
+      sum = ap ones (sym d) ∙ ones_cat 8 (x / 2 ^ 8) (x % 2 ^ 8) q;
+    }
+
+gathered_pairs : (a b c d : ℕ) → a ≤ 8 → b ≤ 8 → c ≤ 8 → d ≤ 8
+    → ((a * 256 + b) * 65536 + (c * 256 + d)) * 16843009 % 4294967296 / 16777216 ≡ a + b + (c + d)
+gathered_pairs a b c d p q r s = omega arith
+
+-- four bytes after the first three stages
+record Four (y n : ℕ) : Type 0 where
+  first : ℕ
+  second : ℕ
+  third : ℕ
+  fourth : ℕ
+  first-few : first ≤ 8
+  second-few : second ≤ 8
+  third-few : third ≤ 8
+  fourth-few : fourth ≤ 8
+  are : y ≡ (first * 256 + second) * 65536 + (third * 256 + fourth)
+  sum : n ≡ first + second + (third + fourth)
+
+four_at : (x : ℕ) → x < 2 ^ 32 → Four (sums 3 5 x) (ones x)
+four_at x h =
+    let d : x / 2 ^ 16 * 2 ^ 16 + x % 2 ^ 16 ≡ x = div-add-mod' x (2 ^ 16) in
+    let p : x / 2 ^ 16 < 2 ^ 16 = shr_below x 16 16 h in
+    let q : x % 2 ^ 16 < 2 ^ 16 = mod-lt x (pow_pos 16) in
+    let f : sums 3 5 (x / 2 ^ 16 * 2 ^ 16 + x % 2 ^ 16) ≡ sums 3 4 (x / 2 ^ 16) * 2 ^ 16 + sums 3 4 (x % 2 ^ 16) = sums-halves 3 4
+    (x / 2 ^ 16) (x % 2 ^ 16) (omega arith) p q in
+    let u : Pair (sums 3 4 (x / 2 ^ 16)) (ones (x / 2 ^ 16)) = pair_at (x / 2 ^ 16) p in
+    let v : Pair (sums 3 4 (x % 2 ^ 16)) (ones (x % 2 ^ 16)) = pair_at (x % 2 ^ 16) q in
+    record {
+      first = u.high;
+      second = u.low;
+      third = v.high;
+      fourth = v.low;
+      first-few = u.high-few;
+      second-few = u.low-few;
+      third-few = v.high-few;
+      fourth-few = v.low-few;
+      are = ap (sums 3 5) (sym d)
+          ∙ (f ∙ (ap (λ w. w * 2 ^ 16 + sums 3 4 (x % 2 ^ 16)) u.are ∙ ap (λ w. (u.high * 256 + u.low) * 2 ^ 16 + w) v.are));
+      sum = ap ones (sym d) ∙ (ones_cat 16 (x / 2 ^ 16) (x % 2 ^ 16) q
+          ∙ (ap (λ w. w + ones (x % 2 ^ 16)) u.sum ∙ ap (λ w. u.high + u.low + w) v.sum));
+    }
+
+pub gathered_32 : (x : ℕ) → x < 2 ^ 32 → sums 3 5 x * 16843009 % 4294967296 / 16777216 ≡ ones x
+gathered_32 x h =
+    let u : Four (sums 3 5 x) (ones x) = four_at x h in
+    ap (λ w. w * 16843009 % 4294967296 / 16777216) u.are
+    ∙ (gathered_pairs u.first u.second u.third u.fourth u.first-few u.second-few u.third-few u.fourth-few ∙ sym u.sum)
+
+gathered_fours : (a b c d e f g h : ℕ) → a ≤ 8 → b ≤ 8 → c ≤ 8 → d ≤ 8 → e ≤ 8 → f ≤ 8 → g ≤ 8 → h ≤ 8
+    → (((a * 256 + b) * 65536 + (c * 256 + d)) * 4294967296 + ((e * 256 + f) * 65536 + (g * 256 + h))) * 72340172838076673
+    % 18446744073709551616 / 72057594037927936 ≡ a + b + (c + d) + (e + f + (g + h))
+gathered_fours a b c d e f g h i j k l m n o p = omega arith
+
+pub gathered_64 : (x : ℕ) → x < 2 ^ 64 → sums 3 6 x * 72340172838076673 % 18446744073709551616 / 72057594037927936 ≡ ones x
+gathered_64 x h =
+    let d : x / 2 ^ 32 * 2 ^ 32 + x % 2 ^ 32 ≡ x = div-add-mod' x (2 ^ 32) in
+    let p : x / 2 ^ 32 < 2 ^ 32 = shr_below x 32 32 h in
+    let q : x % 2 ^ 32 < 2 ^ 32 = mod-lt x (pow_pos 32) in
+    let f : sums 3 6 (x / 2 ^ 32 * 2 ^ 32 + x % 2 ^ 32) ≡ sums 3 5 (x / 2 ^ 32) * 2 ^ 32 + sums 3 5 (x % 2 ^ 32) = sums-halves 3 5
+    (x / 2 ^ 32) (x % 2 ^ 32) (omega arith) p q in
+    let u : Four (sums 3 5 (x / 2 ^ 32)) (ones (x / 2 ^ 32)) = four_at (x / 2 ^ 32) p in
+    let v : Four (sums 3 5 (x % 2 ^ 32)) (ones (x % 2 ^ 32)) = four_at (x % 2 ^ 32) q in
+    let are : sums 3 6 x ≡ ((u.first * 256 + u.second) * 65536 + (u.third * 256 + u.fourth)) * 4294967296
+    + ((v.first * 256 + v.second) * 65536 + (v.third * 256 + v.fourth)) = ap (sums 3 6) (sym d)
+    ∙ (f ∙ (ap (λ w. w * 2 ^ 32 + sums 3 5 (x % 2 ^ 32)) u.are
+    ∙ ap (λ w. ((u.first * 256 + u.second) * 65536 + (u.third * 256 + u.fourth)) * 2 ^ 32 + w) v.are)) in
+    let sum : ones x ≡ u.first + u.second + (u.third + u.fourth) + (v.first + v.second + (v.third + v.fourth)) = ap ones (sym d)
+    ∙ (ones_cat 32 (x / 2 ^ 32) (x % 2 ^ 32) q ∙ (ap (λ w. w + ones (x % 2 ^ 32)) u.sum
+    ∙ ap (λ w. u.first + u.second + (u.third + u.fourth) + w) v.sum)) in
+    ap (λ w. w * 72340172838076673 % 18446744073709551616 / 72057594037927936) are
+    ∙ (gathered_fours u.first u.second u.third u.fourth v.first v.second v.third v.fourth u.first-few u.second-few u.third-few u.fourth-few
+    v.first-few v.second-few v.third-few v.fourth-few ∙ sym sum)

@@ -1,13 +1,14 @@
--- Counting zeros by halves: what is left to count, and the count so far.
-use Rattle.std.proofs.Common.{◌≡◌, ◌≢◌, ℕ, zero, suc, ◌+◌, ◌-◌, ◌*◌, ◌/◌, ◌%◌, ◌^◌, ◌<◌, ◌≤◌, true, false, arith, refl, sym, ap, ◌∙◌}
+-- Counting zeros: from the top by halves, what is left to count, and the count so far; and the lowest bit that is set.
+use Rattle.std.proofs.Common.{◌≡◌, ℕ, zero, suc, ◌+◌, ◌-◌, ◌*◌, ◌/◌, ◌%◌, ◌^◌, ◌<◌, ◌≤◌, true, false, arith, refl, sym, subst, ap, ◌∙◌}
 use mathlib.Core.Logic.{inl, inr}
-use Rattle.std.specs.Prelude.{nat_lt, nat_eq}
-use native.Mathlib.Nat.{mod-eq_of_lt, mul-one, add-zero, pow-suc, mul_assoc, zero-mul, one-mul, zero-mod, div-one, div-add-mod', add_comm, zero-div, mul-le-mul_right, lt_of_mul-lt-mul_right, le_of_mul-le-mul_right}
-use lib.Count.{leading_unique, leading_of_zero, trailing_of_zero, count_leading_zeros, count_trailing_zeros}
-use lib.Bits.{shifted_half, shifted_even}
-use Rattle.std.proofs.lemmas.Nat.{pow-add, pow_pos, shl_below, mod-pow-add, shr_le}
+use Rattle.std.specs.Prelude.{nat_lt, nat_eq, bit_and}
+use native.Mathlib.Nat.{mod-eq_of_lt, mul-one, add-zero, pow-suc, mul_assoc, zero-mul, one-mul, zero-mod, mul-le-mul_right, lt_of_mul-lt-mul_right, le_of_mul-le-mul_right}
+use lib.Count.{leading_unique, leading_of_zero, count_leading_zeros, count_trailing_zeros}
+use lib.Bits.{shifted_half, shifted_even, and_block, and_zero_r}
+use Rattle.std.proofs.lemmas.Nat.{pow-add, pow_pos, shl_below}
 use Rattle.std.proofs.lemmas.Bool.Decides.{nat_tests, eqb_tells}
 use Rattle.wasm_meaning.specs.Operators.{truth}
+use Rattle.c_prelude.proofs.Signs.{minus, minus-is}
 
 pub below_test : (a b : ℕ) → a < b → nat_lt a b ≡ true
 below_test a b h = grind (arith, nat_tests)
@@ -113,61 +114,7 @@ room N c n h = omega (arith, pow_pos (suc c))
 pub more_room : (N c n : ℕ) → n + 2 ^ suc c ≤ N → 2 ^ c < N
 more_room N c n h = let d : 2 ^ suc c ≡ 2 ^ c * 2 = pow-suc 2 c in omega (arith, pow_pos c)
 
--- ---- trailing zeros: before the stages for 2 ^ (c - 1) bits and less, a was shifted down by n to x
-pub record Lowered (N c a x n : ℕ) : Type 0 where
-  pub value : a ≡ x * 2 ^ n
-  pub below : x < 2 ^ N
-  pub reach : n + 2 ^ c ≤ N
-  pub odd : x ≢ 0 → x % 2 ^ 2 ^ c ≢ 0
-  pub none : x ≡ 0 → n + 2 ^ c ≡ N
-
-module _ (N c a x n : ℕ) (wide : N < 2 ^ N) (h : Lowered N (suc c) a x n) where
-  twofold : 2 ^ suc c ≡ 2 ^ c + 2 ^ c
-  twofold = rw pow-suc (omega arith)
-
-  pub drop-some : x % 2 ^ 2 ^ c ≡ 0 → truth (nat_eq (x % 2 ^ 2 ^ c) 0) * 2 ^ c % 2 ^ N ≡ 2 ^ c
-  drop-some l =
-      let e : nat_eq (x % 2 ^ 2 ^ c) 0 ≡ true = grind (arith, nat_tests) in
-      let k : 2 ^ c < 2 ^ N = omega (arith, twofold, h.reach) in
-      rw (e, one-mul) (mod-eq_of_lt k)
-
-  pub drop-none : x % 2 ^ 2 ^ c ≢ 0 → truth (nat_eq (x % 2 ^ 2 ^ c) 0) * 2 ^ c % 2 ^ N ≡ 0
-  drop-none l =
-      let e : nat_eq (x % 2 ^ 2 ^ c) 0 ≡ false = grind (arith, nat_tests) in
-      rw (e, zero-mul) (zero-mod (2 ^ N))
-
-  whole : x % 2 ^ 2 ^ c ≡ 0 → x ≡ x / 2 ^ 2 ^ c * 2 ^ 2 ^ c
-  whole l = sym (ap (λ v. x / 2 ^ 2 ^ c * 2 ^ 2 ^ c + v) (sym l) ∙ div-add-mod' x (2 ^ 2 ^ c)) ∙ add-zero (x / 2 ^ 2 ^ c * 2 ^ 2 ^ c)
-
-  part : x % 2 ^ 2 ^ suc c ≡ (x / 2 ^ 2 ^ c % 2 ^ 2 ^ c) * 2 ^ 2 ^ c + x % 2 ^ 2 ^ c
-  part = rw twofold (mod-pow-add x (2 ^ c) (2 ^ c))
-
-  pub lowered-some : x % 2 ^ 2 ^ c ≡ 0 → Lowered N c a (x / 2 ^ 2 ^ c) ((n + 2 ^ c) % 2 ^ N)
-  lowered-some l =
-      let i : n + 2 ^ c < 2 ^ N = omega (arith, twofold, h.reach) in
-      let g : (n + 2 ^ c) % 2 ^ N ≡ n + 2 ^ c = mod-eq_of_lt i in
-      let le : x / 2 ^ 2 ^ c ≤ x = shr_le x (2 ^ c) in
-      rw g (record {
-        value = h.value ∙ (ap (λ v. v * 2 ^ n) (whole l) ∙ (mul_assoc (x / 2 ^ 2 ^ c) (2 ^ 2 ^ c) (2 ^ n)
-            ∙ ap (λ v. x / 2 ^ 2 ^ c * v) (sym (pow-add 2 (2 ^ c) n) ∙ ap (λ v. 2 ^ v) (add_comm (2 ^ c) n))));
-        below = omega (arith, le, h.below);
-        reach = omega (arith, twofold, h.reach);
-        odd = λ q z. h.odd (λ e. q (rw e (zero-div (2 ^ 2 ^ c)))) (part ∙ rw (z, l) (omega arith));
-        none = λ z. omega (arith, twofold, h.none (whole l ∙ rw z (zero-mul (2 ^ 2 ^ c))));
-      })
-
-  pub lowered-none : x % 2 ^ 2 ^ c ≢ 0 → Lowered N c a (x / 2 ^ 0) ((n + 0) % 2 ^ N)
-  lowered-none l =
-      let e : x / 2 ^ 0 ≡ x = div-one x in
-      let i : n < 2 ^ N = omega (arith, h.reach) in
-      let g : (n + 0) % 2 ^ N ≡ n = rw (add-zero n) (mod-eq_of_lt i) in
-      rw (e, g) (record {
-        value = h.value;
-        below = h.below;
-        reach = omega (arith, twofold, h.reach);
-        odd = λ q. l;
-        none = λ z. absurd (l (rw z (zero-mod (2 ^ 2 ^ c))));
-      })
+-- ---- trailing zeros: the lowest bit that is set
 
 trailing_shifted : (N n x : ℕ) → x % 2 ≡ 1 → n < N → count_trailing_zeros N (x * 2 ^ n) ≡ n
 unfolding count_trailing_zeros
@@ -175,16 +122,90 @@ trailing_shifted zero n x o l = absurd (omega arith)
 trailing_shifted (suc N) zero x o l = rw (mul-one x, o)
 trailing_shifted (suc N) (suc n) x o l = rw (shifted_even x n, shifted_half x n) (ap suc (trailing_shifted N n x o (omega arith)))
 
-pub lowest : (N a x n : ℕ) → N < 2 ^ N → Lowered N 0 a x n → (n + truth (nat_eq x 0)) % 2 ^ N ≡ count_trailing_zeros N a
-lowest N a x n wide h =
-    elim (eqb_tells x 0) [
+-- an odd number, shifted up
+odd_part : (N x : ℕ) → 0 < x → x < 2 ^ N → (n : ℕ) × (u : ℕ) × (n < N) × (x ≡ (u * 2 + 1) * 2 ^ n)
+odd_part zero x p l = absurd (omega arith)
+odd_part (suc N) x p l =
+    let e : 2 ^ suc N ≡ 2 ^ N * 2 = pow-suc 2 N in
+    elim (eqb_tells (x % 2) 0) [
       | inl z ↦
-          let e : n + 1 ≡ N = h.none z.1 in
-          let k : a ≡ 0 = h.value ∙ rw (z.1) (zero-mul (2 ^ n)) in
-          rw (z.0, e, k, mod-eq_of_lt wide) (sym (trailing_of_zero N))
-      | inr z ↦
-          let l : n < 2 ^ N = omega (arith, h.reach) in
-          let o : x % 2 ≢ 0 = h.odd z.1 in
-          let p : x % 2 ≡ 1 = omega arith in
-          rw (z.0, add-zero n, mod-eq_of_lt l, h.value) (sym (trailing_shifted N n x p (omega (arith, h.reach))))
+          let h = odd_part N (x / 2) (omega arith) (omega arith) in
+          let f : 2 ^ suc h.0 ≡ 2 ^ h.0 * 2 = pow-suc 2 h.0 in
+          let g : (h.1 * 2 + 1) * 2 ^ suc h.0 ≡ (h.1 * 2 + 1) * 2 ^ h.0 * 2 = rw f (omega arith) in
+          let i : h.0 < N = h.2 in
+          let j : x / 2 ≡ (h.1 * 2 + 1) * 2 ^ h.0 = h.3 in
+          (suc h.0, h.1, omega arith, omega arith)
+      | inr z ↦ (0, x / 2, omega arith, omega arith)
     ]
+
+low_opposite : (r s : ℕ) → r + s ≡ 1 → bit_and r s ≡ 0
+low_opposite zero s h = refl
+low_opposite (suc zero) s h = let e : s ≡ 0 = omega arith in rw e (and_zero_r 1)
+low_opposite (suc (suc r)) s h = absurd (omega arith)
+
+-- a number and all its bits turned share none
+and_opposite : (M u w : ℕ) → u + w + 1 ≡ 2 ^ M → bit_and u w ≡ 0
+and_opposite zero u w h = let e : u ≡ 0 = omega arith in rw e refl
+and_opposite (suc M) u w h =
+    let e : 2 ^ suc M ≡ 2 ^ M * 2 = pow-suc 2 M in
+    let c : u / 2 * 2 + u % 2 ≡ u = omega arith in
+    let d : w / 2 * 2 + w % 2 ≡ w = omega arith in
+    let i : bit_and (u / 2) (w / 2) ≡ 0 = and_opposite M (u / 2) (w / 2) (omega arith) in
+    let j : bit_and (u % 2) (w % 2) ≡ 0 = low_opposite (u % 2) (w % 2) (omega arith) in
+    ap (λ v. bit_and v w) (sym c)
+    ∙ (ap (bit_and (u / 2 * 2 + u % 2)) (sym d)
+    ∙ (and_block 1 (u / 2) (w / 2) (u % 2) (w % 2) (omega arith) (omega arith) ∙ rw (i, j) refl))
+
+both_odd : (u w P : ℕ) → (u + w + 1) * 2 * P - (u * 2 + 1) * P ≡ (w * 2 + 1) * P
+both_odd u w P = omega arith
+
+common : (u w n : ℕ) → bit_and u w ≡ 0 → bit_and ((u * 2 + 1) * 2 ^ n) ((w * 2 + 1) * 2 ^ n) ≡ 2 ^ n
+common u w n h =
+    let p : 0 < 2 ^ n = pow_pos n in
+    let a : bit_and ((u * 2 + 1) * 2 ^ n + 0) ((w * 2 + 1) * 2 ^ n + 0) ≡ bit_and (u * 2 + 1) (w * 2 + 1) * 2 ^ n + bit_and 0 0 = and_block n
+    (u * 2 + 1) (w * 2 + 1) 0 0 p p in
+    let b : bit_and (u * 2 + 1) (w * 2 + 1) ≡ bit_and u w * 2 + bit_and 1 1 = and_block 1 u w 1 1 (omega arith) (omega arith) in
+    let c : bit_and (u * 2 + 1) (w * 2 + 1) ≡ 1 = b ∙ rw h refl in
+    let d : (u * 2 + 1) * 2 ^ n ≡ (u * 2 + 1) * 2 ^ n + 0 = omega arith in
+    let e : (w * 2 + 1) * 2 ^ n ≡ (w * 2 + 1) * 2 ^ n + 0 = omega arith in
+    ap (λ v. bit_and v ((w * 2 + 1) * 2 ^ n)) d
+    ∙ (ap (bit_and ((u * 2 + 1) * 2 ^ n + 0)) e ∙ (a ∙ rw c (one_time (2 ^ n))))
+  where
+    one_time : (v : ℕ) → 1 * v + 0 ≡ v
+    one_time v = omega arith
+
+-- the lowest bit that is set, as C computes it
+abbrev pub lowest : ℕ → ℕ → ℕ
+lowest N x = bit_and x (minus N x)
+
+module _ (N : ℕ) (twice : 2 ^ N ≡ 2 * 2 ^ (N - 1)) (some : 0 < 2 ^ (N - 1)) where
+  width : (n : ℕ) → n < N → 2 ^ N ≡ 2 ^ (N - suc n) * 2 * 2 ^ n
+  width n b =
+      let e : N - suc n + 1 + n ≡ N = omega arith in
+      ap (λ i. 2 ^ i) (sym e) ∙ (pow-add 2 (N - suc n + 1) n ∙ ap (λ v. v * 2 ^ n) (pow-add 2 (N - suc n) 1))
+
+  at_odd : (x n u w : ℕ) → 0 < x → x < 2 ^ N → n < N → x ≡ (u * 2 + 1) * 2 ^ n → u + w + 1 ≡ 2 ^ (N - suc n) → lowest N x ≡ 2 ^ n
+  at_odd x n u w p l b is s =
+      let f : 2 ^ N ≡ 2 ^ (N - suc n) * 2 * 2 ^ n = width n b in
+      let m : minus N x ≡ 2 ^ N - x = minus-is N twice some x p (omega arith) in
+      let j : 2 ^ N - x ≡ (w * 2 + 1) * 2 ^ n = rw (is, f, ← s) (both_odd u w (2 ^ n)) in
+      ap (bit_and x) (m ∙ j) ∙ (ap (λ v. bit_and v ((w * 2 + 1) * 2 ^ n)) is ∙ common u w n (and_opposite (N - suc n) u w s))
+
+  -- what is above it has room for its bits turned
+  above_odd : (n u : ℕ) → n < N → (u * 2 + 1) * 2 ^ n < 2 ^ N → u < 2 ^ (N - suc n)
+  above_odd n u b l =
+      let f : 2 ^ N ≡ 2 ^ (N - suc n) * 2 * 2 ^ n = width n b in
+      let g : (u * 2 + 1) * 2 ^ n < 2 ^ (N - suc n) * 2 * 2 ^ n = rw f at l in
+      let k : u * 2 + 1 < 2 ^ (N - suc n) * 2 = lt_of_mul-lt-mul_right (2 ^ n) g in
+      omega arith
+
+  pub lowest-is : (x : ℕ) → 0 < x → x < 2 ^ N → (n : ℕ) × (n < N) × (lowest N x ≡ 2 ^ n) × (count_trailing_zeros N x ≡ n)
+  lowest-is x p l = found (odd_part N x p l)
+    where
+      found : ((n : ℕ) × (u : ℕ) × (n < N) × (x ≡ (u * 2 + 1) * 2 ^ n))
+          → (n : ℕ) × (n < N) × (lowest N x ≡ 2 ^ n) × (count_trailing_zeros N x ≡ n)
+      found (n, u, b, is) =
+          let k : u < 2 ^ (N - suc n) = above_odd n u b (subst (λ v. v < 2 ^ N) is l) in
+          let s : u + (2 ^ (N - suc n) - suc u) + 1 ≡ 2 ^ (N - suc n) = omega arith in
+          let o : (u * 2 + 1) % 2 ≡ 1 = omega arith in
+          (n, b, at_odd x n u (2 ^ (N - suc n) - suc u) p l b is s, ap (count_trailing_zeros N) is ∙ trailing_shifted N n (u * 2 + 1) o b)

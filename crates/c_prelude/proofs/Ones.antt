@@ -1,7 +1,7 @@
 -- The helper that counts ones.
-use Rattle.std.proofs.Common.{◌≡◌, ℕ, zero, suc, ◌^◌, ◌<◌, ◌≤◌, true, arith, refl, ap, ◌∙◌, Option, Some, List, [], ◌∷◌, codes}
+use Rattle.std.proofs.Common.{◌≡◌, ℕ, zero, suc, ◌-◌, ◌*◌, ◌/◌, ◌%◌, ◌^◌, ◌<◌, ◌≤◌, true, arith, refl, ap, ◌∙◌, Option, Some, List, [], ◌∷◌, codes}
 use Rattle.std.specs.Prelude.{nat_lt}
-use native.Mathlib.Nat.{mod-eq_of_lt, le_refl}
+use native.Mathlib.Nat.{mod-eq_of_lt}
 use lib.Count.{ones}
 use Rattle.std.proofs.lemmas.Nat.{pow_below}
 use Rattle.w2c_base.specs.declared.value.ValType.{ValType}
@@ -23,7 +23,7 @@ use Rattle.c_prelude.proofs.Computed.{computed}
 use Rattle.c_prelude.proofs.Widths.{widths, evaluate-num, seen}
 use Rattle.c_prelude.proofs.Halving.{below_test}
 use Rattle.c_prelude.proofs.Zeros.{Call, called, gives, steps_of, whole_width}
-use Rattle.c_prelude.proofs.Blocks.{low_halves, summed, sums, sums-below, sums-ones}
+use Rattle.c_prelude.proofs.Blocks.{low_halves, summed, sums, sums-below, gathered_32, gathered_64}
 
 abbrev x : tree.Expr
 x = tree.Name (codes "x")
@@ -83,24 +83,40 @@ stages_run t call rest (suc i) a l h =
     ∙ (ap (step_on call.program) (stages_run t call (sum_stage t i ∷ rest) i a (omega arith) h)
     ∙ stage_step t call rest i (sums i (steps_of t) a) l b)
 
+-- the lowest bit of each byte, and of the highest byte
+abbrev each_byte : ValType → ℕ
+each_byte t = (2 ^ bits t - 1) / 255
+
+abbrev high_byte : ValType → ℕ
+high_byte t = 2 ^ (bits t - 8)
+
 -- the last statement
+abbrev sum_end : ValType → List tree.Stmt
+sum_end t = tree.Return (tree.Value (tree.Op op.Div (tree.Op op.Mul x (num t (each_byte t))) (num t (high_byte t)))) ∷ []
+
 returns : (t : ValType) (call : Call) (a : ℕ)
-    → step_on call.program (Some (at t call (tree.Return (tree.Value x) ∷ []) a)) ≡ Some (gives t call a)
+    → step_on call.program (Some (at t call (sum_end t) a)) ≡ Some (gives t call (a * each_byte t % 2 ^ bits t / high_byte t))
 returns type.I32 call a = refl
 returns type.I64 call a = refl
 
--- all stages and the last statement
+gathered : (t : ValType) (a : ℕ) → a < 2 ^ bits t → sums 3 (steps_of t) a * each_byte t % 2 ^ bits t / high_byte t ≡ ones a
+gathered type.I32 a h = gathered_32 a h
+gathered type.I64 a h = gathered_64 a h
+
+three_stages : (t : ValType) → 3 ≤ steps_of t
+three_stages type.I32 = omega arith
+three_stages type.I64 = omega arith
+
+-- three stages and the last statement
 ones_run : (t : ValType) (call : Call) (a : ℕ) → a < 2 ^ bits t
-    → walk call.program (suc (steps_of t)) (Some (at t call (sum_stages t (steps_of t) (tree.Return (tree.Value x) ∷ [])) a)) ≡ Some
-    (gives t call (ones a))
+    → walk call.program 4 (Some (at t call (sum_stages t 3 (sum_end t)) a)) ≡ Some (gives t call (ones a))
 ones_run t call a h =
-    walk-suc call.program (steps_of t) (Some (at t call (sum_stages t (steps_of t) (tree.Return (tree.Value x) ∷ [])) a))
-    ∙ (ap (step_on call.program) (stages_run t call (tree.Return (tree.Value x) ∷ []) (steps_of t) a (le_refl (steps_of t)) h)
-    ∙ (returns t call (sums (steps_of t) (steps_of t) a)
-    ∙ ap (λ n. Some (gives t call n)) (sums-ones (steps_of t) a (rw whole_width h))))
+    walk-suc call.program 3 (Some (at t call (sum_stages t 3 (sum_end t)) a))
+    ∙ (ap (step_on call.program) (stages_run t call (sum_end t) 3 a (three_stages t) h)
+    ∙ (returns t call (sums 3 (steps_of t) a) ∙ ap (λ n. Some (gives t call n)) (gathered t a h)))
 
 pub popcnt_right : (t : ValType) → DoesOperator (number_helper (record { ty = t; form = form.Popcnt })) t (Unary unary_op.Popcnt)
-popcnt_right type.I32 m x p = computed 6 (omega arith) (λ program pending unit item below. ones_run type.I32
+popcnt_right type.I32 m x p = computed 4 (omega arith) (λ program pending unit item below. ones_run type.I32
     (called form.Popcnt type.I32 program pending m unit item below) x p)
-popcnt_right type.I64 m x p = computed 7 (omega arith) (λ program pending unit item below. ones_run type.I64
+popcnt_right type.I64 m x p = computed 4 (omega arith) (λ program pending unit item below. ones_run type.I64
     (called form.Popcnt type.I64 program pending m unit item below) x p)

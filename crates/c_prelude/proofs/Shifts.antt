@@ -1,31 +1,24 @@
 -- The helpers of shifts and rotations.
-use Rattle.std.proofs.Common.{◌≡◌, ℕ, zero, suc, ◌+◌, ◌-◌, ◌*◌, ◌/◌, ◌%◌, ◌^◌, ◌<◌, ◌≤◌, true, false, arith, refl, sym, ap, ◌∙◌, List, [], ◌∷◌, codes, Some}
+use Rattle.std.proofs.Common.{◌≡◌, ℕ, zero, suc, ◌+◌, ◌-◌, ◌*◌, ◌/◌, ◌%◌, ◌^◌, ◌<◌, ◌≤◌, true, false, arith, refl, sym, ap, ◌∙◌}
 use mathlib.Core.Logic.{inl, inr}
-use Rattle.std.specs.Prelude.{nat_lt, nat_eq, bit_or, bit_xor, bit_and}
-use native.Mathlib.Nat.{mod-eq_of_lt, mod_self, add-mod_right, add-div_right, mul-mod_left, add-zero, zero-add, mul-one, div-one, div-eq_of_lt, sub-zero}
-use Rattle.std.proofs.lemmas.Nat.{or_shifted, shr_below, mod-pow-add, shl-shr, shr_le}
-use lib.Bits.{or_self, xor_zero_r, and_mask, xor_add_and}
+use Rattle.std.specs.Prelude.{nat_lt, nat_eq, bit_or}
+use native.Mathlib.Nat.{mod-eq_of_lt, mod_self, add-mod_right, add-mul-div_right, div-add-mod', mod-lt, lt_of_mul-lt-mul_right, mul-mod_left, add-zero, zero-add, mul-one, div-one, div-eq_of_lt, sub-zero}
+use Rattle.std.proofs.lemmas.Nat.{or_shifted, shr_below, mod-pow-add, pow-add, pow_pos, div-mul-add, shl-shr, shr_le}
+use lib.Pow.{pow_mono}
+use lib.Bits.{or_self}
 use Rattle.std.proofs.lemmas.Bool.Decides.{nat_tests}
 use Rattle.w2c_base.specs.declared.value.ValType.{ValType}
 use Rattle.w2c_base.specs.declared.value.ValType.TheVariants as type
-use Rattle.w2c_base.specs.Values.{bits, value}
+use Rattle.w2c_base.specs.Values.{bits}
 use Rattle.wasm_tree.specs.declared.operators.BinaryOp.TheVariants as binary_op
 use Rattle.wasm_meaning.specs.Operators.{Gives, shr_s}
-use Rattle.c_meaning.specs.State.{Number, Vars, Machine, Frame}
-use Rattle.c_meaning.specs.Linking.{Program}
-use Rattle.c_meaning.specs.Run.{Pending, Progress, Going}
-use Rattle.c_meaning.proofs.Goes.{walk}
-use Rattle.c_prelude.specs.declared.rows.Row.{Row}
-use Rattle.c_prelude.specs.Calls.{call_begun, call_ended}
+use Rattle.c_meaning.specs.State.{Machine}
 use Rattle.c_prelude.specs.declared.rows.Form.TheVariants as form
 use Rattle.c_prelude.specs.Rows.{Binary}
-use Rattle.c_tree.specs.declared.tree.COp.TheVariants as op
-use Rattle.c_tree.specs.Tree as tree
-use Rattle.c_prelude.specs.Pieces.{num}
-use Rattle.c_prelude.specs.Helpers.{number_helper, c_type}
-use Rattle.c_prelude.specs.Operators.{DoesOperator, number, answered}
-use Rattle.c_prelude.proofs.Computed.{BeginsWith, computed, computed_from}
-use Rattle.c_prelude.proofs.Widths.{widths, evaluate-num, seen, at_operands, twice, half_pos, answers, sides, bits-below}
+use Rattle.c_prelude.specs.Helpers.{number_helper}
+use Rattle.c_prelude.specs.Operators.{DoesOperator}
+use Rattle.c_prelude.proofs.Computed.{BeginsWith, computed_from}
+use Rattle.c_prelude.proofs.Widths.{widths, at_operands, twice, half_pos, answers, sides, bits-below}
 use Rattle.c_prelude.proofs.Signs.{is_low, is_high, pattern_of-pos}
 
 some_bits : (t : ValType) → 0 < bits t
@@ -42,113 +35,97 @@ count-lt t y = let p : 0 < bits t = some_bits t in omega arith
 pub count-below : (t : ValType) (y : ℕ) → nat_lt (y % bits t) (bits t) ≡ true
 count-below t y = let p : 0 < bits t = some_bits t in let l : y % bits t < bits t = omega arith in grind (arith, nat_tests)
 
--- x with all ones turned
-complement : (N x : ℕ) → x < 2 ^ N → bit_xor x (2 ^ N - 1) ≡ 2 ^ N - suc x
-complement N x h =
-    let e : bit_and x (2 ^ N - 1) ≡ x = and_mask x N ∙ mod-eq_of_lt h in
-    let f : bit_xor x (2 ^ N - 1) + bit_and x (2 ^ N - 1) * 2 ≡ x + (2 ^ N - 1) = xor_add_and x (2 ^ N - 1) in
+-- what two numbers of the sum Q * D - 1 leave
+opposite : (D q r e w : ℕ) → r < D → w + (q * D + r) + 1 ≡ (q + 1 + e) * D → w ≡ e * D + (D - suc r)
+opposite D q r e w p h = omega arith
+
+-- their quotients by D have the sum Q - 1
+quotients : (D Q w z : ℕ) → 0 < D → w + z + 1 ≡ Q * D → w / D + z / D + 1 ≡ Q
+quotients D Q w z p h =
+    let d : z / D * D + z % D ≡ z = div-add-mod' z D in
+    let l : z % D < D = mod-lt z p in
+    let m : z / D * D < Q * D = omega arith in
+    let less : z / D < Q = lt_of_mul-lt-mul_right D m in
+    let f : z / D + 1 + (Q - suc (z / D)) ≡ Q = omega arith in
+    let g : w + (z / D * D + z % D) + 1 ≡ (z / D + 1 + (Q - suc (z / D))) * D = rw (d, f) h in
+    let i : w ≡ (Q - suc (z / D)) * D + (D - suc (z % D)) = opposite D (z / D) (z % D) (Q - suc (z / D)) w l g in
+    let k : D - suc (z % D) < D = omega arith in
+    let j : w / D ≡ Q - suc (z / D) = ap (λ v. v / D) i ∙ div-mul-add (Q - suc (z / D)) D (D - suc (z % D)) k in
     omega arith
 
--- 0, or all ones where the sign is minus
-abbrev spread : ℕ → ℕ → ℕ
-spread N x = (0 + (2 ^ N - x / 2 ^ (N - 1))) % 2 ^ N
+-- what C computes: half a turn on, and back by what is left of it
+abbrev turned : ℕ → ℕ → ℕ → ℕ
+turned N x k = ((x + 2 ^ (N - 1)) % 2 ^ N / 2 ^ k + (2 ^ N - 2 ^ (N - 1) / 2 ^ k)) % 2 ^ N
+
+module _ (N k : ℕ) (d : 2 ^ N ≡ 2 * 2 ^ (N - 1)) (s : 0 < 2 ^ (N - 1)) (count : k < N) where
+  -- what is left of half a turn
+  whole_half : 2 ^ (N - 1) ≡ 2 ^ (N - 1 - k) * 2 ^ k
+  whole_half = let e : N - 1 - k + k ≡ N - 1 = omega arith in ap (λ i. 2 ^ i) (sym e) ∙ pow-add 2 (N - 1 - k) k
+
+  half_left : 2 ^ (N - 1) / 2 ^ k ≡ 2 ^ (N - 1 - k)
+  half_left = ap (λ v. v / 2 ^ k) whole_half ∙ shl-shr (2 ^ (N - 1 - k)) k
+
+  left-below : 2 ^ (N - 1 - k) ≤ 2 ^ (N - 1)
+  left-below = pow_mono (omega arith)
+
+  turned_low : (x : ℕ) → x < 2 ^ (N - 1) → turned N x k ≡ x / 2 ^ k
+  turned_low x h =
+      let l : x / 2 ^ k ≤ x = shr_le x k in
+      let b : 2 ^ (N - 1 - k) ≤ 2 ^ (N - 1) = left-below in
+      let e : (x + 2 ^ (N - 1)) % 2 ^ N ≡ x + 2 ^ (N - 1) = mod-eq_of_lt (omega arith) in
+      let f : (x + 2 ^ (N - 1)) / 2 ^ k ≡ x / 2 ^ k + 2 ^ (N - 1 - k) =
+      ap (λ v. (x + v) / 2 ^ k) whole_half ∙ add-mul-div_right x (2 ^ (N - 1 - k)) (pow_pos k) in
+      let g : x / 2 ^ k + 2 ^ (N - 1 - k) + (2 ^ N - 2 ^ (N - 1 - k)) ≡ x / 2 ^ k + 2 ^ N = omega arith in
+      let m : x / 2 ^ k < 2 ^ N = omega arith in
+      rw (half_left, e, f, g, add-mod_right (x / 2 ^ k) (2 ^ N)) (mod-eq_of_lt m)
+
+  turned_high : (x : ℕ) → 2 ^ (N - 1) ≤ x → x < 2 ^ N → turned N x k ≡ 2 ^ N - suc ((2 ^ N - suc x) / 2 ^ k)
+  turned_high x h l =
+      let b : 2 ^ (N - 1 - k) ≤ 2 ^ (N - 1) = left-below in
+      let a : x + 2 ^ (N - 1) ≡ x - 2 ^ (N - 1) + 2 ^ N = omega arith in
+      let c : x - 2 ^ (N - 1) < 2 ^ N = omega arith in
+      let e : (x + 2 ^ (N - 1)) % 2 ^ N ≡ x - 2 ^ (N - 1) = rw (a, add-mod_right (x - 2 ^ (N - 1)) (2 ^ N)) (mod-eq_of_lt c) in
+      let p : 2 ^ N - suc x + (x - 2 ^ (N - 1)) + 1 ≡ 2 ^ (N - 1 - k) * 2 ^ k = rw (← whole_half) (omega arith) in
+      let q : (2 ^ N - suc x) / 2 ^ k + (x - 2 ^ (N - 1)) / 2 ^ k + 1 ≡ 2 ^ (N - 1 - k) =
+      quotients (2 ^ k) (2 ^ (N - 1 - k)) (2 ^ N - suc x) (x - 2 ^ (N - 1)) (pow_pos k) p in
+      let r : (x - 2 ^ (N - 1)) / 2 ^ k + (2 ^ N - 2 ^ (N - 1 - k)) < 2 ^ N = omega arith in
+      rw (half_left, e, mod-eq_of_lt r) (omega arith)
 
 module _ (N : ℕ) (d : 2 ^ N ≡ 2 * 2 ^ (N - 1)) (s : 0 < 2 ^ (N - 1)) where
-  spread-low : (x : ℕ) → x < 2 ^ (N - 1) → spread N x ≡ 0
-  spread-low x h =
-      let e : 0 + (2 ^ N - 0) ≡ 2 ^ N = omega arith in
-      rw (div-eq_of_lt h, e) (mod_self (2 ^ N))
-
-  spread-high : (x : ℕ) → 2 ^ (N - 1) ≤ x → x < 2 ^ N → spread N x ≡ 2 ^ N - 1
-  spread-high x h l =
-      let a : x - 2 ^ (N - 1) + 2 ^ (N - 1) ≡ x = omega arith in
-      let b : x - 2 ^ (N - 1) < 2 ^ (N - 1) = omega arith in
-      let c : (x - 2 ^ (N - 1)) / 2 ^ (N - 1) ≡ 0 = div-eq_of_lt b in
-      let q : x / 2 ^ (N - 1) ≡ 1 = ap (λ v. v / 2 ^ (N - 1)) (sym a) ∙ (add-div_right (x - 2 ^ (N - 1)) s ∙ omega arith) in
-      let e : 0 + (2 ^ N - 1) ≡ 2 ^ N - 1 = omega arith in
-      let m : 2 ^ N - 1 < 2 ^ N = omega arith in
-      rw (q, e) (mod-eq_of_lt m)
-
-  shr_s_low : (x y : ℕ) → x < 2 ^ (N - 1) → shr_s N x y ≡ bit_xor (bit_xor x (spread N x) / 2 ^ (y % N)) (spread N x)
-  shr_s_low x y h =
+  shr_s_low : (x y : ℕ) → y % N < N → x < 2 ^ (N - 1) → shr_s N x y ≡ turned N x (y % N)
+  shr_s_low x y c h =
       let l : x / 2 ^ (y % N) ≤ x = shr_le x (y % N) in
-      rw (is_low N d s x h, spread-low x h, xor_zero_r x, xor_zero_r (x / 2 ^ (y % N)))
-      (pattern_of-pos N d s (x / 2 ^ (y % N)) (omega arith))
+      rw (is_low N d s x h, turned_low N (y % N) d s c x h) (pattern_of-pos N d s (x / 2 ^ (y % N)) (omega arith))
 
-  shr_s_high : (x y : ℕ) → 2 ^ (N - 1) ≤ x → x < 2 ^ N → shr_s N x y ≡ bit_xor (bit_xor x (spread N x) / 2 ^ (y % N)) (spread N x)
-  shr_s_high x y h l =
+  shr_s_high : (x y : ℕ) → y % N < N → 2 ^ (N - 1) ≤ x → x < 2 ^ N → shr_s N x y ≡ turned N x (y % N)
+  shr_s_high x y c h l =
       let v : ℕ = (2 ^ N - suc x) / 2 ^ (y % N) in
       let le : v ≤ 2 ^ N - suc x = shr_le (2 ^ N - suc x) (y % N) in
       let lt : v < 2 ^ N = omega arith in
-      rw (is_high N d s x h l, spread-high x h l, complement N x l, complement N v lt, mod-eq_of_lt lt) (omega arith)
+      rw (is_high N d s x h l, turned_high N (y % N) d s c x h l, mod-eq_of_lt lt) (omega arith)
 
-sign_test : (t : ValType) → nat_lt (bits t - 1) (bits t) ≡ true
-sign_test type.I32 = refl
-sign_test type.I64 = refl
+shr_s_begins : (t : ValType) (m : Machine) (x y : ℕ) → BeginsWith form.ShrS t m x y
+shr_s_begins type.I32 m x y p pending unit item below = refl
+shr_s_begins type.I64 m x y p pending unit item below = refl
 
--- the variables of a signed shift
-abbrev shifting : ValType → ℕ → ℕ → ℕ → Vars
-shifting t x y s = (codes "x", Number (value t x)) ∷ (codes "y", Number (value t y)) ∷ (codes "s", Number (value t s)) ∷ []
-
-abbrev shift_row : ValType → Row
-shift_row t = record { ty = t; form = form.ShrS }
-
--- its statements
-abbrev shift_stmts : ValType → List tree.Stmt
-shift_stmts t =
-    let x : tree.Expr = tree.Name (codes "x") in
-    let y : tree.Expr = tree.Name (codes "y") in
-    let s : tree.Expr = tree.Name (codes "s") in
-    tree.Set (codes "y") (tree.Value (tree.Op op.Rem y (num t (bits t))))
-    ∷ tree.Set (codes "s") (tree.Value (tree.Op op.Sub (num t 0) (tree.Op op.Shr x (num t (bits t - 1)))))
-    ∷ tree.Return (tree.Value (tree.Op op.Xor (tree.Op op.Shr (tree.Op op.Xor x s) y) s))
-    ∷ []
-
-abbrev shift_begun : ValType → Pending → Machine → ℕ → ℕ → List Frame → ℕ → ℕ → Progress
-shift_begun t pending m unit item below x y = Going pending (record {
-  machine = m;
-  running = record {
-    unit = unit;
-    item = item;
-    result = c_type t;
-    stmts = shift_stmts t;
-    rest = shift_stmts t;
-    vars = shifting t x y 0;
-  };
-  below = below;
-})
-
-shift_begins : (t : ValType) (p : Program) (pending : Pending) (m : Machine) (unit item : ℕ) (below : List Frame) (x y : ℕ)
-    → call_begun p pending unit item (number_helper (shift_row t)) m (number t x ∷ number t y ∷ []) below ≡ shift_begun t pending m unit
-    item below x y
-shift_begins type.I32 p pending m unit item below x y = refl
-shift_begins type.I64 p pending m unit item below x y = refl
-
-shift_goes : (t : ValType) (p : Program) (pending : Pending) (m : Machine) (unit item : ℕ) (below : List Frame) (x y : ℕ)
-    → walk p 3 (Some (shift_begun t pending m unit item below x y))
-    ≡ Some (call_ended p pending (answered m t (Gives (bit_xor (bit_xor x (spread (bits t) x) / 2 ^ (y % bits t)) (spread (bits t) x))))
-    below)
-shift_goes t p pending m unit item below x y =
-    simp (
-      widths,
-      evaluate-num p m (seen unit (shifting t x y 0)) t,
-      evaluate-num p m
-          (seen unit (shifting t x (y % bits t) 0)) t,
-      bits-not_zero t,
-      count-below t y,
-      sign_test t,
-    )
-
-pub shr_s_right : (t : ValType) → DoesOperator (number_helper (shift_row t)) t (Binary binary_op.ShrS)
+pub shr_s_right : (t : ValType) → DoesOperator (number_helper (record { ty = t; form = form.ShrS })) t (Binary binary_op.ShrS)
 shr_s_right t m x y p q =
     let N = bits t in
     let d = twice t in
     let s = half_pos t in
-    let is : shr_s N x y ≡ bit_xor (bit_xor x (spread N x) / 2 ^ (y % N)) (spread N x) =
-    elim (sides (2 ^ (N - 1)) x) [ inl a ↦ shr_s_high N d s x y a.2 p | inr a ↦ shr_s_low N d s x y a.2 ] in
-    answers t (Gives _) _ (ap Gives is) (computed 3 (omega arith) (λ program pending unit item below.
-    ap (λ (from : Progress). walk program 3 (Some from)) (shift_begins t program pending m unit item below x y)
-    ∙ shift_goes t program pending m unit item below x y))
+    let c : y % N < N = count-lt t y in
+    let is : shr_s N x y ≡ turned N x (y % N) =
+    elim (sides (2 ^ (N - 1)) x) [ inl a ↦ shr_s_high N d s x y c a.2 p | inr a ↦ shr_s_low N d s x y c a.2 ] in
+    answers t (Gives _) _ (ap Gives is)
+    (computed_from form.ShrS t m x y 2 (omega arith) (shr_s_begins t m x y) (λ program pending unit item below.
+    simp (
+      widths,
+      at_operands program m unit t x y,
+      at_operands program m unit t x
+          (y % N),
+      bits-not_zero t,
+      count-below t y,
+    )))
 
 -- N - k modulo N, in C
 abbrev other : ℕ → ℕ → ℕ

@@ -1,11 +1,9 @@
 -- The helpers that count zeros.
-use Rattle.std.proofs.Common.{◌≡◌, ℕ, zero, suc, ◌+◌, ◌-◌, ◌*◌, ◌/◌, ◌%◌, ◌^◌, ◌<◌, ◌≤◌, true, false, arith, refl, sym, ap, ◌∙◌, Some, List, [], ◌∷◌, codes}
+use Rattle.std.proofs.Common.{◌≡◌, ℕ, zero, suc, ◌+◌, ◌-◌, ◌*◌, ◌/◌, ◌%◌, ◌^◌, ◌<◌, ◌≤◌, true, arith, refl, sym, ap, ◌∙◌, Some, List, [], ◌∷◌, codes}
 use mathlib.Core.Logic.{inl, inr}
-use Rattle.std.specs.Prelude.{nat_lt, nat_eq}
-use native.Mathlib.Nat.{mod-eq_of_lt, mul-one}
-use Rattle.std.proofs.lemmas.Nat.{pow_pos}
-use Rattle.std.proofs.lemmas.Bool.Decides.{nat_tests, eqb_tells}
-use lib.Count.{count_leading_zeros, count_trailing_zeros}
+use Rattle.std.specs.Prelude.{nat_lt, nat_eq, bit_and}
+use Rattle.std.proofs.lemmas.Bool.Decides.{eqb_tells}
+use lib.Count.{count_leading_zeros, count_trailing_zeros, trailing_of_zero}
 use Rattle.w2c_base.specs.declared.value.ValType.{ValType}
 use Rattle.w2c_base.specs.declared.value.ValType.TheVariants as type
 use Rattle.w2c_base.specs.Values.{bits, value}
@@ -25,8 +23,8 @@ use Rattle.c_prelude.specs.Helpers.{number_helper, number_stmts, c_type}
 use Rattle.c_prelude.specs.Calls.{call_ended}
 use Rattle.c_prelude.specs.Operators.{DoesOperator, answered}
 use Rattle.c_prelude.proofs.Computed.{computed}
-use Rattle.c_prelude.proofs.Widths.{widths, evaluate-num, evaluate-flag, seen, sides, bits-below}
-use Rattle.c_prelude.proofs.Halving.{below_test, Shifted, shift-some, shift-none, shifted-some, shifted-none, counted, room, more_room, Lowered, drop-some, drop-none, lowered-some, lowered-none, lowest}
+use Rattle.c_prelude.proofs.Widths.{widths, evaluate-num, evaluate-flag, seen, sides, bits-below, twice, half_pos}
+use Rattle.c_prelude.proofs.Halving.{below_test, Shifted, shift-some, shift-none, shifted-some, shifted-none, counted, room, more_room, lowest, lowest-is}
 
 -- ---- the statements, by recursion on the stages
 
@@ -50,11 +48,17 @@ clz_stage t s rest =
     ∷ set (codes "x") (tree.Op op.Shl x k)
     ∷ rest
 
+-- the lower half of each block of 2 * s bits
+abbrev mask : ValType → ℕ → ℕ
+mask t s = (2 ^ bits t - 1) / (2 ^ s + 1)
+
+-- where the lowest bit that is set has no place there, s is counted
 abbrev ctz_stage : ValType → ℕ → List tree.Stmt → List tree.Stmt
 ctz_stage t s rest =
-    set (codes "t") (tree.Op op.Mul (flag t (tree.Op op.Eq (tree.Op op.Rem x (num t (2 ^ s))) (num t 0))) (num t s))
-    ∷ set (codes "n") (tree.Op op.Add n k)
-    ∷ set (codes "x") (tree.Op op.Shr x k)
+    set (codes "n")
+    (tree.Op op.Add n
+    (tree.Op op.Mul
+    (flag t (tree.Op op.Eq (tree.Op op.And (tree.Op op.And x (tree.Op op.Sub (num t 0) x)) (num t (mask t s))) (num t 0))) (num t s)))
     ∷ rest
 
 -- the stages for 2 ^ (c - 1), .., 2, 1 bits
@@ -117,24 +121,6 @@ clz_step t call rest s a b c u e h =
       h,
     )
 
-not_zero : (c : ℕ) → nat_eq (2 ^ c) 0 ≡ false
-not_zero c = let p : 0 < 2 ^ c = pow_pos c in grind (arith, nat_tests)
-
-ctz_step : (t : ValType) (call : Call) (rest : List tree.Stmt) (s a b c u : ℕ)
-    → truth (nat_eq (a % 2 ^ s) 0) * s % 2 ^ bits t ≡ u → nat_lt u (bits t) ≡ true
-    → walk call.program 3 (Some (at t call (ctz_stage t s rest) a b c))
-    ≡ Some (at t call rest (a / 2 ^ u) ((b + u) % 2 ^ bits t) u)
-ctz_step t call rest s a b c u e h =
-    simp (
-      widths,
-      evaluate-num call.program call.machine (seen call.unit (counting t a b c)) t,
-      evaluate-flag call.program call.machine
-          (seen call.unit (counting t a b c)) t,
-      not_zero s,
-      e,
-      h,
-    )
-
 -- the last statement
 ends : (t : ValType) (call : Call) (a b c : ℕ) → walk call.program 1 (Some (at t call (count_end t) a b c)) ≡ Some
     (gives t call ((b + truth (nat_eq a 0)) % 2 ^ bits t))
@@ -168,23 +154,101 @@ clz_run t call (suc c) y a b v h =
           ∙ clz_run t call c y _ _ (2 ^ c) (shifted-some N c y a b (bits-below t) h l.2)
     ]
 
-ctz_run : (t : ValType) (call : Call) (c y a b v : ℕ) → Lowered (bits t) c y a b
-    → walk call.program (turns c) (Some (at t call (stages ctz_stage t c (count_end t)) a b v)) ≡ Some
-    (gives t call (count_trailing_zeros (bits t) y))
-unfolding turns
-ctz_run t call zero y a b v h = ends t call a b v ∙ ap (λ n. Some (gives t call n)) (lowest (bits t) y a b (bits-below t) h)
-ctz_run t call (suc c) y a b v h =
-    let N = bits t in
-    let rest = stages ctz_stage t c (count_end t) in
-    elim (eqb_tells (a % 2 ^ 2 ^ c) 0) [
-      | inl l ↦
-          ap (walk call.program (turns c)) (ctz_step t call rest (2 ^ c) a b v (2 ^ c) (drop-some N c y a b (bits-below t) h l.1)
-          (below_test (2 ^ c) N (more_room N c b h.reach)))
-          ∙ ctz_run t call c y _ _ (2 ^ c) (lowered-some N c y a b (bits-below t) h l.1)
-      | inr l ↦
-          ap (walk call.program (turns c)) (ctz_step t call rest (2 ^ c) a b v 0 (drop-none N c y a b (bits-below t) h l.1)
-          (below_test 0 N (room N c b h.reach)))
-          ∙ ctz_run t call c y _ _ 0 (lowered-none N c y a b (bits-below t) h l.1)
+-- ---- the same of trailing zeros: each stage by itself
+
+abbrev places : ValType → ℕ → ℕ → Vars
+places t a b = (codes "x", Number (value t a)) ∷ (codes "n", Number (value t b)) ∷ []
+
+abbrev at_place : ValType → Call → List tree.Stmt → ℕ → ℕ → Progress
+at_place t call rest a b = Going call.pending (record {
+  machine = call.machine;
+  running = record {
+    unit = call.unit;
+    item = call.item;
+    result = c_type t;
+    stmts = call.stmts;
+    rest = rest;
+    vars = places t a b;
+  };
+  below = call.below;
+})
+
+-- the count after a stage, where l is the lowest bit
+abbrev added : ValType → ℕ → ℕ → ℕ → ℕ
+added t s l b = (b + truth (nat_eq (bit_and l (mask t s)) 0) * s % 2 ^ bits t) % 2 ^ bits t
+
+-- the count after all stages, and one more where no bit is set
+abbrev tally : ValType → ℕ → ℕ → ℕ → ℕ → ℕ
+tally t zero l z b = (b + z) % 2 ^ bits t
+tally t (suc c) l z b = tally t c l z (added t (2 ^ c) l b)
+
+ctz_step : (t : ValType) (call : Call) (rest : List tree.Stmt) (s a b : ℕ)
+    → walk call.program 1 (Some (at_place t call (ctz_stage t s rest) a b))
+    ≡ Some (at_place t call rest a (added t s (lowest (bits t) a) b))
+ctz_step t call rest s a b =
+    simp (
+      widths,
+      evaluate-num call.program call.machine (seen call.unit (places t a b)) t,
+      evaluate-flag call.program call.machine
+          (seen call.unit (places t a b)) t,
+    )
+
+ctz_ends : (t : ValType) (call : Call) (a b : ℕ) → walk call.program 1 (Some (at_place t call (count_end t) a b)) ≡ Some
+    (gives t call ((b + truth (nat_eq a 0)) % 2 ^ bits t))
+ctz_ends t call a b = simp (
+  widths,
+  evaluate-num call.program call.machine
+      (seen call.unit (places t a b)) t,
+  evaluate-flag call.program call.machine (seen call.unit (places t a b)) t,
+)
+
+ctz_run : (t : ValType) (call : Call) (c a b : ℕ)
+    → walk call.program (suc c) (Some (at_place t call (stages ctz_stage t c (count_end t)) a b)) ≡ Some
+    (gives t call (tally t c (lowest (bits t) a) (truth (nat_eq a 0)) b))
+ctz_run t call zero a b = ctz_ends t call a b
+ctz_run t call (suc c) a b =
+    ap (walk call.program (suc c)) (ctz_step t call (stages ctz_stage t c (count_end t)) (2 ^ c) a b)
+    ∙ ctz_run t call c a (added t (2 ^ c) (lowest (bits t) a) b)
+
+-- the count where bit i alone is set
+tallied : ValType → ℕ → ℕ
+tallied t i = tally t (steps_of t) (2 ^ i) 0 0
+
+tallied-is : (t : ValType) (i : ℕ) → tally t (steps_of t) (2 ^ i) 0 0 ≡ tallied t i
+unfolding tallied
+tallied-is t i = refl
+
+-- how far it is from i, over all below k
+wrong : ValType → ℕ → ℕ
+wrong t zero = 0
+wrong t (suc k) = wrong t k + (tallied t k - k) + (k - tallied t k)
+
+none_wrong : (t : ValType) → wrong t (bits t) ≡ 0
+unfolding wrong tallied
+none_wrong type.I32 = refl
+none_wrong type.I64 = refl
+
+right-below : (t : ValType) (k i : ℕ) → wrong t k ≡ 0 → i < k → tallied t i ≡ i
+unfolding wrong
+right-below t zero i h l = absurd (omega arith)
+right-below t (suc k) i h l =
+    elim (eqb_tells i k) [
+      | inl e ↦ let f : tallied t k ≡ k = omega arith in ap (tallied t) e.1 ∙ (f ∙ sym e.1)
+      | inr e ↦ right-below t k i (omega arith) (omega arith)
+    ]
+
+none_set : (t : ValType) → tally t (steps_of t) 0 1 0 ≡ bits t
+none_set type.I32 = refl
+none_set type.I64 = refl
+
+tally-right : (t : ValType) (x : ℕ) → x < 2 ^ bits t
+    → tally t (steps_of t) (lowest (bits t) x) (truth (nat_eq x 0)) 0 ≡ count_trailing_zeros (bits t) x
+tally-right t x h =
+    elim (eqb_tells x 0) [
+      | inl z ↦ rw (z.1) (none_set t ∙ sym (trailing_of_zero (bits t)))
+      | inr z ↦
+          let found = lowest-is (bits t) (twice t) (half_pos t) x (omega arith) h in
+          rw (z.0, found.2, found.3) (tallied-is t found.0 ∙ right-below t (bits t) found.0 (none_wrong t) found.1)
     ]
 
 -- ---- the beginning
@@ -196,15 +260,6 @@ clz_begin type.I64 x p = record { value = omega arith; below = p; reach = omega 
 pub whole_width : (t : ValType) → 2 ^ steps_of t ≡ bits t
 whole_width type.I32 = refl
 whole_width type.I64 = refl
-
-ctz_begin : (t : ValType) (x : ℕ) → x < 2 ^ bits t → Lowered (bits t) (steps_of t) x x 0
-ctz_begin t x p = record {
-  value = sym (mul-one x);
-  below = p;
-  reach = omega (arith, whole_width t);
-  odd = λ q. rw (whole_width t, mod-eq_of_lt p) q;
-  none = λ z. omega (arith, whole_width t);
-}
 
 few_turns : (t : ValType) → turns (steps_of t) ≤ 390
 unfolding turns
@@ -231,9 +286,9 @@ clz_right type.I64 m x p = computed (turns 6) (few_turns type.I64)
     (clz_begin type.I64 x p))
 
 pub ctz_right : (t : ValType) → DoesOperator (number_helper (record { ty = t; form = form.Ctz })) t (Unary unary_op.Ctz)
-ctz_right type.I32 m x p = computed (turns 5) (few_turns type.I32)
-    (λ program pending unit item below. ctz_run type.I32 (called form.Ctz type.I32 program pending m unit item below) 5 x x 0 0
-    (ctz_begin type.I32 x p))
-ctz_right type.I64 m x p = computed (turns 6) (few_turns type.I64)
-    (λ program pending unit item below. ctz_run type.I64 (called form.Ctz type.I64 program pending m unit item below) 6 x x 0 0
-    (ctz_begin type.I64 x p))
+ctz_right type.I32 m x p = computed 6 (omega arith) (λ program pending unit item below. ctz_run type.I32
+    (called form.Ctz type.I32 program pending m unit item below) 5 x 0
+    ∙ ap (λ v. Some (gives type.I32 (called form.Ctz type.I32 program pending m unit item below) v)) (tally-right type.I32 x p))
+ctz_right type.I64 m x p = computed 7 (omega arith) (λ program pending unit item below. ctz_run type.I64
+    (called form.Ctz type.I64 program pending m unit item below) 6 x 0
+    ∙ ap (λ v. Some (gives type.I64 (called form.Ctz type.I64 program pending m unit item below) v)) (tally-right type.I64 x p))

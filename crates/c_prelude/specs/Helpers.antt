@@ -71,9 +71,8 @@ operand_names Extend32S = codes "x"
 operand_names _ = codes "xy"
 
 abbrev pub local_names : Form → List ℕ
-local_names ShrS = codes "s"
 local_names Clz = codes "nt"
-local_names Ctz = codes "nt"
+local_names Ctz = codes "n"
 local_names _ = []
 
 abbrev pub result_type : Row → CType
@@ -84,12 +83,8 @@ abbrev pub falling_sizes : ValType → List ℕ
 falling_sizes I32 = 16 ∷ 8 ∷ 4 ∷ 2 ∷ 1 ∷ []
 falling_sizes I64 = 32 ∷ 16 ∷ 8 ∷ 4 ∷ 2 ∷ 1 ∷ []
 
-abbrev pub rising_sizes : ValType → List ℕ
-rising_sizes I32 = 1 ∷ 2 ∷ 4 ∷ 8 ∷ 16 ∷ []
-rising_sizes I64 = 1 ∷ 2 ∷ 4 ∷ 8 ∷ 16 ∷ 32 ∷ []
-
 abbrev pub sizes_of : Row → List ℕ
-sizes_of r = elim r.form [ Clz ↦ falling_sizes r.ty | Ctz ↦ falling_sizes r.ty | Popcnt ↦ rising_sizes r.ty | _ ↦ [] ]
+sizes_of r = elim r.form [ Clz ↦ falling_sizes r.ty | Ctz ↦ falling_sizes r.ty | Popcnt ↦ 1 ∷ 2 ∷ 4 ∷ [] | _ ↦ [] ]
 
 -- the pieces of a stage, and those behind the stages
 abbrev pub stage_of : Form → List Piece
@@ -118,8 +113,9 @@ end_of Extend8S = EXTEND_LOW_S
 end_of Extend16S = EXTEND_LOW_S
 end_of Extend32S = EXTEND_LOW_S
 
--- how many bits what stands behind the stages is about: as many as are extended
+-- how many bits what stands behind the stages is about: as many as are extended, or those of a byte
 abbrev pub end_size : Form → ℕ
+end_size Popcnt = 8
 end_size Extend8S = 8
 end_size Extend16S = 16
 end_size _ = 32

@@ -28,7 +28,6 @@ abbrev pub number_in : ValType → ℕ → Number → ℕ
 number_in t size number.Zero = 0
 number_in t size number.One = 1
 number_in t size number.Bits = bits t
-number_in t size number.LastBit = bits t - 1
 number_in t size number.Half = 2 ^ (bits t - 1)
 number_in t size number.Greatest = 2 ^ bits t - 1
 number_in t size number.Size = size
@@ -36,6 +35,7 @@ number_in t size number.Block = power t size
 number_in t size number.Sign = power t (size - 1)
 number_in t size number.High = power t (bits t - size)
 number_in t size number.Mask = (2 ^ bits t - 1) / (power t size + 1)
+number_in t size number.EachByte = (2 ^ bits t - 1) / 255
 number_in t size number.Bytes = size / 8
 number_in t size number.Page = 65536
 

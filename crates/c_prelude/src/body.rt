@@ -58,10 +58,10 @@ pub fn number_locals(row: Row) -> &'static [Variable]
     ensures { result.now ≡ of.all_of (of.c_type row.ty) (of.local_names row.form) }
 {
     match (row.form, row.ty) {
-        (Form::ShrS, ValType::I32) => &[(CType::U32, b's')],
-        (Form::ShrS, ValType::I64) => &[(CType::U64, b's')],
-        (Form::Clz | Form::Ctz, ValType::I32) => &[(CType::U32, b'n'), (CType::U32, b't')],
-        (Form::Clz | Form::Ctz, ValType::I64) => &[(CType::U64, b'n'), (CType::U64, b't')],
+        (Form::Clz, ValType::I32) => &[(CType::U32, b'n'), (CType::U32, b't')],
+        (Form::Clz, ValType::I64) => &[(CType::U64, b'n'), (CType::U64, b't')],
+        (Form::Ctz, ValType::I32) => &[(CType::U32, b'n')],
+        (Form::Ctz, ValType::I64) => &[(CType::U64, b'n')],
         _ => &[],
     }
 }
@@ -83,8 +83,7 @@ pub fn sizes(row: Row) -> &'static [u32]
     match (row.form, row.ty) {
         (Form::Clz | Form::Ctz, ValType::I32) => &[16, 8, 4, 2, 1],
         (Form::Clz | Form::Ctz, ValType::I64) => &[32, 16, 8, 4, 2, 1],
-        (Form::Popcnt, ValType::I32) => &[1, 2, 4, 8, 16],
-        (Form::Popcnt, ValType::I64) => &[1, 2, 4, 8, 16, 32],
+        (Form::Popcnt, _) => &[1, 2, 4],
         _ => &[],
     }
 }
@@ -124,12 +123,12 @@ pub fn end(form: Form) -> &'static [Piece]
     }
 }
 
-/// How many bits the pieces behind the stages are about: as many as are extended.
+/// How many bits the pieces behind the stages are about: as many as are extended, or those of a byte.
 pub fn end_size(form: Form) -> u32
     ensures { result ≡ of.end_size form }
 {
     match form {
-        Form::Extend8S => 8,
+        Form::Popcnt | Form::Extend8S => 8,
         Form::Extend16S => 16,
         _ => 32,
     }

@@ -188,25 +188,21 @@ pub const REM_S: [Piece; 31] = [
     Piece::Return,
 ];
 
-// y = (y % 32u); s = (0u - (x >> 31u)); return (((x ^ s) >> y) ^ s);
-pub const SHR_S: [Piece; 18] = [
+// y = (y % 32u); return (((x + 2147483648u) >> y) - (2147483648u >> y));
+pub const SHR_S: [Piece; 14] = [
     Piece::Name(b'y'),
     Piece::Number(Number::Bits), // a shift's count is taken modulo the width
     Piece::Op(COp::Rem),
     Piece::Set(b'y'),
-    Piece::Number(Number::Zero),
     Piece::Name(b'x'),
-    Piece::Number(Number::LastBit),
-    Piece::Op(COp::Shr),
-    Piece::Op(COp::Sub),
-    Piece::Set(b's'),
-    Piece::Name(b'x'),
-    Piece::Name(b's'),
-    Piece::Op(COp::Xor),
+    Piece::Number(Number::Half), // half a turn on, and back by what the shift leaves of it
+    Piece::Op(COp::Add),
     Piece::Name(b'y'),
     Piece::Op(COp::Shr),
-    Piece::Name(b's'),
-    Piece::Op(COp::Xor),
+    Piece::Number(Number::Half),
+    Piece::Name(b'y'),
+    Piece::Op(COp::Shr),
+    Piece::Op(COp::Sub),
     Piece::Return,
 ];
 
@@ -269,25 +265,23 @@ pub const CLZ_STAGE: [Piece; 15] = [
     Piece::Set(b'x'),
 ];
 
-// for 16, 8, 4, 2 and 1 bits: t = ((u32)((x % 65536u) == 0u) * 16u); n = (n + t); x = (x >> t);
-pub const CTZ_STAGE: [Piece; 17] = [
+// for 16, 8, 4, 2 and 1 bits: n = (n + ((u32)(((x & (0u - x)) & 65535u) == 0u) * 16u));
+pub const CTZ_STAGE: [Piece; 15] = [
+    Piece::Name(b'n'),
     Piece::Name(b'x'),
-    Piece::Number(Number::Block),
-    Piece::Op(COp::Rem),
+    Piece::Number(Number::Zero),
+    Piece::Name(b'x'),
+    Piece::Op(COp::Sub),
+    Piece::Op(COp::And), // the lowest bit that is set
+    Piece::Number(Number::Mask),
+    Piece::Op(COp::And),
     Piece::Number(Number::Zero),
     Piece::Op(COp::Eq),
     Piece::Cast(Cast::Flag),
     Piece::Number(Number::Size),
     Piece::Op(COp::Mul),
-    Piece::Set(b't'),
-    Piece::Name(b'n'),
-    Piece::Name(b't'),
     Piece::Op(COp::Add),
     Piece::Set(b'n'),
-    Piece::Name(b'x'),
-    Piece::Name(b't'),
-    Piece::Op(COp::Shr),
-    Piece::Set(b'x'),
 ];
 
 // return (n + (u32)(x == 0u));
@@ -301,7 +295,7 @@ pub const COUNT_END: [Piece; 7] = [
     Piece::Return,
 ];
 
-// for 1, 2, 4, 8 and 16 bits: x = ((x & 1431655765u) + ((x >> 1u) & 1431655765u));
+// for 1, 2 and 4 bits: x = ((x & 1431655765u) + ((x >> 1u) & 1431655765u));
 pub const POPCNT_STAGE: [Piece; 10] = [
     Piece::Name(b'x'),
     Piece::Number(Number::Mask),
@@ -315,8 +309,15 @@ pub const POPCNT_STAGE: [Piece; 10] = [
     Piece::Set(b'x'),
 ];
 
-// return x;
-pub const POPCNT_END: [Piece; 2] = [Piece::Name(b'x'), Piece::Return];
+// return ((x * 16843009u) / 16777216u);
+pub const POPCNT_END: [Piece; 6] = [
+    Piece::Name(b'x'),
+    Piece::Number(Number::EachByte), // the highest byte of the product is the sum of all
+    Piece::Op(COp::Mul),
+    Piece::Number(Number::High),
+    Piece::Op(COp::Div),
+    Piece::Return,
+];
 
 // return ((((u64)x % 4294967296ull) ^ 2147483648ull) - 2147483648ull);
 pub const EXTEND_S: [Piece; 9] = [

@@ -88,7 +88,6 @@ pub fn number_in(setting: Setting, n: Number) -> u64
         Number::Zero => 0,
         Number::One => 1,
         Number::Bits => width(ty) as u64,
-        Number::LastBit => (width(ty) - 1) as u64,
         Number::Half => half(ty),
         Number::Greatest => greatest(ty),
         Number::Size => size as u64,
@@ -96,6 +95,7 @@ pub fn number_in(setting: Setting, n: Number) -> u64
         Number::Sign => power(ty, size.saturating_sub(1)),
         Number::High => power(ty, width(ty).saturating_sub(size)),
         Number::Mask => greatest(ty) / (power(ty, size) + 1),
+        Number::EachByte => greatest(ty) / 255,
         Number::Bytes => (size / 8) as u64,
         Number::Page => 65_536,
     }

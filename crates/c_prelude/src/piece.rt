@@ -17,8 +17,6 @@ pub enum Number {
     One,
     /// The width in bits.
     Bits,
-    /// The number of the highest bit.
-    LastBit,
     /// The highest bit alone.
     Half,
     /// All bits.
@@ -33,6 +31,8 @@ pub enum Number {
     High,
     /// The lower half of each block of twice the size.
     Mask,
+    /// The lowest bit of each byte.
+    EachByte,
     /// The size in bytes.
     Bytes,
     /// A page of a memory in bytes.

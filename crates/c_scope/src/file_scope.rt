@@ -9,6 +9,7 @@ ghost use Rattle.c_tree.specs.Scope.{is_among, func_type_of};
 ghost use Rattle.c_scope.specs.Tables.{Finds, Knows, FindsTypes, variables_of, arrays_of, functions_of};
 
 use crate::name_table::NameTable;
+use crate::salted::Salted;
 use c_tree::{CType, Func, Item};
 use std::alloc::Global;
 use w2c_base::Memory;
@@ -18,6 +19,7 @@ use w2c_base::Memory;
 pub struct FileScope<'a> {
     pub items: &'a [Item],
     pub count: usize,
+    pub salt: Salted,
     variables: NameTable<CType>,
     arrays: NameTable<()>,
     functions: NameTable<&'a Func>,
@@ -29,17 +31,18 @@ pub struct FileScope<'a> {
 impl<'a> FileScope<'a> {
     ghost use Rattle.c_scope.specs.FileItems.{declared};
 
-    /// The scope in front of a unit's first item. It takes no memory.
-    pub fn new(alloc: Global, items: &'a [Item]) -> Self
+    /// The scope in front of a unit's first item, whose names are hashed by a key. It takes no memory.
+    pub fn new(alloc: Global, salt: Salted, items: &'a [Item]) -> Self
         ensures items { result.items.now ≡ items.now }
         ensures count { result.count ≡ 0 }
     {
         FileScope {
             items,
             count: 0,
-            variables: NameTable::new(alloc),
-            arrays: NameTable::new(alloc),
-            functions: NameTable::new(alloc),
+            salt,
+            variables: NameTable::new(alloc, salt),
+            arrays: NameTable::new(alloc, salt),
+            functions: NameTable::new(alloc, salt),
         }
     }
 
@@ -52,6 +55,7 @@ impl<'a> FileScope<'a> {
         let FileScope {
             items,
             count,
+            salt,
             mut variables,
             mut arrays,
             mut functions,
@@ -64,6 +68,7 @@ impl<'a> FileScope<'a> {
         Ok(FileScope {
             items,
             count,
+            salt,
             variables,
             arrays,
             functions,

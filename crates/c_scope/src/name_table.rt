@@ -3,16 +3,17 @@ ghost use Rattle.std.specs.Prelude.{◌≡◌, ℕ, if◌then◌else◌, List, [
 ghost use Rattle.std.specs.Option.{option_or};
 ghost use Rattle.w2c_base.specs.Lookup.{named};
 
+use crate::salted::Salted;
+use indexmap::IndexMap;
 use std::alloc::Global;
-use std::collections::BTreeMap;
 use std::marker::Model;
 use w2c_base::Memory;
 
-/// Names, each with what it stands for first. The names are kept in order, so that no choice of names makes
-/// finding one slow.
+/// Names, each with what it stands for first. They are hashed by a key that all names of a unit decide together,
+/// so that no choice of names makes finding one slow.
 #[derive(Drop)]
 pub struct NameTable<T> {
-    entries: BTreeMap<Vec<u8>, T>,
+    entries: IndexMap<Vec<u8>, T, Salted>,
 }
 
 impl<T> Model for NameTable<T> {
@@ -24,12 +25,12 @@ impl<T> Model for NameTable<T> {
 }
 
 impl<T: Drop> NameTable<T> {
-    /// No names. It takes no memory.
-    pub fn new(alloc: Global) -> Self
+    /// No names, hashed by a key. It takes no memory.
+    pub fn new(alloc: Global, salt: Salted) -> Self
         ensures { result ≡ [] }
     {
         NameTable {
-            entries: BTreeMap::new(alloc),
+            entries: IndexMap::with_hasher(alloc, salt),
         }
     }
 

@@ -9,6 +9,7 @@ ghost use Rattle.c_scope.specs.Tables.{Finds};
 ghost use Rattle.c_scope.specs.Own.{variable_pair, params_of, locals_of};
 
 use crate::name_table::NameTable;
+use crate::salted::Salted;
 use c_tree::{Body, CType, Func, Name, Num};
 use std::alloc::Global;
 use w2c_base::Memory;
@@ -60,11 +61,15 @@ fn put_locals<'a>(
     Ok(())
 }
 
-/// A table of variables.
-pub fn own_table(alloc: Global, variables: &[Variable]) -> Result<NameTable<CType>, Memory>
+/// A table of variables, whose names are hashed by a key.
+pub fn own_table(
+    alloc: Global,
+    salt: Salted,
+    variables: &[Variable],
+) -> Result<NameTable<CType>, Memory>
     ensures { IfOk result (λ table. Finds table (map variable_pair variables.now)) }
 {
-    let mut table = NameTable::new(alloc);
+    let mut table = NameTable::new(alloc, salt);
     for variable in variables {
         enter_variable(alloc, &mut table, variable)?;
     }

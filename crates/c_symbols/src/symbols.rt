@@ -8,7 +8,7 @@ ghost use Rattle.c_symbols.specs.Typed.{type_of};
 
 use crate::indexes::{Indexes, Symbol};
 use crate::types::{SymbolType, accessor, same};
-use c_scope::NameTable;
+use c_scope::{NameTable, Salted};
 use c_tree::{CType, Name};
 use std::alloc::Global;
 use w2c_base::Memory;
@@ -17,6 +17,7 @@ use wasm_tree::{Import, Module};
 /// The symbols of a module with their types in the unit: each name is found at once.
 pub struct Symbols<'a> {
     pub(crate) indexes: Indexes<'a>,
+    pub salt: Salted,
     types: NameTable<SymbolType<'a>>,
     ghost found: { FindsTypes types (exported_symbols (named_of indexes) ++ imported_symbols (named_of indexes)) },
 }
@@ -26,6 +27,7 @@ impl Drop for Symbols<'_> {
     fn drop(self) {
         let Symbols {
             indexes: _,
+            salt: _,
             types: _,
         } = self;
     }
@@ -69,6 +71,19 @@ fn enter_imports<'a>(
     Ok(())
 }
 
+// The key of the names that a module exports and imports. Each symbol is made of one of them and a kind.
+fn salt_of_module(tree: &Module) -> Salted {
+    let mut salt = Salted::new();
+    for export in tree.exports.as_slice() {
+        salt.absorb(export.name.as_slice());
+    }
+    for import in tree.imports.as_slice() {
+        salt.absorb(import.module.as_slice());
+        salt.absorb(import.field.as_slice());
+    }
+    salt.sealed()
+}
+
 impl<'a> Symbols<'a> {
     ghost use Rattle.c_symbols.specs.Symbols.{declared_type, symbol_type};
     ghost use Rattle.c_symbols.specs.Found.{has_type};
@@ -78,10 +93,15 @@ impl<'a> Symbols<'a> {
         ensures { IfOk result (λ symbols. named_of symbols.indexes ≡ record { name = name.now; tree = tree.now }) }
     {
         let indexes = Indexes::new(alloc, tree, name)?;
-        let mut types = NameTable::new(alloc);
+        let salt = salt_of_module(tree);
+        let mut types = NameTable::new(alloc, salt);
         enter_exports(alloc, &mut types, &indexes)?;
         enter_imports(alloc, &mut types, &indexes)?;
-        Ok(Symbols { indexes, types })
+        Ok(Symbols {
+            indexes,
+            salt,
+            types,
+        })
     }
 
     /// The module, and the index spaces of its functions and globals.

@@ -1,7 +1,7 @@
 // The names of a small unit.
 ghost use Rattle.std.specs.Prelude.{◌≡◌, Some};
 
-use c_scope::{FileScope, NameTable, Scope, Signature, own_table, own_variables};
+use c_scope::{FileScope, NameTable, Salted, Scope, Signature, own_table, own_variables, salt_of};
 use c_tree::{Body, CType, Func, Item, Locals, Name, Num, Params, Stmt, Stmts};
 use std::alloc::{AllocError, Global};
 use std::process::Abort;
@@ -43,7 +43,7 @@ fn items(alloc: Global) -> Result<Vec<Item>, Memory> {
 #[test]
 fn a_name_stands_for_what_was_entered_first(rt: HostRuntime) -> Result<(), Fail> {
     let alloc = rt.alloc();
-    let mut table = NameTable::new(alloc);
+    let mut table = NameTable::new(alloc, Salted::new());
     table.enter(alloc, b"a", CType::U32)?;
     table.enter(alloc, b"a", CType::U64)?;
     assert_eq!(rt; table.find(b"a"), Some(CType::U32));
@@ -57,7 +57,7 @@ fn names_of_file_scope_are_known_behind_their_items(rt: HostRuntime) -> Result<(
     let alloc = rt.alloc();
     let items = items(alloc)?;
     assert!(rt; items.len() == 3);
-    let file = FileScope::new(alloc, items.as_slice());
+    let file = FileScope::new(alloc, salt_of(items.as_slice()), items.as_slice());
     assert_eq!(rt; file.variable(b"g"), None);
     let file = file.behind_next(alloc)?;
     assert_eq!(rt; file.variable(b"g"), Some(CType::U64));
@@ -106,7 +106,7 @@ fn look_up(
     requires { f.now.body ≡ Some body.now }
 {
     let own = own_variables(alloc, f)?;
-    let table = own_table(alloc, own.as_slice())?;
+    let table = own_table(alloc, Salted::new(), own.as_slice())?;
     let scope = Scope::new(file, &table, f, body);
     Ok(Found {
         variable: scope.variable(name),
@@ -176,7 +176,9 @@ fn names_at_a_statement(rt: HostRuntime) -> Result<(), Fail> {
     let alloc = rt.alloc();
     let items = items(alloc)?;
     assert!(rt; items.len() == 3);
-    let file = FileScope::new(alloc, items.as_slice()).behind_next(alloc)?;
+    let file = FileScope::new(alloc, salt_of(items.as_slice()), items.as_slice()).behind_next(
+        alloc,
+    )?;
     let file = file.behind_next(alloc)?;
     cases_hold(&rt, alloc, &file, &function(alloc)?)
 }
@@ -190,7 +192,7 @@ fn variables_of_a_function(rt: HostRuntime) -> Result<(), Fail> {
     assert_eq!(rt; own[0].name, b"x".as_slice());
     assert_eq!(rt; own[1].of, CType::FnPtr);
     assert_eq!(rt;
-        own_table(alloc, own.as_slice())?.find(b"z"),
+        own_table(alloc, Salted::new(), own.as_slice())?.find(b"z"),
         Some(CType::FnPtr)
     );
     Ok(())

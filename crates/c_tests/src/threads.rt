@@ -4,6 +4,7 @@ ghost use Rattle.c_thread.specs.Linked.{HaveUnitTables};
 
 use c_machine::{Numbers, Tables};
 use c_objects::{FuncId, Held, Store, UnitObjects};
+use c_scope::Salted;
 use c_thread::{
     FuncTypes, HostCall, LinkedFrame, LinkedStep, LinkedThread, LinkedUnit, ObjectTables, Symbols,
     TypeList,
@@ -98,7 +99,7 @@ fn second_items(alloc: Global) -> Result<Unit, Memory> {
 }
 
 fn numbered(alloc: Global, text: &str, number: usize) -> Result<Numbers, Memory> {
-    let mut table = Numbers::new(alloc);
+    let mut table = Numbers::new(alloc, Salted::new());
     table.enter(alloc, Some(text.as_bytes()), number)?;
     Ok(table)
 }
@@ -119,10 +120,10 @@ fn object_tables(alloc: Global, unit: usize) -> Result<ObjectTables, Memory> {
     Ok(ObjectTables {
         unit,
         vars: numbered(alloc, "g", 0)?,
-        memories: Numbers::new(alloc),
-        tables: Numbers::new(alloc),
-        arrays: Numbers::new(alloc),
-        functions: Numbers::new(alloc),
+        memories: Numbers::new(alloc, Salted::new()),
+        tables: Numbers::new(alloc, Salted::new()),
+        arrays: Numbers::new(alloc, Salted::new()),
+        functions: Numbers::new(alloc, Salted::new()),
         symbols: symbols(alloc)?,
     })
 }

@@ -1,7 +1,7 @@
 // The statements of a small function, and types by their kinds.
 ghost use Rattle.std.specs.Prelude.{◌≡◌, Some};
 
-use c_scope::{FileScope, Scope, own_table, own_variables};
+use c_scope::{FileScope, Salted, Scope, own_table, own_variables};
 use c_tree::{Arg, Body, COp, CType, Expr, Func, Locals, Name, Params, Stmt, Stmts};
 use c_types::{
     Typed, Typing, is_number_type, is_object_type, is_result_type, is_value_type, is_void,
@@ -107,7 +107,7 @@ fn statements_hold(
     requires { f.now.body ≡ Some body.now }
 {
     let own = own_variables(alloc, f)?;
-    let table = own_table(alloc, own.as_slice())?;
+    let table = own_table(alloc, Salted::new(), own.as_slice())?;
     let scope = Scope::new(file, &table, f, body);
     assert_eq!(rt; body.stmts.len(), WANTED.len());
     for (stmt, wanted) in body.stmts.as_slice().iter().zip(&WANTED) {
@@ -123,7 +123,7 @@ fn statements_hold(
 #[test]
 fn a_statement_keeps_what_it_is_asked(rt: HostRuntime) -> Result<(), Fail> {
     let alloc = rt.alloc();
-    let file = FileScope::new(alloc, &[]);
+    let file = FileScope::new(alloc, Salted::new(), &[]);
     let f = function(alloc)?;
     match &f.body {
         Some(body) => statements_hold(&rt, alloc, &file, &f, body),

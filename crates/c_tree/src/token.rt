@@ -216,15 +216,3 @@ impl<T: Drop> From<AllocFailed<T>> for CReadFault {
         CReadFault::Memory
     }
 }
-
-#[cfg(test)]
-mod tests {
-    use crate::Tok;
-
-    #[test]
-    fn texts_of_tokens(rt: HostRuntime) {
-        assert_eq!(rt; Tok::WordGoto.text(), b"goto".as_slice());
-        assert_eq!(rt; Tok::ShiftLeft.text(), b"<<".as_slice());
-        assert_eq!(rt; Tok::Name.text(), b"".as_slice());
-    }
-}

@@ -9,7 +9,7 @@ ghost use Rattle.c_tree.specs.View.{arg_of, callee_of, stmt_of, maybe_body_of, f
 ghost use Rattle.c_trim.specs.Trim.{arg_functions, callee_functions, stmt_functions, body_functions, item_functions};
 ghost use Rattle.c_trim.specs.Marks.{AreAllReached, AreReached, BegunTo, KnowsDefiners, begins, functions_at, reached_by, with_item, with_names};
 
-use c_scope::NameTable;
+use c_scope::{NameTable, salt_of};
 use c_tree::{Arg, Body, Callee, Func, Item, Name, Stmt};
 use std::alloc::Global;
 use w2c_base::Memory;
@@ -25,7 +25,7 @@ pub(crate) struct Marks {
 pub(crate) fn definers(alloc: Global, items: &[Item]) -> Result<NameTable<usize>, Memory>
     ensures { IfOk result (λ table. KnowsDefiners table (unit_of items.now)) }
 {
-    let mut table = NameTable::new(alloc);
+    let mut table = NameTable::new(alloc, salt_of(items));
     for (i, item) in items.iter().enumerate() {
         enter_item(alloc, &mut table, item, i)?;
     }

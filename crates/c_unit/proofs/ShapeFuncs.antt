@@ -12,8 +12,8 @@ use Rattle.wasm_tree.specs.IndexSpaces.{type_in, func_type_in, func_of_import, i
 use Rattle.wasm_meaning.specs.LinkedSet.{NamedModule}
 use Rattle.c_tree.specs.declared.tree.CType.TheVariants as type
 use Rattle.c_tree.specs.Tree as tree
-use Rattle.c_tree.specs.Scope.{func_type_of}
-use Rattle.c_meaning.specs.Linking.{Definition, defined, c_params_of, c_result_of}
+use Rattle.c_tree.specs.Scope.{Name, func_type_of}
+use Rattle.c_meaning.specs.Linking.{Definition, defined, defined_for_all, c_params_of, c_result_of}
 use Rattle.c_meaning.proofs.Lookups.{bytes_equal}
 use Rattle.alike.specs.Alike.{func_name}
 use Rattle.c_symbols.specs.Symbols.{c_func_type_if, export_symbol, export_type}
@@ -23,11 +23,12 @@ use Rattle.c_unit.specs.Exports.{export_func}
 use Rattle.c_unit.specs.Init.{init_func}
 use Rattle.c_unit.specs.Items.{items}
 use Rattle.c_unit.specs.Sets.{IsAccepted}
-use Rattle.c_unit.specs.Shape.{DefinesExternal, IsDefinedAs}
+use Rattle.c_unit.specs.Shape.{DefinesExternal, GivesExport}
 use Rattle.c_unit.proofs.BodiesAt.{BodyAt}
 use Rattle.c_unit.proofs.Defined.{FirstExport, head, symbol_is, export_external, export_defined, init_defined, body_defined}
 use Rattle.c_unit.proofs.ExportFacts.{symbols_differ}
 use Rattle.c_unit.proofs.ExportsKeep.{export_shape}
+use Rattle.c_unit.proofs.ObjectsGiven.{gives_export}
 use Rattle.c_unit.proofs.KnownNames.{get_late}
 use Rattle.c_unit.proofs.KnownFuncs.{prototype_types}
 use Rattle.c_unit.proofs.Pairs.{AllPairs}
@@ -59,6 +60,10 @@ pair_at_places R (z ∷ xs) zero zero x y h less e f = absurd (omega (arith, les
 pair_at_places R (z ∷ xs) (suc i) zero x y h less e f = absurd (omega (arith, less))
 pair_at_places R (z ∷ xs) zero (suc j) x y h less e f = subst (λ w. R w y) (let same : z ≡ x = cc in same) (all_at (R z) xs j y h.0 f)
 pair_at_places R (z ∷ xs) (suc i) (suc j) x y h less e f = pair_at_places R xs i j x y h.1 (omega (arith, less)) e f
+
+-- the symbol is defined by this function
+abbrev IsDefinedAs : List tree.Item → Name → tree.Func → Type 0
+IsDefinedAs unit name func = (d : Definition) × (defined_for_all unit name ≡ Some d) × (d.func ≡ func)
 
 module _ (m : NamedModule) (a : IsAccepted m) where
   abbrev t : Module
@@ -115,8 +120,16 @@ module _ (m : NamedModule) (a : IsAccepted m) where
           ∙ bytes_equal (export_symbol m b) in
           absurd (let wrong : true ≡ false = sym same ∙ f in cc)
 
-  pub accessors_stand : AllByRecursion (λ e. IsDefinedAs (items m) (export_symbol m e) (export_func m e)) t.exports
-  accessors_stand = all_indexed (λ e. IsDefinedAs (items m) (export_symbol m e) (export_func m e)) t.exports one_export
+  abbrev IsGiven : Export → Type 0
+  IsGiven e = (d : Definition) × (defined_for_all (items m) (export_symbol m e) ≡ Some d) × GivesExport m e d.func
+
+  pub accessors_stand : AllByRecursion IsGiven t.exports
+  accessors_stand = all_indexed IsGiven t.exports one
+    where
+      one : (i : ℕ) (e : Export) → slice_get t.exports i ≡ Some e → IsGiven e
+      one i e at =
+          let found = one_export i e at in
+          (found.0, found.1, subst (GivesExport m e) (sym found.2) (gives_export m e))
 
   pub exports_stand : AllByRecursion (λ e. DefinesExternal (items m) (export_symbol m e) (export_type t e)) t.exports
   exports_stand = all_indexed (λ e. DefinesExternal (items m) (export_symbol m e) (export_type t e)) t.exports one

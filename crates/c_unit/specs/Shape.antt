@@ -1,10 +1,13 @@
 -- What is fixed of the unit of a module, whatever helpers, variables and statements it has (C11, 6.9): the
 -- functions that other units see, and the names of its own objects.
-use Rattle.std.specs.Prelude.{◌≡◌, ◌↔◌, ℕ, ◌+◌, ◌⊎◌, true, List, [], ◌∷◌, ◌++◌, map, filter, filter_map, is_some, Option, Some, None}
+use Rattle.std.specs.Prelude.{◌≡◌, ◌↔◌, ℕ, ◌+◌, ◌⊎◌, true, List, [], ◌∷◌, ◌++◌, map, filter, filter_map, slice_get, is_some, Option, Some, None}
 use Rattle.std.specs.List.{Contains, AllByRecursion}
 use Rattle.w2c_mangle.specs.Symbols.{init_symbol_of}
 use Rattle.wasm_tree.specs.declared.tree.Module.{Module}
 use Rattle.wasm_tree.specs.declared.entries.GlobalEntry.{GlobalEntry}
+use Rattle.wasm_tree.specs.declared.entries.Import.{Import}
+use Rattle.wasm_tree.specs.declared.entries.Export.{Export}
+use Rattle.wasm_tree.specs.declared.entries.ExportKind.TheVariants.{Func as ExportFunc, Table as ExportTable, Memory as ExportMemory, Global as ExportGlobal}
 use Rattle.wasm_tree.specs.IndexSpaces.{func_type_in, imported_globals}
 use Rattle.wasm_meaning.specs.LinkedSet.{NamedModule}
 use Rattle.c_tree.specs.declared.tree.CType.{CType}
@@ -16,9 +19,8 @@ use Rattle.c_tree.specs.WellFormed.{IsWellFormed}
 use Rattle.c_meaning.specs.Linking.{Definition, defined, defined_for_all, external_functions, c_type_of}
 use Rattle.alike.specs.Alike.{memory_name, table_name, func_name, global_name}
 use Rattle.w2c_base.specs.Lookup.{numbered}
-use Rattle.c_symbols.specs.Symbols.{c_func_type_if, import_symbol, symbol_type, export_symbol, export_type}
+use Rattle.c_symbols.specs.Symbols.{c_func_type_if, table_imports, memory_imports, global_imports, import_symbol, import_type, symbol_type, export_symbol, export_type}
 use Rattle.c_body.specs.Agree.{IsDefined}
-use Rattle.c_unit.specs.Exports.{export_func}
 use Rattle.c_unit.specs.Items.{items_of}
 use Rattle.c_unit.specs.Sets.{IsAccepted}
 
@@ -60,9 +62,24 @@ pub record DefinesExternal (unit : List tree.Item) (name : Name) (ty : tree.Func
   pub there : defined_for_all unit name ≡ Some definition
   pub typed : func_type_of definition.func ≡ ty
 
--- the symbol is defined by this function
-abbrev pub IsDefinedAs : List tree.Item → Name → tree.Func → Type 0
-IsDefinedAs unit name func = (d : Definition) × (defined_for_all unit name ≡ Some d) × (d.func ≡ func)
+-- The function returns the pointer to the module's own object; for one that was imported what the import's symbol gives, which is
+-- the pointer to the object of the module that defines it. In a linked set each symbol has the type of its import.
+abbrev pub GivesObject : NamedModule → Option Import → Name → tree.Func → Type 0
+GivesObject m None object f = f.body ≡ Some (record { locals = []; stmts = tree.Return (tree.Address object) ∷ [] })
+GivesObject m (Some i) object f = symbol_type m (import_symbol i) ≡ Some (import_type m.tree i)
+    → (variable : tree.Local) × (f.body ≡ Some (record {
+      locals = variable ∷ [];
+      stmts = tree.Call (Some variable.1) (tree.Called (import_symbol i)) [] ∷ tree.Return (tree.Value (tree.Name variable.1)) ∷ [];
+    }))
+
+-- it gives the table, the memory or the global that is exported
+abbrev pub GivesExport : NamedModule → Export → tree.Func → Type 0
+GivesExport m e f = elim e.kind [
+  | ExportFunc ↦ Unit {0}
+  | ExportTable ↦ GivesObject m (slice_get (table_imports m.tree) e.index) table_name f
+  | ExportMemory ↦ GivesObject m (slice_get (memory_imports m.tree) e.index) memory_name f
+  | ExportGlobal ↦ GivesObject m (slice_get (global_imports m.tree) e.index) (global_name e.index) f
+]
 
 pub record HasShape (m : NamedModule) (unit : List tree.Item) : Type 0 where
   -- the external functions that it defines are the init function and one for each export
@@ -81,9 +98,9 @@ pub record HasShape (m : NamedModule) (unit : List tree.Item) : Type 0 where
   pub objects : HaveSame (unit_objects unit) (module_objects m.tree)
   -- an exported function has its type, and what gives a pointer to another export the pointer's
   pub exports : AllByRecursion (λ e. DefinesExternal unit (export_symbol m e) (export_type m.tree e)) m.tree.exports
-  -- what it does: it passes a call on to the function; it returns `&m0`, `&t0` or `&g<k>`, the module's own object; and for an
-  -- object that was imported it returns what the import's symbol gives, the pointer to the object of the module that defines it
-  pub accessors : AllByRecursion (λ e. IsDefinedAs unit (export_symbol m e) (export_func m e)) m.tree.exports
+  -- what is exported of tables, memories and globals is given; what an exported function does, the runs of linked units say
+  pub accessors : AllByRecursion (λ e. (d : Definition) × (defined_for_all unit (export_symbol m e) ≡ Some d) × GivesExport m e d.func)
+      m.tree.exports
   pub init : DefinesExternal unit (init_symbol_of m.name) (record { params = type.Void ∷ []; result = type.Void })
 
 -- what is proved of each unit by itself

@@ -45,7 +45,7 @@ fn put_if<'a>(
 pub(crate) fn declared<'a>(alloc: Global, symbols: &Symbols<'a>) -> Result<Vec<Symbol<'a>>, Memory>
     ensures { IfOk result (λ list. map pair_of list.items ≡ declared_symbols (named_of symbols.now.indexes)) }
 {
-    let mut seen: NameTable<()> = NameTable::new(alloc);
+    let mut seen: NameTable<()> = NameTable::new(alloc, symbols.salt);
     let mut list: Vec<Symbol<'a>> = Vec::new(alloc);
     let spaces = symbols.indexes();
     for import in spaces.tree().imports.as_slice() {

@@ -13,6 +13,7 @@ ghost use Rattle.crun.specs.HostSymbols.{AreKnown, IsFirstTwice, IsTwiceAt, symb
 use c_hosts::{HostFunction, HostModule};
 use c_link::HostSymbol;
 use c_machine::Numbers;
+use c_scope::Salted;
 use std::alloc::Global;
 use w2c_base::Memory;
 use w2c_mangle::{SymbolKind, export_symbol};
@@ -33,6 +34,22 @@ pub struct SymbolList {
     pub symbols: Vec<HostSymbol>,
 }
 
+// The key of all names of hosts and of their functions.
+fn salt_of_hosts<H: HostModule>(hosts: &[H]) -> Salted {
+    let mut salt = Salted::new();
+    for host in hosts {
+        absorb_host(&mut salt, host);
+    }
+    salt.sealed()
+}
+
+fn absorb_host<H: HostModule>(salt: &mut Salted, host: &H) {
+    salt.absorb(host.name());
+    for i in 0..host.count() {
+        salt.absorb(host.function(i).name.as_slice());
+    }
+}
+
 /// The symbols of the functions of hosts, host by host and function by function. Twice with the
 /// host of the first symbol that an earlier function has, of the same host or of one before it.
 pub fn host_symbols<H: HostModule>(
@@ -45,7 +62,7 @@ pub fn host_symbols<H: HostModule>(
     ensures twice { (k : ℕ) → result ≡ Err (refusal.Twice k) → IsTwiceAt (hosts_of H.HostModule hosts.now) k }
 {
     let mut list = SymbolList {
-        numbers: Numbers::new(alloc),
+        numbers: Numbers::new(alloc, salt_of_hosts(hosts)),
         symbols: Vec::new(alloc),
     };
     for (k, host) in hosts.iter().enumerate() {

@@ -7,6 +7,7 @@ ghost use Rattle.crun.specs.Names.{array_name as array_name_of, has_object as de
 
 use crate::objects::{first_value, is_of};
 use c_machine::{Numbers, number_all};
+use c_scope::salt_of;
 use c_tree::{CType, Item};
 use std::alloc::Global;
 use w2c_base::Memory;
@@ -78,7 +79,7 @@ fn item_name(item: &Item) -> &[u8]
 pub fn array_numbers(alloc: Global, items: &[Item]) -> Result<Numbers, Memory>
     ensures { IfOk result (λ table. Finds table (λ q. entry_in 0 q (map array_name_of (map item_of items.now)))) }
 {
-    let mut table = Numbers::new(alloc);
+    let mut table = Numbers::new(alloc, salt_of(items));
     for (i, item) in items.iter().enumerate() {
         table.enter(alloc, array_name(item), i)?;
     }

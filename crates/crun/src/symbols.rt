@@ -10,6 +10,7 @@ ghost use Rattle.crun.specs.Entries.{entries, entry_of, host_ids as host_ids_of,
 use c_link::{HostSymbol, Linked, defined_function};
 use c_machine::{Numbers, number_all};
 use c_objects::FuncId;
+use c_scope::Salted;
 use c_thread::Symbols;
 use c_tree::Item;
 use std::alloc::Global;
@@ -116,11 +117,20 @@ fn put_ids(ids: &mut Vec<FuncId>, host: usize, count: usize) -> Result<(), Memor
     Ok(())
 }
 
+// The key of the symbols.
+fn salt_of_seen(seen: &[Seen<'_>]) -> Salted {
+    let mut salt = Salted::new();
+    for one in seen {
+        salt.absorb(one.symbol);
+    }
+    salt.sealed()
+}
+
 // A table in which each symbol stands for the first of its functions.
 fn numbered(alloc: Global, seen: &[Seen<'_>]) -> Result<Symbols, Memory>
     ensures { IfOk result (λ s. (q : List ℕ) → symbol_in s q ≡ named q (map entry_of seen.now)) }
 {
-    let mut numbers = Numbers::new(alloc);
+    let mut numbers = Numbers::new(alloc, salt_of_seen(seen));
     let mut funcs = Vec::new(alloc);
     for (i, one) in seen.iter().enumerate() {
         numbers.enter(alloc, Some(one.symbol), i)?;

@@ -8,6 +8,7 @@ ghost use Rattle.host_replay.specs.Recording.{recorded};
 
 use crate::file::JournalFile;
 use crate::reading::Reading;
+use c_scope::Salted;
 use journal_lines::{part_at, parts};
 use std::alloc::{AllocError, Global};
 use w2c_base::Memory;
@@ -54,7 +55,7 @@ fn read_lines(alloc: Global, lines: &[&[u8]], rest: &[u8]) -> Result<JournalFile
     ensures journal { IfOk result (λ f. Read empty (ended (texts lines.now ++ rest.now ∷ [])) (recorded f)) }
     ensures line { (k : ℕ) → result ≡ Err (fault.Line k) → IsRefused (ended (texts lines.now ++ rest.now ∷ [])) k }
 {
-    let mut reading = Reading::new(alloc);
+    let mut reading = Reading::new(alloc, Salted::of(lines));
     for k in 0..lines.len() {
         match reading.step(alloc, part_at(lines, k)) {
             Ok(true) => {}

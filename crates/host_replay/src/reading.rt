@@ -13,7 +13,7 @@ use crate::file::JournalFile;
 use crate::fitting::fits;
 use crate::place::{Place, new_function};
 use c_hosts::{Asked, HostReply};
-use c_scope::NameTable;
+use c_scope::{NameTable, Salted};
 use crun_lines::Reply;
 use journal_lines::{FunctionLine, HostLine, JournalLine, read_line};
 use std::alloc::Global;
@@ -28,14 +28,14 @@ pub(crate) struct Reading {
 }
 
 impl Reading {
-    /// Nothing is known. It takes no memory.
-    pub(crate) fn new(alloc: Global) -> Reading
+    /// Nothing is known. Symbols will be hashed by a key. It takes no memory.
+    pub(crate) fn new(alloc: Global, salt: Salted) -> Reading
         ensures file { recorded result.file ≡ empty }
         ensures known { Knows result.places (recorded result.file).hosts }
     {
         Reading {
             file: JournalFile::new(alloc),
-            places: NameTable::new(alloc),
+            places: NameTable::new(alloc, salt),
         }
     }
 

@@ -60,20 +60,3 @@ fn hexadecimal_digit(digit: u8) -> u8
 pub fn equal_escapes_have_equal_names()
     ensures { (m n : List ℕ) → escaped m ≡ escaped n → m ≡ n }
 {}
-
-#[cfg(test)]
-mod tests {
-    use crate::escape;
-    use std::test::Fail;
-
-    #[test]
-    fn letters_digits_and_underscore_stay(rt: HostRuntime) -> Result<(), Fail> {
-        let alloc = rt.alloc();
-        let text = escape(alloc, b"AYZayz09_ -.\x00\x7F\x80\xFF")?;
-        let expected = b"AYZ5Aayz09_Z20Z2DZ2EZ00Z7FZ80ZFF";
-        assert_eq!(rt; text.as_slice(), expected.as_slice());
-        let text = escape(alloc, b"")?;
-        assert_eq!(rt; text.as_slice(), b"".as_slice());
-        Ok(())
-    }
-}

@@ -87,38 +87,3 @@ pub fn symbols_are_identifiers()
         → IsSymbol (export_symbol_of m k x) }
     ensures inits { (m : List ℕ) → All (λ b. b < 256) m → IsSymbol (init_symbol_of m) }
 {}
-
-#[cfg(test)]
-mod tests {
-    use crate::{SymbolKind, export_symbol, init_symbol};
-    use std::test::Fail;
-
-    #[test]
-    fn escaped_names(rt: HostRuntime) -> Result<(), Fail> {
-        let alloc = rt.alloc();
-        let symbol = export_symbol(alloc, b"n", SymbolKind::Func, b"a b")?;
-        assert_eq!(rt; symbol.as_slice(), b"w2cZ_nZ_fZ_aZ20b".as_slice());
-        let symbol = export_symbol(alloc, b"n", SymbolKind::Func, b"aZ20b")?;
-        assert_eq!(rt; symbol.as_slice(), b"w2cZ_nZ_fZ_aZ5A20b".as_slice());
-        let symbol = init_symbol(alloc, b"")?;
-        assert_eq!(rt; symbol.as_slice(), b"w2cZ_Z_i".as_slice());
-        Ok(())
-    }
-
-    #[test]
-    fn each_kind_has_its_letter(rt: HostRuntime) -> Result<(), Fail> {
-        let alloc = rt.alloc();
-        let rows = [
-            (SymbolKind::Func, "w2cZ_mZ_fZ_x"),
-            (SymbolKind::Table, "w2cZ_mZ_tZ_x"),
-            (SymbolKind::Memory, "w2cZ_mZ_mZ_x"),
-            (SymbolKind::Const, "w2cZ_mZ_cZ_x"),
-            (SymbolKind::Var, "w2cZ_mZ_vZ_x"),
-        ];
-        for (kind, expected) in rows {
-            let symbol = export_symbol(alloc, b"m", kind, b"x")?;
-            assert_eq!(rt; symbol.as_slice(), expected.as_bytes());
-        }
-        Ok(())
-    }
-}

@@ -3,8 +3,9 @@ use Rattle.std.proofs.Common.{◌≡◌, ◌<◌, ◌≤◌, ℕ, List, length, 
 use Rattle.std.proofs.lemmas.List.Elements.{All-from_recursion}
 use Rattle.wasm_tree.specs.declared.tree.Module.{Module}
 use Rattle.wasm_spelling.proofs.Whole.{one_tree}
-use Rattle.wasm_valid.specs.Verdict.{IsValid}
-use Rattle.wasm_valid.proofs.Verdicts.{valid}
+use Rattle.wasm_valid.specs.Verdict.{Accepted, IsValid}
+use Rattle.wasm_valid.specs.FileVerdict.{Read, IsVerdictOn}
+use Rattle.wasm_valid.proofs.Verdicts.{accepted, valid}
 use Rattle.wasm_spelling.specs.Bytes.{AreBytes}
 use Rattle.wasm_spelling.specs.Places.{IsFormed}
 use Rattle.c_unit.specs.Sets.{IsAccepted}
@@ -24,9 +25,23 @@ named_is_accepted name tree is_valid is_formed named short are_bytes = record {
 pub module_is_accepted : (bytes name : List ℕ) (tree : Module) → IsModuleOf bytes name tree
     → IsAccepted (record { name = name; tree = tree })
 module_is_accepted bytes name tree is =
-    named_is_accepted name tree (valid tree is.accepted.1)
-    (bytes, is.are_bytes, (tree, refl, is.accepted.0)) is.named is.short is.name_bytes
+    named_is_accepted name tree is.valid (bytes, is.are_bytes, (tree, refl, is.spelled)) is.named is.short is.name_bytes
+
+-- the verdict on a file's bytes, and its module
+pub module_of : (bytes name : List ℕ) (tree : Module) → IsVerdictOn bytes (Read tree Accepted) → AreBytes bytes → 1 ≤ length name
+    → length name ≤ 1024 → AreBytes name → IsModuleOf bytes name tree
+module_of bytes name tree verdict are named short name_bytes = record {
+  spelled = verdict.0;
+  valid = valid tree verdict.1;
+  are_bytes = are;
+  named = named;
+  short = short;
+  name_bytes = name_bytes;
+}
+
+pub verdict_on : (bytes name : List ℕ) (tree : Module) → IsModuleOf bytes name tree → IsVerdictOn bytes (Read tree Accepted)
+verdict_on bytes name tree is = (is.spelled, accepted tree is.valid)
 
 -- a file has one module
 pub one_module : (bytes name : List ℕ) (tree other : Module) → IsModuleOf bytes name tree → IsModuleOf bytes name other → tree ≡ other
-one_module bytes name tree other is is' = one_tree bytes tree other is.accepted.0 is'.accepted.0
+one_module bytes name tree other is is' = one_tree bytes tree other is.spelled is'.spelled

@@ -35,7 +35,7 @@ same_module c f module_tree named same = λ i. record { name = sym named i; tree
 from_file : (c : Chosen) (f : File) → IsTranslated f → ComesFrom c f → IsOfItself c
 from_file c f (module_tree, is, is_text) from =
     let same : file_module f module_tree ≡ c.«module» =
-    same_module c f module_tree from.named (one_tree f.bytes c.«module».tree module_tree from.bytes_spell is.accepted.0) in
+    same_module c f module_tree from.named (one_tree f.bytes c.«module».tree module_tree from.bytes_spell is.spelled) in
     let accepted : sets.IsAccepted (file_module f module_tree) = module_is_accepted f.bytes f.name module_tree is in
     let spelled : CSpells c.unit (print_of (items (file_module f module_tree))) = subst (CSpells c.unit) is_text from.text_spells in
     subst (λ (m : NamedModule). sets.IsAccepted m × (c.unit ≡ items m)) same

@@ -2,8 +2,8 @@
 -- chapter 5 and 3.4.10), the text of the module's unit and that of its header.
 use Rattle.std.specs.Prelude.{◌≡◌, ℕ, ◌≤◌, List, length}
 use Rattle.wasm_tree.specs.declared.tree.Module.{Module}
-use Rattle.wasm_valid.specs.Verdict.{Accepted}
-use Rattle.wasm_valid.specs.FileVerdict.{Read, IsVerdictOn}
+use Rattle.wasm_spelling.specs.ModuleFields.{Spells}
+use Rattle.wasm_valid.specs.Verdict.{IsValid}
 use Rattle.wasm_meaning.specs.LinkedSet.{NamedModule}
 use Rattle.c_tree.specs.Tree as tree
 use Rattle.c_tree.specs.Spelled.{CSpells}
@@ -15,9 +15,10 @@ use Rattle.c_unit.specs.Items.{items_of, header_of}
 use Rattle.c_unit.specs.Shape.{HasShape}
 use Rattle.w2c_sim.specs.declared.translation.Texts.{Texts}
 
--- the file is accepted, and this is its module; the module gets this name, of 1 to 1,024 bytes
+-- the file's bytes spell this module, and it is valid; the module gets this name, of 1 to 1,024 bytes
 pub record IsModuleOf (bytes name : List ℕ) (module_tree : Module) : Type 0 where
-  pub accepted : IsVerdictOn bytes (Read module_tree Accepted)
+  pub spelled : Spells module_tree bytes
+  pub valid : IsValid module_tree
   pub are_bytes : AreBytes bytes
   pub named : 1 ≤ length name
   pub short : length name ≤ 1024

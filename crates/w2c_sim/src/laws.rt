@@ -1,6 +1,8 @@
 // Laws of texts and of linked units. Each is the contract of a function that does nothing.
 ghost use Rattle.std.specs.Prelude.{◌≡◌, List, ℕ};
 ghost use Rattle.wasm_tree.specs.declared.tree.Module.{Module as Tree};
+ghost use Rattle.wasm_valid.specs.Verdict.{Accepted};
+ghost use Rattle.wasm_valid.specs.FileVerdict.{Read, IsVerdictOn};
 ghost use Rattle.w2c_sim.specs.Selections.{TranslationTheorem};
 ghost use Rattle.w2c_sim.specs.Translation.{text_of, IsModuleOf, SpellsUnit};
 
@@ -15,11 +17,13 @@ pub fn linked_units_do_what_modules_do()
     units_do_what_modules_do();
 }
 
-/// A file has one module at most, so its texts depend on its bytes and the name alone. The text of its unit
-/// spells one unit, which keeps the rules of the subset of C and has the module's shape.
+/// A file has one module at most, so its texts depend on its bytes and the name alone; the verdict on the file
+/// is that this module is accepted. The text of its unit spells one unit, which keeps the rules of the subset of
+/// C and has the module's shape.
 pub fn texts_spell_units()
     ensures one { (bytes name : List ℕ) (tree other : Tree)
         → IsModuleOf bytes name tree → IsModuleOf bytes name other → tree ≡ other }
+    ensures accepted { (bytes name : List ℕ) (tree : Tree) → IsModuleOf bytes name tree → IsVerdictOn bytes (Read tree Accepted) }
     ensures unit { (bytes name : List ℕ) (tree : Tree)
         → IsModuleOf bytes name tree → SpellsUnit (record { name = name; tree = tree }) (text_of tree name) }
 {}

@@ -12,6 +12,7 @@ use Rattle.wasm_tree.specs.declared.tree.Module.{Module}
 use Rattle.w2c_gen.specs.GeneratedFile.{IsGeneratedFile}
 use Rattle.w2c_sim.specs.Selections.{File, IsTranslated as IsTranslatedFile, TranslationTheorem}
 use Rattle.w2c_sim.specs.Translation.{IsModuleOf, text_of, header_text_of}
+use Rattle.w2c_sim.proofs.Accepting.{module_of}
 use Rattle.w2c_sim.proofs.Spelling.{spells_unit}
 use Rattle.wasm2c_words.specs.CommandLine.{Line, Generation, translate, set, generate, runtime, line_of}
 use Rattle.wasm2c_cli.specs.declared.stop.Reason.{Reason}
@@ -26,7 +27,7 @@ use Rattle.wasm2c_cli.specs.Plan.{Target, inputs_of, outputs_of, names_of_target
 use Rattle.wasm2c_cli.specs.Runtime.{runtime_files}
 use Rattle.wasm2c_cli.specs.Stops.{Done, Generates, IsInput, IsOutput, KeepsCurrent, StandsOfJob, StandsOfLine, StopsLine, StopsWork}
 use Rattle.wasm2c_cli.specs.Top.{Answers, NamesModules}
-use Rattle.wasm2c_cli.specs.Units.{DoTheSameWithOthers, HoldUnits, HoldsUnit, StandUnits, WritesLinkedUnits, WritesUnits, texts_made}
+use Rattle.wasm2c_cli.specs.Units.{DoTheSameWithOthers, HoldAll, HoldsText, HoldsUnit, Stand, StandAll, WritesLinkedUnits, WritesUnits, texts_made}
 use Rattle.wasm2c_cli.proofs.Taken.{length-taken, taken_accepted}
 
 -- ---- the job of words, by that of their line
@@ -222,7 +223,7 @@ all_there old (Some after) files distinct whole name text has = stand_whole file
 hold_units : (new : Told) (targets : List Target) (sources : List (List ℕ)) (modules : List Module) → AllByRecursion HasName targets
     → AllByRecursion IsNamed targets → AreTaken sources modules → length modules ≡ length targets
     → ((name : Name) (text : List ℕ) → HasText name text (files_of targets modules) → HasFile new name text)
-    → HoldUnits new targets sources modules
+    → HoldAll (HoldsUnit new) targets sources modules
 hold_units new [] [] [] has named taken many there = tt
 hold_units new [] [] (m ∷ modules) has named taken many there = absurd taken
 hold_units new [] (bytes ∷ sources) [] has named taken many there = absurd taken
@@ -231,11 +232,9 @@ hold_units new (t ∷ targets) [] [] has named taken many there = absurd (omega 
 hold_units new (t ∷ targets) [] (m ∷ modules) has named taken many there = absurd taken
 hold_units new (t ∷ targets) (bytes ∷ sources) [] has named taken many there = absurd taken
 hold_units new (t ∷ targets) (bytes ∷ sources) (m ∷ modules) ((some, short), has) (name_bytes, named) ((are, accepted), taken) many there =
-    let is_module : IsModuleOf bytes t.module_name m =
-    record { accepted = accepted; are_bytes = are; named = some; short = short; name_bytes = name_bytes } in
+    let is_module : IsModuleOf bytes t.module_name m = module_of bytes t.module_name m accepted are some short name_bytes in
     let here : HoldsUnit new t bytes m = record {
-      is_module = is_module;
-      stands = there t.c_file (text_of m t.module_name) (inl (refl, refl));
+      text = record { is_module = is_module; stands = there t.c_file (text_of m t.module_name) (inl (refl, refl)) };
       header_stands = there t.header (header_text_of m t.module_name) (inr (inl (refl, refl)));
       unit = spells_unit bytes t.module_name m is_module;
     } in
@@ -259,12 +258,12 @@ abbrev pub LinesAreDistinct : Type 0
 LinesAreDistinct = (line : Line) → HasPassed line → AreDistinct (outputs_of line)
 
 stand_units : LinesAreDistinct → (line : Line) (contents : Contents) (old new : Told) → HasPassed line
-    → ((dir : Name) → line ≡ runtime dir → ⊥) → Made line contents old new → old ≡ Some contents → StandUnits line contents new
+    → ((dir : Name) → line ≡ runtime dir → ⊥) → Made line contents old new → old ≡ Some contents → StandAll (HoldsUnit new) line contents
 stand_units distinct line contents old new passed names m told = record {
   sources = m.sources;
   modules = m.modules;
   read = m.read;
-  units = hold_units new (targets_of line) m.sources m.modules (targets_have line passed) m.named m.taken m.many
+  all = hold_units new (targets_of line) m.sources m.modules (targets_have line passed) m.named m.taken m.many
       (all_there contents new (files_of (targets_of line) m.modules)
       (subst AreDistinct (names_of_line line names ∙ sym (names_made (targets_of line) m.modules m.many)) (distinct line passed))
       (m.stand ∙ ap (λ (t : Told). written t (files_of (targets_of line) m.modules)) told));
@@ -281,9 +280,24 @@ finish_units distinct words old new f (line, is, passed, fin) names = λ content
 
 -- ---- what is linked of the units
 
+-- what holds of each, where it follows of one
+hold_weaker : (P Q : Stand) → ((t : Target) (bytes : List ℕ) (m : Module) → P t bytes m → Q t bytes m)
+    → (targets : List Target) (sources : List (List ℕ)) (modules : List Module) → HoldAll P targets sources modules
+    → HoldAll Q targets sources modules
+hold_weaker P Q weaker [] [] [] held = tt
+hold_weaker P Q weaker [] [] (m ∷ modules) held = absurd held
+hold_weaker P Q weaker [] (bytes ∷ sources) [] held = absurd held
+hold_weaker P Q weaker [] (bytes ∷ sources) (m ∷ modules) held = absurd held
+hold_weaker P Q weaker (t ∷ targets) [] [] held = absurd held
+hold_weaker P Q weaker (t ∷ targets) [] (m ∷ modules) held = absurd held
+hold_weaker P Q weaker (t ∷ targets) (bytes ∷ sources) [] held = absurd held
+hold_weaker P Q weaker (t ∷ targets) (bytes ∷ sources) (m ∷ modules) (here, held) =
+    (weaker t bytes m here, hold_weaker P Q weaker targets sources modules held)
+
 -- files that are translated, and others
 module _ (new : Told) (others : List File) (translated : AllByRecursion IsTranslatedFile others) where
-  all_translated : (targets : List Target) (sources : List (List ℕ)) (modules : List Module) → HoldUnits new targets sources modules
+  all_translated : (targets : List Target) (sources : List (List ℕ)) (modules : List Module)
+      → HoldAll (HoldsText new) targets sources modules
       → AllByRecursion IsTranslatedFile (texts_made targets sources modules ++ others)
   all_translated [] [] [] held = translated
   all_translated [] [] (m ∷ modules) held = absurd held
@@ -298,16 +312,24 @@ module _ (new : Told) (others : List File) (translated : AllByRecursion IsTransl
 pub are_linked : TranslationTheorem → (words : List Name) (old new : Told) → WritesUnits words old new → WritesLinkedUnits words old new
 are_linked theorem words old new writes = λ contents told. linked contents (writes contents told)
   where
-    linked : (contents : Contents) → (line : Line) × (line_of words ≡ Some line) × StandUnits line contents new
-        → (line : Line) × (line_of words ≡ Some line) × (stand : StandUnits line contents new)
+    texts : (line : Line) (contents : Contents) → StandAll (HoldsUnit new) line contents → StandAll (HoldsText new) line contents
+    texts line contents stand = record {
+      sources = stand.sources;
+      modules = stand.modules;
+      read = stand.read;
+      all = hold_weaker (HoldsUnit new) (HoldsText new) (λ t bytes m held. held.text) (targets_of line) stand.sources stand.modules stand.all;
+    }
+
+    linked : (contents : Contents) → (line : Line) × (line_of words ≡ Some line) × StandAll (HoldsUnit new) line contents
+        → (line : Line) × (line_of words ≡ Some line) × (stand : StandAll (HoldsText new) line contents)
         × DoTheSameWithOthers (texts_made (targets_of line) stand.sources stand.modules)
     linked contents (line, is, stand) = (
       line,
       is,
-      stand,
+      texts line contents stand,
       λ others translated.
           theorem (texts_made (targets_of line) stand.sources stand.modules ++ others)
-          (all_translated new others translated (targets_of line) stand.sources stand.modules stand.units),
+          (all_translated new others translated (targets_of line) stand.sources stand.modules (texts line contents stand).all),
     )
 
 -- ---- work that stopped

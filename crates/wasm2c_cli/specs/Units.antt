@@ -10,28 +10,36 @@ use Rattle.wasm2c_words.specs.CommandLine.{Line, line_of}
 use Rattle.wasm2c_cli.specs.Job.{AreSources}
 use Rattle.wasm2c_cli.specs.Plan.{Target, targets_of}
 
--- The C file holds the text of the unit of the module that the bytes spell, and the header stands beside it; the text spells one
--- unit, which keeps the rules of the subset of C and has the module's shape.
-pub record HoldsUnit (new : Told) (t : Target) (bytes : List ℕ) (m : Module) : Type 0 where
+-- what stands of one module of a line, whose file has these bytes
+abbrev pub Stand : Type 1
+Stand = Target → List ℕ → Module → Type 0
+
+-- the C file holds the text of the unit of the module that the bytes spell
+pub record HoldsText (new : Told) (t : Target) (bytes : List ℕ) (m : Module) : Type 0 where
   pub is_module : IsModuleOf bytes t.module_name m
   pub stands : HasFile new t.c_file (text_of m t.module_name)
+
+-- The header stands beside it, and the text spells one unit, which keeps the rules of the subset of C and has the module's shape.
+pub record HoldsUnit (new : Told) (t : Target) (bytes : List ℕ) (m : Module) : Type 0 where
+  pub text : HoldsText new t bytes m
   pub header_stands : HasFile new t.header (header_text_of m t.module_name)
   pub unit : SpellsUnit (record { name = t.module_name; tree = m }) (text_of m t.module_name)
 
-abbrev pub HoldUnits : Told → List Target → List (List ℕ) → List Module → Type 0
-HoldUnits new [] [] [] = Unit {0}
-HoldUnits new (t ∷ targets) (bytes ∷ sources) (m ∷ modules) = HoldsUnit new t bytes m × HoldUnits new targets sources modules
-HoldUnits new _ _ _ = ⊥
+-- one after the other
+abbrev pub HoldAll : Stand → List Target → List (List ℕ) → List Module → Type 0
+HoldAll Holds [] [] [] = Unit {0}
+HoldAll Holds (t ∷ targets) (bytes ∷ sources) (m ∷ modules) = Holds t bytes m × HoldAll Holds targets sources modules
+HoldAll Holds _ _ _ = ⊥
 
--- the units of all modules that a line asks for stand
-pub record StandUnits (line : Line) (contents : Contents) (new : Told) : Type 0 where
+-- it stands of all modules that a line asks for
+pub record StandAll (Holds : Stand) (line : Line) (contents : Contents) : Type 0 where
   pub sources : List (List ℕ)
   pub modules : List Module
   pub read : AreSources line contents sources
-  pub units : HoldUnits new (targets_of line) sources modules
+  pub all : HoldAll Holds (targets_of line) sources modules
 
 abbrev pub WritesUnits : List Name → Told → Told → Type 0
-WritesUnits words old new = Tells old (λ contents. (line : Line) × (line_of words ≡ Some line) × StandUnits line contents new)
+WritesUnits words old new = Tells old (λ contents. (line : Line) × (line_of words ≡ Some line) × StandAll (HoldsUnit new) line contents)
 
 -- the texts that were made of bytes
 abbrev pub texts_made : List Target → List (List ℕ) → List Module → List File
@@ -45,5 +53,5 @@ DoTheSameWithOthers files = (others : List File) → AllByRecursion IsTranslated
 
 abbrev pub WritesLinkedUnits : List Name → Told → Told → Type 0
 WritesLinkedUnits words old new = Tells old (λ contents. (line : Line) × (line_of words ≡ Some line)
-    × (stand : StandUnits line contents new)
+    × (stand : StandAll (HoldsText new) line contents)
     × DoTheSameWithOthers (texts_made (targets_of line) stand.sources stand.modules))

@@ -131,16 +131,3 @@ impl<T: Drop> From<AllocFailed<T>> for ReadFault {
         ReadFault::Memory
     }
 }
-
-#[cfg(test)]
-mod tests {
-    use crate::{Cause, Which};
-    use std::test::Fail;
-
-    #[test]
-    fn texts(rt: HostRuntime) -> Result<(), Fail> {
-        assert_eq!(rt; Cause::BadUTF8.text(), "bad UTF-8");
-        assert_eq!(rt; Which::AllLocals.text(), "all locals");
-        Ok(())
-    }
-}

@@ -1,4 +1,5 @@
 use Rattle.w2c_sim.specs.Translation.{IsTranslation}
+use Rattle.w2c_sim.proofs.Accepting.{verdict_on}
 use Rattle.w2c_sim.proofs.Refusing.{accepted_is_given, refused_is_given}
 use Rattle.w2c_sim.proofs.translation.translate.Goals as goal
 
@@ -7,4 +8,4 @@ returns-clause-accepted c = accepted_is_given c.args.bytes.now c.translation.res
 
 pub returns-clause-given : goal.returns-clause-given
 returns-clause-given c = refused_is_given c.args.bytes.now c.translation.result (IsTranslation c.args.bytes.now c.args.name.now)
-    (λ texts made. (made.0, made.1.accepted)) c.translation.ensures.texts c.translation.ensures.refused
+    (λ texts made. (made.0, verdict_on c.args.bytes.now c.args.name.now made.0 made.1)) c.translation.ensures.texts c.translation.ensures.refused

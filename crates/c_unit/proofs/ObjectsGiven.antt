@@ -1,0 +1,74 @@
+-- What gives a pointer to an exported table, memory or global: its body returns the object's address, or what the import's symbol gives.
+use Rattle.std.proofs.Common.{◌≡◌, Bool, true, if◌then◌else◌, List, [], ◌∷◌, Option, Some, None, refl, sym, ap, ◌∙◌, subst}
+use Rattle.std.specs.Prelude.{false, slice_get}
+use Rattle.w2c_base.specs.declared.value.ValType.{ValType}
+use Rattle.w2c_base.specs.declared.value.ValType.TheVariants as val
+use Rattle.wasm_tree.specs.declared.entries.Import.{Import}
+use Rattle.wasm_tree.specs.declared.entries.Export.{Export}
+use Rattle.wasm_tree.specs.declared.entries.ExportKind.{ExportKind}
+use Rattle.wasm_tree.specs.declared.entries.ExportKind.TheVariants.{Func as ExportFunc, Table as ExportTable, Memory as ExportMemory, Global as ExportGlobal}
+use Rattle.wasm_tree.specs.IndexSpaces.{global_type_in}
+use Rattle.wasm_meaning.specs.LinkedSet.{NamedModule}
+use Rattle.c_tree.specs.declared.tree.CType.{CType}
+use Rattle.c_tree.specs.declared.tree.CType.TheVariants as type
+use Rattle.c_tree.specs.declared.tree.Num.TheVariants.{Plain}
+use Rattle.c_tree.specs.Tree as tree
+use Rattle.c_tree.specs.Runtime.{same_func_type}
+use Rattle.c_tree.specs.Scope.{Name}
+use Rattle.alike.specs.Alike.{memory_name, table_name, global_name}
+use Rattle.c_symbols.specs.Symbols.{accessor_type, global_accessor_type, table_imports, memory_imports, global_imports, import_symbol, import_type, is_usable, symbol_type}
+use Rattle.c_body.proofs.Indirect.{same_c_func_type}
+use Rattle.c_unit.specs.Exports.{export_func, passes_on, accessor, result_name, usable_symbol}
+use Rattle.c_unit.specs.Shape.{GivesObject, GivesExport}
+use Rattle.c_unit.proofs.Accessor.{IsPointer, of_table, of_memory, of_u32, of_u64}
+
+-- what a call of a symbol gives
+abbrev PassesOn : Name → tree.Func → Type 0
+PassesOn symbol f = (variable : tree.Local) × (f.body ≡ Some (record {
+  locals = variable ∷ [];
+  stmts = tree.Call (Some variable.1) (tree.Called symbol) [] ∷ tree.Return (tree.Value (tree.Name variable.1)) ∷ [];
+}))
+
+passed : {pointer : CType} → IsPointer pointer → (name symbol : Name) → PassesOn symbol (passes_on (accessor_type pointer) name (Some symbol))
+passed of_table name symbol = ((type.PtrTab, result_name, Plain 0), refl)
+passed of_memory name symbol = ((type.PtrMem, result_name, Plain 0), refl)
+passed of_u32 name symbol = ((type.PtrU32, result_name, Plain 0), refl)
+passed of_u64 name symbol = ((type.PtrU64, result_name, Plain 0), refl)
+
+-- an import whose symbol has its type is used
+used : (m : NamedModule) (i : Import) → symbol_type m (import_symbol i) ≡ Some (import_type m.tree i)
+    → usable_symbol m i ≡ Some (import_symbol i)
+used m i typed =
+    let usable : is_usable m i ≡ true =
+    ap (λ (o : Option tree.FuncType). elim o [ None ↦ false | Some t ↦ same_func_type t (import_type m.tree i) ]) typed
+    ∙ same_c_func_type (import_type m.tree i) in
+    ap (λ b. if b then Some (import_symbol i) else None) usable
+
+gives_object : (m : NamedModule) (pointer : CType) → IsPointer pointer → (name : Name) (i : Option Import) (object : Name)
+    → GivesObject m i object (accessor m (accessor_type pointer) name i object)
+gives_object m pointer is name None object = refl
+gives_object m pointer is name (Some i) object = λ typed.
+    subst (λ o. PassesOn (import_symbol i) (passes_on (accessor_type pointer) name o)) (sym (used m i typed))
+    (passed is name (import_symbol i))
+
+-- the export, were it of this kind
+abbrev of_kind : Export → ExportKind → Export
+of_kind e kind = record { name = e.name; kind = kind; index = e.index; name_place = e.name_place; index_place = e.index_place }
+
+pub gives_export : (m : NamedModule) (e : Export) → GivesExport m e (export_func m e)
+gives_export m e = by e.kind
+  where
+    global : (o : Option (ValType × Bool)) (name : Name)
+        → GivesObject m (slice_get (global_imports m.tree) e.index) (global_name e.index)
+        (accessor m (global_accessor_type o) name (slice_get (global_imports m.tree) e.index) (global_name e.index))
+    global None name = gives_object m type.PtrU32 of_u32 name (slice_get (global_imports m.tree) e.index) (global_name e.index)
+    global (Some (val.I32, mutable)) name =
+        gives_object m type.PtrU32 of_u32 name (slice_get (global_imports m.tree) e.index) (global_name e.index)
+    global (Some (val.I64, mutable)) name =
+        gives_object m type.PtrU64 of_u64 name (slice_get (global_imports m.tree) e.index) (global_name e.index)
+
+    by : (kind : ExportKind) → GivesExport m (of_kind e kind) (export_func m (of_kind e kind))
+    by ExportFunc = tt
+    by ExportTable = gives_object m type.PtrTab of_table _ (slice_get (table_imports m.tree) e.index) table_name
+    by ExportMemory = gives_object m type.PtrMem of_memory _ (slice_get (memory_imports m.tree) e.index) memory_name
+    by ExportGlobal = global (global_type_in m.tree e.index) _
