@@ -1,5 +1,5 @@
 // Reads files one after another.
-ghost use Rattle.std.specs.Prelude.{◌≡◌, ◌<◌, ◌≤◌, length, slice_get, Some, IfOk, IfErr};
+ghost use Rattle.std.specs.Prelude.{◌≡◌, ◌<◌, ◌≤◌, length, slice_get, Some, IfOk, IfErr, OnOk};
 ghost use Rattle.std.specs.FinMap.{get};
 ghost use Rattle.std.specs.List.{AllByRecursion};
 ghost use Rattle.w2c_io.specs.Telling.{Tells};
@@ -50,6 +50,7 @@ pub fn read_files<F: Files>(
     ensures current { F.current files.new ≡ F.current files.old }
     ensures writes { F.write_faults files.new ≡ F.write_faults files.old }
     ensures later { F.read_faults files.old ≤ F.read_faults files.new }
+    ensures kept { OnOk result (F.read_faults files.new ≡ F.read_faults files.old) }
     ensures read { IfOk result (λ all. Tells (F.told files.old) (λ contents. AreRead limits.each limits.all contents (names_of names.now) all.items)) }
     ensures many { IfOk result (λ all. length all.items ≡ length names.now) }
     ensures fit { IfOk result (λ all. AllByRecursion (λ bytes. length bytes ≤ limits.each) all.items) }
@@ -91,6 +92,7 @@ fn read_file<F: Files>(
     ensures current { F.current files.new ≡ F.current files.old }
     ensures writes { F.write_faults files.new ≡ F.write_faults files.old }
     ensures later { F.read_faults files.old ≤ F.read_faults files.new }
+    ensures kept { OnOk result (F.read_faults files.new ≡ F.read_faults files.old) }
     ensures held { IfOk result (λ bytes. Tells (F.told files.old) (λ contents. get contents name.now ≡ Some bytes)) }
     ensures fit { IfOk result (λ bytes. length bytes ≤ each) }
     ensures room { IfOk result (λ bytes. length bytes ≤ left) }

@@ -1,49 +1,14 @@
-// Writes files one after another.
-ghost use Rattle.std.specs.Prelude.{◌≡◌, ◌≤◌, Some, None, IsSome, OnOk, OnErr, IfErr, IsErrOf};
+// Writes a file whole, or gives it up.
+ghost use Rattle.std.specs.Prelude.{◌≡◌, ◌≤◌, Some, None, IsSome, OnOk, OnErr, IsErrOf};
 ghost use Rattle.w2c_io.specs.declared.answers.WriteAnswer.TheVariants as writing;
 ghost use Rattle.w2c_io.specs.Contents.{holding};
 ghost use Rattle.w2c_io.specs.Causes.{WriteCause};
-ghost use Rattle.w2c_files.specs.Standing.{written, IsBegun};
-ghost use Rattle.w2c_files.specs.Stopping.{StopsWriting, seen_outputs};
+ghost use Rattle.w2c_files.specs.Standing.{IsBegun};
 
-use w2c_base::Bytes;
 use w2c_io::{Files, WriteAnswer};
 
 // How many bytes a put is given at most.
 const PIECE: usize = 4096;
-
-/// A file to write, with its whole text.
-#[derive(Drop)]
-pub struct Output {
-    pub name: String,
-    pub text: Bytes,
-}
-
-/// Why files are not all written.
-#[derive(Clone, Copy, Debug, PartialEq, Eq)]
-pub enum WriteStop {
-    /// The file with this number, counted from 0, cannot be written.
-    Unwritten(usize),
-    Memory,
-}
-
-/// Writes the files in order, until one cannot be written.
-pub fn write_files<F: Files>(outputs: &[Output], files: &mut F) -> Result<(), WriteStop>
-    ensures whole { OnOk result (F.told files.new ≡ written (F.told files.old) (seen_outputs outputs.now)) }
-    ensures reads { F.read_faults files.new ≡ F.read_faults files.old }
-    ensures later { F.write_faults files.old ≤ F.write_faults files.new }
-    ensures stop { IfErr result (StopsWriting (F.told files.old) (F.told files.new) (seen_outputs outputs.now)
-        (F.write_faults files.old) (F.write_faults files.new) (F.fault_name files.new)) }
-{
-    for (k, output) in outputs.iter().enumerate() {
-        match write_file(output.name.as_str(), output.text.as_slice(), files) {
-            Ok(()) => {}
-            Err(WriteAnswer::Memory) => return Err(WriteStop::Memory),
-            Err(WriteAnswer::Failed) => return Err(WriteStop::Unwritten(k)),
-        }
-    }
-    Ok(())
-}
 
 /// Writes a file: begins it, puts its text, and finishes it.
 pub fn write_file<F: Files>(name: &str, text: &[u8], files: &mut F) -> Result<(), WriteAnswer>

@@ -1,6 +1,7 @@
 pub mod Causes
 pub mod Contents
 pub mod InMemory
+pub mod Passing
 pub mod Planned
 pub mod Stored
 pub mod Telling

@@ -9,7 +9,7 @@ ghost use Rattle.w2c_io.specs.declared.answers.WriteAnswer.TheVariants as writin
 use crate::plan::FaultPlan;
 use crate::store::{Entry, add, find, grow, newest_name};
 use crate::sure_files::read_stored;
-use crate::write_piece::first_half;
+use crate::writing::first_half;
 use crate::{Files, ReadAnswer, WriteAnswer};
 use std::alloc::Global;
 use w2c_base::{Bytes, Memory};

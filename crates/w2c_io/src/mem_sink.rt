@@ -5,7 +5,7 @@ ghost use Rattle.w2c_io.specs.Causes.{WriteCause, count_after_write};
 ghost use Rattle.w2c_io.specs.declared.answers.WriteAnswer.TheVariants as writing;
 
 use crate::plan::FaultPlan;
-use crate::write_piece::first_half;
+use crate::writing::first_half;
 use crate::{Sink, WriteAnswer};
 use std::alloc::Global;
 use w2c_base::Memory;

@@ -2,12 +2,12 @@
 ghost use Rattle.std.specs.Prelude.{◌≡◌, ◌≤◌, None, IfOk, IsErrOf, length};
 ghost use Rattle.w2c_io.specs.declared.answers.ReadAnswer.TheVariants as reading;
 
-use crate::write_piece::{write_answer, write_piece};
+use crate::reading::{read_answer, read_whole};
+use crate::writing::{write_answer, write_piece};
 use crate::{Files, ReadAnswer, WriteAnswer};
 use std::alloc::Global;
 use std::fs::File;
-use std::io;
-use std::io::{ErrorKind, Read, Write};
+use std::io::Write;
 use w2c_base::Bytes;
 
 /// A file that was begun, and its name.
@@ -50,45 +50,14 @@ impl<'a> StdFiles<'a> {
     }
 }
 
-// Reads in turns, and takes at most one byte more than the limit.
+// The whole file, or why it was not read. It is never Absent: the system does not say so.
 fn read_file(rt: &HostRuntime, alloc: Global, name: &str, limit: usize) -> Result<Bytes, ReadAnswer>
     ensures fits { IfOk result (λ bytes. length bytes ≤ limit) }
     ensures not_absent { IsErrOf result reading.Absent → ⊥ }
 {
-    let mut file = match File::open(rt, name) {
-        Ok(file) => file,
-        Err(e) => return Err(read_answer(&e)),
-    };
-    let mut bytes = Bytes::new(alloc);
-    let mut buf = [0u8; 4096];
-    while bytes.len() <= limit {
-        let most = (limit - bytes.len()).min(4095) + 1;
-        match read_some(&mut file, &mut buf[..most]) {
-            Ok(0) => return Ok(bytes),
-            Ok(count) => bytes.extend(&buf[..count])?,
-            Err(answer) => return Err(answer),
-        }
-    }
-    Err(ReadAnswer::TooLong)
-}
-
-fn read_some(file: &mut File, buf: &mut [u8]) -> Result<usize, ReadAnswer>
-    ensures bound { IfOk result (λ count. count ≤ length buf.new) }
-    ensures not_absent { IsErrOf result reading.Absent → ⊥ }
-{
-    match file.read(buf) {
-        Ok(count) => Ok(count),
+    match File::open(rt, name) {
+        Ok(mut file) => read_whole(alloc, &mut file, limit),
         Err(e) => Err(read_answer(&e)),
-    }
-}
-
-fn read_answer(e: &io::Error) -> ReadAnswer
-    ensures { result ≡ reading.Absent → ⊥ }
-{
-    if e.kind() == ErrorKind::OutOfMemory {
-        ReadAnswer::Memory
-    } else {
-        ReadAnswer::Failed
     }
 }
 

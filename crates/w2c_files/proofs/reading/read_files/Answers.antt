@@ -36,6 +36,7 @@ loop-k-preserved g c =
       current = search rules;
       writes = search rules;
       later = omega (arith, c.loop-k.invariant.later, c.in-Ok.ensures.later);
+      kept = search rules;
       held = one_more_held (files.told c.args.files.now) (names_of names) c.loop-k.k name all more c.in-Ok.bytes at c.loop-k.invariant.held
           (λ contents tells. c.in-Ok.ensures.held contents (search rules)) same;
       many = search rules;

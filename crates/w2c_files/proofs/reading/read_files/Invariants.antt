@@ -14,6 +14,7 @@ invariant-loop-k g l =
       current : files.current l.files ≡ files.current l.fn.files;
       writes : files.write_faults l.files ≡ files.write_faults l.fn.files;
       later : files.read_faults l.fn.files ≤ files.read_faults l.files;
+      kept : files.read_faults l.files ≡ files.read_faults l.fn.files;
       held : Tells (files.told l.fn.files) (λ contents. AreHeld contents (take l.k (names_of l.names)) l.all.items);
       many : length l.all.items ≡ l.k;
       fit : AllByRecursion (λ bytes. length bytes ≤ l.limits.each) l.all.items;

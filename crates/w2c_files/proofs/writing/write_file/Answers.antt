@@ -1,4 +1,4 @@
-use Rattle.std.proofs.Common.{append_assoc, ap, List, ℕ, ◌≡◌, rules, arith, ◌∙◌, sym, ◌++◌, take-append-drop}
+use Rattle.std.proofs.Common.{append_assoc, ap, List, ℕ, ◌≡◌, rules, ◌∙◌, sym, ◌++◌, take-append-drop}
 use Rattle.w2c_files.proofs.Standing.{part_begun, put_more}
 use Rattle.w2c_files.proofs.writing.write_file.Goals as goal
 
@@ -36,5 +36,5 @@ loop-rest-preserved g c =
       );
       current = search rules;
       reads = search rules;
-      later = omega (arith, c.loop-rest.invariant.later, c.in_default.ensures.cause.later);
+      kept = search rules;
     }

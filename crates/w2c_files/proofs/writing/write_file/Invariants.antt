@@ -1,4 +1,4 @@
-use Rattle.std.proofs.Common.{◌≡◌, ◌≤◌, ◌++◌, List, ℕ, Some, length}
+use Rattle.std.proofs.Common.{◌≡◌, ◌++◌, List, ℕ, Some, length}
 use Rattle.w2c_io.specs.Contents.{holding}
 use Rattle.w2c_files.proofs.writing.write_file.Given as goal
 
@@ -10,7 +10,7 @@ invariant-loop-rest g l =
       held : (part : List ℕ) × (l.text ≡ part ++ l.rest) × (files.told l.files ≡ holding (files.told l.fn.files) l.name part);
       current : files.current l.files ≡ Some l.name;
       reads : files.read_faults l.files ≡ files.read_faults l.fn.files;
-      later : files.write_faults l.fn.files ≤ files.write_faults l.files;
+      kept : files.write_faults l.files ≡ files.write_faults l.fn.files;
     }
 
 abbrev pub decreases-loop-rest : goal.decreases-loop-rest

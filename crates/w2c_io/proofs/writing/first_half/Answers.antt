@@ -1,5 +1,5 @@
 use Rattle.std.proofs.Common.{sym, length, drop, ◌/◌, take-append-drop}
-use Rattle.w2c_io.proofs.write_piece.first_half.Goals as goal
+use Rattle.w2c_io.proofs.writing.first_half.Goals as goal
 
 pub returns-clause-front : goal.returns-clause-front
 returns-clause-front c =
