@@ -37,12 +37,13 @@ use Rattle.std.proofs.lemmas.Grind.{flat_map-append}
 use Rattle.w2c_io.specs.declared.answers.WriteAnswer.{WriteAnswer}
 use Rattle.w2c_io.specs.Contents.{extended}
 use Rattle.crun_cli.specs.Writing.{Writes}
-use Rattle.crun_cli.proofs.Written.{cause_from, no_cause, none_written, stops_writing, then_writes}
+use Rattle.w2c_io.proofs.Causes.{done_cause}
+use Rattle.crun_cli.proofs.Written.{none_written, stops_writing, then_writes}
 
--- the lines of these are written, and the count has not fallen
+-- the lines of these are written, and no write has failed
 pub record AreWritten {A : Type 0} (lines : A → List ℕ) (old now : Option (List ℕ)) (before after : ℕ) (done : List A) : Type 0 where
   pub written : now ≡ extended old (flat_map lines done)
-  pub later : before ≤ after
+  pub kept : after ≡ before
 
 module _ {A : Type 0} (lines : A → List ℕ) where
   one_line : (x : A) → flat_map lines (x ∷ []) ≡ lines x
@@ -50,10 +51,10 @@ module _ {A : Type 0} (lines : A → List ℕ) where
 
   as_call : (old now : Option (List ℕ)) (before after : ℕ) (done : List A) → AreWritten lines old now before after done
       → Writes {A = Unit {0}} old now before after (flat_map lines done) (Ok tt)
-  as_call old now before after done are = record { whole = are.written; part = tt; cause = no_cause tt before after are.later }
+  as_call old now before after done are = record { whole = are.written; part = tt; cause = done_cause tt before after are.kept }
 
   pub none_yet : (old : Option (List ℕ)) (faults : ℕ) → AreWritten lines old old faults faults []
-  none_yet old faults = record { written = none_written old; later = omega arith }
+  none_yet old faults = record { written = none_written old; kept = refl }
 
   -- one more
   pub one_more : (u : Unit {0}) (old middle new : Option (List ℕ)) (before between after : ℕ) (done : List A) (x : A)
@@ -65,7 +66,7 @@ module _ {A : Type 0} (lines : A → List ℕ) where
       record {
         written = both.whole ∙ ap (λ l. extended old (flat_map lines done ++ l)) (sym (one_line x))
             ∙ ap (extended old) (sym (flat_map-append lines done (x ∷ [])));
-        later = both.cause.later;
+        kept = both.cause.kept;
       }
 
   -- the one behind these is not written whole

@@ -5,9 +5,8 @@ use Rattle.std.proofs.lemmas.List.{append-nil}
 use Rattle.w2c_io.specs.declared.answers.WriteAnswer.{WriteAnswer}
 use Rattle.w2c_io.specs.declared.answers.WriteAnswer.TheVariants as answer
 use Rattle.w2c_io.specs.Contents.{extended}
-use Rattle.w2c_io.specs.Causes.{WriteCause}
 use Rattle.w2c_io.specs.Telling.{SaysPart}
-use Rattle.w2c_io.proofs.Telling.{rose_from}
+use Rattle.w2c_io.proofs.Causes.{cause_behind, cause_of, done_cause, memory_cause}
 use Rattle.crun_cli.specs.Writing.{Writes}
 
 pub none_written : (old : Option (List ℕ)) → old ≡ extended old []
@@ -39,33 +38,10 @@ pub whole_behind : (old middle new : Option (List ℕ)) (a b : List ℕ) → mid
     ≡ extended old (a ++ b)
 whole_behind old middle new a b written gained = gained ∙ ap (λ o. extended o b) written ∙ extended_twice old a b
 
--- ---- why a call failed
-
-pub no_cause : {A : Type 0} (x : A) (before after : ℕ) → before ≤ after → WriteCause {A = A} before after (Ok x)
-no_cause x before after le = record { later = le; failed = λ is. absurd cc }
-
-pub memory_cause : {A : Type 0} (before after : ℕ) → before ≤ after → WriteCause {A = A} before after (Err answer.Memory)
-memory_cause before after le = record { later = le; failed = λ is. absurd cc }
-
-pub cause_from : {A : Type 0} (start before after : ℕ) (r : Result A WriteAnswer) → start ≤ before → WriteCause before after r
-    → WriteCause start after r
-cause_from start before after r le cause = record {
-  later = omega (arith, le, cause.later);
-  failed = λ e. rose_from start before after le (cause.failed e);
-}
-
--- the same cause for a call with another value
-pub cause_of : {A B : Type 0} (before after : ℕ) (e : WriteAnswer) → WriteCause {A = A} before after (Err e)
-    → WriteCause {A = B} before after (Err e)
-cause_of before after e cause = record {
-  later = cause.later;
-  failed = λ is. cause.failed (let same : e ≡ answer.Failed = cc in ap Err same);
-}
-
 -- ---- one call behind another
 
 pub wrote_nothing : {A : Type 0} (x : A) (old : Option (List ℕ)) (faults : ℕ) → Writes old old faults faults [] (Ok x)
-wrote_nothing x old faults = record { whole = none_written old; part = tt; cause = no_cause x faults faults (omega arith) }
+wrote_nothing x old faults = record { whole = none_written old; part = tt; cause = done_cause x faults faults refl }
 
 pub wants_memory : {A : Type 0} (old : Option (List ℕ)) (faults : ℕ) (text : List ℕ)
     → Writes {A = A} old old faults faults text (Err answer.Memory)
@@ -77,12 +53,12 @@ pub then_writes : {A B : Type 0} (x : A) (r : Result B WriteAnswer) (old middle 
 then_writes x (Ok y) old middle new before between after a b first second = record {
   whole = whole_behind old middle new a b first.whole second.whole;
   part = tt;
-  cause = cause_from before between after (Ok y) first.cause.later second.cause;
+  cause = cause_behind before between after (Ok y) first.cause.kept second.cause;
 }
 then_writes x (Err e) old middle new before between after a b first second = record {
   whole = tt;
   part = part_behind old middle new a b first.whole second.part;
-  cause = cause_from before between after (Err e) first.cause.later second.cause;
+  cause = cause_behind before between after (Err e) first.cause.kept second.cause;
 }
 
 pub stops_writing : {A B : Type 0} (e : WriteAnswer) (old new : Option (List ℕ)) (before after : ℕ) (a b : List ℕ)
@@ -96,7 +72,7 @@ stops_writing e old new before after a b first = record {
 -- another value, the same text
 pub writes_as : {A B : Type 0} (x : A) (y : B) (old new : Option (List ℕ)) (before after : ℕ) (text : List ℕ)
     → Writes old new before after text (Ok x) → Writes old new before after text (Ok y)
-writes_as x y old new before after text wrote = record { whole = wrote.whole; part = tt; cause = no_cause y before after wrote.cause.later }
+writes_as x y old new before after text wrote = record { whole = wrote.whole; part = tt; cause = done_cause y before after wrote.cause.kept }
 
 -- ---- a line that is another text
 

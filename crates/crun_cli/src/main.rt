@@ -26,11 +26,10 @@ use c_hosts::BoxedHost;
 use env::Env;
 pub use law::one_job;
 use std::boxed::Box;
-use std::io::ErrorKind;
 use std::process::ExitCode;
 pub use top::crun_top;
 use w2c_base::Memory;
-use w2c_io::{StdFiles, StdSink};
+use w2c_io::{StdFiles, StdSink, std_words};
 
 fn main(rt: HostRuntime) -> ExitCode {
     match status(&rt) {
@@ -42,7 +41,7 @@ fn main(rt: HostRuntime) -> ExitCode {
 // The hosts are `env` alone, in a box.
 fn status(rt: &HostRuntime) -> Result<u8, Memory> {
     let alloc = rt.alloc();
-    let words = words(rt)?;
+    let words = std_words(rt)?;
     let host = Box::new(alloc, Env::new(alloc)?)?;
     let mut hosts = Vec::new(alloc);
     hosts.push(BoxedHost { host })?;
@@ -57,21 +56,4 @@ fn status(rt: &HostRuntime) -> Result<u8, Memory> {
         &mut err,
         hosts,
     ))
-}
-
-// The words behind the program's name. Arguments that are not text are a bad command line, as none are.
-fn words(rt: &HostRuntime) -> Result<Vec<String>, Memory> {
-    match read_words(rt) {
-        Ok(words) => Ok(words),
-        Err(e) if e.kind() == ErrorKind::OutOfMemory => Err(Memory),
-        Err(_) => Ok(Vec::new(rt.alloc())),
-    }
-}
-
-fn read_words(rt: &HostRuntime) -> std::io::Result<Vec<String>> {
-    let mut words = Vec::new(rt.alloc());
-    for word in std::env::args(rt)?.skip(1) {
-        words.push(word)?;
-    }
-    Ok(words)
 }

@@ -32,6 +32,7 @@ pub fn write_output<F: Files>(
         (files_seen F.Files files.old) (files_seen F.Files files.new) (reason_of stop)) }
     ensures reads { F.read_faults files.new ≡ F.read_faults files.old }
     ensures writes { F.write_faults files.old ≤ F.write_faults files.new }
+    ensures kept { OnOk result (F.write_faults files.new ≡ F.write_faults files.old) }
 {
     match write_unit(alloc, output, unit, files) {
         Ok(()) => Ok(()),

@@ -49,7 +49,9 @@ pub fn run_and_record<F: Files, O: Sink, H: HostModule>(
         (outside F.Files O.Sink files.old out.old) (outside F.Files O.Sink files.new out.new) (reason_of stop)) }
     ensures reads { F.read_faults files.new ≡ F.read_faults files.old }
     ensures writes { F.write_faults files.old ≤ F.write_faults files.new }
+    ensures writes_kept { OnOk result (F.write_faults files.new ≡ F.write_faults files.old) }
     ensures later { O.faults out.old ≤ O.faults out.new }
+    ensures lines_kept { OnOk result (O.faults out.new ≡ O.faults out.old) }
     ensures kept { (F.told files.new ≡ F.told files.old) ⊎ ((file : Name) × (text : List ℕ) × ((seen_run line.now).journal ≡ Some file)
         × (F.told files.new ≡ holding (F.told files.old) file text)) }
     ensures current { (seen_run line.now).journal ≡ None → F.current files.new ≡ F.current files.old }

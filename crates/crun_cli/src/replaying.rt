@@ -1,5 +1,5 @@
 // Hosts that reply again what a journal says.
-ghost use Rattle.std.specs.Prelude.{◌≡◌, ◌≤◌, IfErr, IfOk};
+ghost use Rattle.std.specs.Prelude.{◌≡◌, ◌≤◌, IfErr, IfOk, OnOk};
 ghost use Rattle.w2c_io.specs.Telling.{Tells};
 ghost use Rattle.host_replay.specs.Replayed.{AreReplays};
 ghost use Rattle.host_replay.specs.Texts.{Recorded};
@@ -27,6 +27,7 @@ pub fn replayed_hosts<F: Files>(
     ensures current { F.current files.new ≡ F.current files.old }
     ensures writes { F.write_faults files.new ≡ F.write_faults files.old }
     ensures later { F.read_faults files.old ≤ F.read_faults files.new }
+    ensures kept { OnOk result (F.read_faults files.new ≡ F.read_faults files.old) }
     ensures hosts { IfOk result (λ hosts. Tells (F.told files.old)
         (λ m. (j : Recorded) × HoldsJournal m name.now j × AreReplays j hosts.items)) }
     ensures offered { IfOk result (λ hosts. AreOffered ⟦<ReplayHost as HostModule>⟧ hosts.items) }

@@ -1,6 +1,6 @@
 // The run form: the files are read, then the units run with the hosts that were handed in, or with hosts that reply again what a
 // journal says.
-ghost use Rattle.std.specs.Prelude.{◌≡◌, ◌⊎◌, ◌≤◌, List, ℕ, None, Some, IfErr, IfOk, vec_len};
+ghost use Rattle.std.specs.Prelude.{◌≡◌, ◌⊎◌, ◌≤◌, List, ℕ, None, Some, IfErr, IfOk, vec_len, OnOk};
 ghost use Rattle.w2c_io.specs.Contents.{Name, holding};
 ghost use Rattle.w2c_io.specs.Telling.{Tells};
 ghost use Rattle.crun_words.specs.CommandLine.{line_of, runs};
@@ -38,7 +38,10 @@ pub fn run<F: Files, O: Sink, H: HostModule>(
         (reason_of stop)) }
     ensures reads { F.read_faults files.old ≤ F.read_faults files.new }
     ensures writes { F.write_faults files.old ≤ F.write_faults files.new }
+    ensures reads_kept { OnOk result (F.read_faults files.new ≡ F.read_faults files.old) }
+    ensures writes_kept { OnOk result (F.write_faults files.new ≡ F.write_faults files.old) }
     ensures later { O.faults out.old ≤ O.faults out.new }
+    ensures lines_kept { OnOk result (O.faults out.new ≡ O.faults out.old) }
     ensures kept { (F.told files.new ≡ F.told files.old) ⊎ ((file : Name) × (text : List ℕ) × ((seen_run line.now).journal ≡ Some file)
         × (F.told files.new ≡ holding (F.told files.old) file text)) }
     ensures current { (seen_run line.now).journal ≡ None → F.current files.new ≡ F.current files.old }

@@ -62,6 +62,10 @@ pub fn crun_top<F: Files, O: Sink, E: Sink>(
         (outside F.Files O.Sink files.old out.old) (outside F.Files O.Sink files.new out.new) result) }
     ensures silent { IsRunStatus result → E.told err.new ≡ E.told err.old }
 
+    // With these no call of the files has failed, and no line.
+    ensures unfailed { IsRunStatus result → (F.read_faults files.new ≡ F.read_faults files.old)
+        × (F.write_faults files.new ≡ F.write_faults files.old) × (O.faults out.new ≡ O.faults out.old) }
+
     // A run whose journal this call has written, and that is replayed, is this run again.
     ensures replayed { IsRunStatus result → Tells (F.told files.old) (λ m. Tells (F.told files.new)
         (λ left. RunsAgain ⟦<BoxedHost as HostModule>⟧ (texts words.now) m left

@@ -39,6 +39,8 @@ pub fn trim_unit<F: Files>(alloc: Global, line: &TrimLine<'_>, files: &mut F) ->
         (seen_trim line.now).output (files_seen F.Files files.old) (files_seen F.Files files.new) (reason_of stop)) }
     ensures reads { F.read_faults files.old ≤ F.read_faults files.new }
     ensures writes { F.write_faults files.old ≤ F.write_faults files.new }
+    ensures reads_kept { OnOk result (F.read_faults files.new ≡ F.read_faults files.old) }
+    ensures writes_kept { OnOk result (F.write_faults files.new ≡ F.write_faults files.old) }
     ensures kept { (F.told files.new ≡ F.told files.old)
         ⊎ ((text : List ℕ) × (F.told files.new ≡ holding (F.told files.old) (seen_trim line.now).output text)) }
 {
@@ -65,6 +67,7 @@ fn trimmed_unit<F: Files>(
     ensures told { F.told files.new ≡ F.told files.old }
     ensures current { F.current files.new ≡ F.current files.old }
     ensures later { F.read_faults files.old ≤ F.read_faults files.new }
+    ensures kept { OnOk result (F.read_faults files.new ≡ F.read_faults files.old) }
     ensures writes { F.write_faults files.new ≡ F.write_faults files.old }
 {
     let names = [line.unit];

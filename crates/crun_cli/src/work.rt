@@ -45,7 +45,10 @@ pub fn work<F: Files, O: Sink, H: HostModule>(
         (outside F.Files O.Sink files.old out.old) (outside F.Files O.Sink files.new out.new) (reason_of stop)) }
     ensures reads { F.read_faults files.old ≤ F.read_faults files.new }
     ensures writes { F.write_faults files.old ≤ F.write_faults files.new }
+    ensures reads_kept { OnOk result (F.read_faults files.new ≡ F.read_faults files.old) }
+    ensures writes_kept { OnOk result (F.write_faults files.new ≡ F.write_faults files.old) }
     ensures later { O.faults out.old ≤ O.faults out.new }
+    ensures lines_kept { OnOk result (O.faults out.new ≡ O.faults out.old) }
     ensures kept { IsKept (texts words.now) (outside F.Files O.Sink files.old out.old) (outside F.Files O.Sink files.new out.new) }
     ensures current { WritesNothing (line_of (texts words.now)) → F.current files.new ≡ F.current files.old }
 {
@@ -87,6 +90,8 @@ fn merge<F: Files, H: HostModule>(
         (seen_merge line.now).units (seen_merge line.now).output (files_seen F.Files files.old) (files_seen F.Files files.new) (reason_of stop)) }
     ensures reads { F.read_faults files.old ≤ F.read_faults files.new }
     ensures writes { F.write_faults files.old ≤ F.write_faults files.new }
+    ensures reads_kept { OnOk result (F.read_faults files.new ≡ F.read_faults files.old) }
+    ensures writes_kept { OnOk result (F.write_faults files.new ≡ F.write_faults files.old) }
     ensures kept { (F.told files.new ≡ F.told files.old)
         ⊎ ((text : List ℕ) × (F.told files.new ≡ holding (F.told files.old) (seen_merge line.now).output text)) }
 {

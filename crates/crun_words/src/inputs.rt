@@ -1,5 +1,5 @@
 // Reads the files that a line names.
-ghost use Rattle.std.specs.Prelude.{◌≡◌, ◌<◌, ◌≤◌, length, slice_get, Some, IfOk, IfErr, string_bytes};
+ghost use Rattle.std.specs.Prelude.{◌≡◌, ◌<◌, ◌≤◌, length, slice_get, Some, IfOk, IfErr, string_bytes, OnOk};
 ghost use Rattle.std.specs.FinMap.{get};
 ghost use Rattle.std.specs.List.{AllByRecursion};
 ghost use Rattle.w2c_io.specs.Telling.{Tells};
@@ -63,6 +63,7 @@ pub fn read_inputs<F: Files>(
     ensures current { F.current files.new ≡ F.current files.old }
     ensures writes { F.write_faults files.new ≡ F.write_faults files.old }
     ensures later { F.read_faults files.old ≤ F.read_faults files.new }
+    ensures kept { OnOk result (F.read_faults files.new ≡ F.read_faults files.old) }
     ensures read { IfOk result (λ inputs. Tells (F.told files.old)
         (λ contents. AreInputs contents (names_of units.now) calls.now inputs.units.items inputs.calls)) }
     ensures many { IfOk result (λ inputs. length inputs.units.items ≡ length units.now) }
@@ -97,6 +98,7 @@ pub fn read_units<F: Files>(
     ensures current { F.current files.new ≡ F.current files.old }
     ensures writes { F.write_faults files.new ≡ F.write_faults files.old }
     ensures later { F.read_faults files.old ≤ F.read_faults files.new }
+    ensures kept { OnOk result (F.read_faults files.new ≡ F.read_faults files.old) }
     ensures read { IfOk result (λ all. Tells (F.told files.old) (λ contents. AreUnits contents (names_of units.now) all.items)) }
     ensures many { IfOk result (λ all. length all.items ≡ length units.now) }
     ensures fit { IfOk result (λ all. AllByRecursion (λ text. length text ≤ most_unit_bytes) all.items) }
@@ -133,6 +135,7 @@ fn read_calls<F: Files>(alloc: Global, calls: &str, files: &mut F) -> Result<Byt
     ensures current { F.current files.new ≡ F.current files.old }
     ensures writes { F.write_faults files.new ≡ F.write_faults files.old }
     ensures later { F.read_faults files.old ≤ F.read_faults files.new }
+    ensures kept { OnOk result (F.read_faults files.new ≡ F.read_faults files.old) }
     ensures read { IfOk result (λ text. Tells (F.told files.old) (λ contents. get contents calls.now ≡ Some text)) }
     ensures fit { IfOk result (λ text. length text ≤ most_calls_bytes) }
     ensures stop { IfErr result (StopsCalls (F.told files.old) calls.now
@@ -157,6 +160,7 @@ pub fn read_journal_file<F: Files>(
     ensures current { F.current files.new ≡ F.current files.old }
     ensures writes { F.write_faults files.new ≡ F.write_faults files.old }
     ensures later { F.read_faults files.old ≤ F.read_faults files.new }
+    ensures kept { OnOk result (F.read_faults files.new ≡ F.read_faults files.old) }
     ensures read { IfOk result (λ text. Tells (F.told files.old) (λ contents. get contents name.now ≡ Some text)) }
     ensures fit { IfOk result (λ text. length text ≤ most_journal_bytes) }
     ensures stop { IfErr result (StopsJournal (F.told files.old) name.now
@@ -197,6 +201,7 @@ fn read_file<F: Files>(
     ensures current { F.current files.new ≡ F.current files.old }
     ensures writes { F.write_faults files.new ≡ F.write_faults files.old }
     ensures later { F.read_faults files.old ≤ F.read_faults files.new }
+    ensures kept { OnOk result (F.read_faults files.new ≡ F.read_faults files.old) }
     ensures read { IfOk result (λ text. Tells (F.told files.old) (λ contents. get contents name.now ≡ Some text)) }
     ensures fit { IfOk result (λ text. length text ≤ most) }
     ensures stop { IfErr result (StopsFile most (F.told files.old) name.now

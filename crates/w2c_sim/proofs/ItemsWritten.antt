@@ -4,11 +4,7 @@ use Rattle.std.specs.Prelude.{option_map}
 use Rattle.std.specs.List.{Contains}
 use Rattle.std.proofs.lemmas.List.Elements.{Contains-append_right}
 use Rattle.w2c_io.specs.Contents.{Name, Told, appending, AppendsPart}
-use Rattle.w2c_io.specs.Causes.{WriteCause, name_after_write}
-use Rattle.w2c_io.specs.declared.answers.WriteAnswer.{WriteAnswer}
-use Rattle.w2c_io.specs.declared.answers.WriteAnswer.TheVariants as writing
 use Rattle.w2c_io.proofs.Appending.{append_more, part_in_front, done_is_part, part_behind}
-use Rattle.w2c_io.proofs.Telling.{rose_from}
 use Rattle.c_tree.specs.declared.token.Tok.TheVariants as tok
 use Rattle.c_tree.specs.declared.tree.Item.{Item}
 use Rattle.c_tree.specs.Tree as tree
@@ -107,27 +103,3 @@ stops_in old before now current all left after item so_far next part =
     (sym (ap print_of (so_far.split ∙ ap (λ l. so_far.given ++ l) next) ∙ print_both so_far.given (item ∷ after)))
     (part_behind old before now current (print_of so_far.given) (each print_item_of (item ∷ after)) so_far.stands
     (part_in_front before now current (print_item_of item) (each print_item_of after) part))
-
--- ---- causes, where counts and names have stayed before the last call
-
--- the last call's cause
-pub cause_behind : {A : Type 0} (before between after : ℕ) (result : Result A WriteAnswer) → before ≤ between
-    → WriteCause between after result → WriteCause before after result
-cause_behind before between after result le cause = record {
-  later = omega (arith, le, cause.later);
-  failed = λ e. rose_from before between after le (cause.failed e);
-}
-
--- memory was wanting, or all was done
-pub memory_cause : {A : Type 0} (before after : ℕ) → before ≤ after → WriteCause {A = A} before after (Err writing.Memory)
-memory_cause before after le = record { later = le; failed = λ e. absurd cc }
-
-pub done_cause : {A : Type 0} (x : A) (before after : ℕ) → before ≤ after → WriteCause before after (Ok x)
-done_cause x before after le = record { later = le; failed = λ e. absurd cc }
-
-pub named_behind : {A : Type 0} (result : Result A WriteAnswer) (current earlier_current : Option Name)
-    (fault earlier_fault new : Option Name)
-    → current ≡ earlier_current → fault ≡ earlier_fault → new ≡ name_after_write result current fault
-    → new ≡ name_after_write result earlier_current earlier_fault
-named_behind result current earlier_current fault earlier_fault new same_current same_fault is =
-    is ∙ (λ i. name_after_write result (same_current i) (same_fault i))

@@ -1,5 +1,5 @@
 // Reads the files that a line names.
-ghost use Rattle.std.specs.Prelude.{◌≡◌, ◌<◌, ◌≤◌, length, slice_get, Some, IfOk, IfErr, string_bytes};
+ghost use Rattle.std.specs.Prelude.{◌≡◌, ◌<◌, ◌≤◌, length, slice_get, Some, IfOk, IfErr, OnOk, string_bytes};
 ghost use Rattle.std.specs.List.{AllByRecursion};
 ghost use Rattle.w2c_io.specs.Telling.{Tells};
 ghost use Rattle.w2c_files.specs.Reading.{AreRead};
@@ -25,6 +25,7 @@ pub fn read_modules<F: Files>(
     ensures current { F.current files.new ≡ F.current files.old }
     ensures writes { F.write_faults files.new ≡ F.write_faults files.old }
     ensures later { F.read_faults files.old ≤ F.read_faults files.new }
+    ensures kept { OnOk result (F.read_faults files.new ≡ F.read_faults files.old) }
     ensures read { IfOk result (λ all. Tells (F.told files.old)
         (λ contents. AreRead most_module_bytes most_set_bytes contents (names_of inputs.now) all.items)) }
     ensures many { IfOk result (λ all. length all.items ≡ length inputs.now) }

@@ -1,5 +1,5 @@
 // The two files of the runtime that units are compiled with.
-ghost use Rattle.std.specs.Prelude.{◌≡◌, ◌++◌, ◌≤◌, IfErr, IfOk, string_bytes};
+ghost use Rattle.std.specs.Prelude.{◌≡◌, ◌++◌, ◌≤◌, IfErr, IfOk, OnOk, string_bytes};
 ghost use Rattle.w2c_files.specs.Standing.{written};
 ghost use Rattle.wasm2c_words.specs.CommandLine.{runtime};
 ghost use Rattle.wasm2c_cli.specs.declared.work.Finished.TheVariants.{Written};
@@ -20,6 +20,8 @@ pub fn write_runtime<F: Files>(alloc: Global, dir: &str, files: &mut F) -> Resul
     ensures current { IfErr result (KeepsCurrent (F.current files.old) (F.current files.new)) }
     ensures reads { F.read_faults files.old ≤ F.read_faults files.new }
     ensures writes { F.write_faults files.old ≤ F.write_faults files.new }
+    ensures reads_kept { OnOk result (F.read_faults files.new ≡ F.read_faults files.old) }
+    ensures writes_kept { OnOk result (F.write_faults files.new ≡ F.write_faults files.old) }
     ensures stop { IfErr result (StopsLine (runtime dir.now) (F.told files.old) (F.told files.new)
         (F.read_faults files.old) (F.read_faults files.new) (F.write_faults files.old) (F.write_faults files.new) (F.fault_name files.new)) }
 {
@@ -47,6 +49,7 @@ fn write_texts<F: Files>(
     ensures whole { IfOk result (λ _. F.told files.new ≡ written (F.told files.old) (runtime_under header_file.now source_file.now)) }
     ensures reads { F.read_faults files.new ≡ F.read_faults files.old }
     ensures later { F.write_faults files.old ≤ F.write_faults files.new }
+    ensures kept { OnOk result (F.write_faults files.new ≡ F.write_faults files.old) }
     ensures stop { IfErr result (StopsWriting (F.told files.old) (F.told files.new) (runtime_under header_file.now source_file.now)
         (F.write_faults files.old) (F.write_faults files.new) (F.fault_name files.new)) }
 {

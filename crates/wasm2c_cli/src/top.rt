@@ -47,6 +47,9 @@ pub fn wasm2c_top<F: Files, E: Sink>(
         × Says (E.told err.old) (E.told err.new) (E.faults err.old) (E.faults err.new) (summary_line g.count (length bytes)) }
     ensures silent { result ≡ 0 → ((g : Generated) → Generates (texts words.now) g → ⊥) → E.told err.new ≡ E.told err.old }
 
+    // With status 0 no call of the files has failed.
+    ensures unfailed { result ≡ 0 → (F.read_faults files.new ≡ F.read_faults files.old) × (F.write_faults files.new ≡ F.write_faults files.old) }
+
     // Status 1 to 4: when each comes, and the line on the error stream.
     ensures refused { result ≡ 1 → (file : Name) × (reason : Reason) × IsInput file (line_of (texts words.now))
         × Tells (F.told files.old) (λ m. IsJob (texts words.now) m (Refused file reason))

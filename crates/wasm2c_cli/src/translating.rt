@@ -33,6 +33,8 @@ pub fn translate<F: Files>(
     ensures done { IfOk result (FinishesTranslating (names_of inputs.now) (seen_targets targets.now) (F.told files.old) (F.told files.new)) }
     ensures reads { F.read_faults files.old ≤ F.read_faults files.new }
     ensures writes { F.write_faults files.old ≤ F.write_faults files.new }
+    ensures reads_kept { OnOk result (F.read_faults files.new ≡ F.read_faults files.old) }
+    ensures writes_kept { OnOk result (F.write_faults files.new ≡ F.write_faults files.old) }
     ensures current { IfErr result (KeepsCurrent (F.current files.old) (F.current files.new)) }
     ensures stop { IfErr result (StopsTranslating (names_of inputs.now) (seen_targets targets.now) (F.told files.old) (F.told files.new)
         (F.read_faults files.old) (F.read_faults files.new) (F.write_faults files.old) (F.write_faults files.new) (F.fault_name files.new)) }
@@ -59,6 +61,8 @@ pub fn generate_module<F: Files>(
     ensures current { IfErr result (KeepsCurrent (F.current files.old) (F.current files.new)) }
     ensures reads { F.read_faults files.old ≤ F.read_faults files.new }
     ensures writes { F.write_faults files.old ≤ F.write_faults files.new }
+    ensures reads_kept { OnOk result (F.read_faults files.new ≡ F.read_faults files.old) }
+    ensures writes_kept { OnOk result (F.write_faults files.new ≡ F.write_faults files.old) }
     ensures stop { IfErr result (StopsLine (generates (seen_generation line.entry)) (F.told files.old) (F.told files.new)
         (F.read_faults files.old) (F.read_faults files.new) (F.write_faults files.old) (F.write_faults files.new) (F.fault_name files.new)) }
 {
@@ -83,6 +87,8 @@ fn write_generated<F: Files>(
     ensures current { IfErr result (KeepsCurrent (F.current files.old) (F.current files.new)) }
     ensures reads { F.read_faults files.old ≤ F.read_faults files.new }
     ensures writes { F.write_faults files.old ≤ F.write_faults files.new }
+    ensures reads_kept { OnOk result (F.read_faults files.new ≡ F.read_faults files.old) }
+    ensures writes_kept { OnOk result (F.write_faults files.new ≡ F.write_faults files.old) }
     ensures stop { IfErr result (StopsLine (generates (seen_generation line.entry)) (F.told files.old) (F.told files.new)
         (F.read_faults files.old) (F.read_faults files.new) (F.write_faults files.old) (F.write_faults files.new) (F.fault_name files.new)) }
 {

@@ -1,5 +1,5 @@
 // The work that a command line asks for.
-ghost use Rattle.std.specs.Prelude.{◌≤◌, IfErr, IfOk};
+ghost use Rattle.std.specs.Prelude.{◌≡◌, ◌≤◌, IfErr, IfOk, OnOk};
 ghost use Rattle.w2c_files.specs.Words.{texts};
 ghost use Rattle.wasm2c_words.specs.Seen.{seen_line};
 ghost use Rattle.wasm2c_cli.specs.Parts.{FinishesLine, FinishesWork, HasPassed};
@@ -29,6 +29,8 @@ pub fn work<F: Files>(alloc: Global, words: &[String], files: &mut F) -> Result<
     ensures current { IfErr result (KeepsCurrent (F.current files.old) (F.current files.new)) }
     ensures reads { F.read_faults files.old ≤ F.read_faults files.new }
     ensures writes { F.write_faults files.old ≤ F.write_faults files.new }
+    ensures reads_kept { OnOk result (F.read_faults files.new ≡ F.read_faults files.old) }
+    ensures writes_kept { OnOk result (F.write_faults files.new ≡ F.write_faults files.old) }
     ensures stop { IfErr result (StopsWork (texts words.now) (F.told files.old) (F.told files.new)
         (F.read_faults files.old) (F.read_faults files.new) (F.write_faults files.old) (F.write_faults files.new) (F.fault_name files.new)) }
 {
@@ -42,6 +44,8 @@ fn work_on<F: Files>(alloc: Global, line: Line<'_>, files: &mut F) -> Result<Fin
     ensures current { IfErr result (KeepsCurrent (F.current files.old) (F.current files.new)) }
     ensures reads { F.read_faults files.old ≤ F.read_faults files.new }
     ensures writes { F.write_faults files.old ≤ F.write_faults files.new }
+    ensures reads_kept { OnOk result (F.read_faults files.new ≡ F.read_faults files.old) }
+    ensures writes_kept { OnOk result (F.write_faults files.new ≡ F.write_faults files.old) }
     ensures stop { IfErr result (StopsLine (seen_line line.entry) (F.told files.old) (F.told files.new)
         (F.read_faults files.old) (F.read_faults files.new) (F.write_faults files.old) (F.write_faults files.new) (F.fault_name files.new)) }
 {

@@ -34,6 +34,7 @@ pub fn write_modules<F: Files>(
     ensures names { OnOk result (AllByRecursion IsNamed (seen_targets targets.now)) }
     ensures reads { F.read_faults files.new ≡ F.read_faults files.old }
     ensures later { F.write_faults files.old ≤ F.write_faults files.new }
+    ensures kept { OnOk result (F.write_faults files.new ≡ F.write_faults files.old) }
     ensures stop { IfErr result (StopsWriting (F.told files.old) (F.told files.new) (files_of (seen_targets targets.now) modules.now)
         (F.write_faults files.old) (F.write_faults files.new) (F.fault_name files.new)) }
 {
@@ -58,6 +59,7 @@ pub fn write_module<F: Files>(
     ensures names { IsNamed (seen_target target.now) }
     ensures reads { F.read_faults files.new ≡ F.read_faults files.old }
     ensures later { F.write_faults files.old ≤ F.write_faults files.new }
+    ensures kept { OnOk result (F.write_faults files.new ≡ F.write_faults files.old) }
     ensures stop { IfErr result (StopsWriting (F.told files.old) (F.told files.new) (module_files (seen_target target.now) module.now)
         (F.write_faults files.old) (F.write_faults files.new) (F.fault_name files.new)) }
 {

@@ -30,6 +30,7 @@ pub(crate) fn run_command<'a, F: Files>(
     ensures told { F.told files.new ≡ F.told files.old }
     ensures current { F.current files.new ≡ F.current files.old }
     ensures later { F.read_faults files.old ≤ F.read_faults files.new }
+    ensures kept { OnOk result (F.read_faults files.new ≡ F.read_faults files.old) }
     ensures comes { IfOk result (λ word. Tells (F.told files.old)
         (λ contents. Comes contents steps (setting_of stage.old) (seen_command command.now) word (setting_of stage.new))) }
     ensures timely { IfOk result (IsTimely steps (setting_of stage.old) (seen_command command.now)) }
@@ -73,6 +74,7 @@ fn assert_invalid<F: Files>(alloc: Global, file: &str, files: &mut F) -> Result<
     ensures told { F.told files.new ≡ F.told files.old }
     ensures current { F.current files.new ≡ F.current files.old }
     ensures later { F.read_faults files.old ≤ F.read_faults files.new }
+    ensures kept { OnOk result (F.read_faults files.new ≡ F.read_faults files.old) }
     ensures word { IfOk result (λ word. Tells (F.told files.old)
         (λ contents. (verdict : Option FileVerdict) × IsFile contents file.now verdict × (word ≡ holds (is_invalid verdict)))) }
     ensures stop { IfErr result (λ stop. StopsFile (F.told files.old) file.now
@@ -90,6 +92,7 @@ fn assert_malformed<F: Files>(alloc: Global, file: &str, files: &mut F) -> Resul
     ensures told { F.told files.new ≡ F.told files.old }
     ensures current { F.current files.new ≡ F.current files.old }
     ensures later { F.read_faults files.old ≤ F.read_faults files.new }
+    ensures kept { OnOk result (F.read_faults files.new ≡ F.read_faults files.old) }
     ensures word { IfOk result (λ word. Tells (F.told files.old)
         (λ contents. (verdict : Option FileVerdict) × IsFile contents file.now verdict × (word ≡ holds (is_malformed verdict)))) }
     ensures stop { IfErr result (λ stop. StopsFile (F.told files.old) file.now

@@ -1,5 +1,5 @@
 // The verdict on a file that a command names.
-ghost use Rattle.std.specs.Prelude.{◌≡◌, ◌≤◌, length, Option, Some, IfErr, IfOk};
+ghost use Rattle.std.specs.Prelude.{◌≡◌, ◌≤◌, length, Option, Some, IfErr, IfOk, OnOk};
 ghost use Rattle.w2c_io.specs.Telling.{Tells};
 ghost use Rattle.wasm_valid.specs.FileVerdict.{FileVerdict, IsVerdictOn};
 ghost use Rattle.wast_script.specs.Seen.{reason_of};
@@ -63,6 +63,7 @@ pub(crate) fn judge_file<F: Files>(alloc: Global, name: &str, files: &mut F) -> 
     ensures told { F.told files.new ≡ F.told files.old }
     ensures current { F.current files.new ≡ F.current files.old }
     ensures later { F.read_faults files.old ≤ F.read_faults files.new }
+    ensures kept { OnOk result (F.read_faults files.new ≡ F.read_faults files.old) }
     ensures judged { IfOk result (λ judged. Tells (F.told files.old)
         (λ contents. (verdict : Option FileVerdict) × IsFile contents name.now verdict × Agrees judged verdict)) }
     ensures stop { IfErr result (λ stop. StopsFile (F.told files.old) name.now

@@ -30,6 +30,8 @@ pub(crate) fn report_commands<F: Files, O: Sink>(
     ensures current { F.current files.new ≡ F.current files.old }
     ensures reads { F.read_faults files.old ≤ F.read_faults files.new }
     ensures later { O.faults out.old ≤ O.faults out.new }
+    ensures reads_kept { OnOk result (F.read_faults files.new ≡ F.read_faults files.old) }
+    ensures lines_kept { OnOk result (O.faults out.new ≡ O.faults out.old) }
     ensures reported { IfOk result (λ all_ok. Tells (F.told files.old)
         (λ contents. HasReported contents steps (seen_commands commands.now) (O.told out.old) (O.told out.new) all_ok)) }
     ensures stop { IfErr result (λ stop. StopsReport (F.told files.old) steps (seen_commands commands.now)
@@ -59,6 +61,8 @@ fn tell_commands<F: Files, O: Sink>(
     ensures current { F.current files.new ≡ F.current files.old }
     ensures reads { F.read_faults files.old ≤ F.read_faults files.new }
     ensures later { O.faults out.old ≤ O.faults out.new }
+    ensures reads_kept { OnOk result (F.read_faults files.new ≡ F.read_faults files.old) }
+    ensures lines_kept { OnOk result (O.faults out.new ≡ O.faults out.old) }
     ensures behind { IfOk result (λ ok. Tells (F.told files.old)
         (λ contents. (at : Setting) × IsBehind contents steps (seen_commands commands.now) at (O.told out.old) (O.told out.new) ok)) }
     ensures stop { IfErr result (λ stop. StopsReport (F.told files.old) steps (seen_commands commands.now)
@@ -93,6 +97,8 @@ fn tell_command<'a, F: Files, O: Sink>(
     ensures current { F.current files.new ≡ F.current files.old }
     ensures reads { F.read_faults files.old ≤ F.read_faults files.new }
     ensures later { O.faults out.old ≤ O.faults out.new }
+    ensures reads_kept { OnOk result (F.read_faults files.new ≡ F.read_faults files.old) }
+    ensures lines_kept { OnOk result (O.faults out.new ≡ O.faults out.old) }
     ensures sound { OnOk result (IsSound stage.new) }
     ensures tells { IfOk result (λ word. Tells (F.told files.old)
         (λ contents. TellsCommand contents steps index (setting_of stage.old) (seen_command command.now) word (setting_of stage.new)

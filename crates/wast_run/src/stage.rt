@@ -49,6 +49,7 @@ impl<'a> Stage<'a> {
         ensures told { F.told files.new ≡ F.told files.old }
         ensures current { F.current files.new ≡ F.current files.old }
         ensures later { F.read_faults files.old ≤ F.read_faults files.new }
+        ensures kept { OnOk result (F.read_faults files.new ≡ F.read_faults files.old) }
         ensures comes { IfOk result (λ word. Tells (F.told files.old)
             (λ contents. ComesToModule contents self.old (seen_module file.now) word self.new)) }
         ensures sound { OnOk result (IsSound self.new) }

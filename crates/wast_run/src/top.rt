@@ -52,6 +52,10 @@ pub fn wast_run_top<F: Files, O: Sink, E: Sink>(
         (λ m. Reported (texts words.now) m (O.told out.old) (O.told out.new) result) }
     ensures silent { (result ≡ 0) ⊎ (result ≡ 1) → E.told err.new ≡ E.told err.old }
 
+    // With status 0 and 1 no read of a file has failed, and no line.
+    ensures unfailed { (result ≡ 0) ⊎ (result ≡ 1)
+        → (F.read_faults files.new ≡ F.read_faults files.old) × (O.faults out.new ≡ O.faults out.old) }
+
     // Status 2 to 4: when each comes, and the line on the error stream.
     ensures refused { result ≡ 2 → (why : Reason) × (status_of why ≡ 2)
         × Refuses (texts words.now) (F.told files.old) why

@@ -31,6 +31,8 @@ pub(crate) fn work<F: Files, O: Sink>(
     ensures current { F.current files.new ≡ F.current files.old }
     ensures reads { F.read_faults files.old ≤ F.read_faults files.new }
     ensures later { O.faults out.old ≤ O.faults out.new }
+    ensures reads_kept { OnOk result (F.read_faults files.new ≡ F.read_faults files.old) }
+    ensures lines_kept { OnOk result (O.faults out.new ≡ O.faults out.old) }
     ensures reported { IfOk result (λ status. Tells (F.told files.old)
         (λ contents. Reported (texts words.now) contents (O.told out.old) (O.told out.new) status)) }
     ensures status { IfOk result (λ status. status ≤ 1) }
@@ -81,6 +83,7 @@ fn script_in<F: Files>(alloc: Global, name: &str, files: &mut F) -> Result<Scrip
     ensures told { F.told files.new ≡ F.told files.old }
     ensures current { F.current files.new ≡ F.current files.old }
     ensures later { F.read_faults files.old ≤ F.read_faults files.new }
+    ensures kept { OnOk result (F.read_faults files.new ≡ F.read_faults files.old) }
     ensures script { IfOk result (λ script. Tells (F.told files.old)
         (λ contents. (text : List ℕ) × (get contents name.now ≡ Some text) × IsScript text (seen_script script))) }
     ensures named { IfOk result (λ script. AllByRecursion HasModuleName (seen_script script)) }

@@ -15,6 +15,7 @@ pub(crate) fn put_line<O: Sink>(line: Result<Bytes, Memory>, out: &mut O) -> Res
     ensures part { OnErr result ((text : List ℕ) → IfOk line (λ bytes. bytes ≡ text) → SaysPart (O.told out.old) (O.told out.new) text) }
     ensures stop { IfErr result (λ stop. StopsLine (O.faults out.old) (O.faults out.new) (reason_of stop)) }
     ensures later { O.faults out.old ≤ O.faults out.new }
+    ensures kept { OnOk result (O.faults out.new ≡ O.faults out.old) }
 {
     let line = match line {
         Ok(line) => line,

@@ -70,7 +70,7 @@ loop-index-preserved g c =
     record {
       ready = c.in-Ok-None.ensures.ready c.in-Ok-None.field-0-is;
       linked = c.play_call.ensures.linked ∙ c.loop-index.invariant.linked;
-      later = omega (arith, c.loop-index.invariant.later, c.play_call.ensures.cause.later);
+      kept = c.in-Ok-None.ensures.cause.kept ∙ c.loop-index.invariant.kept;
       behind = λ e old behind. subst (λ cs. IsBehind g.H.HostModule e c.play_call.new.session cs old (g.O.Sink.told c.play_call.new.out))
           (calls_next calls k item lt c.index-calls-index.is)
           (c.in-Ok-None.ensures.goes_on c.in-Ok-None.field-0-is e (take k (calls_seen calls)) old (calls_before calls k lt)

@@ -12,7 +12,7 @@ invariant-loop-index g l =
     record {
       ready : l.session.standing ≡ standing.Ready;
       linked : l.session.linked ≡ l.fn.session.linked;
-      later : g.O.Sink.faults l.fn.out ≤ g.O.Sink.faults l.out;
+      kept : g.O.Sink.faults l.out ≡ g.O.Sink.faults l.fn.out;
       behind : (e : State _) (old : Option (List ℕ)) → IsBehind g.H.HostModule e l.fn.session [] old (told l.fn.out)
           → IsBehind g.H.HostModule e l.session (take l.index (calls_seen l.calls)) old (told l.out);
     }

@@ -32,6 +32,9 @@ returns-in-Ok-clause-replayed g c = λ run m tells left tells'.
     done_again _ c.args.hosts.items (texts c.args.words.now) m left (outside g.F.Files g.O.Sink c.args.files.now c.args.out.now)
     (outside g.F.Files g.O.Sink c.work.new.files c.work.new.out) c.in-Ok.status tells tells' (c.in-Ok.ensures.finished m tells)
 
+pub returns-in-Ok-clause-unfailed : goal.returns-in-Ok-clause-unfailed
+returns-in-Ok-clause-unfailed g c = λ run. (c.in-Ok.ensures.reads_kept, c.in-Ok.ensures.writes_kept, c.in-Ok.ensures.lines_kept)
+
 pub returns-in-Err-clause-complete : goal.returns-in-Err-clause-complete
 returns-in-Err-clause-complete g c =
     stop_complete _ c.args.hosts.items (texts c.args.words.now) (outside g.F.Files g.O.Sink c.args.files.now c.args.out.now)
@@ -46,6 +49,10 @@ returns-in-Err-clause-refused_always g c =
 
 pub returns-in-Err-clause-replayed : goal.returns-in-Err-clause-replayed
 returns-in-Err-clause-replayed g c = λ run m tells left tells'.
+    absurd (stop_apart c.report.result (reason_of c.in-Err.stop) c.report.ensures.status run)
+
+pub returns-in-Err-clause-unfailed : goal.returns-in-Err-clause-unfailed
+returns-in-Err-clause-unfailed g c = λ run.
     absurd (stop_apart c.report.result (reason_of c.in-Err.stop) c.report.ensures.status run)
 
 pub returns-in-Err-clause-refused : goal.returns-in-Err-clause-refused

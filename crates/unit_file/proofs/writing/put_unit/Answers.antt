@@ -6,6 +6,7 @@ use Rattle.w2c_io.specs.declared.answers.WriteAnswer.{WriteAnswer}
 use Rattle.c_tree.specs.View.{item_of, unit_of}
 use Rattle.c_tree.proofs.Tested.{at_front}
 use Rattle.c_print.specs.Print.{print_item_of}
+use Rattle.w2c_io.proofs.Causes.{cause_behind, done_cause, named_behind}
 use Rattle.unit_file.proofs.ItemsWritten.{
   begun,
   is_contained,
@@ -13,9 +14,6 @@ use Rattle.unit_file.proofs.ItemsWritten.{
   all_written,
   stops_at_include,
   stops_in,
-  cause_behind,
-  done_cause,
-  named_behind,
 }
 use Rattle.unit_file.proofs.writing.put_unit.Goals as goal
 
@@ -43,7 +41,7 @@ loop-item-init g c =
       current = c.in_ok-put.ensures.current;
       fault = c.in_ok-put.ensures.named;
       reads = c.in_ok-put.ensures.reads;
-      later = c.in_ok-put.ensures.cause.later;
+      kept = c.in_ok-put.ensures.cause.kept;
     }
 
 pub print_item_to-requires-clause-formed : goal.print_item_to-requires-clause-formed
@@ -83,7 +81,7 @@ returns-in_err-print_item_to-clause-cause g c =
     let p = err_from_is_err_and c.from_residual-in_err-print_item_to.result c.from_residual-in_err-print_item_to.ensures.1 in
     let answer : Result (Unit {0}) WriteAnswer = Err c.in_err-print_item_to.field-0.0 in
     rw (p.1, p.2) (cause_behind (files.write_faults c.args.files.now) (files.write_faults c.loop-item.files)
-    (files.write_faults c.print_item_to.new.files) answer c.loop-item.invariant.later c.in_err-print_item_to.ensures.cause)
+    (files.write_faults c.print_item_to.new.files) answer c.loop-item.invariant.kept c.in_err-print_item_to.ensures.cause)
 
 pub returns-in_err-print_item_to-clause-fault : goal.returns-in_err-print_item_to-clause-fault
 returns-in_err-print_item_to-clause-fault g c =
@@ -112,7 +110,7 @@ loop-item-preserved g c =
       current = search rules;
       fault = search rules;
       reads = search rules;
-      later = omega (arith, c.loop-item.invariant.later, c.in_ok-print_item_to.ensures.cause.later);
+      kept = search rules;
     }
 
 pub returns-clause-written : goal.returns-clause-written
@@ -127,4 +125,4 @@ returns-clause-written g c =
 pub returns-clause-cause : goal.returns-clause-cause
 returns-clause-cause g c =
     let files = g.F.Files in
-    done_cause _ (files.write_faults c.args.files.now) (files.write_faults c.loop-item.files) c.loop-item.invariant.later
+    done_cause _ (files.write_faults c.args.files.now) (files.write_faults c.loop-item.files) c.loop-item.invariant.kept

@@ -1,4 +1,4 @@
-use Rattle.std.proofs.Common.{◌≡◌, ◌≤◌, drop}
+use Rattle.std.proofs.Common.{◌≡◌, drop}
 use Rattle.c_tree.specs.View.{unit_of}
 use Rattle.unit_file.proofs.ItemsWritten.{IsWritten}
 use Rattle.unit_file.proofs.writing.put_unit.Given as goal
@@ -13,5 +13,5 @@ invariant-loop-item g l =
       current : files.current l.files ≡ files.current l.fn.files;
       fault : files.fault_name l.files ≡ files.fault_name l.fn.files;
       reads : files.read_faults l.files ≡ files.read_faults l.fn.files;
-      later : files.write_faults l.fn.files ≤ files.write_faults l.files;
+      kept : files.write_faults l.files ≡ files.write_faults l.fn.files;
     }

@@ -5,7 +5,8 @@ use Rattle.w2c_io.specs.declared.answers.WriteAnswer.{WriteAnswer}
 use Rattle.c_tree.specs.View.{item_of}
 use Rattle.c_print.specs.Print.{print_item_of}
 use Rattle.c_unit.specs.Tails.{left_of}
-use Rattle.w2c_sim.proofs.ItemsWritten.{begun, given_item, none_left, is_contained, one_more, all_written, stops_at_include, stops_between, stops_in, shorter, cause_behind, memory_cause, done_cause, named_behind}
+use Rattle.w2c_io.proofs.Causes.{cause_behind, memory_cause, done_cause, named_behind}
+use Rattle.w2c_sim.proofs.ItemsWritten.{begun, given_item, none_left, is_contained, one_more, all_written, stops_at_include, stops_between, stops_in, shorter}
 use Rattle.w2c_sim.proofs.writing.write_items.Goals as goal
 
 pub returns-in_err-put-clause-part : goal.returns-in_err-put-clause-part
@@ -32,7 +33,7 @@ more-init g c =
       current = c.in_ok-put.ensures.current;
       fault = c.in_ok-put.ensures.named;
       reads = c.in_ok-put.ensures.reads;
-      later = c.in_ok-put.ensures.cause.later;
+      kept = c.in_ok-put.ensures.cause.kept;
     }
 
 pub returns-in_err-item-clause-part : goal.returns-in_err-item-clause-part
@@ -46,7 +47,7 @@ pub returns-in_err-item-clause-cause : goal.returns-in_err-item-clause-cause
 returns-in_err-item-clause-cause g c =
     let files = g.F.Files in
     let p = err_from_is_err_and c.from_residual-in_err-item.result c.from_residual-in_err-item.ensures.1 in
-    rw (p.1, p.2) (memory_cause (files.write_faults c.args.files.now) (files.write_faults c.more.files) c.more.invariant.later)
+    rw (p.1, p.2) (memory_cause (files.write_faults c.args.files.now) (files.write_faults c.more.files) (omega (arith, c.more.invariant.kept)))
 
 pub returns-in_err-item-clause-fault : goal.returns-in_err-item-clause-fault
 returns-in_err-item-clause-fault g c =
@@ -82,7 +83,7 @@ returns-in_err-written-clause-cause g c =
     let p = err_from_is_err_and c.from_residual-in_err-written.result c.from_residual-in_err-written.ensures.1 in
     let answer : Result (Unit {0}) WriteAnswer = Err c.in_err-written.field-0.0 in
     rw (p.1, p.2) (cause_behind (files.write_faults c.args.files.now) (files.write_faults c.more.files)
-    (files.write_faults c.print_item_to-written.new.files) answer c.more.invariant.later c.in_err-written.ensures.cause)
+    (files.write_faults c.print_item_to-written.new.files) answer c.more.invariant.kept c.in_err-written.ensures.cause)
 
 pub returns-in_err-written-clause-fault : goal.returns-in_err-written-clause-fault
 returns-in_err-written-clause-fault g c =
@@ -96,7 +97,7 @@ returns-in_err-written-clause-fault g c =
 pub returns-clause-cause : goal.returns-clause-cause
 returns-clause-cause g c =
     let files = g.F.Files in
-    done_cause _ (files.write_faults c.args.files.now) (files.write_faults c.more.files) c.more.invariant.later
+    done_cause _ (files.write_faults c.args.files.now) (files.write_faults c.more.files) c.more.invariant.kept
 
 pub more-preserved : goal.more-preserved
 more-preserved g c =
@@ -112,7 +113,7 @@ more-preserved g c =
       current = c.in_ok-written.ensures.current ∙ c.more.invariant.current;
       fault = ◌∙◌ {b = files.fault_name c.more.files} c.in_ok-written.ensures.named c.more.invariant.fault;
       reads = c.in_ok-written.ensures.reads ∙ c.more.invariant.reads;
-      later = omega (arith, c.more.invariant.later, c.in_ok-written.ensures.cause.later);
+      kept = c.in_ok-written.ensures.cause.kept ∙ c.more.invariant.kept;
     }
 
 pub returns-clause-written : goal.returns-clause-written

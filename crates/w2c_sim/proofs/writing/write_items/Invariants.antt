@@ -1,4 +1,4 @@
-use Rattle.std.proofs.Common.{◌≡◌, ◌≤◌, length}
+use Rattle.std.proofs.Common.{◌≡◌, length}
 use Rattle.c_unit.specs.Tails.{left_of}
 use Rattle.w2c_sim.proofs.ItemsWritten.{IsWritten}
 use Rattle.w2c_sim.proofs.writing.write_items.Given as goal
@@ -12,7 +12,7 @@ invariant-more g l =
       current : files.current l.files ≡ files.current l.fn.files;
       fault : files.fault_name l.files ≡ files.fault_name l.fn.files;
       reads : files.read_faults l.files ≡ files.read_faults l.fn.files;
-      later : files.write_faults l.fn.files ≤ files.write_faults l.files;
+      kept : files.write_faults l.files ≡ files.write_faults l.fn.files;
     }
 
 abbrev pub decreases-more : goal.decreases-more

@@ -58,6 +58,9 @@ returns-in-Ok-clause-untouched g c = finish_no_stop c.summarize.result c.summari
 pub returns-in-Ok-clause-current : goal.returns-in-Ok-clause-current
 returns-in-Ok-clause-current g c = finish_no_stop c.summarize.result c.summarize.ensures.status
 
+pub returns-in-Ok-clause-unfailed : goal.returns-in-Ok-clause-unfailed
+returns-in-Ok-clause-unfailed g c = λ zero. (c.in-Ok.ensures.reads_kept, c.in-Ok.ensures.writes_kept)
+
 pub returns-in-Ok-clause-stands : goal.returns-in-Ok-clause-stands
 returns-in-Ok-clause-stands g c = λ five.
     let files = g.F.Files in
@@ -123,6 +126,9 @@ returns-in-Err-clause-summary g c = stop_not c.report.result c.in-Err.stop c.rep
 
 pub returns-in-Err-clause-silent : goal.returns-in-Err-clause-silent
 returns-in-Err-clause-silent g c = stop_not c.report.result c.in-Err.stop c.report.ensures.status
+
+pub returns-in-Err-clause-unfailed : goal.returns-in-Err-clause-unfailed
+returns-in-Err-clause-unfailed g c = stop_not c.report.result c.in-Err.stop c.report.ensures.status
 
 pub returns-in-Err-clause-untouched : goal.returns-in-Err-clause-untouched
 returns-in-Err-clause-untouched g c =

@@ -44,4 +44,5 @@ loop-k-preserved g c =
       names = named_more (seen_targets ts) c.loop-k.k (seen_target t) at c.loop-k.invariant.names (search rules);
       reads = search rules;
       later = omega (arith, c.loop-k.invariant.later, c.in-Ok.ensures.later);
+      kept = search rules;
     }

@@ -14,4 +14,5 @@ invariant-loop-k g l =
       names : AllByRecursion IsNamed (take l.k (seen_targets l.targets));
       reads : files.read_faults l.files ≡ files.read_faults l.fn.files;
       later : files.write_faults l.fn.files ≤ files.write_faults l.files;
+      kept : files.write_faults l.files ≡ files.write_faults l.fn.files;
     }

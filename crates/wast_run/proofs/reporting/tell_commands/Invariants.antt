@@ -15,6 +15,8 @@ invariant-loop-index g l =
       current : files.current l.files ≡ files.current l.fn.files;
       reads : files.read_faults l.fn.files ≤ files.read_faults l.files;
       later : out.faults l.fn.out ≤ out.faults l.out;
+      reads_kept : files.read_faults l.files ≡ files.read_faults l.fn.files;
+      lines_kept : out.faults l.out ≡ out.faults l.fn.out;
       sound : IsSound l.stage;
       few : l.ok ≤ l.index;
       behind : Tells (files.told l.fn.files) (λ m. IsBehind m l.steps (take l.index (seen_commands l.commands)) (setting_of l.stage)
