@@ -1,9 +1,8 @@
-// Files in memory that are read and written in order: the happy path, each stop, and what stands then; and names of C files.
+// Files in memory that are read in order, and one that is written: the happy path, each stop, and what stands then; and names of C files.
 use std::alloc::Global;
 use std::test::Fail;
-use w2c_base::Bytes;
-use w2c_files::{Limits, Output, ReadStop, WriteStop, is_c_file, read_files, write_files};
-use w2c_io::{FileCall, MemFiles};
+use w2c_files::{Limits, ReadStop, is_c_file, read_files, write_file};
+use w2c_io::{FileCall, MemFiles, WriteAnswer};
 
 fn three_files(alloc: Global) -> Result<MemFiles, Fail> {
     let mut files = MemFiles::new(alloc);
@@ -11,13 +10,6 @@ fn three_files(alloc: Global) -> Result<MemFiles, Fail> {
     files.add("b", b"345")?;
     files.add("c", b"6")?;
     Ok(files)
-}
-
-fn output(alloc: Global, name: &str, text: &[u8]) -> Result<Output, Fail> {
-    Ok(Output {
-        name: String::from_str(alloc, name)?,
-        text: Bytes::from_vec(text.to_vec(alloc)?),
-    })
 }
 
 #[test]
@@ -72,30 +64,28 @@ fn reading_stops(rt: HostRuntime) -> Result<(), Fail> {
 }
 
 #[test]
-fn files_are_written_in_order(rt: HostRuntime) -> Result<(), Fail> {
-    let alloc = rt.alloc();
-    let mut files = three_files(alloc)?;
-    let outputs = [output(alloc, "a", b"x")?, output(alloc, "d", b"yz")?];
-    assert!(rt; write_files(&outputs, &mut files).is_ok());
-    assert!(rt; files.get("a").is_some_and(|text| text == b"x".as_slice()));
-    assert!(rt; files.get("d").is_some_and(|text| text == b"yz".as_slice()));
+fn a_file_is_written(rt: HostRuntime) -> Result<(), Fail> {
+    let mut files = three_files(rt.alloc())?;
+    assert!(rt; write_file("a", b"yz", &mut files).is_ok());
+    assert_eq!(rt; files.get("a"), Some(b"yz".as_slice()));
     Ok(())
 }
 
 #[test]
 fn writing_stops(rt: HostRuntime) -> Result<(), Fail> {
-    let alloc = rt.alloc();
-    let mut files = three_files(alloc)?;
-    let outputs = [output(alloc, "a", b"x")?, output(alloc, "d", b"yz")?];
-    files.fail(FileCall::Put, 2)?;
-    assert!(rt;
-        matches!(
-            write_files(&outputs, &mut files),
-            Err(WriteStop::Unwritten(1))
-        )
+    let mut files = three_files(rt.alloc())?;
+    files.fail(FileCall::Put, 1)?;
+    files.fail(FileCall::Finish, 2)?;
+    assert_eq!(rt;
+        write_file("d", b"yz", &mut files),
+        Err(WriteAnswer::Failed)
     );
-    assert!(rt; files.get("a").is_some_and(|text| text == b"x".as_slice()));
-    assert!(rt; files.get("d").is_some_and(|text| text == b"y".as_slice()));
+    assert_eq!(rt; files.get("d"), Some(b"y".as_slice()));
+    assert_eq!(rt;
+        write_file("d", b"yz", &mut files),
+        Err(WriteAnswer::Failed)
+    );
+    assert_eq!(rt; files.get("d"), Some(b"yz".as_slice()));
     Ok(())
 }
 

@@ -11,6 +11,8 @@ mod job;
 #[cfg(test)]
 mod outside;
 #[cfg(test)]
+mod turns;
+#[cfg(test)]
 mod wasm2c;
 #[cfg(test)]
 mod wast_run;

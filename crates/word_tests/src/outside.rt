@@ -3,6 +3,7 @@ use std::alloc::Global;
 use std::test::Fail;
 use w2c_io::{
     FileCall, Files, MemFiles, MemSink, ReadAnswer, Sink, StdFiles, StdSink, SureFiles, SureSink,
+    WriteAnswer,
 };
 
 // Writes two pieces into a file and reads it again.
@@ -70,6 +71,8 @@ fn the_system(rt: HostRuntime) -> Result<(), Fail> {
     let mut files = StdFiles::new(&rt, alloc);
     assert!(rt; write_and_read(alloc, &mut files)?);
     assert!(rt; files.read(alloc, "absent", 9).err() == Some(ReadAnswer::Failed));
+    assert!(rt; files.read(alloc, ".", 9).err() == Some(ReadAnswer::Failed));
+    assert!(rt; files.begin("absent/out.c") == Err(WriteAnswer::Failed));
     StdSink::out(&rt).put(b"out\n")?;
     StdSink::err(&rt).put(b"err\n")?;
     Ok(())
