@@ -4,7 +4,8 @@ use crate::top::{sure_top, wasm2c_top};
 use std::alloc::Global;
 use std::test::Fail;
 use w2c_base::Memory;
-use w2c_io::{MemFiles, MemSink, SureFiles, SureSink};
+use w2c_files::write_file;
+use w2c_io::{Files, MemFiles, MemSink, StdFiles, StdSink, SureFiles, SureSink};
 
 // What is said of a file behind a run.
 #[derive(Clone, Copy)]
@@ -146,6 +147,36 @@ const GEN_H: &str = "/* made by wasm2c; int has 32 bits and every character of a
 void w2cZ_genZ_i(void);
 u32 w2cZ_genZ_fZ_run(u32);
 #endif
+";
+
+// Two constants and their sum, and the unit.
+const TWO: &[u8] =
+    b"\0asm\x01\0\0\0\x01\x05\x01`\0\x01\x7f\x03\x02\x01\0\x07\x05\x01\x01f\0\0\n\t\x01\x07\0A(A\x02j\x0b";
+
+const TWO_C: &str = "#include \"w2c_rt.h\"
+static u32 f0(void);
+static u32 f0(void) {
+u32 i0 = 0u;
+u32 i1 = 0u;
+if (w2c_depth < 1024u) goto L0;
+w2c_trap(8u);
+return i0;
+L0: w2c_depth = (w2c_depth + 1u);
+i0 = 40u;
+i1 = 2u;
+i0 = (i0 + i1);
+w2c_depth = (w2c_depth - 1u);
+return i0;
+}
+u32 w2cZ_twoZ_fZ_f(void) {
+u32 r = 0u;
+r = f0();
+return r;
+}
+void w2cZ_twoZ_i(void) {
+;
+return;
+}
 ";
 
 // The modules.
@@ -301,8 +332,20 @@ fn first_wrong(alloc: Global) -> Result<Option<&'static str>, Memory> {
     Ok(None)
 }
 
+// The words of the stored run, over the files of the system: the text that is read again there.
+fn is_stored(rt: &HostRuntime, alloc: Global) -> Result<bool, Fail> {
+    let words = words_of(alloc, "two.wasm -o two.c")?;
+    let mut err = StdSink::err(rt);
+    let mut files = StdFiles::new(rt, alloc);
+    write_file("two.wasm", TWO, &mut files)?;
+    let status = wasm2c_top(alloc, words.as_slice(), &mut files, &mut err);
+    let text = files.read(alloc, "two.c", 4096)?;
+    Ok(status == 0 && text.as_slice() == TWO_C.as_bytes())
+}
+
 #[test]
 fn command_lines(rt: HostRuntime) -> Result<(), Fail> {
-    assert_eq!(rt; first_wrong(rt.alloc())?, None);
+    let alloc = rt.alloc();
+    assert_eq!(rt; (first_wrong(alloc)?, is_stored(&rt, alloc)?), (None, true));
     Ok(())
 }
