@@ -25,6 +25,8 @@ mod scopes;
 #[cfg(test)]
 mod sessions;
 #[cfg(test)]
+mod texts;
+#[cfg(test)]
 mod threads;
 #[cfg(test)]
 mod trimming;

@@ -1,44 +1,21 @@
 // The names of a small unit.
 ghost use Rattle.std.specs.Prelude.{◌≡◌, Some};
 
+use crate::texts::read;
 use c_scope::{FileScope, NameTable, Salted, Scope, Signature, own_table, own_variables, salt_of};
-use c_tree::{Body, CType, Func, Item, Locals, Name, Num, Params, Stmt, Stmts};
-use std::alloc::{AllocError, Global};
-use std::process::Abort;
+use c_tree::{Body, CType, Func, Item};
+use std::alloc::Global;
 use std::test::Fail;
-use w2c_base::{Bytes, Memory};
+use w2c_base::Memory;
 
-fn name(alloc: Global, text: &[u8]) -> Result<Name, AllocError> {
-    Ok(Name::from_vec(text.to_vec(alloc)?))
+const UNIT: &str = "#include \"w2c_rt.h\"
+static u64 g;
+static const u8 d[1] = {7};
+static void f(u32 x) {
+w2c_fn z = 0;
+return;
 }
-
-// static void f(u32 x) { w2c_fn z = 0; return; }
-fn function(alloc: Global) -> Result<Func, Memory> {
-    let mut params = Params::new(alloc);
-    params.push((CType::U32, Some(name(alloc, b"x")?)))?;
-    let mut locals = Locals::new(alloc);
-    locals.push((CType::FnPtr, name(alloc, b"z")?, Num::Plain(0)))?;
-    let mut stmts = Stmts::new(alloc);
-    stmts.push(Stmt::ReturnNone)?;
-    Ok(Func {
-        is_static: true,
-        result: CType::Void,
-        name: name(alloc, b"f")?,
-        params,
-        body: Some(Body { locals, stmts }),
-    })
-}
-
-// static u64 g; static const u8 d[1] = {7}; and the function
-fn items(alloc: Global) -> Result<Vec<Item>, Memory> {
-    let mut bytes = Bytes::new(alloc);
-    bytes.push(7)?;
-    let mut items = Vec::new(alloc);
-    items.push(Item::Var(CType::U64, name(alloc, b"g")?, None))?;
-    items.push(Item::Array(name(alloc, b"d")?, 1, bytes))?;
-    items.push(Item::Func(function(alloc)?))?;
-    Ok(items)
-}
+";
 
 #[test]
 fn a_name_stands_for_what_was_entered_first(rt: HostRuntime) -> Result<(), Fail> {
@@ -46,32 +23,31 @@ fn a_name_stands_for_what_was_entered_first(rt: HostRuntime) -> Result<(), Fail>
     let mut table = NameTable::new(alloc, Salted::new());
     table.enter(alloc, b"a", CType::U32)?;
     table.enter(alloc, b"a", CType::U64)?;
-    assert_eq!(rt; table.find(b"a"), Some(CType::U32));
-    assert!(rt; table.has(b"a"));
-    assert!(rt; !table.has(b"b"));
+    let found = (table.find(b"a"), table.has(b"a"), table.has(b"b"));
+    assert_eq!(rt; found, (Some(CType::U32), true, false));
     Ok(())
 }
 
 #[test]
 fn names_of_file_scope_are_known_behind_their_items(rt: HostRuntime) -> Result<(), Fail> {
     let alloc = rt.alloc();
-    let items = items(alloc)?;
+    let unit = read(alloc, UNIT)?;
+    let items = unit.as_slice();
     assert!(rt; items.len() == 3);
-    let file = FileScope::new(alloc, salt_of(items.as_slice()), items.as_slice());
-    assert_eq!(rt; file.variable(b"g"), None);
+    let file = FileScope::new(alloc, salt_of(items), items);
+    let is_before = file.variable(b"g").is_none();
     let file = file.behind_next(alloc)?;
-    assert_eq!(rt; file.variable(b"g"), Some(CType::U64));
-    assert!(rt; !file.has_array(b"d"));
+    let is_behind = file.variable(b"g") == Some(CType::U64) && !file.has_array(b"d");
     let file = file.behind_next(alloc)?;
-    assert!(rt; file.has_array(b"d"));
-    assert!(rt; file.function(b"f").is_none());
+    let has_array = file.has_array(b"d") && file.function(b"f").is_none();
     let file = file.behind_next(alloc)?;
-    assert!(rt; file.function(b"f").is_some());
+    let has_function = file.function(b"f").is_some();
+    assert!(rt; is_before && is_behind && has_array && has_function);
     Ok(())
 }
 
 /// What a name stands for at the statements of a function.
-#[derive(Clone, Copy, Debug, PartialEq, Eq)]
+#[derive(Clone, Copy, PartialEq, Eq)]
 struct Found {
     variable: Option<CType>,
     file_variable: Option<CType>,
@@ -159,41 +135,56 @@ const CASES: [Case; 6] = [
     (b"n", NOTHING),
 ];
 
-fn cases_hold(rt: &impl Abort, alloc: Global, file: &FileScope, f: &Func) -> Result<(), Fail> {
-    match &f.body {
-        Some(body) => {
-            for (name, wanted) in &CASES {
-                assert_eq!(rt; look_up(alloc, file, f, body, name)?, *wanted);
-            }
-            Ok(())
+fn cases_hold(alloc: Global, file: &FileScope, f: &Func, body: &Body) -> Result<bool, Memory>
+    requires { f.now.body ≡ Some body.now }
+{
+    for (name, wanted) in &CASES {
+        if look_up(alloc, file, f, body, name)? != *wanted {
+            return Ok(false);
         }
-        None => Err(Fail::new("no body")),
+    }
+    Ok(true)
+}
+
+fn function_holds(alloc: Global, file: &FileScope, f: &Func) -> Result<bool, Memory> {
+    match &f.body {
+        Some(body) => cases_hold(alloc, file, f, body),
+        None => Ok(false),
     }
 }
 
 #[test]
 fn names_at_a_statement(rt: HostRuntime) -> Result<(), Fail> {
     let alloc = rt.alloc();
-    let items = items(alloc)?;
+    let unit = read(alloc, UNIT)?;
+    let items = unit.as_slice();
     assert!(rt; items.len() == 3);
-    let file = FileScope::new(alloc, salt_of(items.as_slice()), items.as_slice()).behind_next(
-        alloc,
-    )?;
+    let file = FileScope::new(alloc, salt_of(items), items);
     let file = file.behind_next(alloc)?;
-    cases_hold(&rt, alloc, &file, &function(alloc)?)
+    let file = file.behind_next(alloc)?;
+    let holds = match &items[2] {
+        Item::Func(f) => function_holds(alloc, &file, f)?,
+        Item::Array(_, _, _) | Item::Var(_, _, _) => false,
+    };
+    assert!(rt; holds);
+    Ok(())
+}
+
+fn has_variables(alloc: Global, f: &Func) -> Result<bool, Memory> {
+    let own = own_variables(alloc, f)?;
+    let table = own_table(alloc, Salted::new(), own.as_slice())?;
+    let is_last = table.find(b"z") == Some(CType::FnPtr);
+    Ok(own.len() == 2 && own[0].name == b"x" && own[1].of == CType::FnPtr && is_last)
 }
 
 #[test]
 fn variables_of_a_function(rt: HostRuntime) -> Result<(), Fail> {
     let alloc = rt.alloc();
-    let function = function(alloc)?;
-    let own = own_variables(alloc, &function)?;
-    assert!(rt; own.len() == 2);
-    assert_eq!(rt; own[0].name, b"x".as_slice());
-    assert_eq!(rt; own[1].of, CType::FnPtr);
-    assert_eq!(rt;
-        own_table(alloc, Salted::new(), own.as_slice())?.find(b"z"),
-        Some(CType::FnPtr)
-    );
+    let unit = read(alloc, UNIT)?;
+    let holds = match unit.as_slice().last() {
+        Some(Item::Func(f)) => has_variables(alloc, f)?,
+        _ => false,
+    };
+    assert!(rt; holds);
     Ok(())
 }

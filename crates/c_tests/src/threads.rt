@@ -2,6 +2,7 @@
 ghost use Rattle.std.specs.Prelude.{◌≡◌, ◌∷◌, ◌++◌, [], IfOk};
 ghost use Rattle.c_thread.specs.Linked.{HaveUnitTables};
 
+use crate::texts::read;
 use c_machine::{Numbers, Tables};
 use c_objects::{FuncId, Held, Store, UnitObjects};
 use c_scope::Salted;
@@ -9,93 +10,76 @@ use c_thread::{
     FuncTypes, HostCall, LinkedFrame, LinkedStep, LinkedThread, LinkedUnit, ObjectTables, Symbols,
     TypeList,
 };
-use c_tree::{
-    Arg, Args, Body, CFuncType, CType, CTypes, Callee, Expr, Func, Item, Locals, Name, Num, Params,
-    Stmt, Stmts, Unit,
-};
-use std::alloc::{AllocError, Global};
+use c_tree::{CFuncType, CType, CTypes, Unit};
+use std::alloc::Global;
 use std::rc::Rc;
 use std::test::Fail;
 use w2c_base::{Memory, TrapKind, Value};
 
-fn name(alloc: Global, text: &str) -> Result<Name, AllocError> {
-    Ok(Name::from_vec(text.as_bytes().to_vec(alloc)?))
+// Calls of each kind, and jumps.
+const FIRST: &str = "#include \"w2c_rt.h\"
+u32 calls_inner(u32 a) {
+w2c_fn f = 0;
+u32 * p = 0;
+u32 y = 0u;
+f = (w2c_fn) inner;
+y = inner(a);
+return y;
 }
+u32 calls_tick(u32 a) {
+w2c_fn f = 0;
+u32 * p = 0;
+u32 y = 0u;
+f = (w2c_fn) inner;
+y = tick(a);
+return y;
+}
+u32 traps(u32 a) {
+w2c_fn f = 0;
+u32 * p = 0;
+u32 y = 0u;
+f = (w2c_fn) inner;
+y = w2c_trap(a);
+return y;
+}
+u32 goes_through(u32 a) {
+w2c_fn f = 0;
+u32 * p = 0;
+u32 y = 0u;
+f = (w2c_fn) inner;
+y = (* (u32 (*) (u32)) f) (a);
+return y;
+}
+u32 of_another_type(u32 a) {
+w2c_fn f = 0;
+u32 * p = 0;
+u32 y = 0u;
+f = (w2c_fn) inner;
+y = (* (u64 (*) (u32)) f) (a);
+return y;
+}
+u32 jumps(u32 a) {
+w2c_fn f = 0;
+u32 * p = 0;
+u32 y = 0u;
+p = & g;
+* p = a;
+goto L1;
+L1: y = (* p);
+return y;
+}
+";
 
-fn held(alloc: Global, text: &str) -> Result<Arg, AllocError> {
-    Ok(Arg::Value(Expr::Name(name(alloc, text)?)))
+const SECOND: &str = "#include \"w2c_rt.h\"
+u32 inner(u32 a) {
+return 42u;
 }
+";
 
 fn takes_u32(alloc: Global, to: CType) -> Result<CFuncType, Memory> {
     let mut params = CTypes::new(alloc);
     params.push(CType::U32)?;
     Ok(CFuncType { params, result: to })
-}
-
-// u32 NAME(u32 a) { w2c_fn f = 0; u32 *p = 0; u32 y = 0u; STMTS }
-fn function(alloc: Global, text: &str, stmts: Stmts) -> Result<Item, Memory> {
-    let mut params = Params::new(alloc);
-    params.push((CType::U32, Some(name(alloc, "a")?)))?;
-    let mut locals = Locals::new(alloc);
-    locals.push((CType::FnPtr, name(alloc, "f")?, Num::Plain(0)))?;
-    locals.push((CType::PtrU32, name(alloc, "p")?, Num::Plain(0)))?;
-    locals.push((CType::U32, name(alloc, "y")?, Num::N32(0)))?;
-    Ok(Item::Func(Func {
-        is_static: false,
-        result: CType::U32,
-        name: name(alloc, text)?,
-        params,
-        body: Some(Body { locals, stmts }),
-    }))
-}
-
-// f = inner; y = CALLEE(a); return y;
-fn calls(alloc: Global, text: &str, callee: Callee) -> Result<Item, Memory> {
-    let mut args = Args::new(alloc);
-    args.push(held(alloc, "a")?)?;
-    let mut stmts = Stmts::new(alloc);
-    let inner = Arg::Function(name(alloc, "inner")?);
-    stmts.push(Stmt::Set(name(alloc, "f")?, inner))?;
-    stmts.push(Stmt::Call(Some(name(alloc, "y")?), callee, args))?;
-    stmts.push(Stmt::Return(held(alloc, "y")?))?;
-    function(alloc, text, stmts)
-}
-
-// p = &g; *p = a; goto L1; L1: y = *p; return y;
-fn jumps(alloc: Global) -> Result<Item, Memory> {
-    let mut stmts = Stmts::new(alloc);
-    let address = Arg::Address(name(alloc, "g")?);
-    stmts.push(Stmt::Set(name(alloc, "p")?, address))?;
-    let value = Expr::Name(name(alloc, "a")?);
-    stmts.push(Stmt::SetStar(name(alloc, "p")?, value))?;
-    stmts.push(Stmt::Goto(name(alloc, "L1")?))?;
-    stmts.push(Stmt::Label(name(alloc, "L1")?))?;
-    let pointed = Arg::Value(Expr::Star(name(alloc, "p")?));
-    stmts.push(Stmt::Set(name(alloc, "y")?, pointed))?;
-    stmts.push(Stmt::Return(held(alloc, "y")?))?;
-    function(alloc, "jumps", stmts)
-}
-
-fn first_items(alloc: Global) -> Result<Unit, Memory> {
-    let mut unit = Unit::new(alloc);
-    for called in ["inner", "tick", "w2c_trap"] {
-        unit.push(calls(alloc, called, Callee::Named(name(alloc, called)?))?)?;
-    }
-    for to in [CType::U32, CType::U64] {
-        let callee = Callee::Through(takes_u32(alloc, to)?, name(alloc, "f")?);
-        unit.push(calls(alloc, "through", callee)?)?;
-    }
-    unit.push(jumps(alloc)?)?;
-    Ok(unit)
-}
-
-// return 42u;
-fn second_items(alloc: Global) -> Result<Unit, Memory> {
-    let mut stmts = Stmts::new(alloc);
-    stmts.push(Stmt::Return(Arg::Value(Expr::Num(Num::N32(42)))))?;
-    let mut unit = Unit::new(alloc);
-    unit.push(function(alloc, "inner", stmts)?)?;
-    Ok(unit)
 }
 
 fn numbered(alloc: Global, text: &str, number: usize) -> Result<Numbers, Memory> {
@@ -153,12 +137,12 @@ fn with_unit(units: Vec<LinkedUnit>, alloc: Global, items: Unit) -> Result<Vec<L
 }
 
 #[tactic(auto, using(c_thread::proofs::Units::have_none))]
-fn linked_units(alloc: Global) -> Result<Vec<LinkedUnit>, Memory>
+fn linked_units(alloc: Global) -> Result<Vec<LinkedUnit>, Fail>
     ensures { IfOk result (λ us. HaveUnitTables us.items) }
 {
     let none = Vec::new(alloc);
-    let first = with_unit(none, alloc, first_items(alloc)?)?;
-    let both = with_unit(first, alloc, second_items(alloc)?)?;
+    let first = with_unit(none, alloc, read(alloc, FIRST)?)?;
+    let both = with_unit(first, alloc, read(alloc, SECOND)?)?;
     Ok(both)
 }
 
@@ -219,7 +203,7 @@ fn ended(step: LinkedStep) -> Result<u32, u32> {
 }
 
 // What a function of the first unit comes to within so many statements.
-fn run(alloc: Global, item: usize, argument: u32, most: u64) -> Result<Result<u32, u32>, Memory> {
+fn run(alloc: Global, item: usize, argument: u32, most: u64) -> Result<Result<u32, u32>, Fail> {
     let units = linked_units(alloc)?;
     let types = types(alloc)?;
     let mut steps = most;
@@ -230,15 +214,29 @@ fn run(alloc: Global, item: usize, argument: u32, most: u64) -> Result<Result<u3
     Ok(ended(step))
 }
 
+// A function, its argument, how many statements it may run, and what it comes to.
+const RUNS: [(usize, u32, u64, Result<u32, u32>); 6] = [
+    (0, 1, 4, Ok(42)),
+    (0, 1, 3, Err(0)),
+    (2, 3, 4, Err(103)),
+    (3, 1, 4, Ok(42)),
+    (4, 1, 4, Err(5)),
+    (5, 6, 5, Ok(6)),
+];
+
+// The number of the first that comes to something else.
+fn first_other(alloc: Global) -> Result<Option<usize>, Fail> {
+    for (i, (item, argument, most, wanted)) in RUNS.into_iter().enumerate() {
+        if run(alloc, item, argument, most)? != wanted {
+            return Ok(Some(i));
+        }
+    }
+    Ok(None)
+}
+
 #[test]
 fn calls_of_each_kind(rt: HostRuntime) -> Result<(), Fail> {
-    let alloc = rt.alloc();
-    assert_eq!(rt; run(alloc, 0, 1, 4)?, Ok(42));
-    assert_eq!(rt; run(alloc, 0, 1, 3)?, Err(0));
-    assert_eq!(rt; run(alloc, 2, 3, 4)?, Err(103));
-    assert_eq!(rt; run(alloc, 3, 1, 4)?, Ok(42));
-    assert_eq!(rt; run(alloc, 4, 1, 4)?, Err(5));
-    assert_eq!(rt; run(alloc, 5, 6, 5)?, Ok(6));
+    assert_eq!(rt; first_other(rt.alloc())?, None);
     Ok(())
 }
 
@@ -257,19 +255,17 @@ fn a_host_is_asked_and_its_value_taken(rt: HostRuntime) -> Result<(), Fail> {
     let types = types(alloc)?;
     let mut steps = 3;
     let Some(mut thread) = begun(alloc, units.as_slice(), 1, 7)? else {
-        assert!(rt; false);
-        return Ok(());
+        return Err(Fail::new("a function that asks a host"));
     };
     let step = thread.run(alloc, units.as_slice(), &types, &mut steps)?;
     let Some(call) = asked(step) else {
-        assert!(rt; false);
-        return Ok(());
+        return Err(Fail::new("a function that asks a host"));
     };
-    assert_eq!(rt; (call.host, call.function, steps), (0, 0, 1));
-    assert_eq!(rt; call.args.get(0), Some(&Value::I32(7)));
+    let is_asked = (call.host, call.function, steps) == (0, 0, 1)
+        && call.args.get(0) == Some(&Value::I32(7));
     let taken = thread.take(units.as_slice(), Some(Value::I32(9)));
-    assert!(rt; matches!(taken, LinkedStep::Next));
+    let is_taken = matches!(taken, LinkedStep::Next);
     let step = thread.run(alloc, units.as_slice(), &types, &mut steps)?;
-    assert_eq!(rt; ended(step), Ok(9));
+    assert_eq!(rt; (is_asked, is_taken, ended(step)), (true, true, Ok(9)));
     Ok(())
 }

@@ -1,71 +1,37 @@
 // The statements of a small function, and types by their kinds.
 ghost use Rattle.std.specs.Prelude.{◌≡◌, Some};
 
+use crate::texts::read;
 use c_scope::{FileScope, Salted, Scope, own_table, own_variables};
-use c_tree::{Arg, Body, COp, CType, Expr, Func, Locals, Name, Params, Stmt, Stmts};
+use c_tree::{Arg, Body, CType, Func, Item, Stmt};
 use c_types::{
     Typed, Typing, is_number_type, is_object_type, is_result_type, is_value_type, is_void,
     names_are_known, proper_types, same_type, stmt_is_typed, type_of, types_agree, typing_of,
 };
-use std::alloc::{AllocError, Global};
-use std::boxed::Box;
-use std::process::Abort;
+use std::alloc::Global;
 use std::test::Fail;
 use w2c_base::Memory;
 
-fn name(alloc: Global, text: &[u8]) -> Result<Name, AllocError> {
-    Ok(Name::from_vec(text.to_vec(alloc)?))
+const FUNCTION: &str = "#include \"w2c_rt.h\"
+static void f(u32 x, u64 y) {
+x = x;
+x = n;
+x = (x + y);
+y = x;
+x = (x + x);
+x = (y < y);
 }
-
-fn variable(alloc: Global, text: &[u8]) -> Result<Expr, AllocError> {
-    Ok(Expr::Name(name(alloc, text)?))
-}
-
-fn op(alloc: Global, o: COp, left: &[u8], right: &[u8]) -> Result<Expr, AllocError> {
-    let left = Box::new(alloc, variable(alloc, left)?)?;
-    let right = Box::new(alloc, variable(alloc, right)?)?;
-    Ok(Expr::Op(o, left, right))
-}
-
-fn set(alloc: Global, target: &[u8], e: Expr) -> Result<Stmt, AllocError> {
-    Ok(Stmt::Set(name(alloc, target)?, Arg::Value(e)))
-}
-
-// x = x; x = n; x = (x + y); y = x;
-fn stmts(alloc: Global) -> Result<Stmts, Memory> {
-    let mut stmts = Stmts::new(alloc);
-    stmts.push(set(alloc, b"x", variable(alloc, b"x")?)?)?;
-    stmts.push(set(alloc, b"x", variable(alloc, b"n")?)?)?;
-    stmts.push(set(alloc, b"x", op(alloc, COp::Add, b"x", b"y")?)?)?;
-    stmts.push(set(alloc, b"y", variable(alloc, b"x")?)?)?;
-    Ok(stmts)
-}
-
-// static void f(u32 x, u64 y) with these statements
-fn function(alloc: Global) -> Result<Func, Memory> {
-    let mut params = Params::new(alloc);
-    params.push((CType::U32, Some(name(alloc, b"x")?)))?;
-    params.push((CType::U64, Some(name(alloc, b"y")?)))?;
-    Ok(Func {
-        is_static: true,
-        result: CType::Void,
-        name: name(alloc, b"f")?,
-        params,
-        body: Some(Body {
-            locals: Locals::new(alloc),
-            stmts: stmts(alloc)?,
-        }),
-    })
-}
+";
 
 /// What a statement keeps.
-#[derive(Clone, Copy, Debug, PartialEq, Eq)]
+#[derive(Clone, Copy, PartialEq, Eq)]
 struct Kept {
     is_known: bool,
     is_typed: bool,
     agrees: bool,
 }
 
+// Of the first statements.
 const WANTED: [Kept; 4] = [
     Kept {
         is_known: true,
@@ -97,38 +63,53 @@ fn keeps(s: &Scope, stmt: &Stmt) -> Kept {
     }
 }
 
-fn statements_hold(
-    rt: &impl Abort,
-    alloc: Global,
-    file: &FileScope,
-    f: &Func,
-    body: &Body,
-) -> Result<(), Fail>
+fn keep_so(s: &Scope, stmts: &[Stmt]) -> bool {
+    for (stmt, wanted) in stmts.iter().zip(&WANTED) {
+        if keeps(s, stmt) != *wanted {
+            return false;
+        }
+    }
+    stmts.len() == WANTED.len() + 2
+}
+
+// The last two: a sum, and a comparison.
+fn are_typed_so(s: &Scope, stmts: &[Stmt]) -> bool {
+    match (stmts.get(4), stmts.get(5)) {
+        (Some(Stmt::Set(_, Arg::Value(sum))), Some(Stmt::Set(_, Arg::Value(test)))) => {
+            type_of(s, sum) == Some(CType::U32) && matches!(typing_of(s, test), Typing::Compares)
+        }
+        _ => false,
+    }
+}
+
+fn statements_hold(alloc: Global, f: &Func, body: &Body) -> Result<bool, Memory>
     requires { f.now.body ≡ Some body.now }
 {
     let own = own_variables(alloc, f)?;
     let table = own_table(alloc, Salted::new(), own.as_slice())?;
-    let scope = Scope::new(file, &table, f, body);
-    assert_eq!(rt; body.stmts.len(), WANTED.len());
-    for (stmt, wanted) in body.stmts.as_slice().iter().zip(&WANTED) {
-        assert_eq!(rt; keeps(&scope, stmt), *wanted);
+    let file = FileScope::new(alloc, Salted::new(), &[]);
+    let scope = Scope::new(&file, &table, f, body);
+    let stmts = body.stmts.as_slice();
+    Ok(keep_so(&scope, stmts) && are_typed_so(&scope, stmts))
+}
+
+fn function_holds(alloc: Global, f: &Func) -> Result<bool, Memory> {
+    match &f.body {
+        Some(body) => statements_hold(alloc, f, body),
+        None => Ok(false),
     }
-    let e = op(alloc, COp::Add, b"x", b"x")?;
-    assert_eq!(rt; type_of(&scope, &e), Some(CType::U32));
-    let e = op(alloc, COp::Lt, b"y", b"y")?;
-    assert!(rt; matches!(typing_of(&scope, &e), Typing::Compares));
-    Ok(())
 }
 
 #[test]
 fn a_statement_keeps_what_it_is_asked(rt: HostRuntime) -> Result<(), Fail> {
     let alloc = rt.alloc();
-    let file = FileScope::new(alloc, Salted::new(), &[]);
-    let f = function(alloc)?;
-    match &f.body {
-        Some(body) => statements_hold(&rt, alloc, &file, &f, body),
-        None => Err(Fail::new("no body")),
-    }
+    let unit = read(alloc, FUNCTION)?;
+    let holds = match unit.as_slice().first() {
+        Some(Item::Func(f)) => function_holds(alloc, f)?,
+        _ => false,
+    };
+    assert!(rt; holds);
+    Ok(())
 }
 
 /// A type, and whether it is void, a number's, an object's, a value's and a result's.
@@ -147,8 +128,8 @@ const KINDS: [Case; 10] = [
     (CType::FnPtr, [false, false, false, true, true]),
 ];
 
-#[test]
-fn kinds_of_types(rt: HostRuntime) {
+// The first type that is of other kinds.
+fn first_other_kinds() -> Option<CType> {
     for (t, wanted) in KINDS {
         let kinds = [
             is_void(t),
@@ -157,16 +138,27 @@ fn kinds_of_types(rt: HostRuntime) {
             is_value_type(t),
             is_result_type(t),
         ];
-        assert_eq!(rt; kinds, wanted);
-        assert!(rt; same_type(t, t));
+        if kinds != wanted || !same_type(t, t) {
+            return Some(t);
+        }
     }
-    assert!(rt; !same_type(CType::U32, CType::U64));
+    None
+}
+
+#[test]
+fn kinds_of_types(rt: HostRuntime) {
+    assert_eq!(rt;
+        (first_other_kinds(), same_type(CType::U32, CType::U64)),
+        (None, false)
+    );
 }
 
 #[test]
 fn void_stands_for_no_parameters(rt: HostRuntime) {
     let types = [CType::Void, CType::U32];
-    assert_eq!(rt; proper_types(&types[..1]).len(), 0);
-    assert_eq!(rt; proper_types(&types).len(), 2);
-    assert_eq!(rt; types[1].ctype(), CType::U32);
+    let none = proper_types(&types[..1]).len();
+    assert_eq!(rt;
+        (none, proper_types(&types).len(), types[1].ctype()),
+        (0, 2, CType::U32)
+    );
 }

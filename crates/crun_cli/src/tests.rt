@@ -1,4 +1,7 @@
-// Hosts are dropped once, whatever a run comes to. Rows say what command lines come to (bench/rows).
+// Command lines over files in memory: the status, the lines and the files that stand, and that the host is dropped once. That
+// ordinary input meets no want of memory is said here alone. More rows are in bench/rows.
+mod units;
+
 use crate::env::Env;
 use crate::top::crun_top;
 use c_hosts::{BoxedHost, HostFunction, HostModule, HostReply};
@@ -7,57 +10,241 @@ use std::boxed::Box;
 use std::cell::Cell;
 use std::rc::Rc;
 use std::test::Fail;
-use w2c_base::Value;
+use units::{
+    A_C, ADD_C, ASKS_C, B_C, DIVISION_C, JOURNAL, KEPT_C, LOADS_C, MERGED_C, REAL_C, SEGMENTS_C,
+    SPARE_C,
+};
+use w2c_base::{Memory, Value};
 use w2c_io::{MemFiles, MemSink};
 
-// A module `a` with a variable, a memory and a table, which counts by the host `env`.
-const A_C: &str = "#include \"w2c_rt.h\"
-u64 w2cZ_envZ_fZ_tick(void);
-static u32 g0 = 7u;
-static w2c_mem m0;
-static w2c_tab t0;
-static u32 f0(u32 x);
-u32 w2cZ_aZ_fZ_half(u32 x) { u32 r = 0u; r = f0(x); return r; }
-u64 w2cZ_aZ_fZ_tick(void) { u64 r = 0ull; r = w2cZ_envZ_fZ_tick(); return r; }
-void w2cZ_aZ_i(void) {
-w2c_mem_new(&m0, 1u, 1ull);
-w2c_put4(&m0, 32ull, 5u);
-w2c_tab_new(&t0, 2u, 2ull);
-w2c_tab_set(&t0, 1ull, (w2c_fn)f0, 13ull);
-g0 = 9u;
-return;
-}
-static u32 f0(u32 x) { u32 r = 0u; r = (x / 2u); return r; }
-";
-
-// A module `b`, which calls `a`.
-const B_C: &str = "#include \"w2c_rt.h\"
-u32 w2cZ_aZ_fZ_half(u32 x);
-u32 w2cZ_bZ_fZ_over(u32 x, u32 y) { u32 r = 0u; r = w2cZ_aZ_fZ_half(x); r = (r / y); return r; }
-";
-
-// A module `d`, which traps.
-const D_C: &str = "#include \"w2c_rt.h\"
-void w2cZ_dZ_fZ_stop(void) { w2c_trap(1u); return; }
-";
-
-fn text_of(alloc: Global, texts: &[&str]) -> Result<Vec<String>, Fail> {
-    let mut words = Vec::new(alloc);
-    for text in texts {
-        words.push(String::from_str(alloc, text)?)?;
-    }
-    Ok(words)
+#[derive(Clone, Copy)]
+struct Row {
+    words: &'static str,
+    // What the file `calls` holds.
+    calls: &'static str,
+    // The put on the output that fails, 0 for none.
+    failing: u64,
+    status: u8,
+    out: &'static str,
+    err: &'static str,
+    // A file that stands behind the run, if one is looked at.
+    stands: Option<(&'static str, &'static str)>,
 }
 
-// The modules in `a.c`, `b.c` and `d.c`, and this text in `calls`.
-fn files_of(alloc: Global, calls: &str) -> Result<MemFiles, Fail> {
-    let mut files = MemFiles::new(alloc);
-    files.add("a.c", A_C.as_bytes())?;
-    files.add("b.c", B_C.as_bytes())?;
-    files.add("d.c", D_C.as_bytes())?;
-    files.add("calls", calls.as_bytes())?;
-    Ok(files)
-}
+const FILES: [(&str, &str); 10] = [
+    ("add.c", ADD_C),
+    ("m.c", LOADS_C),
+    ("a.c", A_C),
+    ("b.c", B_C),
+    ("s.c", SEGMENTS_C),
+    ("u.c", DIVISION_C),
+    ("spare.c", SPARE_C),
+    ("real.c", REAL_C),
+    ("h.c", ASKS_C),
+    ("kept.c", KEPT_C),
+];
+
+// Each over the files that those before it left.
+const ROWS: [Row; 22] = [
+    Row {
+        words: "--steps 100000 --calls calls add.c",
+        calls: "add add 4294967295 1\n",
+        failing: 0,
+        status: 0,
+        out: "call 1 = i32:0\n",
+        err: "",
+        stands: None,
+    },
+    Row {
+        words: "--steps 100000 --calls calls m.c",
+        calls: "m near 65532\n",
+        failing: 0,
+        status: 0,
+        out: "call 1 = i32:0\n",
+        err: "",
+        stands: None,
+    },
+    Row {
+        words: "--steps 100000 --calls calls m.c",
+        calls: "m near 65533\n",
+        failing: 0,
+        status: 1,
+        out: "call 1 trap 2 memory out of bounds\n",
+        err: "",
+        stands: None,
+    },
+    Row {
+        words: "--steps 100000 --calls calls m.c",
+        calls: "m far 1\n",
+        failing: 0,
+        status: 1,
+        out: "call 1 trap 2 memory out of bounds\n",
+        err: "",
+        stands: None,
+    },
+    Row {
+        words: "--steps 100000 --calls calls a.c b.c",
+        calls: "b run\na peek\nb again\n",
+        failing: 0,
+        status: 0,
+        out: "call 1 = i32:11\ncall 2 = i32:5\ncall 3 = i32:7\n",
+        err: "",
+        stands: None,
+    },
+    Row {
+        words: "--steps 100000 --calls calls --state s.c",
+        calls: "",
+        failing: 0,
+        status: 1,
+        out: "init 1 trap 10 segment out of bounds\nstate 0 m0 pages 1\n",
+        err: "",
+        stands: None,
+    },
+    Row {
+        words: "--steps 100000 --calls calls u.c",
+        calls: "u q 7 2\n",
+        failing: 0,
+        status: 0,
+        out: "call 1 = i32:3\n",
+        err: "",
+        stands: None,
+    },
+    Row {
+        words: "--steps 100000 --calls calls u.c",
+        calls: "u q 1 0\n",
+        failing: 0,
+        status: 8,
+        out: "call 1 undefined 1 unit 0 item 0 statement 1\n",
+        err: "",
+        stands: None,
+    },
+    Row {
+        words: "--steps 1 --calls calls u.c",
+        calls: "u q 7 2\n",
+        failing: 0,
+        status: 7,
+        out: "call 1 out of steps\n",
+        err: "",
+        stands: None,
+    },
+    Row {
+        words: "--steps 100000 --calls calls --state real.c",
+        calls: "real f 5\n",
+        failing: 0,
+        status: 0,
+        out: "call 1 = i32:25\nstate 0 g0 u32:66560\nstate 0 m0 pages 2\nstate 0 m0 at 66544 00000000000000000000000005000000\nstate 0 t0 length 1\n",
+        err: "",
+        stands: None,
+    },
+    Row {
+        words: "--steps 100000 --calls calls h.c",
+        calls: "h r\n",
+        failing: 0,
+        status: 0,
+        out: "host env tick = i64:1\nhost env tick = i64:2\ncall 1 = i64:3\n",
+        err: "",
+        stands: None,
+    },
+    Row {
+        words: "--steps 100000 --calls calls b.c",
+        calls: "",
+        failing: 0,
+        status: 6,
+        out: "",
+        err: "crun: b.c: undefined w2cZ_aZ_mZ_mem\n",
+        stands: None,
+    },
+    Row {
+        words: "--merge ab.c a.c b.c",
+        calls: "",
+        failing: 0,
+        status: 0,
+        out: "",
+        err: "",
+        stands: None,
+    },
+    Row {
+        words: "--steps 100000 --calls calls ab.c",
+        calls: "b run\na peek\nb again\n",
+        failing: 0,
+        status: 0,
+        out: "call 1 = i32:11\ncall 2 = i32:5\ncall 3 = i32:7\n",
+        err: "",
+        stands: None,
+    },
+    Row {
+        words: "--merge mu.c u.c",
+        calls: "",
+        failing: 0,
+        status: 0,
+        out: "",
+        err: "",
+        stands: Some(("mu.c", MERGED_C)),
+    },
+    Row {
+        words: "--trim t.c spare.c",
+        calls: "",
+        failing: 0,
+        status: 0,
+        out: "",
+        err: "",
+        stands: Some(("t.c", DIVISION_C)),
+    },
+    Row {
+        words: "--steps 100000 --calls calls --record j h.c",
+        calls: "h r\n",
+        failing: 0,
+        status: 0,
+        out: "host env tick = i64:1\nhost env tick = i64:2\ncall 1 = i64:3\n",
+        err: "",
+        stands: Some(("j", JOURNAL)),
+    },
+    Row {
+        words: "--steps 100000 --calls calls --replay j --record k h.c",
+        calls: "h r\n",
+        failing: 0,
+        status: 0,
+        out: "host env tick = i64:1\nhost env tick = i64:2\ncall 1 = i64:3\n",
+        err: "",
+        stands: Some(("k", JOURNAL)),
+    },
+    Row {
+        words: "--steps 400 --calls calls --state add.c kept.c",
+        calls: "add add 40 2\nkept f 5\nkept f 0\n",
+        failing: 0,
+        status: 0,
+        out: "call 1 = i32:42\nhost env tick = i64:1\ncall 2 = i64:1\nhost env tick = i64:2\ncall 3 = i64:2\nstate 1 g0 u32:12\nstate 1 m0 pages 1\nstate 1 m0 at 0 00000068690000000000000000000000\nstate 1 m0 at 16 00000000020000000000000000000000\nstate 1 t0 length 3\nstate 1 t0 at 1 unit 1 f1 8\nstate 1 t0 at 2 host 0 tick 5\n",
+        err: "",
+        stands: None,
+    },
+    Row {
+        words: "--steps 100000 --calls calls add.c",
+        calls: "add add 1\n",
+        failing: 0,
+        status: 2,
+        out: "",
+        err: "crun: calls line 1\n",
+        stands: None,
+    },
+    Row {
+        words: "--steps 100000 --calls calls none.c",
+        calls: "",
+        failing: 0,
+        status: 3,
+        out: "",
+        err: "crun: none.c: read fault\n",
+        stands: None,
+    },
+    Row {
+        words: "--steps 100000 --calls calls u.c",
+        calls: "u q 7 2\n",
+        failing: 1,
+        status: 4,
+        out: "call ",
+        err: "crun: write fault\n",
+        stands: None,
+    },
+];
 
 // The host `env`, with a counter of drops.
 struct Watched {
@@ -101,17 +288,31 @@ impl HostModule for Watched {
     }
 }
 
+fn words_of(alloc: Global, text: &str) -> Result<Vec<String>, Memory> {
+    let mut words = Vec::new(alloc);
+    for word in text.split_whitespace() {
+        words.push(String::from_str(alloc, word)?)?;
+    }
+    Ok(words)
+}
+
+fn unit_files(alloc: Global) -> Result<MemFiles, Memory> {
+    let mut files = MemFiles::new(alloc);
+    for (name, text) in FILES {
+        files.add(name, text.as_bytes())?;
+    }
+    Ok(files)
+}
+
 // The status of these words with a host whose drops are counted.
 fn watched_status(
     alloc: Global,
-    words: &[&str],
-    calls: &str,
+    words: &[String],
+    files: &mut MemFiles,
     out: &mut MemSink,
+    err: &mut MemSink,
     drops: &Rc<Cell<u64>>,
-) -> Result<u8, Fail> {
-    let mut files = files_of(alloc, calls)?;
-    let mut err = MemSink::new(alloc);
-    let words = text_of(alloc, words)?;
+) -> Result<u8, Memory> {
     let env = Env::new(alloc)?;
     let host = Box::new(
         alloc,
@@ -122,34 +323,41 @@ fn watched_status(
     )?;
     let mut hosts = Vec::new(alloc);
     hosts.push(BoxedHost { host })?;
-    Ok(crun_top(alloc, words.as_slice(), &mut files, out, &mut err, hosts))
+    Ok(crun_top(alloc, words, files, out, err, hosts))
+}
+
+fn is_said(row: &Row, out: &MemSink, err: &MemSink, files: &MemFiles) -> bool {
+    let stands = match row.stands {
+        Some((name, text)) => files.get(name) == Some(text.as_bytes()),
+        None => true,
+    };
+    stands && out.bytes() == row.out.as_bytes() && err.bytes() == row.err.as_bytes()
+}
+
+fn comes_out(alloc: Global, row: &Row, files: &mut MemFiles) -> Result<bool, Memory> {
+    files.add("calls", row.calls.as_bytes())?;
+    let words = words_of(alloc, row.words)?;
+    let drops = Rc::new(alloc, Cell::new(0u64))?;
+    let mut err = MemSink::new(alloc);
+    let mut out = MemSink::new(alloc);
+    out.fail(row.failing)?;
+    let status = watched_status(alloc, words.as_slice(), files, &mut out, &mut err, &drops)?;
+    Ok(status == row.status && drops.get() == 1 && is_said(row, &out, &err, files))
+}
+
+// The number of the first row that comes out otherwise, with its words.
+fn first_wrong(alloc: Global) -> Result<Option<(usize, &'static str)>, Memory> {
+    let mut files = unit_files(alloc)?;
+    for (i, row) in ROWS.iter().enumerate() {
+        if !comes_out(alloc, row, &mut files)? {
+            return Ok(Some((i, row.words)));
+        }
+    }
+    Ok(None)
 }
 
 #[test]
-fn hosts_are_dropped_once(rt: HostRuntime) -> Result<(), Fail> {
-    let alloc = rt.alloc();
-    let run: &[&str] = &["--steps", "1000", "--calls", "calls", "a.c", "b.c", "d.c"];
-    let short: &[&str] = &["--steps", "7", "--calls", "calls", "a.c"];
-    let absent: &[&str] = &["--steps", "9", "--calls", "calls", "c.c"];
-    let alone: &[&str] = &["--steps", "9", "--calls", "calls", "b.c"];
-    // The words, the calls, the put that fails where one does, and the status.
-    let rows = [
-        (run, "a tick\n", 0, 0),
-        (run, "d stop\n", 0, 1),
-        (run, "a half\n", 0, 2),
-        (absent, "", 0, 3),
-        (run, "a tick\n", 1, 4),
-        (alone, "", 0, 6),
-        (short, "a tick\n", 0, 7),
-        (run, "b over 9 0\n", 0, 8),
-    ];
-    for (words, calls, failing, status) in rows {
-        let mut out = MemSink::new(alloc);
-        out.fail(failing)?;
-        let drops = Rc::new(alloc, Cell::new(0u64))?;
-        let came = watched_status(alloc, words, calls, &mut out, &drops)?;
-        assert!(rt; came == status, "{status}");
-        assert!(rt; drops.get() == 1, "{status}");
-    }
+fn command_lines(rt: HostRuntime) -> Result<(), Fail> {
+    assert_eq!(rt; first_wrong(rt.alloc())?, None);
     Ok(())
 }

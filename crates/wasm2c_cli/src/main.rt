@@ -8,6 +8,8 @@ mod reading;
 mod report;
 mod runtime;
 mod stop;
+#[cfg(test)]
+mod tests;
 mod top;
 mod translating;
 mod work;

@@ -9,6 +9,8 @@ mod reporting;
 mod runs;
 mod session_runs;
 mod stage;
+#[cfg(test)]
+mod tests;
 mod top;
 mod word;
 mod work;

@@ -7,7 +7,7 @@ use Rattle.c_scope.specs.Own.{variable_pair}
 use Rattle.c_tests.proofs.typing.statements_hold.Goals as goal
 
 pub new-scope-requires : goal.new-scope-requires
-new-scope-requires g c q =
+new-scope-requires c q =
     let f = func_of c.args.f.now in
     c.in_ok-table.ensures q ∙ ap (named q) (ap (map variable_pair) c.as_slice.ensures.value ∙ c.in_ok-own.ensures)
     ∙ ap (λ (b : Option Body). named q
