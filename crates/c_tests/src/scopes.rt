@@ -5,6 +5,7 @@ use crate::texts::read;
 use c_scope::{FileScope, NameTable, Salted, Scope, Signature, own_table, own_variables, salt_of};
 use c_tree::{Body, CType, Func, Item};
 use std::alloc::Global;
+use std::hash::{BuildHasher, Hasher};
 use std::test::Fail;
 use w2c_base::Memory;
 
@@ -25,6 +26,42 @@ fn a_name_stands_for_what_was_entered_first(rt: HostRuntime) -> Result<(), Fail>
     table.enter(alloc, b"a", CType::U64)?;
     let found = (table.find(b"a"), table.has(b"a"), table.has(b"b"));
     assert_eq!(rt; found, (Some(CType::U32), true, false));
+    Ok(())
+}
+
+// A unit, and with another name of each kind in turn: variable, array, function, parameter, local variable, label.
+const KEYED: [&str; 7] = [
+    "#include \"w2c_rt.h\"\nstatic u64 g;\nstatic const u8 d[1] = {7};\nstatic void f(u32 x) {\nu32 z = 0u;\nL: return;\n}\n",
+    "#include \"w2c_rt.h\"\nstatic u64 h;\nstatic const u8 d[1] = {7};\nstatic void f(u32 x) {\nu32 z = 0u;\nL: return;\n}\n",
+    "#include \"w2c_rt.h\"\nstatic u64 g;\nstatic const u8 e[1] = {7};\nstatic void f(u32 x) {\nu32 z = 0u;\nL: return;\n}\n",
+    "#include \"w2c_rt.h\"\nstatic u64 g;\nstatic const u8 d[1] = {7};\nstatic void k(u32 x) {\nu32 z = 0u;\nL: return;\n}\n",
+    "#include \"w2c_rt.h\"\nstatic u64 g;\nstatic const u8 d[1] = {7};\nstatic void f(u32 y) {\nu32 z = 0u;\nL: return;\n}\n",
+    "#include \"w2c_rt.h\"\nstatic u64 g;\nstatic const u8 d[1] = {7};\nstatic void f(u32 x) {\nu32 a = 0u;\nL: return;\n}\n",
+    "#include \"w2c_rt.h\"\nstatic u64 g;\nstatic const u8 d[1] = {7};\nstatic void f(u32 x) {\nu32 z = 0u;\nM: return;\n}\n",
+];
+
+// The hash of a name by the key of a unit.
+fn keyed_hash(alloc: Global, text: &str) -> Result<u64, Fail> {
+    let unit = read(alloc, text)?;
+    let mut hasher = salt_of(unit.as_slice()).build_hasher();
+    hasher.write(b"name");
+    Ok(hasher.finish())
+}
+
+// The first unit whose key is that of the first.
+fn first_of_same_key(alloc: Global) -> Result<Option<&'static str>, Fail> {
+    let first = keyed_hash(alloc, KEYED[0])?;
+    for text in &KEYED[1..] {
+        if keyed_hash(alloc, text)? == first {
+            return Ok(Some(text));
+        }
+    }
+    Ok(None)
+}
+
+#[test]
+fn each_name_of_a_unit_changes_its_key(rt: HostRuntime) -> Result<(), Fail> {
+    assert_eq!(rt; first_of_same_key(rt.alloc())?, None);
     Ok(())
 }
 
@@ -174,7 +211,7 @@ fn has_variables(alloc: Global, f: &Func) -> Result<bool, Memory> {
     let own = own_variables(alloc, f)?;
     let table = own_table(alloc, Salted::new(), own.as_slice())?;
     let is_last = table.find(b"z") == Some(CType::FnPtr);
-    Ok(own.len() == 2 && own[0].name == b"x" && own[1].of == CType::FnPtr && is_last)
+    Ok(own.len() == 2 && own[0].name == b"x".as_slice() && own[1].of == CType::FnPtr && is_last)
 }
 
 #[test]
