@@ -174,7 +174,7 @@ fn has_variables(alloc: Global, f: &Func) -> Result<bool, Memory> {
     let own = own_variables(alloc, f)?;
     let table = own_table(alloc, Salted::new(), own.as_slice())?;
     let is_last = table.find(b"z") == Some(CType::FnPtr);
-    Ok(own.len() == 2 && own[0].name == b"x" && own[1].of == CType::FnPtr && is_last)
+    Ok(own.len() == 2 && own[0].name == b"x".as_slice() && own[1].of == CType::FnPtr && is_last)
 }
 
 #[test]
