@@ -69,8 +69,10 @@ fn linked(alloc: Global, first: &str, second: &str) -> Result<Result<Linked, Lin
 }
 
 fn names_are_owned(linked: &Linked) -> bool {
-    linked.unit_count() == 2
-        && linked.unit(0).unit().len() == 2
+    if linked.unit_count() != 2 {
+        return false;
+    }
+    linked.unit(0).unit().len() == 2
         && linked.func_named(0, b"s") == Some(Owner::Unit(0))
         && linked.func_named(1, b"s") == None
         && linked.func_named(1, b"w2cZ_h") == Some(Owner::Host(0))

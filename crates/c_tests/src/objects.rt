@@ -1,15 +1,18 @@
 // The objects of a unit that runs.
+use c_objects::Done::{Gives, NoEffect, Trapped, Undefined};
+use c_objects::Held::{FuncPointer, Number, Pointer};
 use c_objects::{
     Done, FuncId, Held, MemoryCell, Object, ObjectId, Primitive, Store, TableCell, UnitObjects,
 };
 use std::alloc::Global;
 use std::test::Fail;
-use w2c_base::{Memory, TrapKind, Value};
+use w2c_base::Value::{I32, I64};
+use w2c_base::{Memory, TrapKind};
 
 // A unit with a variable, a memory and a table.
 fn store(alloc: Global) -> Result<Store, Memory> {
     let mut vars = Vec::new(alloc);
-    vars.push(Held::Number(Value::I32(7)))?;
+    vars.push(Number(I32(7)))?;
     let mut memories = Vec::new(alloc);
     memories.push(MemoryCell::NotMade)?;
     let mut tables = Vec::new(alloc);
@@ -27,126 +30,166 @@ fn store(alloc: Global) -> Result<Store, Memory> {
     Ok(Store { units })
 }
 
-fn run(store: &mut Store, alloc: Global, name: &[u8], args: &[Held]) -> Result<Done, Memory> {
-    match Primitive::of_name(name) {
-        None => Ok(Done::NoEffect),
-        Some(primitive) => Ok(store.apply(alloc, primitive, args)?),
-    }
-}
+// A call of a primitive, and what it comes to.
+type Call = (&'static [u8], &'static [Held], Done);
 
-fn of_unit(object: Object) -> Option<ObjectId> {
-    Some(ObjectId { unit: 0, object })
-}
+const M: Held = Pointer(Some(ObjectId {
+    unit: 0,
+    object: Object::Memory(0),
+}));
 
-fn narrow(n: u32) -> Held {
-    Held::Number(Value::I32(n))
-}
+const T: Held = Pointer(Some(ObjectId {
+    unit: 0,
+    object: Object::Table(0),
+}));
 
-fn wide(n: u64) -> Held {
-    Held::Number(Value::I64(n))
-}
+const F: Held = FuncPointer(Some(FuncId::Host(0, 4)));
 
-#[test]
-fn a_memory_is_made_and_grows(rt: HostRuntime) -> Result<(), Fail> {
-    let alloc = rt.alloc();
-    let mut store = store(alloc)?;
-    let m = Held::Pointer(of_unit(Object::Memory(0)));
-    let made = run(&mut store, alloc, b"w2c_mem_new", &[m, narrow(1), wide(3)])?;
-    assert_eq!(rt; made, Done::Gives(None));
-    let again = run(&mut store, alloc, b"w2c_mem_new", &[m, narrow(1), wide(3)])?;
-    assert_eq!(rt; again, Done::Undefined(8));
-    let len = run(&mut store, alloc, b"w2c_mem_len", &[m])?;
-    assert_eq!(rt; len, Done::Gives(Some(wide(65_536))));
-    let max = run(&mut store, alloc, b"w2c_mem_max", &[m])?;
-    assert_eq!(rt; max, Done::Gives(Some(wide(3))));
-    let old = run(&mut store, alloc, b"w2c_mem_grow", &[m, narrow(2)])?;
-    assert_eq!(rt; old, Done::Gives(Some(narrow(1))));
-    let refused = run(&mut store, alloc, b"w2c_mem_grow", &[m, narrow(1)])?;
-    assert_eq!(rt; refused, Done::Gives(Some(narrow(u32::MAX))));
-    Ok(())
-}
+// A memory is made and grows.
+const MEMORY: &[Call] = &[
+    (
+        b"w2c_mem_new",
+        &[M, Number(I32(1)), Number(I64(3))],
+        Gives(None),
+    ),
+    (
+        b"w2c_mem_new",
+        &[M, Number(I32(1)), Number(I64(3))],
+        Undefined(8),
+    ),
+    (b"w2c_mem_len", &[M], Gives(Some(Number(I64(65_536))))),
+    (b"w2c_mem_max", &[M], Gives(Some(Number(I64(3))))),
+    (
+        b"w2c_mem_grow",
+        &[M, Number(I32(2))],
+        Gives(Some(Number(I32(1)))),
+    ),
+    (
+        b"w2c_mem_grow",
+        &[M, Number(I32(1))],
+        Gives(Some(Number(I32(u32::MAX)))),
+    ),
+];
 
-#[test]
-fn bytes_are_put_and_got(rt: HostRuntime) -> Result<(), Fail> {
-    let alloc = rt.alloc();
-    let mut store = store(alloc)?;
-    let m = Held::Pointer(of_unit(Object::Memory(0)));
-    run(&mut store, alloc, b"w2c_mem_new", &[m, narrow(1), wide(1)])?;
-    let put = run(
-        &mut store,
-        alloc,
+// Bytes are put and got.
+const BYTES: &[Call] = &[
+    (
+        b"w2c_mem_new",
+        &[M, Number(I32(1)), Number(I64(1))],
+        Gives(None),
+    ),
+    (
         b"w2c_put4",
-        &[m, wide(65_532), narrow(0x0403_0201)],
-    )?;
-    assert_eq!(rt; put, Done::Gives(None));
-    let byte = run(&mut store, alloc, b"w2c_get1", &[m, wide(65_533)])?;
-    assert_eq!(rt; byte, Done::Gives(Some(narrow(2))));
-    let half = run(&mut store, alloc, b"w2c_get2", &[m, wide(65_534)])?;
-    assert_eq!(rt; half, Done::Gives(Some(narrow(0x0403))));
-    let whole = run(&mut store, alloc, b"w2c_get8", &[m, wide(65_528)])?;
-    assert_eq!(rt; whole, Done::Gives(Some(wide(0x0403_0201_0000_0000))));
-    let past = run(&mut store, alloc, b"w2c_get8", &[m, wide(65_529)])?;
-    assert_eq!(rt; past, Done::Undefined(6));
-    let null = run(
-        &mut store,
-        alloc,
+        &[M, Number(I64(65_532)), Number(I32(0x0403_0201))],
+        Gives(None),
+    ),
+    (
+        b"w2c_get1",
+        &[M, Number(I64(65_533))],
+        Gives(Some(Number(I32(2)))),
+    ),
+    (
+        b"w2c_get2",
+        &[M, Number(I64(65_534))],
+        Gives(Some(Number(I32(0x0403)))),
+    ),
+    (
         b"w2c_get8",
-        &[Held::Pointer(None), wide(65_529)],
-    )?;
-    assert_eq!(rt; null, Done::Undefined(4));
-    let other = run(&mut store, alloc, b"w2c_put4", &[m, wide(0), wide(1)])?;
-    assert_eq!(rt; other, Done::NoEffect);
-    Ok(())
+        &[M, Number(I64(65_528))],
+        Gives(Some(Number(I64(0x0403_0201_0000_0000)))),
+    ),
+    (b"w2c_get8", &[M, Number(I64(65_529))], Undefined(6)),
+    (
+        b"w2c_get8",
+        &[Pointer(None), Number(I64(65_529))],
+        Undefined(4),
+    ),
+    (b"w2c_put4", &[M, Number(I64(0)), Number(I64(1))], NoEffect),
+];
+
+// A table holds functions.
+const TABLE: &[Call] = &[
+    (
+        b"w2c_tab_new",
+        &[T, Number(I32(2)), Number(I64(9))],
+        Gives(None),
+    ),
+    (b"w2c_tab_len", &[T], Gives(Some(Number(I64(2))))),
+    (b"w2c_tab_max", &[T], Gives(Some(Number(I64(9))))),
+    (
+        b"w2c_tab_set",
+        &[T, Number(I64(1)), F, Number(I64(77))],
+        Gives(None),
+    ),
+    (
+        b"w2c_tab_sig",
+        &[T, Number(I64(1))],
+        Gives(Some(Number(I64(77)))),
+    ),
+    (b"w2c_tab_fn", &[T, Number(I64(1))], Gives(Some(F))),
+    (
+        b"w2c_tab_fn",
+        &[T, Number(I64(0))],
+        Gives(Some(FuncPointer(None))),
+    ),
+];
+
+// Elements that are not set: of the kinds that hold of one call the least is the one.
+const NOT_SET: &[Call] = &[
+    (
+        b"w2c_tab_set",
+        &[T, Number(I64(0)), FuncPointer(None), Number(I64(0))],
+        Undefined(4),
+    ),
+    (
+        b"w2c_tab_set",
+        &[T, Number(I64(0)), F, Number(I64(0))],
+        Undefined(7),
+    ),
+    (
+        b"w2c_tab_new",
+        &[T, Number(I32(1)), Number(I64(1))],
+        Gives(None),
+    ),
+    (
+        b"w2c_tab_set",
+        &[T, Number(I64(0)), F, Number(I64(0))],
+        Undefined(8),
+    ),
+];
+
+// Traps are those of the table of traps.
+const TRAPS: &[Call] = &[
+    (b"w2c_trap", &[Number(I32(3))], Trapped(TrapKind::DivByZero)),
+    (b"w2c_trap", &[Number(I32(12))], Undefined(8)),
+];
+
+fn run(store: &mut Store, alloc: Global, call: &Call) -> Result<bool, Memory> {
+    let (name, args, wanted) = *call;
+    let came = match Primitive::of_name(name) {
+        None => NoEffect,
+        Some(primitive) => store.apply(alloc, primitive, args)?,
+    };
+    Ok(came == wanted)
+}
+
+// The number of the first of the calls, which come one behind another, that comes to something else.
+fn first_other(alloc: Global, calls: &[Call]) -> Result<Option<usize>, Memory> {
+    let mut store = store(alloc)?;
+    for (i, call) in calls.iter().enumerate() {
+        if !run(&mut store, alloc, call)? {
+            return Ok(Some(i));
+        }
+    }
+    Ok(None)
 }
 
 #[test]
-fn a_table_holds_functions(rt: HostRuntime) -> Result<(), Fail> {
+fn primitives(rt: HostRuntime) -> Result<(), Fail> {
     let alloc = rt.alloc();
-    let mut store = store(alloc)?;
-    let t = Held::Pointer(of_unit(Object::Table(0)));
-    let made = run(&mut store, alloc, b"w2c_tab_new", &[t, narrow(2), wide(9)])?;
-    assert_eq!(rt; made, Done::Gives(None));
-    let len = run(&mut store, alloc, b"w2c_tab_len", &[t])?;
-    assert_eq!(rt; len, Done::Gives(Some(wide(2))));
-    let max = run(&mut store, alloc, b"w2c_tab_max", &[t])?;
-    assert_eq!(rt; max, Done::Gives(Some(wide(9))));
-    let f = Held::FuncPointer(Some(FuncId::Host(0, 4)));
-    let set = run(
-        &mut store,
-        alloc,
-        b"w2c_tab_set",
-        &[t, wide(1), f, wide(77)],
-    )?;
-    assert_eq!(rt; set, Done::Gives(None));
-    let signature = run(&mut store, alloc, b"w2c_tab_sig", &[t, wide(1)])?;
-    assert_eq!(rt; signature, Done::Gives(Some(wide(77))));
-    let function = run(&mut store, alloc, b"w2c_tab_fn", &[t, wide(1)])?;
-    assert_eq!(rt; function, Done::Gives(Some(f)));
-    let empty = run(&mut store, alloc, b"w2c_tab_fn", &[t, wide(0)])?;
-    assert_eq!(rt; empty, Done::Gives(Some(Held::FuncPointer(None))));
-    Ok(())
-}
-
-// Of the kinds that hold of one call the least is the one.
-#[test]
-fn elements_that_are_not_set(rt: HostRuntime) -> Result<(), Fail> {
-    let alloc = rt.alloc();
-    let mut store = store(alloc)?;
-    let t = Held::Pointer(of_unit(Object::Table(0)));
-    let f = Held::FuncPointer(Some(FuncId::Unit(0, 4)));
-    let null = Held::FuncPointer(None);
-    let of_null = run(
-        &mut store,
-        alloc,
-        b"w2c_tab_set",
-        &[t, wide(0), null, wide(0)],
-    )?;
-    assert_eq!(rt; of_null, Done::Undefined(4));
-    let past = run(&mut store, alloc, b"w2c_tab_set", &[t, wide(0), f, wide(0)])?;
-    assert_eq!(rt; past, Done::Undefined(7));
-    run(&mut store, alloc, b"w2c_tab_new", &[t, narrow(1), wide(1)])?;
-    let unsigned = run(&mut store, alloc, b"w2c_tab_set", &[t, wide(0), f, wide(0)])?;
-    assert_eq!(rt; unsigned, Done::Undefined(8));
+    for calls in [MEMORY, BYTES, TABLE, NOT_SET, TRAPS] {
+        assert_eq!(rt; first_other(alloc, calls)?, None);
+    }
     Ok(())
 }
 
@@ -157,19 +200,11 @@ fn a_variable_holds_what_it_was_given(rt: HostRuntime) -> Result<(), Fail> {
         unit: 0,
         object: Object::Variable(0),
     };
-    assert_eq!(rt; store.var(at), Some(narrow(7)));
-    assert!(rt; store.set_var(at, narrow(8)));
-    assert_eq!(rt; store.var(at), Some(narrow(8)));
-    Ok(())
-}
-
-#[test]
-fn traps_are_those_of_the_table(rt: HostRuntime) -> Result<(), Fail> {
-    let alloc = rt.alloc();
-    let mut store = store(alloc)?;
-    let trap = run(&mut store, alloc, b"w2c_trap", &[narrow(3)])?;
-    assert_eq!(rt; trap, Done::Trapped(TrapKind::DivByZero));
-    let none = run(&mut store, alloc, b"w2c_trap", &[narrow(12)])?;
-    assert_eq!(rt; none, Done::Undefined(8));
+    let before = store.var(at);
+    let is_set = store.set_var(at, Number(I32(8)));
+    assert_eq!(rt;
+        (before, is_set, store.var(at)),
+        (Some(Number(I32(7))), true, Some(Number(I32(8))))
+    );
     Ok(())
 }

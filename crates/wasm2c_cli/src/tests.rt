@@ -149,6 +149,10 @@ u32 w2cZ_genZ_fZ_run(u32);
 #endif
 ";
 
+// Adds two numbers.
+const ADD: &[u8] =
+    b"\0asm\x01\0\0\0\x01\x07\x01`\x02\x7f\x7f\x01\x7f\x03\x02\x01\0\x07\x07\x01\x03add\0\0\n\t\x01\x07\0 \0 \x01j\x0b";
+
 // Two constants and their sum, and the unit.
 const TWO: &[u8] =
     b"\0asm\x01\0\0\0\x01\x05\x01`\0\x01\x7f\x03\x02\x01\0\x07\x05\x01\x01f\0\0\n\t\x01\x07\0A(A\x02j\x0b";
@@ -181,10 +185,7 @@ return;
 
 // The modules.
 const FILES: [(&str, &[u8]); 5] = [
-    (
-        "add.wasm",
-        b"\0asm\x01\0\0\0\x01\x07\x01`\x02\x7f\x7f\x01\x7f\x03\x02\x01\0\x07\x07\x01\x03add\0\0\n\t\x01\x07\0 \0 \x01j\x0b",
-    ),
+    ("add.wasm", ADD),
     ("seven.wasm", b"\0asm\x01\0\0"),
     (
         "a.wasm",
@@ -310,10 +311,10 @@ fn comes_out(alloc: Global, row: &Row, files: &mut MemFiles) -> Result<bool, Mem
 
 // The first row over files and a stream that never fail.
 fn comes_out_surely(alloc: Global) -> Result<bool, Memory> {
-    let words = words_of(alloc, ROWS[0].words)?;
+    let words = words_of(alloc, "add.wasm -o add.c")?;
     let mut files = SureFiles::new(alloc);
     let mut err = SureSink::new(alloc);
-    files.add(FILES[0].0, FILES[0].1)?;
+    files.add("add.wasm", ADD)?;
     let status = sure_top(alloc, words.as_slice(), &mut files, &mut err);
     Ok(status == 0 && err.bytes().is_empty() && files.get("add.h") == Some(ADD_H.as_bytes()))
 }

@@ -15,14 +15,14 @@ struct Row {
 }
 
 // A sum.
-const FIRST: &str = "{\"commands\":[
+const FIRST: &[u8] = b"{\"commands\":[
 {\"type\": \"module\", \"name\": \"add\", \"filename\": \"add.wasm\"},
 {\"type\": \"assert_return\", \"module\": \"add\", \"field\": \"add\", \"args\": [{\"type\": \"i32\", \"value\": \"4294967295\"}, {\"type\": \"i32\", \"value\": \"1\"}], \"expected\": [{\"type\": \"i32\", \"value\": \"0\"}]}
 ]}
 ";
 
 // A trap, files that are not valid, malformed and of floating point, and a loop without an end.
-const SECOND: &str = "{\"commands\":[
+const SECOND: &[u8] = b"{\"commands\":[
 {\"type\": \"module\", \"name\": \"d\", \"filename\": \"d.wasm\"},
 {\"type\": \"module\", \"name\": \"l\", \"filename\": \"l.wasm\"},
 {\"type\": \"assert_trap\", \"module\": \"d\", \"field\": \"div\", \"args\": [{\"type\": \"i32\", \"value\": \"2147483648\"}, {\"type\": \"i32\", \"value\": \"4294967295\"}], \"text\": \"integer overflow\"},
@@ -34,7 +34,7 @@ const SECOND: &str = "{\"commands\":[
 ";
 
 // A module that joins too soon, one that it imports, it again, a call that is kept, and a look at what that left.
-const THIRD: &str = "{\"commands\":[
+const THIRD: &[u8] = b"{\"commands\":[
 {\"type\": \"module\", \"name\": \"b\", \"filename\": \"b.wasm\"},
 {\"type\": \"module\", \"name\": \"a\", \"filename\": \"a.wasm\"},
 {\"type\": \"module\", \"name\": \"b\", \"filename\": \"b.wasm\"},
@@ -70,9 +70,9 @@ const FILES: [(&str, &[u8]); 12] = [
         "b.wasm",
         b"\0asm\x01\0\0\0\x01\x05\x01`\0\x01\x7f\x02\x19\x03\x01a\x03mem\x02\0\x01\x01a\x01g\x03\x7f\x01\x01a\x03inc\0\0\x03\x02\x01\0\x07\x0f\x02\x03run\0\x01\x05again\0\0\n\x13\x01\x11\0A\0#\06\x02\0\x10\0A\0(\x02\0j\x0b",
     ),
-    ("first.json", FIRST.as_bytes()),
-    ("second.json", SECOND.as_bytes()),
-    ("third.json", THIRD.as_bytes()),
+    ("first.json", FIRST),
+    ("second.json", SECOND),
+    ("third.json", THIRD),
     ("bad.json", b"{\"commands\":[{\"type\":\"module\"}]}"),
 ];
 
