@@ -65,6 +65,27 @@ def sum_of(crate):
     return found.hexdigest()
 
 
+def sum_of_code(program, kit_lines):
+    """A sum of all that a program is compiled from, as it is now: the lines of a kit's version, and the lines, code and definitions of the
+    crates that it stands on, with its own. Proofs are left out: they change no byte of it, and nothing that is promised of it."""
+    found = hashlib.sha256(repr(list(kit_lines)).encode())
+    for crate in below(program):
+        found.update(repr([crate, lines_of_crates()[crate]]).encode())
+        for path in files(crate, PARTS[:2]):
+            with open(path, "rb") as file:
+                found.update(repr([path[len(ROOT) + 1:], hashlib.sha256(file.read()).hexdigest()]).encode())
+    return found.hexdigest()
+
+
+def touched(program):
+    """When anything was last touched that a program is compiled from, by the clock of the file system, which no tool sets back."""
+    folders = [
+        folder for crate in below(program) for part in PARTS[:2] for folder, _, _ in os.walk(f"{ROOT}/crates/{crate}/{part}")
+    ]
+    paths = [f"{ROOT}/crates.txt", *folders, *(it for crate in below(program) for it in files(crate, PARTS[:2]))]
+    return max(os.stat(it).st_ctime for it in paths)
+
+
 def is_program(crate):
     return os.path.exists(f"{ROOT}/crates/{crate}/src/main.rt")
 
