@@ -7,17 +7,14 @@ another, of that program alone, with the line `unpacked` where it was taken from
 or has another SHA-256 than its record, is never used."""
 import contextlib
 import hashlib
-import importlib
 import os
-import shutil
-import subprocess
 
 import crates
 
 KEPT = f"{crates.ROOT}/bin/kept"
 SUMS = f"{KEPT}/sums"
-# The programs that are kept.
-PROGRAMS = "wasm2c_cli", "crun_cli", "wast_run"
+# The programs that are kept, and what they are called once they are installed.
+PROGRAMS = {"wasm2c_cli": "wasm2c", "crun_cli": "crun", "wast_run": "wast_run"}
 # What they need of a machine beside its processor, of which they say it themselves.
 LOADER = "/lib64/ld-linux-x86-64.so.2"
 GLIBC = 2, 34
@@ -55,14 +52,10 @@ def record_at(path):
     return Record(kit, {it[0]: tuple(it[1:]) for it in words if len(it) == 3}, ["unpacked"] in words)
 
 
-def record_of(program, kit, found):
-    """The record of a program of these bytes and of the sources as they are."""
+def record_of(program, found):
+    """The record of a program of these bytes, made by the kit that is here of the sources as they are."""
+    kit = crates.version_of_kit().splitlines()
     return Record(kit, {program: (crates.sum_of_code(program, kit), sum_of_bytes(found))})
-
-
-def kit_lines():
-    """The lines of the version of the kit that is here."""
-    return crates.version_of_kit().splitlines()
 
 
 def sum_of_bytes(found):
@@ -124,6 +117,17 @@ def is_built(program):
     return found is not None and record.has_bytes(program, found) and record.is_of_checkout(program)
 
 
+def built_by_gate(program):
+    """The bytes of the program that `rt ci` built here of the sources as they are, None where there is none. rt writes no record: it makes
+    the file anew at each run, so no source may have been touched since."""
+    path = f"{built_at(program)}.by-rattle"
+    try:
+        is_new = os.stat(path).st_mtime > crates.touched(program)
+    except OSError:
+        return None
+    return bytes_at(path) if is_new else None
+
+
 def why_not_here():
     """Why kept programs do not run on this machine, None where they do."""
     system, machine = os.uname().sysname, os.uname().machine
@@ -140,37 +144,56 @@ def why_not_here():
     return f"the programs of bin/kept need version 2.34 of the GNU C library, and here is {version}" if is_old else None
 
 
+def unpacked_by_xz(packed):
+    """What xz unpacks, None where it is not there or cannot."""
+    import subprocess
+
+    try:
+        ran = subprocess.run(["xz", "-dc"], input=packed, stdout=subprocess.PIPE, stderr=subprocess.DEVNULL, check=False)
+    except OSError:
+        return None
+    return ran.stdout if ran.returncode == 0 else None
+
+
 def unpacked(program):
-    """The bytes of a kept program, None where its file is not there or is broken. A python that was built without lzma has xz do it."""
+    """The bytes of a kept program, None where its file is not there or is broken."""
     packed = bytes_at(packed_at(program))
     if not packed:
         return None
     try:
-        lzma = importlib.import_module("lzma")
+        import lzma
     except ImportError:
-        how = {"input": packed, "stdout": subprocess.PIPE, "stderr": subprocess.DEVNULL, "check": False}
-        ran = subprocess.run(["xz", "-dc"], **how) if shutil.which("xz") else None
-        return ran.stdout if ran and ran.returncode == 0 else None
+        # A python that was built without it.
+        return unpacked_by_xz(packed)
     try:
         return lzma.decompress(packed, lzma.FORMAT_XZ)
     except (lzma.LZMAError, EOFError):
         return None
 
 
-def take(program):
-    """Puts a kept program into its crate's out/. Answers why not, None where it did."""
-    record = record_at(SUMS)
+class NotUsed(Exception):
+    """Why a kept program is not used."""
+
+
+def kept_bytes(program, record):
+    """The bytes of a kept program, which the record of bin/kept has to have of the sources as they are."""
     if program not in record.programs:
-        return "bin/kept has no such program"
+        raise NotUsed("bin/kept has no such program")
     if not record.is_of_checkout(program):
-        return "the program of bin/kept was made of other sources"
+        raise NotUsed("the program of bin/kept was made of other sources")
     why = why_not_here()
     if why:
-        return why
+        raise NotUsed(why)
     found = unpacked(program)
     if found is None:
-        return f"bin/kept/{program}.xz cannot be read or unpacked"
+        raise NotUsed(f"bin/kept/{program}.xz cannot be read or unpacked")
     if not record.has_bytes(program, found):
-        return f"bin/kept/{program}.xz is NOT the program of which bin/kept/sums has the SHA-256"
+        raise NotUsed(f"bin/kept/{program}.xz is NOT the program of which bin/kept/sums has the SHA-256")
+    return found
+
+
+def take(program):
+    """Puts a kept program into its crate's out/, or raises NotUsed."""
+    record = record_at(SUMS)
+    found = kept_bytes(program, record)
     put_program(program, found, Record(record.kit, {program: record.programs[program]}, is_unpacked=True))
-    return None

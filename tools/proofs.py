@@ -95,6 +95,8 @@ class Proofs:
 
     def __init__(self, chain, work):
         """A chain has the crates lowest first; a folder is for what is not kept."""
+        # When this began, for spans of time, and by the clock that files have.
+        self.at_first, self.by_clock = time.monotonic(), time.time()
         self.chain, self.work, self.way = chain, work, ways(chain, size)
         self.done = {it for it in chain if not crates.is_program(it) and is_kept(it)}
         self.left = sorted((it for it in chain if it not in self.done), key=lambda it: -self.way[it])
@@ -102,8 +104,8 @@ class Proofs:
         self.running, self.began, self.jobs, self.took = {}, {}, {}, {}
         # With little memory there are fewer jobs.
         self.most_jobs = max(1, min(processors(), int(memory() / JOB)))
-        # What each crate that is to be proved takes, about; and when the first began.
-        self.seconds, self.at_first = {it: seconds(it) for it in self.left}, time.monotonic()
+        # What each crate that is to be proved takes, about.
+        self.seconds = {it: seconds(it) for it in self.left}
 
     def to(self, crate):
         """What the compiler writes of a crate: of a program the object file."""
@@ -154,10 +156,12 @@ class Proofs:
 
     def say_progress(self, ended):
         """Says how far it is, with the crates that have just been proved. Answers when."""
-        width, now = len(str(len(self.seconds))), time.monotonic()
-        parts = [f"{it} proved ({self.took[it]:.0f} s)" for it in ended]
+        now = time.monotonic()
+        of_all = f"({len(self.took)} of {len(self.seconds)}, {span(now - self.at_first)})"
+        parts = [f"proved {', '.join(f'crates/{it}' for it in ended)}"] if ended else ["proving"]
+        parts[0] += f" {of_all}"
         parts += [f"{', '.join(self.running)} running", f"about {span(self.time_left())} left"] if self.running else []
-        say(f"[{len(self.took):{width}}/{len(self.seconds)}] {span(now - self.at_first)}  {'; '.join(parts)}")
+        say("; ".join(parts))
         return now
 
     def start(self, crate):
@@ -183,7 +187,8 @@ class Proofs:
             with open(f"{self.work}/{crate}.log", encoding="utf-8", errors="replace") as log:
                 say(f"{log.read()}crates/{crate} was not built")
             return False
-        if not crates.is_program(crate):
+        # What was touched meanwhile was perhaps not what the compiler read: then it is proved again by the next call.
+        if not crates.is_program(crate) and crates.touched(crate, crates.PARTS) < self.by_clock:
             with open(f"{crates.statements(crate)}/sum", "w", encoding="ascii") as kept:
                 kept.write(crates.sum_of(crate))
         self.done.add(crate)
@@ -217,3 +222,5 @@ class Proofs:
             for process in self.running.values():
                 with contextlib.suppress(OSError):
                     os.killpg(process.pid, signal.SIGKILL)
+                # So that nothing is written any more into the folder that is removed behind this.
+                process.wait()
