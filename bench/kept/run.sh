@@ -65,7 +65,7 @@ chosen=$* began=$(date +%s)
 # Three programs over libraries of a line, in a copy of all that stands beside the crates.
 mkdir -p "$checkout/crates"
 (cd "$top" && tar cf - --exclude=bin/kept --exclude=__pycache__ .ci bin cmake docs examples tools LICENSE LICENSES VERSION) |
-    (cd "$checkout" && tar xf -)
+    (cd "$checkout" && tar xf -) || exit 2
 cat >"$checkout/crates.txt" <<'EOF'
 low:
 middle: low itoa
@@ -239,6 +239,19 @@ EOF
         try "others run it" 0 0 "wasm2c_cli, word" $nobody bin/wasm2c word
     fi
     afresh
+    try "bin/install of kept programs" 0 0 "$work/installed/bin/crun" bin/install "$work/installed"
+    try "it does not unpack them here" 1 any "" test -e crates/crun_cli/out
+    try "each runs from there" 0 0 "crun_cli, word" "$work/installed/bin/crun" word
+    for file in share/man/man1/wasm2c.1 share/lagwimet/runtime/plain/w2c_rt.c share/lagwimet/runtime/fast/w2c_trap.c \
+        lib/cmake/Wasm2c/Wasm2cConfig.cmake share/doc/lagwimet/LICENSES/THIRD-PARTY.txt; do
+        [ "$file" = share/man/man1/wasm2c.1 ] && [ ! -e "$top/docs/WASM2C.md" ] || try "and has $file" 0 0 "" test -s "$work/installed/$file"
+    done
+    : >"$work/a_file"
+    try "bin/install where no folder can be" 1 1 "install: $work/a_file/bin: Not a directory" bin/install "$work/a_file"
+    changed crates/side/src/lib.rt sed 1d
+    try "bin/install of what cannot be built" 70 1 "crun_cli is not built: the program of bin/kept was made of other sources" bin/install "$work/none"
+    try "it puts nothing there then" 1 any "" test -e "$work/none"
+    back
     cp -R "$checkout" "$work/a folder with blanks"
     checkout="$work/a folder with blanks"
     unpacked "a folder with blanks in its name"
@@ -256,13 +269,20 @@ if group calls; then
     try "eight calls at once run" 0 0 8 grep -c "^wasm2c_cli, word$" "$work/outs"
     try "and one of them unpacks" 0 0 1 grep -c "kept in bin/kept" "$work/errs"
     afresh
-    python3 -c 'import fcntl, os, sys, time
+    # Held until this process ends its input.
+    mkfifo "$work/until"
+    python3 -c 'import fcntl, os, sys
 fcntl.flock(os.open(sys.argv[1], os.O_RDONLY), fcntl.LOCK_EX)
 print("held", flush=True)
-time.sleep(3)' "$checkout/crates" >"$work/held" &
+sys.stdin.read()' "$checkout/crates" <"$work/until" >"$work/held" &
+    exec 3>"$work/until"
     while ! grep -q held "$work/held"; do sleep 0.1; done
-    try "a call waits for one that builds, and says so" 0 2 "another call of bin/build is at work in this checkout: this one waits" bin/wasm2c word
+    (cd "$checkout" && exec bin/wasm2c word) >"$work/waited" 2>&1 3>&- &
+    while ! grep -q "another call" "$work/waited"; do sleep 0.1; done
+    try "a call waits for one that builds, and says so" 0 0 "at work in this checkout: this one waits for it" cat "$work/waited"
+    exec 3>&-
     wait
+    try "then it goes on" 0 0 "wasm2c_cli, word" cat "$work/waited"
 fi
 
 if group kit; then
@@ -270,7 +290,7 @@ if group kit; then
     afresh
     try "--prove gives the kept bytes" 0 any "proved and built here, the same bytes as the kept program" bin/build --prove wasm2c_cli
     cp "$work/err" "$work/said"
-    try "it says first what is to be done" 0 0 "proving 3 crates, the last wasm2c_cli: about 1 minute on " cat "$work/said"
+    try "it says first what is to be done" 0 0 "proving 3 crates, the last wasm2c_cli: about " cat "$work/said"
     try "then what runs, and how long it takes" 0 0 "proved crates/low (1 of 3, 0:0" grep "middle running; about .* left" "$work/said"
     try "and what is proved" 0 0 "proved crates/wasm2c_cli (3 of 3, " cat "$work/said"
     check "the check compares with it" 0 "kept program wasm2c_cli: the same bytes as built"
