@@ -277,6 +277,7 @@ print("held", flush=True)
 sys.stdin.read()' "$checkout/crates" <"$work/until" >"$work/held" &
     exec 3>"$work/until"
     while ! grep -q held "$work/held"; do sleep 0.1; done
+    : >"$work/waited"
     (cd "$checkout" && exec bin/wasm2c word) >"$work/waited" 2>&1 3>&- &
     while ! grep -q "another call" "$work/waited"; do sleep 0.1; done
     try "a call waits for one that builds, and says so" 0 0 "at work in this checkout: this one waits for it" cat "$work/waited"
@@ -314,6 +315,7 @@ if group kit; then
     try "what was proved stays so" 0 any " more stay proved)" bin/wasm2c word
     afresh
     export STAND_IN_SLEEPS=20
+    : >"$work/stopped"
     (cd "$checkout" && exec python3 bin/build wasm2c_cli) 2>"$work/stopped" &
     call=$!
     while ! grep -q running "$work/stopped"; do sleep 0.1; done
