@@ -1,6 +1,7 @@
 """How bin/build and bin/install come to a program: the one that is kept in bin/kept, the one that the gate built here, or one that is
 proved and built now. Each of the first two only if it is of the sources as they are."""
 import contextlib
+import errno
 import fcntl
 import os
 import shutil
@@ -110,7 +111,8 @@ def faults_said(program):
     try:
         yield
     except OSError as fault:
-        of_folder = "; bin/install PREFIX needs no folder of this checkout to write to" if isinstance(fault, PermissionError) else ""
+        is_shut = fault.errno in (errno.EACCES, errno.EPERM, errno.EROFS)
+        of_folder = "; bin/install PREFIX needs no folder of this checkout to write to" if is_shut else ""
         say(f"{program} is not built: {fault.filename or 'a file'}: {fault.strerror}{of_folder}")
         sys.exit(FAILED)
     except subprocess.CalledProcessError as fault:
