@@ -20,9 +20,13 @@ NO_KIT = "to prove and build it takes the Rattle kit, whose command rt is not in
 
 
 def link(made, to):
+    """Links an object file to a program. Answers whether it did, and says why not."""
     kit = crates.kit()
     words = [f"{kit}/bin/rattle-link", "--target", "x86_64-unknown-linux-gnu", "--toolchain", f"{kit}/toolchain", "-o", to, made]
-    linked = subprocess.run([*words, f"{kit}/c/libos_c.a", f"{kit}/c/liblibc_c.a"], stdin=subprocess.DEVNULL, stdout=sys.stderr, check=False)
+    how = {"stdin": subprocess.DEVNULL, "stdout": subprocess.PIPE, "stderr": subprocess.STDOUT, "check": False}
+    linked = subprocess.run([*words, f"{kit}/c/libos_c.a", f"{kit}/c/liblibc_c.a"], **how)
+    if linked.returncode:
+        say(f"{linked.stdout.decode(errors='replace')}{os.path.basename(to)} was not linked")
     return linked.returncode == 0
 
 

@@ -314,6 +314,10 @@ if group kit; then
     unset STAND_IN_FAILS
     try "what was proved stays so" 0 any " more stay proved)" bin/wasm2c word
     afresh
+    export STAND_IN_LINKS=no
+    try "a program that cannot be linked" 70 any "wasm2c_cli was not linked" bin/wasm2c word
+    unset STAND_IN_LINKS
+    afresh
     export STAND_IN_SLEEPS=20
     : >"$work/stopped"
     (cd "$checkout" && exec python3 bin/build wasm2c_cli) 2>"$work/stopped" &
