@@ -76,8 +76,7 @@ def take(program):
     except kept.NotUsed as cause:
         why = str(cause)
     else:
-        of_it = "the program kept in bin/kept, built from these sources once they were proved"
-        say(f"{program}: {of_it}; `bin/build --prove {program}` proves them here")
+        say(kept.what_it_is(program))
         return True
     if not shutil.which("rt"):
         say(f"{program} is not built: {why}, and {NO_KIT}")

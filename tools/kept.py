@@ -171,6 +171,12 @@ def unpacked(program):
         return None
 
 
+def what_it_is(program):
+    """What is said where a kept program is taken."""
+    of_it = "the program kept in bin/kept, built from these sources once they were proved"
+    return f"{program}: {of_it}; `bin/build --prove {program}` proves them here"
+
+
 class NotUsed(Exception):
     """Why a kept program is not used."""
 

@@ -5,7 +5,7 @@
 # calls, kit, gate.
 #
 # Nothing is proved, and the kit is not needed: `rt`, the compiler and the linker are stand-ins (kit/), and so are the crates, and the
-# programs, which print their words. bin/ and tools/ are the checkout's. Needs python3 and xz; takes half a minute on an idle machine.
+# programs, which print their words. bin/ and tools/ are the checkout's. Needs python3 and xz, and 15 seconds of processor time.
 top=$(cd "$(dirname "$0")/../.." && pwd) || exit 2
 work=$(mktemp -d) || exit 2
 trap 'chmod -R u+w "$work"; rm -rf "$work"' EXIT
@@ -14,9 +14,11 @@ checkout=$work/checkout
 status=0
 # Whoever runs this may have the kit in PATH.
 without_kit=
-for folder in $(echo "$PATH" | tr ' :' '? '); do
+IFS=:
+for folder in $PATH; do
     [ -x "$folder/rt" ] || without_kit=$without_kit${without_kit:+:}$folder
 done
+unset IFS
 with_kit=$work/kit/bin:$without_kit
 
 # try NAME STATUS LINES TEXT COMMAND..: runs a command in the checkout, which has to end with STATUS and to print LINES lines on the error
@@ -239,7 +241,7 @@ EOF
         try "others run it" 0 0 "wasm2c_cli, word" $nobody bin/wasm2c word
     fi
     afresh
-    try "bin/install of kept programs" 0 0 "$work/installed/bin/crun" bin/install "$work/installed"
+    try "bin/install of kept programs, each of which it says" 0 3 "$work/installed/bin/crun" bin/install "$work/installed"
     try "it does not unpack them here" 1 any "" test -e crates/crun_cli/out
     try "each runs from there" 0 0 "crun_cli, word" "$work/installed/bin/crun" word
     for file in share/man/man1/wasm2c.1 share/lagwimet/runtime/plain/w2c_rt.c share/lagwimet/runtime/fast/w2c_trap.c \
