@@ -249,9 +249,9 @@ EOF
         [ "$file" = share/man/man1/wasm2c.1 ] && [ ! -e "$top/docs/WASM2C.md" ] || try "and has $file" 0 0 "" test -s "$work/installed/$file"
     done
     : >"$work/a_file"
-    try "bin/install where no folder can be" 1 1 "install: $work/a_file/bin: Not a directory" bin/install "$work/a_file"
+    try "bin/install where no folder can be" 1 4 "install: $work/a_file/bin: Not a directory" bin/install "$work/a_file"
     changed crates/side/src/lib.rt sed 1d
-    try "bin/install of what cannot be built" 70 1 "crun_cli is not built: the program of bin/kept was made of other sources" bin/install "$work/none"
+    try "bin/install of what cannot be built" 70 2 "crun_cli is not built: the program of bin/kept was made of other sources" bin/install "$work/none"
     try "it puts nothing there then" 1 any "" test -e "$work/none"
     back
     cp -R "$checkout" "$work/a folder with blanks"
