@@ -1,5 +1,7 @@
 """Rules for WebAssembly modules that wasm2c translates to C."""
 
+load("@rules_cc//cc:defs.bzl", "cc_library")
+
 def wasm2c_library(name, module, deps = [], **kwargs):
     """A C library of one module: an action that translates it, and a cc_library of the unit and its header.
 
@@ -19,7 +21,7 @@ def wasm2c_library(name, module, deps = [], **kwargs):
         cmd = "$(location //:wasm2c) $(location %s) -n %s -o $(@D)/%s.c" % (module, name, name),
         tools = ["//:wasm2c"],
     )
-    native.cc_library(
+    cc_library(
         name = name,
         srcs = [name + ".c"],
         hdrs = [name + ".h"],

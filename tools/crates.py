@@ -2,23 +2,29 @@
 import functools
 import hashlib
 import os
-import subprocess
 
 ROOT = os.path.dirname(os.path.dirname(os.path.abspath(__file__)))
-# What a proof reads of a crate. The code and what is promised of it are the first two.
-PARTS = "src", "specs", "proofs"
+# A crate's code and what is promised of it, which a program is compiled from; and all that a proof reads.
+CODE = "src", "specs"
+PARTS = *CODE, "proofs"
+
+
+def said_by_rt(word):
+    # Slow to load, and nothing else here needs it: bin/build asks at each call whether a program is there.
+    import subprocess
+
+    return subprocess.run(["rt", word], stdout=subprocess.PIPE, text=True, check=True).stdout
 
 
 @functools.cache
 def kit():
     """The folder of the Rattle kit, that of its first page."""
-    page = subprocess.run(["rt", "doc"], stdout=subprocess.PIPE, text=True, check=True).stdout.strip()
-    return os.path.dirname(page)
+    return os.path.dirname(said_by_rt("doc").strip())
 
 
 @functools.cache
 def version_of_kit():
-    return subprocess.run(["rt", "version"], stdout=subprocess.PIPE, text=True, check=True).stdout
+    return said_by_rt("version")
 
 
 @functools.cache
@@ -48,11 +54,15 @@ def below(crate):
     return found
 
 
+def is_of_an_editor(name):
+    """Whether a file is what editors leave beside the one that they edit: .lib.rt.swp, .#lib.rt, #lib.rt#, lib.rt~. No module is called so."""
+    return name.startswith((".", "#")) or name.endswith("~")
+
+
 def files(crate, parts=PARTS):
     """The paths of a crate's files, in order."""
-    return sorted(
-        os.path.join(folder, name) for part in parts for folder, _, names in os.walk(f"{ROOT}/crates/{crate}/{part}") for name in names
-    )
+    walked = [it for part in parts for it in os.walk(f"{ROOT}/crates/{crate}/{part}")]
+    return sorted(os.path.join(folder, name) for folder, _, names in walked for name in names if not is_of_an_editor(name))
 
 
 @functools.cache
@@ -63,6 +73,28 @@ def sum_of(crate):
         with open(path, "rb") as file:
             found.update(repr([os.path.relpath(path, ROOT), hashlib.sha256(file.read()).hexdigest()]).encode())
     return found.hexdigest()
+
+
+def sum_of_code(program, kit_lines):
+    """A sum of all that a program is compiled from, as it is now: the lines of a kit's version, and the lines, code and definitions of the
+    crates that it stands on, with its own. Proofs are left out: they change no byte of it, and nothing that is promised of it."""
+    found = hashlib.sha256(repr(list(kit_lines)).encode())
+    for crate in below(program):
+        found.update(repr([crate, lines_of_crates()[crate]]).encode())
+        for path in files(crate, CODE):
+            with open(path, "rb") as file:
+                found.update(repr([path[len(ROOT) + 1:], hashlib.sha256(file.read()).hexdigest()]).encode())
+    return found.hexdigest()
+
+
+def touched(crate, parts=CODE):
+    """When a file or a folder of a crate and those that it stands on was last touched, by the clock of the file system, which no tool sets
+    back."""
+    paths = [f"{ROOT}/crates.txt"]
+    for each in below(crate):
+        paths += files(each, parts)
+        paths += [folder for part in parts for folder, _, _ in os.walk(f"{ROOT}/crates/{each}/{part}")]
+    return max(os.stat(it).st_ctime for it in paths)
 
 
 def is_program(crate):
