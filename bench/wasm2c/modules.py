@@ -100,7 +100,7 @@ def assembled():
 
 def operators():
     """A module with a function for each numeric instruction on integers, each load and store, and bytes copied and filled."""
-    lines = ['(module (memory 1) (data (i32.const 0) "' + "".join(f"\\{37 * i % 256:02x}" for i in range(64)) + '")']
+    lines = ['(module (memory (export "memory") 1) (data (i32.const 0) "' + "".join(f"\\{37 * i % 256:02x}" for i in range(64)) + '")']
 
     def add(name, params, result, *code):
         tell = "".join(f" (param {ty})" for ty in params) + (f" (result {result})" if result else "")
