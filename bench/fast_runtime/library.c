@@ -52,7 +52,7 @@ static void given_back(void) {
 
 /* The memory is made before the address space has a limit, and stays as it was where its growth wants more. */
 static void wanting(void) {
-#if defined(__linux__) && !defined(__SANITIZE_ADDRESS__) && !defined(W2C_RT_NO_LIMIT)
+#if defined(__linux__) && !defined(SANITIZED)
     static w2c_mem m, none;
     struct rlimit limit;
     volatile int wanted = 0, k;

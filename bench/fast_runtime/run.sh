@@ -66,7 +66,7 @@ echo "in a short address space: the same, or want of memory"
 
 for folder in "$fast" "$guard"; do
     for compiler in gcc clang; do
-        for flags in "" -DW2C_RT_REALLOC "-g -fsanitize=undefined,address -fno-sanitize-recover=all"; do
+        for flags in "" -DW2C_RT_REALLOC "-g -DSANITIZED -fsanitize=undefined,address -fno-sanitize-recover=all"; do
             $compiler -std=c11 -pedantic -Wall -Wextra -Werror -O1 $flags -I "$folder" "$here/library.c" "$folder/w2c_rt.c" -o program
             ./program
         done

@@ -26,16 +26,11 @@ void w2cZ_hostZ_fZ_tell(u32);
 }
 #endif
 
-/* Whether memories and globals at a trap are exactly as they are to be, and whether memories alone are. */
+/* Whether globals at a trap are exactly as they are to be. Memories always are. */
 #if defined(W2C_RT_EXACT) || !GUARDED
 #define EXACT 1
 #else
 #define EXACT 0
-#endif
-#if EXACT || defined(__clang__)
-#define EXACT_BYTES 1
-#else
-#define EXACT_BYTES 0
 #endif
 
 static jmp_buf back;
@@ -85,14 +80,16 @@ static void make(const struct access *a, u32 place) {
     else a->store64(place, 0x5a5a5a5a5a5a5a5aull);
 }
 
+static u32 trap_of_access(const struct access *a, u32 place) { return TRAP_OF(make(a, place)); }
+
 static void try_at(const struct access *a, u32 place) {
     w2c_mem *m = w2cZ_reachZ_mZ_memory();
     u64 first = (u64)place + a->offset;
     u32 wanted = first + a->width > m->len ? 2 : 0, is;
-    u8 last[8] = {0};
+    static u8 last[8];
     u32 depth = w2c_depth;
     if (m->len) memcpy(last, m->bytes + m->len - 8, 8);
-    is = TRAP_OF(make(a, place));
+    is = trap_of_access(a, place);
     tried++;
     trapped += is == 2;
     if (is != wanted || w2c_depth != depth) {
@@ -226,7 +223,7 @@ static void try_state(u32 inside, u32 outside) {
         *w2cZ_reachZ_vZ_g() = 0;
         w2cZ_reachZ_fZ_hide(0);
         check(TRAP_OF(between[k % 2](outside)) == 2, "between two stores");
-        check(!EXACT_BYTES || m->bytes[0] == 1, "the store before is made, and that behind is not");
+        check(m->bytes[0] == 1, "the store before is made, and that behind is not");
         check(!EXACT || *w2cZ_reachZ_vZ_g() == 1, "the global before is set, and that behind is not");
         check(!EXACT || w2cZ_reachZ_fZ_hidden() == 1, "the global that is not exported");
     }
@@ -251,7 +248,7 @@ static void try_order(void) {
     told = 0;
     check(TRAP_OF(w2cZ_reachZ_fZ_tells(8)) == 0 && told == 123, "calls of the host, inside");
     check(TRAP_OF(got = w2cZ_reachZ_fZ_write_on(262000)) == 2, "a loop of stores");
-    check(!EXACT_BYTES || w2cZ_reachZ_mZ_memory()->bytes[262143] == 119, "the stores of a loop before its trap");
+    check(w2cZ_reachZ_mZ_memory()->bytes[262143] == 119, "the stores of a loop before its trap");
 }
 
 static void try_other_traps(void) {

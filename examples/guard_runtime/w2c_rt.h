@@ -8,7 +8,7 @@
  * How: the helpers of units that load and store begin with `n = w2c_mem_len(m); if ((a + 4ull) > n) goto T;`. In them, and in nothing
  * else, w2c_mem_len gives the greatest u64, so that the compiler drops the comparison. Anywhere else it gives the length.
  *
- * W2C_RT_EXACT keeps memories and globals at a trap exactly as they are to be. W2C_RT_CHECKS leaves the checks to C; units with and without it
+ * W2C_RT_EXACT keeps globals at a trap exactly as they are to be. W2C_RT_CHECKS leaves the checks to C; units with and without it
  * may be linked. W2C_RT_THREADS and W2C_RT_OPERATORS are those of the fast runtime. docs/RUNTIMES.md says more of each. */
 #ifndef W2C_RT_H
 #define W2C_RT_H
@@ -87,9 +87,10 @@ static inline u64 w2c_mem_max(w2c_mem *m) { return m->max; }
 #define w2c_mem_len(m) (W2C_RT_ACCESS(__func__) ? ~(u64)0 : (w2c_mem_len)(m))
 #endif
 
-/* An access is made, and may trap, also where what it loads is not wanted. So it is volatile, or what was loaded goes into an asm. By clang
- * volatile is the faster. By gcc it takes an instruction more, and the asm is, which leaves the order of stores to gcc. With
- * W2C_RT_EXACT all that was written before an access stands when it is made, and nothing of what comes behind. */
+/* An access is made, and may trap, also where what it loads is not wanted and what it stores is never loaded: so it is volatile, or an asm
+ * takes what was loaded, or might read what was stored. By clang volatile is the faster; by gcc it takes an instruction more, and
+ * the asm does not. Either way the memories at a trap are as they are to be. With W2C_RT_EXACT the globals are, too: all that was
+ * written before an access stands when it is made, and nothing of what comes behind. */
 #if defined(W2C_RT_GUARDED) && (defined(W2C_RT_EXACT) || defined(__clang__))
 #if defined(W2C_RT_EXACT)
 #define W2C_RT_ORDER __asm__ volatile("" ::: "memory")
@@ -115,18 +116,21 @@ static inline void w2c_put4(w2c_mem *m, u64 a, u32 v) { W2C_RT_ORDER; W2C_RT_TOU
 static inline void w2c_put8(w2c_mem *m, u64 a, u64 v) { W2C_RT_ORDER; W2C_RT_TOUCH(m, a + 7); ((volatile w2c_rt_8 *)(m->bytes + a))->v = v; W2C_RT_ORDER; }
 #else
 #if defined(W2C_RT_GUARDED)
-#define W2C_RT_KEEP(v) __asm__ volatile("" : : "r"(v))
+#define W2C_RT_LOADED(v) __asm__ volatile("" : : "r"(v))
+/* An array of unknown length: the store may have been into it, and keeps its address in one instruction. */
+#define W2C_RT_STORED(bytes) __asm__ volatile("" : : "m"(*(const u8(*)[])(bytes)))
 #else
-#define W2C_RT_KEEP(v) ((void)0)
+#define W2C_RT_LOADED(v) ((void)0)
+#define W2C_RT_STORED(bytes) ((void)0)
 #endif
-static inline u32 w2c_get1(w2c_mem *m, u64 a) { u8 v = m->bytes[a]; W2C_RT_KEEP(v); return v; }
-static inline u32 w2c_get2(w2c_mem *m, u64 a) { uint16_t v; __builtin_memcpy(&v, m->bytes + a, 2); W2C_RT_KEEP(v); return v; }
-static inline u32 w2c_get4(w2c_mem *m, u64 a) { u32 v; __builtin_memcpy(&v, m->bytes + a, 4); W2C_RT_KEEP(v); return v; }
-static inline u64 w2c_get8(w2c_mem *m, u64 a) { u64 v; __builtin_memcpy(&v, m->bytes + a, 8); W2C_RT_KEEP(v); return v; }
-static inline void w2c_put1(w2c_mem *m, u64 a, u32 v) { m->bytes[a] = (u8)v; }
-static inline void w2c_put2(w2c_mem *m, u64 a, u32 v) { uint16_t low = (uint16_t)v; __builtin_memcpy(m->bytes + a, &low, 2); }
-static inline void w2c_put4(w2c_mem *m, u64 a, u32 v) { __builtin_memcpy(m->bytes + a, &v, 4); }
-static inline void w2c_put8(w2c_mem *m, u64 a, u64 v) { __builtin_memcpy(m->bytes + a, &v, 8); }
+static inline u32 w2c_get1(w2c_mem *m, u64 a) { u8 v = m->bytes[a]; W2C_RT_LOADED(v); return v; }
+static inline u32 w2c_get2(w2c_mem *m, u64 a) { uint16_t v; __builtin_memcpy(&v, m->bytes + a, 2); W2C_RT_LOADED(v); return v; }
+static inline u32 w2c_get4(w2c_mem *m, u64 a) { u32 v; __builtin_memcpy(&v, m->bytes + a, 4); W2C_RT_LOADED(v); return v; }
+static inline u64 w2c_get8(w2c_mem *m, u64 a) { u64 v; __builtin_memcpy(&v, m->bytes + a, 8); W2C_RT_LOADED(v); return v; }
+static inline void w2c_put1(w2c_mem *m, u64 a, u32 v) { u8 *bytes = m->bytes; bytes[a] = (u8)v; W2C_RT_STORED(bytes); }
+static inline void w2c_put2(w2c_mem *m, u64 a, u32 v) { u8 *bytes = m->bytes; uint16_t low = (uint16_t)v; __builtin_memcpy(bytes + a, &low, 2); W2C_RT_STORED(bytes); }
+static inline void w2c_put4(w2c_mem *m, u64 a, u32 v) { u8 *bytes = m->bytes; __builtin_memcpy(bytes + a, &v, 4); W2C_RT_STORED(bytes); }
+static inline void w2c_put8(w2c_mem *m, u64 a, u64 v) { u8 *bytes = m->bytes; __builtin_memcpy(bytes + a, &v, 8); W2C_RT_STORED(bytes); }
 #endif
 
 static inline u64 w2c_tab_len(w2c_tab *t) { return t->len; }

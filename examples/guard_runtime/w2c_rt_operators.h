@@ -64,7 +64,7 @@ static inline void w2c_rt_fill(w2c_mem *m, u32 to, u32 value, u32 n) {
 }
 
 /* W2C_RT_HELPER(x, name, own) is `own` in a call with the argument x, and `name`, said to be unused, in the definition. */
-#define W2C_RT_HELPER(x, name, own) W2C_RT_CHOICE(W2C_RT_OF_##x)(name __attribute__((unused)), own)
+#define W2C_RT_HELPER(x, name, own) W2C_RT_CHOICE(W2C_RT_OF_##x)(__attribute__((unused)) name, own)
 #define W2C_RT_OF_u32 0, W2C_RT_DEFINED,
 #define W2C_RT_OF_u64 0, W2C_RT_DEFINED,
 #define W2C_RT_CHOICE(...) W2C_RT_JOIN(W2C_RT_OF_, W2C_RT_PICK(__VA_ARGS__, W2C_RT_CALLED, 0))
