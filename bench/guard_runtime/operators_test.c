@@ -9,6 +9,10 @@
 #include "own.h"
 #include "taken.h"
 
+/* No variable changes between a setjmp and its longjmp here. */
+#if defined(__GNUC__) && !defined(__clang__)
+#pragma GCC diagnostic ignored "-Wclobbered"
+#endif
 static jmp_buf back;
 static volatile u32 trap, wanted_trap;
 static volatile u64 value, wanted;

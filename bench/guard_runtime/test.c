@@ -33,6 +33,10 @@ void w2cZ_hostZ_fZ_tell(u32);
 #define EXACT 0
 #endif
 
+/* No variable changes between a setjmp and its longjmp here. */
+#if defined(__GNUC__) && !defined(__clang__)
+#pragma GCC diagnostic ignored "-Wclobbered"
+#endif
 static jmp_buf back;
 static volatile u32 trap, told;
 static volatile u64 got;
