@@ -92,10 +92,14 @@ static inline u64 w2c_mem_max(w2c_mem *m) { return m->max; }
  * the asm does not. Either way the memories at a trap are as they are to be. With W2C_RT_EXACT the globals are, too: all that was
  * written before an access stands when it is made, and nothing of what comes behind. */
 #if defined(W2C_RT_GUARDED) && (defined(W2C_RT_EXACT) || defined(__clang__))
+/* Volatile accesses keep their order whatever their types are. So they need not be said to alias all others, and where they are not, a
+ * compiler need not load m->bytes again behind each store. */
 #if defined(W2C_RT_EXACT)
 #define W2C_RT_ORDER __asm__ volatile("" ::: "memory")
+#define W2C_RT_PLACED __attribute__((packed, may_alias))
 #else
 #define W2C_RT_ORDER ((void)0)
+#define W2C_RT_PLACED __attribute__((packed))
 #endif
 /* aarch64 may write a part of a store that then faults in the next page. A load of the last byte faults first. */
 #if defined(W2C_RT_EXACT) && defined(__aarch64__)
@@ -103,9 +107,9 @@ static inline u64 w2c_mem_max(w2c_mem *m) { return m->max; }
 #else
 #define W2C_RT_TOUCH(m, last) ((void)0)
 #endif
-typedef struct __attribute__((packed, may_alias)) { uint16_t v; } w2c_rt_2;
-typedef struct __attribute__((packed, may_alias)) { u32 v; } w2c_rt_4;
-typedef struct __attribute__((packed, may_alias)) { u64 v; } w2c_rt_8;
+typedef struct W2C_RT_PLACED { uint16_t v; } w2c_rt_2;
+typedef struct W2C_RT_PLACED { u32 v; } w2c_rt_4;
+typedef struct W2C_RT_PLACED { u64 v; } w2c_rt_8;
 static inline u32 w2c_get1(w2c_mem *m, u64 a) { u32 v; W2C_RT_ORDER; v = *(volatile u8 *)(m->bytes + a); W2C_RT_ORDER; return v; }
 static inline u32 w2c_get2(w2c_mem *m, u64 a) { u32 v; W2C_RT_ORDER; v = ((volatile w2c_rt_2 *)(m->bytes + a))->v; W2C_RT_ORDER; return v; }
 static inline u32 w2c_get4(w2c_mem *m, u64 a) { u32 v; W2C_RT_ORDER; v = ((volatile w2c_rt_4 *)(m->bytes + a))->v; W2C_RT_ORDER; return v; }
