@@ -9,6 +9,7 @@ import sys
 HERE = os.path.dirname(os.path.abspath(__file__))
 EXAMPLES = os.path.join(HERE, "../../examples")
 FAST = os.path.join(EXAMPLES, "fast_runtime")
+GUARD = os.path.join(EXAMPLES, "guard_runtime")
 LIBRARY = os.path.join(EXAMPLES, "library/source")
 WASM = "--target=wasm32-wasi -mcpu=mvp -O2 -w -nostartfiles -Wl,--no-entry -Wl,--strip-all -Wl,--stack-first".split()
 
@@ -18,6 +19,7 @@ JOBS = {
     "zlib": ("zlib", [], "adler32 crc32 deflate inflate inftrees inffast trees compress uncompr zutil"),
     "bzip2": ("bzip2", ["-DBZ_NO_STDIO"], "blocksort huffman crctable randtable compress decompress bzlib"),
     "lz4": ("lz4/lib", [], "lz4"),
+    "expat": ("expat/expat/lib", ["-I", HERE], ""),
 }
 
 MAIN = """
@@ -90,24 +92,32 @@ def translate(wasm2c, job):
     run(wasm2c, "--runtime", "plain")
 
 
-def ours(job, compiler, runtime, *flags):
-    """The program of a unit with the runtime "fast" or "plain"."""
-    folder, files = (FAST, ["w2c_rt.c", "w2c_trap.c"]) if runtime == "fast" else ("plain", ["w2c_rt.c"])
-    main = main_file("main_ours.c", f'#include "{job}.h"', f"w2cZ_{job}Z_i();", f"w2cZ_{job}Z_fZ_run(rounds)")
-    files = [f"units/{job}.c", *[os.path.join(folder, name) for name in files]]
-    run(compiler, "-w", *flags, "-I", "units", "-I", folder, main, *files, "-o", "program")
+def runtime(name):
+    """The folder of a runtime's header, "fast", "guard" or "plain", and its C files."""
+    folder = {"fast": FAST, "guard": GUARD, "plain": "plain"}[name]
+    return folder, [os.path.join(folder, file) for file in (["w2c_rt.c"] if name == "plain" else ["w2c_rt.c", "w2c_trap.c", "w2c_want.c"])]
+
+
+def main_of_unit(job):
+    return main_file(f"main_{job}.c", f'#include "{job}.h"', f"w2cZ_{job}Z_i();", f"w2cZ_{job}Z_fZ_run(rounds)")
+
+
+def ours(job, compiler, name, *flags):
+    """The program of a unit with the runtime of that name."""
+    folder, files = runtime(name)
+    run(compiler, "-w", *flags, "-I", "units", "-I", folder, main_of_unit(job), f"units/{job}.c", *files, "-o", "program")
     return ["./program"]
 
 
-def wabt(job, compiler, *flags):
-    """The program of the C of WABT 1.0.32's wasm2c, with its own runtime."""
+WABT = "/usr/share/wabt/wasm2c"
+
+
+def wabt(job):
+    """The C of WABT 1.0.32's wasm2c, in wabt/, and a main file for it."""
     os.makedirs("wabt", exist_ok=True)
     run(shutil.which("wasm2c"), f"{job}.wasm", "-o", f"wabt/{job}.c")
     head = f'#include "{job}.h"\nstatic Z_{job}_instance_t instance;'
-    main = main_file("main_wabt.c", head, f"wasm_rt_init(); Z_{job}_init_module(); Z_{job}_instantiate(&instance);", f"Z_{job}Z_run(&instance, rounds)")
-    runtime = "/usr/share/wabt/wasm2c"
-    run(compiler, "-w", *flags, "-I", "wabt", "-I", runtime, main, f"wabt/{job}.c", f"{runtime}/wasm-rt-impl.c", "-lm", "-o", "program")
-    return ["./program"]
+    return main_file(f"main_wabt_{job}.c", head, f"wasm_rt_init(); Z_{job}_init_module(); Z_{job}_instantiate(&instance);", f"Z_{job}Z_run(&instance, rounds)")
 
 
 def node(job):

@@ -1,7 +1,7 @@
 #!/usr/bin/env python3
 """Runs translated real modules with -fsanitize=undefined,address: the example of examples/library with its own check, and the jobs over
-zlib, bzip2 and lz4, compiled to WebAssembly by clang and translated. Under gcc and clang, with the plain runtime and the fast one, nothing may
-be reported, and the sums are those of the job compiled natively. Ends with 1 at the first difference. Needs gcc, clang with wasm-ld, and
+zlib, bzip2, lz4 and expat, compiled to WebAssembly by clang and translated. Under gcc and clang, with all three runtimes, nothing may be
+reported, and the sums are those of the job compiled natively. Ends with 1 at the first difference. Needs gcc, clang with wasm-ld, and
 Debian's wasi-libc.
 
 sanitize.py SOURCES [WASM2C]: the folder that sources.sh made (jobs whose sources are not there are left out; "" leaves out all but
@@ -27,7 +27,7 @@ def expect(title, command, wanted):
 def example(wasm2c):
     folder = os.path.join(jobs.EXAMPLES, "library")
     for compiler in ["gcc", "clang"]:
-        for runtime, place in [("fast", jobs.FAST), ("plain", jobs.EXAMPLES)]:
+        for runtime, place in [("fast", jobs.FAST), ("guard", jobs.GUARD), ("plain", jobs.EXAMPLES)]:
             jobs.run("make", "-C", folder, f"OUT={os.getcwd()}/out", f"WASM2C={wasm2c}", f"CC={compiler}", f"RUNTIME={place}",
                      f"CFLAGS={' '.join(FLAGS)}", "-B", f"{os.getcwd()}/out/check")
             expect(f"library, {compiler}, {runtime} runtime", ["out/check"], lambda said: "WRONG" not in said)
@@ -44,7 +44,7 @@ def main():
             jobs.translate(wasm2c, job)
             wanted = jobs.run(*jobs.native(job, sources, "gcc", "-O2"), "2").split()[0]
             for compiler in ["gcc", "clang"]:
-                for runtime in ["fast", "plain"]:
+                for runtime in ["fast", "guard", "plain"]:
                     program = jobs.ours(job, compiler, runtime, *FLAGS)
                     expect(f"{job}, {compiler}, {runtime} runtime", [*program, "2"], lambda said: said.split()[0] == wanted != "0")
 

@@ -1,68 +1,174 @@
 #!/usr/bin/env python3
-"""Times the jobs of this folder: compiled natively, and compiled to WebAssembly by clang -O2 and then run as the C of wasm2c with either
-runtime, as the C of WABT's wasm2c in both of its ways to check bounds, and by node. Seconds of processor time inside `run` (of node
-when the engine is warm, with all its threads), the least of several runs, each of which gave the same sum. Prints a table.
-Needs gcc, clang with wasm-ld, Debian's wasi-libc and wabt, and node.
+"""Times the jobs of this folder: compiled natively, and compiled to WebAssembly by clang -O2 and then run as the C of wasm2c with the guard and
+the fast runtime, each with and without the compiler's own operators, as the C of WABT's wasm2c in both of its ways to check bounds, and
+by node. Needs gcc, clang with wasm-ld, Debian's wasi-libc and wabt, and node.
 
-speed.py SOURCES [WASM2C [ROW..]]: the folder that sources.sh made; the program, bin/wasm2c where it is left out; and parts of the names of
-rows, where not all are wanted.
+A time is seconds of processor time inside `run` (of node when the engine is warm, with all its threads). Each is short, all are run in turn,
+and the least of fifteen counts, so that other work on the machine does little harm. All are compiled at one level, and on x86-64 with jumps
+that do not cross 32 bytes, which on some processors costs a hot loop a tenth for where it happens to lie. Prints a table of times, one of
+units' times as parts of those of WABT's C that finds accesses out of bounds in the same way, and one of the processor time that a
+compiler takes for the unit and of the size of its code.
+
+speed.py SOURCES FOLDER [WASM2C] [--build] [--jobs NAME..] [--rows PART..] [--times N] [--level=-O3]: the folder that sources.sh made; a folder for what
+is built, and is not built again when it is there; the program, bin/wasm2c where it is left out. With --build it does not time.
 """
+import argparse
+import json
 import os
+import platform
+import subprocess
 import sys
-import tempfile
+from concurrent.futures import ThreadPoolExecutor
 
 import jobs
 
-ROUNDS = {"kernels": 4, "zlib": 4, "bzip2": 4, "lz4": 40}
-TIMES = 5
+ROUNDS = {"kernels": 1, "zlib": 1, "bzip2": 1, "lz4": 5, "expat": 5}
 EXPLICIT = ["-DWASM_RT_MEMCHECK_SIGNAL_HANDLER=0", "-DWASM_RT_MAX_CALL_STACK_DEPTH=1024"]
+OPERATORS = ["-DW2C_RT_OPERATORS"]
 
-ROWS = [
-    ("native, -O2", lambda job, sources, compiler: jobs.native(job, sources, compiler, "-O2")),
-    ("wasm2c, fast runtime, -O3", lambda job, _, compiler: jobs.ours(job, compiler, "fast", "-O3")),
-    ("wasm2c, fast runtime, -O2", lambda job, _, compiler: jobs.ours(job, compiler, "fast", "-O2")),
-    ("wasm2c, plain runtime, -O3 -flto", lambda job, _, compiler: jobs.ours(job, compiler, "plain", "-O3", "-flto")),
-    ("wasm2c, plain runtime, -O2 -flto", lambda job, _, compiler: jobs.ours(job, compiler, "plain", "-O2", "-flto")),
-    ("wasm2c, plain runtime, -O2", lambda job, _, compiler: jobs.ours(job, compiler, "plain", "-O2")),
-    ("WABT, checks in C, -O3", lambda job, _, compiler: jobs.wabt(job, compiler, "-O3", *EXPLICIT)),
-    ("WABT, guard pages, -O3", lambda job, _, compiler: jobs.wabt(job, compiler, "-O3")),
-]
+# Of each row who makes it (the name of a runtime is that of wasm2c's), flags, and the row that it is measured against.
+ROWS = {
+    "native": ("native", [], None),
+    "wasm2c, guard runtime, operators": ("guard", OPERATORS, "WABT, guard pages"),
+    "wasm2c, guard runtime": ("guard", [], "WABT, guard pages"),
+    "WABT, guard pages": ("wabt", [], None),
+    "wasm2c, fast runtime, operators": ("fast", OPERATORS, "WABT, checks in C"),
+    "wasm2c, fast runtime": ("fast", [], "WABT, checks in C"),
+    "WABT, checks in C": ("wabt", EXPLICIT, None),
+}
+COMPILERS = ["gcc", "clang"]
 
 
-def least(job, command, sums):
-    """The least time of some runs."""
-    times = []
-    for _ in range(TIMES):
-        total, time = jobs.run(*command, str(ROUNDS[job])).split()
-        sums.add(total)
-        if len(sums) != 1 or total == "0":
-            sys.exit(f"{job}: the sums differ: {sorted(sums)}")
-        times.append(float(time))
-    return min(times)
+def aligned(compiler):
+    if platform.machine() != "x86_64":
+        return []
+    return ["-mbranches-within-32B-boundaries" if compiler == "clang" else "-Wa,-mbranches-within-32B-boundaries"]
+
+
+def seconds_of(*command):
+    """Runs a command, and gives its processor time."""
+    child = subprocess.Popen(command, stdout=subprocess.DEVNULL, stderr=subprocess.PIPE)
+    said = child.stderr.read().decode()
+    _, status, use = os.wait4(child.pid, 0)
+    if status:
+        sys.exit(f"{' '.join(command)}: status {status}\n{said[:2000]}")
+    return use.ru_utime + use.ru_stime
+
+
+def build(job, compiler, title, sources, level):
+    """Builds the program of a cell; gives the seconds that the unit takes to compile, and the bytes of its code."""
+    maker, more, _ = ROWS[title]
+    program = name_of(job, compiler, title)
+    flags = ["-w", level, *aligned(compiler), *more]
+    if maker == "native":
+        seconds = seconds_of(compiler, *flags, *jobs.sources_of(job, sources), "main_native.c", "-o", program)
+        return {"seconds": seconds}
+    if maker == "wabt":
+        unit, main, files, flags = f"wabt/{job}.c", f"main_wabt_{job}.c", [f"{jobs.WABT}/wasm-rt-impl.c", "-lm"], [*flags, "-I", "wabt", "-I", jobs.WABT]
+    else:
+        folder, files = jobs.runtime(maker)
+        unit, main, flags = f"units/{job}.c", f"main_{job}.c", [*flags, "-I", "units", "-I", folder]
+    seconds = seconds_of(compiler, *flags, "-c", unit, "-o", f"{program}.o")
+    jobs.run(compiler, *flags, main, f"{program}.o", *files, "-o", program)
+    return {"seconds": seconds, "bytes": int(jobs.run("size", f"{program}.o").splitlines()[1].split()[0])}
+
+
+def name_of(job, compiler, title):
+    return os.path.abspath("-".join([job, compiler, *title.replace(",", "").split()]))
+
+
+def build_all(chosen, titles, sources, wasm2c, level):
+    """What was built, by the name of its program; what an earlier run built in this folder stays."""
+    built = {}
+    if os.path.exists("built.json"):
+        with open("built.json") as file:
+            built = json.load(file)
+    jobs.main_file("main_native.c", "unsigned run(unsigned);", "", "run(rounds)")
+    for job in chosen:
+        if not os.path.exists(f"units/{job}.c"):
+            jobs.to_wasm(job, sources)
+            jobs.translate(wasm2c, job)
+        jobs.main_of_unit(job)
+        jobs.wabt(job)
+    cells = [(job, compiler, title) for job in chosen for compiler in COMPILERS for title in titles]
+    missing = [cell for cell in cells if name_of(*cell) not in built or not os.path.exists(name_of(*cell))]
+
+    def build_one(cell):
+        built[name_of(*cell)] = build(*cell, sources, level)
+        with open("built.new", "w") as file:
+            json.dump(dict(built), file)
+        os.replace("built.new", "built.json")
+        print(f"built {', '.join(cell)}", file=sys.stderr, flush=True)
+
+    with ThreadPoolExecutor(int(os.environ.get("BUILDS", "2"))) as pool:
+        list(pool.map(build_one, missing))
+    return built
+
+
+def time_all(chosen, titles, times):
+    """For each cell, and for node with no compiler, its times, the least first."""
+    commands = {(job, compiler, title): [name_of(job, compiler, title)] for job in chosen for compiler in COMPILERS for title in titles}
+    commands.update({(job, None, "node"): jobs.node(job) for job in chosen})
+    taken, sums = {cell: [] for cell in commands}, {job: set() for job in chosen}
+    for turn in range(times):
+        for cell, command in commands.items():
+            total, seconds = jobs.run(*command, str(ROUNDS[cell[0]])).split()
+            sums[cell[0]].add(total)
+            if len(sums[cell[0]]) != 1 or total == "0":
+                sys.exit(f"{', '.join(map(str, cell))}: the sums differ: {sorted(sums[cell[0]])}")
+            taken[cell].append(float(seconds))
+        print(f"turn {turn + 1} of {times}, load {os.getloadavg()[0]:.1f}", file=sys.stderr, flush=True)
+    return {cell: sorted(seconds) for cell, seconds in taken.items()}
+
+
+def table(columns, rows):
+    print("| | " + " | ".join(f"{job} {compiler}" for job, compiler in columns) + " |")
+    print("|---|" + "---|" * len(columns))
+    for title, cells in rows:
+        print(f"| {title} | " + " | ".join(cells) + " |", flush=True)
+    print()
 
 
 def main():
-    sources = os.path.abspath(sys.argv[1])
-    wasm2c = os.path.abspath(sys.argv[2] if len(sys.argv) > 2 else os.path.join(jobs.HERE, "../../bin/wasm2c"))
-    with tempfile.TemporaryDirectory() as work:
-        os.chdir(work)
-        chosen = jobs.names(sources)
-        columns = [(job, compiler) for job in chosen for compiler in ["gcc", "clang"]]
-        sums = {job: set() for job in chosen}
-        for job in chosen:
-            jobs.to_wasm(job, sources)
-            jobs.translate(wasm2c, job)
-        print("| | " + " | ".join(f"{job} {compiler}" for job, compiler in columns) + " |")
-        print("|---|" + "---|" * len(columns))
-        for title, build in ROWS if len(sys.argv) < 4 else [row for row in ROWS if any(part in row[0] for part in sys.argv[3:])]:
-            cells = [f"{least(job, build(job, sources, compiler), sums[job]):.3f}" for job, compiler in columns]
-            print(f"| {title} | " + " | ".join(cells) + " |", flush=True)
-        cells = [f"{least(job, jobs.node(job), sums[job]):.3f} | " for job in chosen]
-        print("| node | " + " | ".join(cells) + " |")
-        for job in chosen:
-            jobs.wabt(job, "gcc", "-O3")
-            sizes = [os.path.getsize(name) for name in (f"{job}.wasm", f"units/{job}.c", f"wabt/{job}.c")]
-            print(f"{job}: {sizes[0]} bytes of WebAssembly, {sizes[1]} of C, {sizes[2]} of WABT's C; sums {sorted(sums[job])}")
+    parser = argparse.ArgumentParser(description=__doc__, formatter_class=argparse.RawDescriptionHelpFormatter)
+    parser.add_argument("sources", type=os.path.abspath)
+    parser.add_argument("folder")
+    parser.add_argument("wasm2c", nargs="?", type=os.path.abspath, default=os.path.join(jobs.HERE, "../../bin/wasm2c"))
+    parser.add_argument("--build", action="store_true")
+    parser.add_argument("--jobs", nargs="*")
+    parser.add_argument("--rows", nargs="*")
+    parser.add_argument("--times", type=int, default=15)
+    parser.add_argument("--level", default="-O3")
+    given = parser.parse_args()
+    os.makedirs(given.folder, exist_ok=True)
+    os.chdir(given.folder)
+    chosen = [job for job in jobs.names(given.sources) if not given.jobs or job in given.jobs]
+    titles = [title for title in ROWS if not given.rows or any(part in title for part in given.rows)]
+    columns = [(job, compiler) for job in chosen for compiler in COMPILERS]
+    built = build_all(chosen, titles, given.sources, given.wasm2c, given.level)
+    if given.build:
+        return
+    taken = time_all(chosen, titles, given.times)
+
+    def least(job, compiler, title):
+        return taken[job, compiler, title][0]
+
+    print(f"Seconds, {given.level}, the least of {given.times}:\n")
+    rows = [(title, [f"{least(job, compiler, title):.3f}" for job, compiler in columns]) for title in titles]
+    rows.append(("node", [f"{least(job, None, 'node'):.3f}" if compiler == COMPILERS[0] else "" for job, compiler in columns]))
+    table(columns, rows)
+    pairs = [(title, ROWS[title][2]) for title in titles if ROWS[title][2] in titles]
+    print("Parts of the time of WABT's C of the same kind, by the least and the second least times:\n")
+    table(columns, [(title, [
+        " ".join(f"{taken[job, compiler, title][k] / taken[job, compiler, other][k]:.2f}" for k in range(min(2, given.times)))
+        for job, compiler in columns]) for title, other in pairs])
+    print("Seconds to compile the unit, and KB of its code:\n")
+    table(columns, [(title, [
+        f"{built[name_of(job, compiler, title)]['seconds']:.1f}" + (f", {built[name_of(job, compiler, title)]['bytes'] // 1000}" if title != "native" else "")
+        for job, compiler in columns]) for title in titles])
+    for job in chosen:
+        sizes = [os.path.getsize(name) for name in (f"{job}.wasm", f"units/{job}.c", f"wabt/{job}.c")]
+        print(f"{job}: {sizes[0]} bytes of WebAssembly, {sizes[1]} of C, {sizes[2]} of WABT's C")
 
 
 if __name__ == "__main__":

@@ -72,7 +72,7 @@ def main():
         jobs.run(wasm2c, "recursion.wasm", "-o", "recursion.c")
         with open("main.c", "w") as file:
             file.write(MAIN)
-        runtime = [os.path.join(jobs.FAST, name) for name in ("w2c_rt.c", "w2c_trap.c")]
+        _, runtime = jobs.runtime("fast")
         for compiler in ["gcc", "clang"]:
             for level in ["-O0", "-O2", "-O3"]:
                 jobs.run(compiler, "-w", level, "-I", ".", "-I", jobs.FAST, "main.c", "recursion.c", *runtime, "-o", "program")

@@ -26,6 +26,11 @@ def signatures(module):
     return {name: funcs[int(index)] for index, name in re.findall(r'- func\[(\d+)\] <[^>]*> -> "([^"]*)"', text)}
 
 
+def exported_memory(module):
+    """The name that the module exports its memory by, if it does."""
+    return next(iter(re.findall(r'- memory\[0\] -> "([^"]*)"', run("wasm-objdump", "-x", module))), None)
+
+
 def argument(ty):
     if random.random() < 0.7:
         return random.choice(EDGES if ty == "i32" else WIDE)
@@ -41,24 +46,43 @@ def plan(sigs, given):
     return calls
 
 
+# With a third word the kind of each trap is told, and behind it and at the end a sum over the memory that is exported, if one is. The sum is
+# over words of 32 bits, in the order of a little-endian machine.
 NODE = """
 const fs = require('fs');
-const [module, plan] = process.argv.slice(1);
+const [module, plan, states] = process.argv.slice(1);
 const host = {
     get: x => { console.log('host.get ' + (x >>> 0)); return (x ^ 5) | 0; },
     put: x => { console.log('host.put ' + BigInt.asUintN(64, x)); },
 };
-const instance = new WebAssembly.Instance(new WebAssembly.Module(fs.readFileSync(module)), { host });
+const { exports } = new WebAssembly.Instance(new WebAssembly.Module(fs.readFileSync(module)), { host });
+const memory = Object.values(exports).find(it => it instanceof WebAssembly.Memory);
+function tell() {
+    if (!memory) return;
+    const words = new Int32Array(memory.buffer);
+    let sum = 0x811c9dc5 | 0;
+    for (let k = 0; k < words.length; k++) sum = Math.imul(sum ^ words[k], 16777619);
+    console.log('memory = ' + memory.buffer.byteLength + ' ' + (sum >>> 0));
+}
+const kinds = [
+    ['unreachable', 'unreachable'], ['memory access', 'memory out of bounds'], ['by zero', 'division by zero'], ['unrepresentable', 'integer overflow'],
+    ['table index', 'table out of bounds'], ['signature mismatch', 'empty or another signature'], ['call stack', 'call depth'],
+];
 for (const { name, params, result, args } of JSON.parse(fs.readFileSync(plan))) {
     const values = args.map((x, i) => params[i] == 'i64' ? BigInt.asIntN(64, BigInt(x)) : Number(BigInt.asIntN(32, BigInt(x))));
     const label = [name, ...args].join(' ') + ' = ';
     try {
-        const value = instance.exports[name](...values);
+        const value = exports[name](...values);
         console.log(label + (result == null ? '-' : result == 'i64' ? BigInt.asUintN(64, value) : value >>> 0));
     } catch (trap) {
-        console.log(label + 'trap');
+        if (!states) console.log(label + 'trap');
+        else {
+            console.log(label + 'trap ' + (kinds.find(([part]) => trap.message.includes(part)) ?? [0, trap.message])[1]);
+            tell();
+        }
     }
 }
+if (states) tell();
 """
 
 
@@ -100,7 +124,7 @@ def assembled():
 
 def operators():
     """A module with a function for each numeric instruction on integers, each load and store, and bytes copied and filled."""
-    lines = ['(module (memory 1) (data (i32.const 0) "' + "".join(f"\\{37 * i % 256:02x}" for i in range(64)) + '")']
+    lines = ['(module (memory (export "memory") 1) (data (i32.const 0) "' + "".join(f"\\{37 * i % 256:02x}" for i in range(64)) + '")']
 
     def add(name, params, result, *code):
         tell = "".join(f" (param {ty})" for ty in params) + (f" (result {result})" if result else "")
