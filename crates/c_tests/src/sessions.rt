@@ -136,7 +136,7 @@ const ROWS: [Row; 4] = [
         5,
         100,
         Ok(Outcome::Ended(Some(Value::I64(1)))),
-        Ok(Outcome::Ended(Some(Value::I64(2)))),
+        Ok(Outcome::Ended(Some(Value::I64(1)))),
     ),
     (
         0,
