@@ -71,13 +71,17 @@ def pairs(braces):
             yield words[0], words[-1]
 
 
+# Texts and characters in quotation marks, and brackets.
+BRACKET = re.compile(r"\"(?:\\.|[^\"\\])*\"|'(?:\\.|[^'\\])'|[(){}]")
+
+
 def closing(text, at):
     """The place behind the bracket that closes the one at a place."""
     depth = 0
-    for there in range(at, len(text)):
-        depth += {"{": 1, "(": 1, "}": -1, ")": -1}.get(text[there], 0)
+    for it in BRACKET.finditer(text, at):
+        depth += {"{": 1, "(": 1, "}": -1, ")": -1}.get(it.group(), 0)
         if depth == 0:
-            return there + 1
+            return it.end()
     raise Fault("a bracket is not closed")
 
 
@@ -218,7 +222,7 @@ class Home(Names):
             # The items of a block stand further in.
             if re.fullmatch(r"((abbrev|unfoldable) )?mutual|module _ .* where", bare):
                 current, outer = None, 2
-            elif re.match(r"infix[lr]? ", bare):
+            elif re.match(r"infix[lr]? |(pub )?mod ", bare):
                 current = None
             else:
                 head = bare and column(line) == outer and self.head(bare, number)
@@ -424,7 +428,7 @@ def constant(crate, file, name):
 
 
 class Call:
-    """A function of the code with its clauses. Its name is `name`, `Type::name` or `Trait::name`."""
+    """A function of the code with its clauses. Its name is `name`, `Type::name`, `Trait::name` or `file::name`."""
 
     def __init__(self, crate, name):
         if not is_own(crate):
@@ -434,13 +438,13 @@ class Call:
         found = []
         for path, text in sources(crate).items():
             for it in re.finditer(rf"\bfn {re.escape(bare)}\b[^(]*", text):
-                if not owner or owner in owners(text, it.start()):
+                if not owner or owner in owners(path, text, it.start()):
                     found.append((path, text, it))
         found = [it for it in found if clauses(it[1], it[2].end())] or found
         if not found:
             raise Fault(f"crates/{crate}/src has no function {name}")
         if len(found) > 1:
-            raise Fault(f"{name} stands in several places ({', '.join(place(it[0]) for it in found)}): write Type::{bare}")
+            raise Fault(f"{name} stands in several places ({', '.join(place(it[0]) for it in found)}): write Type::{bare} or file::{bare}")
         self.path, text, it = found[0]
         self.clauses = clauses(text, it.end())
         self.names = ghost_names(text)
@@ -459,12 +463,13 @@ class Call:
         return found
 
 
-def owners(text, at):
-    """The words of the `impl` or the `trait` that a place stands in."""
+def owners(path, text, at):
+    """What may stand before the name of the function at a place: its file, and the type or the trait that it belongs to."""
+    found = [os.path.basename(path)[:-3]]
     for it in re.finditer(r"^(?:pub )?(?:impl|trait)\b([^{]*)\{", text, re.M):
         if it.end() <= at < closing(text, it.end() - 1):
-            return re.findall(r"\w+", it.group(1))
-    return []
+            found += re.findall(r"\w+", it.group(1).rpartition(" for ")[2])
+    return found
 
 
 def clauses(text, at):
