@@ -352,7 +352,8 @@ class Type:
         if self.is_told:
             return named(tokens_of(text), {"Self", "ghost", "Value", self.name}, ghost_names(sources(self.crate)[self.path]))
         found = []
-        for word in re.findall(r"\b[A-Z]\w*", text):
+        # not the names that are declared: the type's, and at the front of a line a variant's
+        for word in re.findall(r"\b[A-Z]\w*", re.sub(r"^\s*(?:pub )?(?:(?:struct|enum|const) )?\w+", "", text, flags=re.M)):
             crate, name = self.taken().get(word, (self.crate, word))
             if is_own(crate) and name != self.name and name in types(crate):
                 found.append(types(crate)[name][0])
