@@ -260,14 +260,6 @@ def home(crate, module):
     return Home(crate, module)
 
 
-def modules(crate):
-    """The files of definitions of a crate, by their modules."""
-    for folder, _, files in sorted(os.walk(f"{CRATES}/{crate}/specs")):
-        for file in sorted(files):
-            if file.endswith(".antt"):
-                yield os.path.relpath(f"{folder}/{file[:-5]}", f"{CRATES}/{crate}/specs").replace("/", ".")
-
-
 # ---- which names of a text are free
 
 def builds(found):
