@@ -1,6 +1,6 @@
-# refused.py WASM2C CRUN WAST_RUN LIBRARY [EVERY [WORD]]: what refused.sh does, in the current folder, where compiled.wasm stands. Over that
-# module it refuses each request whose number is one more than a multiple of EVERY, all where it is left out. With WORD only the forms are
-# run whose titles have it.
+# refused.py WASM2C CRUN WAST_RUN LIBRARY [EVERY[,MORE] [WORD]]: what refused.sh does, in the current folder, where compiled.wasm stands. It refuses
+# each request whose number is one more than a multiple of EVERY, over that module of MORE, all where these are left out. With WORD only
+# the forms are run whose titles have it.
 import json
 import os
 import pathlib
@@ -11,7 +11,8 @@ sys.path.insert(0, str(pathlib.Path(__file__).resolve().parents[1] / "rows"))
 from wat import body, call, element, exported, func_type, global_type, i32, imported, limits, local, module, segment, unsigned  # noqa: E402
 
 WASM2C, CRUN, WAST_RUN, LIBRARY = sys.argv[1:5]
-EVERY = int(sys.argv[5]) if len(sys.argv) > 5 else 1
+EVERY, *MORE = map(int, sys.argv[5].split(",") if len(sys.argv) > 5 else [1])
+COMPILED = MORE[0] if MORE else EVERY
 WORD = sys.argv[6] if len(sys.argv) > 6 else ""
 MOST = 1000000
 # What stands in files that a run is to write over.
@@ -77,7 +78,7 @@ def may_stand(left, whole, earlier):
     return k == len(left) or ((left[k] == earlier or left[k] is not None and whole[k].startswith(left[k])) and all(text == earlier for text in left[k + 1:]))
 
 
-def in_turn(title, program, name, words, files=(), every=1, earlier=None):
+def in_turn(title, program, name, words, files=(), every=EVERY, earlier=None):
     """Refuses each request of this command line in turn, and says how its runs ended. Before each run the files hold what stood earlier, or are
     not there. Where a file has changed, all that is said on standard output was said before."""
     if WORD not in title:
@@ -95,7 +96,7 @@ def in_turn(title, program, name, words, files=(), every=1, earlier=None):
         changed = any(text != earlier for text in left)
         is_as_ever = (came, said, line, left) == (status, out, err, whole)
         if not made and is_as_ever:
-            turn = f"of {ended + as_ever} requests" if every == 1 else f"of {nth - every}, each {every}th, {ended + as_ever} in all,"
+            turn = f"of {ended + as_ever} requests" if every == 1 else f"of some {nth - every} requests {ended + as_ever} were refused, each {every}th;"
             print(f"{title}: status {status}; {turn} {ended} ended with 5, {nothing} of these with nothing written and {part} with a file that has changed, "
                   f"and {as_ever} as ever")
             return
@@ -169,10 +170,10 @@ def main():
     in_turn("wasm2c, generated module", WASM2C, "wasm2c", ["--gen", "3", "-o", "gen.c"], ["gen.c", "gen.h"])
     in_turn("wasm2c, runtime", WASM2C, "wasm2c", ["--runtime", "out"], ["out/w2c_rt.h", "out/w2c_rt.c"])
     in_turn("wasm2c, refused module", WASM2C, "wasm2c", ["one", "-o", "one.c"])
-    in_turn("wasm2c, compiled module", WASM2C, "wasm2c", ["compiled.wasm", "-o", "compiled.c"], ["compiled.c", "compiled.h"], EVERY)
-    in_turn("crun, compiled module", CRUN, "crun", [*two, "compiled.c"], every=EVERY)
-    in_turn("crun --trim, compiled module", CRUN, "crun", ["--trim", "t.c", "compiled.c"], ["t.c"], EVERY, EARLIER)
-    in_turn("crun --merge, compiled module", CRUN, "crun", ["--merge", "m.c", "compiled.c"], ["m.c"], EVERY, EARLIER)
+    in_turn("wasm2c, compiled module", WASM2C, "wasm2c", ["compiled.wasm", "-o", "compiled.c"], ["compiled.c", "compiled.h"], COMPILED)
+    in_turn("crun, compiled module", CRUN, "crun", [*two, "compiled.c"], every=COMPILED)
+    in_turn("crun --trim, compiled module", CRUN, "crun", ["--trim", "t.c", "compiled.c"], ["t.c"], COMPILED, EARLIER)
+    in_turn("crun --merge, compiled module", CRUN, "crun", ["--merge", "m.c", "compiled.c"], ["m.c"], COMPILED, EARLIER)
 
 
 if __name__ == "__main__":

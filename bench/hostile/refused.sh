@@ -3,8 +3,9 @@
 # modules with a host, a script of assertions, and a module that clang makes of ../wasm2c/compiled.c, in every form of their command lines,
 # and holds what each run leaves to what may stand then (refused.py). Needs the Rattle kit's command rt where the programs are not built yet,
 # gcc, python3, and clang with wasm-ld.
-# refused.sh [WASM2C CRUN WAST_RUN [LIBRARY [EVERY [WORD]]]]: the programs, those of bin/ where they are left out, what refuses the request of
-# the number REFUSE, - for refuse.c, how many requests over the compiled module are passed over, and a word of the titles of the forms to run.
+# refused.sh [WASM2C CRUN WAST_RUN [LIBRARY [EVERY[,MORE] [WORD]]]]: the programs, those of bin/ where they are left out; what refuses the request
+# of the number REFUSE, - for refuse.c; 1 where each request is refused, 3 where each third, and another number for the compiled module; and
+# a word of the titles of the forms to run.
 set -e
 . "$(dirname "$0")/programs.sh"
 [ $# != 0 ] || "$here/../../bin/wast_run" >/dev/null 2>&1 || true
