@@ -170,7 +170,14 @@ static int child(void (*what)(void)) {
 static int *volatile nowhere = (int *)64;
 static int *volatile low = (int *)(1 << 30);
 static void touch_null(void) { *(volatile int *)nowhere = 1; }
-static void touch_low(void) { *(volatile int *)low = 1; }
+/* Not a trap of a unit, though one could be taken for the other. */
+static void touch_low(void) {
+    if (TRAP_OF(*(volatile int *)low = 1)) _exit(3);
+}
+static u8 *was;
+static void touch_was(void) {
+    if (TRAP_OF(*(volatile u8 *)(was + 300000) = 1)) _exit(3);
+}
 static void raise_it(void) { raise(SIGSEGV); }
 static void touch_kept(void) {
     w2c_mem *m = w2cZ_reachZ_mZ_memory();
@@ -314,21 +321,23 @@ static void try_default(void) {
 static void try_again(int alone) {
     w2c_mem *m = w2cZ_reachZ_mZ_memory();
     static w2c_mem others[3];
-    u8 *was = m->bytes;
     unsigned k;
+    was = m->bytes;
     for (k = 0; k < 3; k++) w2c_mem_new(&others[k], k, k);
     w2c_mem_free(&others[1]);
     w2c_mem_free(&others[1]);
     w2c_mem_free(m);
     check(m->len == 0 && m->bytes == 0, "a memory that was given back");
-    if (alone) check(child(touch_low) == SIGSEGV, "the default at a low place, when a memory was given back");
+    if (alone) {
+        check(child(touch_low) == SIGSEGV, "the default at a low place, when a memory was given back");
+        check(child(touch_was) == SIGSEGV, "the default where a memory was");
+    }
 #if !defined(SANITIZED)
     {
         unsigned char there;
         check(mincore(was, 4096, &there) != 0, "its place");
     }
 #endif
-    (void)was;
     w2c_tab_free(w2cZ_reachZ_tZ_table());
     for (k = 0; k < 50; k++) {
         w2c_mem_new(&others[1], 1, 1);
