@@ -251,6 +251,7 @@ static void try_state(u32 inside, u32 outside) {
         check(m->bytes[0] == 1, "the store before is made, and that behind is not");
         check(!EXACT || *w2cZ_reachZ_vZ_g() == 1, "the global before is set, and that behind is not");
         check(!EXACT || w2cZ_reachZ_fZ_hidden() == 1, "the global that is not exported");
+        check(TRAP_OF(w2cZ_reachZ_fZ_between_fills()) == 2 && m->bytes[0] == 1 && m->bytes[63] == 1, "between two fills");
     }
 }
 
