@@ -129,16 +129,28 @@ static void own_handler(int number, siginfo_t *info, void *context) {
     caught = info->si_addr == (void *)64 ? 1 : 2;
     siglongjmp(fault, 1);
 }
+static void plain_handler(int number) {
+    (void)number;
+    caught = 1;
+    siglongjmp(fault, 1);
+}
 static void later_handler(int number, siginfo_t *info, void *context) {
     if (w2c_guard(number, info, context)) return;
     own_handler(number, info, context);
 }
 
-static void set_handler(void (*handler)(int, siginfo_t *, void *), int flags) {
+static void set_handler(void (*handler)(int, siginfo_t *, void *)) {
     struct sigaction a;
     memset(&a, 0, sizeof a);
     a.sa_sigaction = handler;
-    a.sa_flags = SA_SIGINFO | flags;
+    a.sa_flags = SA_SIGINFO;
+    sigaction(SIGSEGV, &a, 0);
+}
+static void set_handler_once(void (*handler)(int)) {
+    struct sigaction a;
+    memset(&a, 0, sizeof a);
+    a.sa_handler = handler;
+    a.sa_flags = SA_RESETHAND;
     sigaction(SIGSEGV, &a, 0);
 }
 
@@ -156,7 +168,16 @@ static int child(void (*what)(void)) {
     return WIFSIGNALED(status) ? WTERMSIG(status) : 1000 + WEXITSTATUS(status);
 }
 static int *volatile nowhere = (int *)64;
+static int *volatile low = (int *)(1 << 30);
 static void touch_null(void) { *(volatile int *)nowhere = 1; }
+/* Not a trap of a unit, though one could be taken for the other. */
+static void touch_low(void) {
+    if (TRAP_OF(*(volatile int *)low = 1)) _exit(3);
+}
+static u8 *was;
+static void touch_was(void) {
+    if (TRAP_OF(*(volatile u8 *)(was + 300000) = 1)) _exit(3);
+}
 static void raise_it(void) { raise(SIGSEGV); }
 static void touch_kept(void) {
     w2c_mem *m = w2cZ_reachZ_mZ_memory();
@@ -230,6 +251,7 @@ static void try_state(u32 inside, u32 outside) {
         check(m->bytes[0] == 1, "the store before is made, and that behind is not");
         check(!EXACT || *w2cZ_reachZ_vZ_g() == 1, "the global before is set, and that behind is not");
         check(!EXACT || w2cZ_reachZ_fZ_hidden() == 1, "the global that is not exported");
+        check(TRAP_OF(w2cZ_reachZ_fZ_between_fills()) == 2 && m->bytes[0] == 1 && m->bytes[63] == 1, "between two fills");
     }
 }
 
@@ -297,23 +319,26 @@ static void try_default(void) {
 }
 
 /* A memory that is given back is no one's place, and another may lie there; the unit begins anew by its init. */
-static void try_again(void) {
+static void try_again(int alone) {
     w2c_mem *m = w2cZ_reachZ_mZ_memory();
     static w2c_mem others[3];
-    u8 *was = m->bytes;
     unsigned k;
+    was = m->bytes;
     for (k = 0; k < 3; k++) w2c_mem_new(&others[k], k, k);
     w2c_mem_free(&others[1]);
     w2c_mem_free(&others[1]);
     w2c_mem_free(m);
     check(m->len == 0 && m->bytes == 0, "a memory that was given back");
+    if (alone) {
+        check(child(touch_low) == SIGSEGV, "the default at a low place, when a memory was given back");
+        check(child(touch_was) == SIGSEGV, "the default where a memory was");
+    }
 #if !defined(SANITIZED)
     {
         unsigned char there;
         check(mincore(was, 4096, &there) != 0, "its place");
     }
 #endif
-    (void)was;
     w2c_tab_free(w2cZ_reachZ_tZ_table());
     for (k = 0; k < 50; k++) {
         w2c_mem_new(&others[1], 1, 1);
@@ -334,9 +359,10 @@ int main(int count, char **words) {
     w2c_mem *m;
     unsigned k;
     sigset_t old;
-    if (!alone && strcmp(how, "own") != 0) set_handler(own_handler, strcmp(how, "once") == 0 ? SA_RESETHAND : 0);
+    if (strcmp(how, "chain") == 0) set_handler(own_handler);
+    if (strcmp(how, "once") == 0) set_handler_once(plain_handler);
     w2cZ_reachZ_i();
-    if (strcmp(how, "own") == 0) set_handler(later_handler, 0);
+    if (strcmp(how, "own") == 0) set_handler(later_handler);
     m = w2cZ_reachZ_mZ_memory();
     for (k = 0; k < count_named; k++) check((all_named[k].length(m) == ~(u64)0) == (GUARDED && all_named[k].access), all_named[k].name);
     try_all();
@@ -358,7 +384,7 @@ int main(int count, char **words) {
     if (alone) try_default();
     else try_chain(how);
     try_threads();
-    try_again();
+    try_again(alone);
     printf("%s: %u checks, %u of them traps of accesses, %u wrong\n", how, tried, trapped, bad);
     return bad != 0;
 }

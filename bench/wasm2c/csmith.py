@@ -1,7 +1,7 @@
 #!/usr/bin/env python3
 """Compares what units do with the three runtimes on programs by chance: csmith writes C, clang compiles it to WebAssembly, wasm2c
 translates that, and gcc and clang compile the unit, as compare.py does it. The program's checksum and the memory at the end must be those of
-node. A program that node does not end within five seconds, or that clang makes calls of an allocator or floating-point numbers of, is passed
+node. A program that node does not end within twenty seconds, or that clang makes calls of an allocator or floating-point numbers of, is passed
 over. Ends with 1 if something differs. Needs Debian's csmith and libcsmith-dev, clang with wasm-ld, wasi-libc, gcc, node, and wabt.
 
 csmith.py [COUNT [FIRST [WASM2C [PART..]]]]: how many programs, the first seed, the program, and parts of the names of runtimes.
@@ -37,7 +37,7 @@ def one(wasm2c, seed, runtimes):
     target = ["--target=wasm32-wasi", "-mcpu=mvp", level, "-w", "-fno-builtin-printf", "-nostartfiles", "-Wl,--no-entry", "-I", "/usr/include/csmith"]
     try:
         run("clang", *target, "wrapper.c", "-o", f"{name}.wasm")
-        _, wanted = compare.prepare(wasm2c, name, {"run": [[], []]}, seconds=5)
+        _, wanted = compare.prepare(wasm2c, name, {"run": [[], []]}, seconds=20)
     except (subprocess.CalledProcessError, subprocess.TimeoutExpired) as error:
         print(f"seed {seed}: passed over ({error.__class__.__name__})", flush=True)
         return None

@@ -52,15 +52,22 @@ static inline u32 w2c_rt_i32_popcnt(u32 x) { return (u32)__builtin_popcount(x); 
 static inline u64 w2c_rt_i64_popcnt(u64 x) { return (u64)__builtin_popcountll(x); }
 static inline u64 w2c_rt_i64_extend_i32_s(u32 x) { return (u64)(int64_t)(int32_t)x; }
 
-/* (w2c_mem_len) is the function, where a runtime has a macro of that name. */
+/* (w2c_mem_len) is the function, where a runtime has a macro of that name. W2C_RT_MOVED keeps these in order with accesses that may trap. */
+#if !defined(W2C_RT_MOVED)
+#define W2C_RT_MOVED ((void)0)
+#endif
 static inline void w2c_rt_copy(w2c_mem *m, u32 to, u32 from, u32 n) {
     u64 len = (w2c_mem_len)(m);
     if ((u64)to + n > len || (u64)from + n > len) w2c_trap(2u);
+    W2C_RT_MOVED;
     __builtin_memmove(m->bytes + to, m->bytes + from, n);
+    W2C_RT_MOVED;
 }
 static inline void w2c_rt_fill(w2c_mem *m, u32 to, u32 value, u32 n) {
     if ((u64)to + n > (w2c_mem_len)(m)) w2c_trap(2u);
+    W2C_RT_MOVED;
     __builtin_memset(m->bytes + to, (int)(value & 255), n);
+    W2C_RT_MOVED;
 }
 
 /* W2C_RT_HELPER(x, name, own) is `own` in a call with the argument x, and `name`, said to be unused, in the definition. */

@@ -143,6 +143,9 @@ static inline u64 w2c_tab_sig(w2c_tab *t, u64 i) { return t->elems[i].sig; }
 static inline w2c_fn w2c_tab_fn(w2c_tab *t, u64 i) { return t->elems[i].fn; }
 static inline void w2c_tab_set(w2c_tab *t, u64 i, w2c_fn f, u64 sig) { t->elems[i].fn = f; t->elems[i].sig = sig; }
 
+#if defined(W2C_RT_GUARDED)
+#define W2C_RT_MOVED __asm__ volatile("" ::: "memory")
+#endif
 #if defined(W2C_RT_OPERATORS) && !defined(__cplusplus)
 #include "w2c_rt_operators.h"
 #endif
