@@ -80,12 +80,12 @@ fn writing_stops(rt: HostRuntime) -> Result<(), Fail> {
         write_file("d", b"yz", &mut files),
         Err(WriteAnswer::Failed)
     );
-    assert_eq!(rt; files.get("d"), Some(b"y".as_slice()));
+    assert!(rt; files.get("d").is_some_and(|text| text == b"y".as_slice()));
     assert_eq!(rt;
         write_file("d", b"yz", &mut files),
         Err(WriteAnswer::Failed)
     );
-    assert_eq!(rt; files.get("d"), Some(b"yz".as_slice()));
+    assert!(rt; files.get("d").is_some_and(|text| text == b"yz".as_slice()));
     Ok(())
 }
 

@@ -14,13 +14,16 @@ struct Sips {
 
 impl Write for Sips {
     fn write(&mut self, buf: &[u8]) -> IoResult<usize> {
-        match (buf.first(), self.then) {
-            (Some(byte), _) if self.got.len() < self.most => {
-                self.got.push(*byte)?;
-                Ok(1)
-            }
-            (_, Some(kind)) => Err(Error::from(kind)),
-            _ => Ok(0),
+        let Some(byte) = buf.first() else {
+            return Ok(0);
+        };
+        if self.got.len() < self.most {
+            self.got.push(*byte)?;
+            return Ok(1);
+        }
+        match self.then {
+            Some(kind) => Err(Error::from(kind)),
+            None => Ok(0),
         }
     }
 
@@ -39,14 +42,17 @@ struct Drips {
 
 impl Read for Drips {
     fn read(&mut self, buf: &mut [u8]) -> IoResult<usize> {
-        match (buf.first_mut(), self.then) {
-            (Some(place), _) if self.given < self.most => {
-                *place = b'a';
-                self.given = self.given.saturating_add(1);
-                Ok(1)
-            }
-            (_, Some(kind)) => Err(Error::from(kind)),
-            _ => Ok(0),
+        let Some(place) = buf.first_mut() else {
+            return Ok(0);
+        };
+        if self.given < self.most {
+            *place = b'a';
+            self.given = self.given.saturating_add(1);
+            return Ok(1);
+        }
+        match self.then {
+            Some(kind) => Err(Error::from(kind)),
+            None => Ok(0),
         }
     }
 }
