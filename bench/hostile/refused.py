@@ -96,7 +96,7 @@ def in_turn(title, program, name, words, files=(), every=EVERY, earlier=None):
         changed = any(text != earlier for text in left)
         is_as_ever = (came, said, line, left) == (status, out, err, whole)
         if not made and is_as_ever:
-            turn = f"of {ended + as_ever} requests" if every == 1 else f"of some {nth - every} requests {ended + as_ever} were refused, each {every}th;"
+            turn = f"of {ended + as_ever} requests" if every == 1 else f"of some {nth - every} requests one in {every} was refused, {ended + as_ever} in all;"
             print(f"{title}: status {status}; {turn} {ended} ended with 5, {nothing} of these with nothing written and {part} with a file that has changed, "
                   f"and {as_ever} as ever")
             return
