@@ -19,6 +19,7 @@ import platform
 import subprocess
 import sys
 from concurrent.futures import ThreadPoolExecutor
+from threading import Lock
 
 import jobs
 
@@ -93,11 +94,15 @@ def build_all(chosen, titles, sources, wasm2c, level):
     cells = [(job, compiler, title) for job in chosen for compiler in COMPILERS for title in titles]
     missing = [cell for cell in cells if name_of(*cell) not in built or not os.path.exists(name_of(*cell))]
 
+    writing = Lock()
+
     def build_one(cell):
-        built[name_of(*cell)] = build(*cell, sources, level)
-        with open("built.new", "w") as file:
-            json.dump(dict(built), file)
-        os.replace("built.new", "built.json")
+        made = build(*cell, sources, level)
+        with writing:
+            built[name_of(*cell)] = made
+            with open("built.new", "w") as file:
+                json.dump(built, file)
+            os.replace("built.new", "built.json")
         print(f"built {', '.join(cell)}", file=sys.stderr, flush=True)
 
     with ThreadPoolExecutor(int(os.environ.get("BUILDS", "2"))) as pool:
