@@ -92,7 +92,7 @@ abbrev mutual
   KindHasType c labels (CallIndirect type_index) old new =
       (ty : FuncType) × (slice_get c.types type_index ≡ Some ty) × HasTable c
       × Turns (ty.params ++ type.I32 ∷ []) (values ty.result) old new
-  -- `nop`, and numeric instructions (3.3.1): by their row
+  -- numeric instructions (3.3.1) and `nop` (3.3.5): by their row
   KindHasType c labels kind old new = TurnsAsTabled (table_type kind) old new
 
   -- the second branch of an `if`. Without one there is no result
