@@ -1,7 +1,8 @@
 // Items, and the text of one that is written into a file.
-ghost use Rattle.std.specs.Prelude.{◌≡◌, [], ◌∷◌, ◌++◌, OnOk, OnErr, IfOk, IsSome};
+ghost use Rattle.std.specs.Prelude.{◌≡◌, [], ◌∷◌, ◌++◌, OnOk, OnErr, IfOk, IfErr, IsSome};
 ghost use Rattle.w2c_io.specs.Contents.{appending, AppendsPart};
 ghost use Rattle.w2c_io.specs.Causes.{WriteCause, name_after_write};
+ghost use Rattle.w2c_io.specs.Passed.{Passes, PutsText, PutsPart};
 ghost use Rattle.c_tree.specs.declared.token.Tok.TheVariants as tok;
 ghost use Rattle.c_tree.specs.declared.tree.Num.TheVariants.{Plain};
 ghost use Rattle.c_tree.specs.Tokens.{Fixed, Named};
@@ -102,6 +103,9 @@ pub fn print_item_to<F: Files>(alloc: Global, item: &Item, files: &mut F) -> Res
     ensures cause { WriteCause (F.write_faults files.old) (F.write_faults files.new) result }
     ensures named { F.fault_name files.new ≡ name_after_write result (F.current files.old) (F.fault_name files.old) }
     ensures reads { F.read_faults files.new ≡ F.read_faults files.old }
+    // What passed through the files, those of the system too.
+    ensures passed { OnOk result (Passes (F.trace files.old) (F.trace files.new) (PutsText (print_item_of (item_of item.now)))) }
+    ensures tried { IfErr result (λ why. Passes (F.trace files.old) (F.trace files.new) (PutsPart (print_item_of (item_of item.now)) why)) }
 {
     let text = item_text(alloc, item)?;
     files.put(text.as_slice())

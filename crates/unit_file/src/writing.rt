@@ -1,8 +1,9 @@
 // The text of a checked unit, written into a file an item at a time.
-ghost use Rattle.std.specs.Prelude.{◌≡◌, Some, None, IsSome, OnOk, OnErr, IsErrOf};
+ghost use Rattle.std.specs.Prelude.{◌≡◌, Some, None, IsSome, OnOk, OnErr, IfErr, IsErrOf};
 ghost use Rattle.w2c_io.specs.declared.answers.WriteAnswer.TheVariants as writing;
 ghost use Rattle.w2c_io.specs.Contents.{holding, appending, AppendsPart};
 ghost use Rattle.w2c_io.specs.Causes.{WriteCause, name_after_write};
+ghost use Rattle.w2c_io.specs.Passed.{Passes, PutsText, PutsPart, WritesFile, BreaksOff};
 ghost use Rattle.w2c_files.specs.Standing.{IsBegun};
 ghost use Rattle.c_tree.specs.View.{unit_of};
 ghost use Rattle.c_tree.specs.Spelled.{CSpells};
@@ -35,6 +36,10 @@ pub fn write_unit<F: Files>(
     ensures cause { WriteCause (F.write_faults files.old) (F.write_faults files.new) result }
     ensures named { IsErrOf result writing.Failed → F.fault_name files.new ≡ Some file.now }
     ensures reads { F.read_faults files.new ≡ F.read_faults files.old }
+    // What passed through the files, those of the system too.
+    ensures passed { OnOk result (Passes (F.trace files.old) (F.trace files.new) (WritesFile file.now (print_of (unit_of unit.now)))) }
+    ensures tried { IfErr result (λ why. Passes (F.trace files.old) (F.trace files.new)
+        (BreaksOff file.now (print_of (unit_of unit.now)) why)) }
 {
     // The unit is one that some text spells, so its printed text does.
     let _ = unit.unit();
@@ -59,6 +64,8 @@ fn put_unit<F: Files>(alloc: Global, unit: &CheckedUnit, files: &mut F) -> Resul
     ensures cause { WriteCause (F.write_faults files.old) (F.write_faults files.new) result }
     ensures fault { F.fault_name files.new ≡ name_after_write result (F.current files.old) (F.fault_name files.old) }
     ensures reads { F.read_faults files.new ≡ F.read_faults files.old }
+    ensures passed { OnOk result (Passes (F.trace files.old) (F.trace files.new) (PutsText (print_of (unit_of unit.now)))) }
+    ensures tried { IfErr result (λ why. Passes (F.trace files.old) (F.trace files.new) (PutsPart (print_of (unit_of unit.now)) why)) }
 {
     let items = unit.unit();
     files.put(Tok::Include.text())?;

@@ -2,8 +2,10 @@
 ghost use Rattle.std.specs.Prelude.{◌≡◌, ◌<◌, ◌≤◌, length, slice_get, Some, IfOk, IfErr, OnOk};
 ghost use Rattle.std.specs.FinMap.{get};
 ghost use Rattle.std.specs.List.{AllByRecursion};
+ghost use Rattle.w2c_io.specs.Passed.{Passes};
 ghost use Rattle.w2c_io.specs.Telling.{Tells};
 ghost use Rattle.w2c_files.specs.declared.reading.ReadStop.TheVariants.{Memory as memory_wanted};
+ghost use Rattle.w2c_files.specs.Passing.{ReadsAll, ReadsOne, ReadsSome};
 ghost use Rattle.w2c_files.specs.Reading.{AreRead};
 ghost use Rattle.w2c_files.specs.Stopping.{StopsAt, StopsFile};
 ghost use Rattle.w2c_files.specs.Words.{names_of};
@@ -56,6 +58,10 @@ pub fn read_files<F: Files>(
     ensures fit { IfOk result (λ all. AllByRecursion (λ bytes. length bytes ≤ limits.each) all.items) }
     ensures stop { IfErr result (StopsAt limits.each limits.all (F.told files.old) (names_of names.now)
         (F.read_faults files.old) (F.read_faults files.new) (F.fault_name files.new)) }
+    // What passed through the files, those of the system too: each was read once, in order, and gave these bytes.
+    ensures passed { IfOk result (λ all. Passes (F.trace files.old) (F.trace files.new) (ReadsAll limits.each (names_of names.now) all.items)) }
+    ensures tried { IfErr result (λ stop. Passes (F.trace files.old) (F.trace files.new)
+        (ReadsSome limits.each limits.all (names_of names.now) stop)) }
 {
     let mut all = Vec::new(alloc);
     let mut left = limits.all;
@@ -98,6 +104,7 @@ fn read_file<F: Files>(
     ensures room { IfOk result (λ bytes. length bytes ≤ left) }
     ensures stop { IfErr result (StopsFile each left (F.told files.old) name.now k
         (F.read_faults files.old) (F.read_faults files.new) (F.fault_name files.new)) }
+    ensures passed { Passes (F.trace files.old) (F.trace files.new) (ReadsOne each left name.now k result) }
 {
     match files.read(alloc, name, each) {
         Ok(bytes) => {

@@ -1,8 +1,9 @@
 // Writes a file whole, or gives it up.
-ghost use Rattle.std.specs.Prelude.{◌≡◌, ◌≤◌, Some, None, IsSome, OnOk, OnErr, IsErrOf};
+ghost use Rattle.std.specs.Prelude.{◌≡◌, ◌≤◌, Some, None, IsSome, OnOk, OnErr, IfErr, IsErrOf};
 ghost use Rattle.w2c_io.specs.declared.answers.WriteAnswer.TheVariants as writing;
 ghost use Rattle.w2c_io.specs.Contents.{holding};
 ghost use Rattle.w2c_io.specs.Causes.{WriteCause};
+ghost use Rattle.w2c_io.specs.Passed.{Passes, WritesFile, BreaksOff, Finishes};
 ghost use Rattle.w2c_files.specs.Standing.{IsBegun};
 
 use w2c_io::{Files, WriteAnswer};
@@ -17,6 +18,9 @@ pub fn write_file<F: Files>(name: &str, text: &[u8], files: &mut F) -> Result<()
     ensures reads { F.read_faults files.new ≡ F.read_faults files.old }
     ensures cause { WriteCause (F.write_faults files.old) (F.write_faults files.new) result }
     ensures named { IsErrOf result writing.Failed → F.fault_name files.new ≡ Some name.now }
+    // What passed through the files, those of the system too.
+    ensures passed { OnOk result (Passes (F.trace files.old) (F.trace files.new) (WritesFile name.now text.now)) }
+    ensures tried { IfErr result (λ why. Passes (F.trace files.old) (F.trace files.new) (BreaksOff name.now text.now why)) }
 {
     files.begin(name)?;
     let mut rest = text;
@@ -41,6 +45,7 @@ pub fn give_up<F: Files>(files: &mut F)
     ensures later { F.write_faults files.old ≤ F.write_faults files.new }
     ensures named { F.fault_name files.old ≡ F.current files.old → F.fault_name files.new ≡ F.current files.old }
     ensures reads { F.read_faults files.new ≡ F.read_faults files.old }
+    ensures passed { Passes (F.trace files.old) (F.trace files.new) Finishes }
 {
     let _ = files.finish();
 }

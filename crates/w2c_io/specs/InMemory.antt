@@ -1,6 +1,7 @@
 -- What the files and sinks in memory show.
 use Rattle.std.specs.Prelude.{◌≡◌, ℕ, List, ◌∷◌, ◌++◌, [], Option, Some}
 use Rattle.w2c_io.specs.Contents.{Contents, Name, Told}
+use Rattle.w2c_io.specs.Events.{Event}
 use Rattle.w2c_io.specs.Planned.{CountsOne}
 use Rattle.w2c_io.specs.Stored.{stored, open_name, name_bytes}
 use Rattle.w2c_io.specs.declared.plan.FaultPlan.{FaultPlan}
@@ -17,6 +18,9 @@ sure_contents files = stored files.entries.items
 
 abbrev pub sure_current : SureFiles → Option Name
 sure_current files = open_name files.is_open files.entries.items
+
+abbrev pub sure_trace : SureFiles → List Event
+sure_trace files = files.calls.events
 
 abbrev pub mem_contents : MemFiles → Contents
 mem_contents files = stored files.entries.items
@@ -35,6 +39,9 @@ mem_write_faults files = files.write_faults
 
 abbrev pub mem_fault_name : MemFiles → Option Name
 mem_fault_name files = name_bytes files.fault_name
+
+abbrev pub mem_trace : MemFiles → List Event
+mem_trace files = files.calls.events
 
 -- the plan for one kind of call
 abbrev pub plan_of : FileCall → MemFiles → FaultPlan

@@ -1,7 +1,12 @@
 pub mod Causes
 pub mod Contents
+pub mod Events
+pub mod Honest
 pub mod InMemory
+pub mod Noted
+pub mod Passed
 pub mod Passing
 pub mod Planned
+pub mod Said
 pub mod Stored
 pub mod Telling

@@ -1,8 +1,10 @@
-// The files of the system. They tell nothing of what they hold.
-ghost use Rattle.std.specs.Prelude.{◌≡◌, ◌≤◌, None, IfOk, IsErrOf, length};
+// The files of the system. They tell nothing of what they hold, and note each call with its answer.
+ghost use Rattle.std.specs.Prelude.{◌≡◌, ◌≤◌, [], Some, None, IsSome, IfOk, OnOk, OnErr, IsErrOf, length};
+ghost use Rattle.w2c_io.specs.Causes.{ReadCause, WriteCause, name_after_read, name_after_write};
 ghost use Rattle.w2c_io.specs.declared.answers.ReadAnswer.TheVariants as reading;
 
 use crate::reading::{read_answer, read_whole};
+use crate::record::{Call, Record};
 use crate::writing::{write_answer, write_piece};
 use crate::{Files, ReadAnswer, WriteAnswer};
 use std::alloc::Global;
@@ -27,6 +29,7 @@ pub struct StdFiles<'a> {
     read_faults: u64,
     write_faults: u64,
     fault_name: Option<String>,
+    calls: Record,
 }
 
 impl<'a> StdFiles<'a> {
@@ -38,6 +41,7 @@ impl<'a> StdFiles<'a> {
         ensures read_faults { result.read_faults ≡ 0 }
         ensures write_faults { result.write_faults ≡ 0 }
         ensures fault_name { name_bytes result.fault_name ≡ None }
+        ensures trace { result.calls.events ≡ [] }
     {
         StdFiles {
             rt,
@@ -46,6 +50,7 @@ impl<'a> StdFiles<'a> {
             read_faults: 0,
             write_faults: 0,
             fault_name: None,
+            calls: Record::new(),
         }
     }
 }
@@ -74,7 +79,46 @@ impl Files for StdFiles<'_> {
 
     ghost fault_name = { λ s. name_bytes s.fault_name };
 
+    ghost trace = { λ s. s.calls.events };
+
     fn read(&mut self, alloc: Global, name: &str, limit: usize) -> Result<Bytes, ReadAnswer> {
+        let result = self.read_now(alloc, name, limit);
+        self.calls = self.calls.then(&Call::Read(name, limit, &result));
+        result
+    }
+
+    fn begin(&mut self, name: &str) -> Result<(), WriteAnswer> {
+        let result = self.begin_now(name);
+        self.calls = self.calls.then(&Call::Begin(name, &result));
+        result
+    }
+
+    fn put(&mut self, piece: &[u8]) -> Result<(), WriteAnswer> {
+        let result = self.put_now(piece);
+        self.calls = self.calls.then(&Call::Put(piece, &result));
+        result
+    }
+
+    fn finish(&mut self) -> Result<(), WriteAnswer> {
+        let result = self.finish_now();
+        self.calls = self.calls.then(&Call::Finish(&result));
+        result
+    }
+}
+
+// Each call, before it is noted.
+impl StdFiles<'_> {
+    ghost use Rattle.w2c_io.specs.Stored.{name_bytes, written_name};
+
+    fn read_now(&mut self, alloc: Global, name: &str, limit: usize) -> Result<Bytes, ReadAnswer>
+        ensures fits { IfOk result (λ bytes. length bytes ≤ limit) }
+        ensures absent { IsErrOf result reading.Absent → ⊥ }
+        ensures current { written_name self.new.begun ≡ written_name self.old.begun }
+        ensures cause { ReadCause self.old.read_faults self.new.read_faults result }
+        ensures named { name_bytes self.new.fault_name ≡ name_after_read result (Some name.now) (name_bytes self.old.fault_name) }
+        ensures writes { self.new.write_faults ≡ self.old.write_faults }
+        ensures calls { self.new.calls ≡ self.old.calls }
+    {
         let kept = String::from_str(self.alloc, name)?;
         match read_file(self.rt, alloc, name, limit) {
             Ok(bytes) => Ok(bytes),
@@ -87,7 +131,14 @@ impl Files for StdFiles<'_> {
         }
     }
 
-    fn begin(&mut self, name: &str) -> Result<(), WriteAnswer> {
+    fn begin_now(&mut self, name: &str) -> Result<(), WriteAnswer>
+        ensures current { OnOk result (written_name self.new.begun ≡ Some name.now) }
+        ensures none_current { OnErr result (written_name self.new.begun ≡ None) }
+        ensures cause { WriteCause self.old.write_faults self.new.write_faults result }
+        ensures named { name_bytes self.new.fault_name ≡ name_after_write result (Some name.now) (name_bytes self.old.fault_name) }
+        ensures reads { self.new.read_faults ≡ self.old.read_faults }
+        ensures calls { self.new.calls ≡ self.old.calls }
+    {
         self.begun = None;
         let kept = String::from_str(self.alloc, name)?;
         match File::create(self.rt, name) {
@@ -106,7 +157,14 @@ impl Files for StdFiles<'_> {
         }
     }
 
-    fn put(&mut self, piece: &[u8]) -> Result<(), WriteAnswer> {
+    fn put_now(&mut self, piece: &[u8]) -> Result<(), WriteAnswer>
+        requires { IsSome (written_name self.old.begun) }
+        ensures current { written_name self.new.begun ≡ written_name self.old.begun }
+        ensures cause { WriteCause self.old.write_faults self.new.write_faults result }
+        ensures named { name_bytes self.new.fault_name ≡ name_after_write result (written_name self.old.begun) (name_bytes self.old.fault_name) }
+        ensures reads { self.new.read_faults ≡ self.old.read_faults }
+        ensures calls { self.new.calls ≡ self.old.calls }
+    {
         let Some(begun) = self.begun.take() else {
             return Err(WriteAnswer::Memory);
         };
@@ -131,7 +189,14 @@ impl Files for StdFiles<'_> {
         }
     }
 
-    fn finish(&mut self) -> Result<(), WriteAnswer> {
+    fn finish_now(&mut self) -> Result<(), WriteAnswer>
+        requires { IsSome (written_name self.old.begun) }
+        ensures none_current { written_name self.new.begun ≡ None }
+        ensures cause { WriteCause self.old.write_faults self.new.write_faults result }
+        ensures named { name_bytes self.new.fault_name ≡ name_after_write result (written_name self.old.begun) (name_bytes self.old.fault_name) }
+        ensures reads { self.new.read_faults ≡ self.old.read_faults }
+        ensures calls { self.new.calls ≡ self.old.calls }
+    {
         let Some(begun) = self.begun.take() else {
             return Err(WriteAnswer::Memory);
         };

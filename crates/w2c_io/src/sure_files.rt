@@ -1,10 +1,12 @@
-// Files in memory that never fail.
-ghost use Rattle.std.specs.Prelude.{◌≡◌, ◌≤◌, IsTrue, Some, None, OnOk, OnErr, MatchOption, IfOk, IsErrOf, length};
+// Files in memory that never fail. Each call is noted with its answer.
+ghost use Rattle.std.specs.Prelude.{◌≡◌, ◌≤◌, ◌<◌, [], true, IsTrue, Some, None, OnOk, OnErr, MatchOption, IfOk, IsErrOf, length};
 ghost use Rattle.std.specs.FinMap as map;
-ghost use Rattle.w2c_io.specs.Contents.{HasFile, HasNoFile, HasLongFile};
+ghost use Rattle.w2c_io.specs.Contents.{appending, HasFile, HasNoFile, HasLongFile};
 ghost use Rattle.w2c_io.specs.declared.answers.ReadAnswer.TheVariants as reading;
-ghost use Rattle.w2c_io.specs.Stored.{stored};
+ghost use Rattle.w2c_io.specs.declared.answers.WriteAnswer.TheVariants as writing;
+ghost use Rattle.w2c_io.specs.Stored.{stored, open_name};
 
+use crate::record::{Call, Record};
 use crate::store::{Entry, add, find, grow};
 use crate::{Files, ReadAnswer, WriteAnswer};
 use std::alloc::Global;
@@ -16,20 +18,23 @@ pub struct SureFiles {
     alloc: Global,
     entries: Vec<Entry>,
     is_open: bool,
+    calls: Record,
 }
 
 impl SureFiles {
-    ghost use Rattle.w2c_io.specs.InMemory.{sure_contents, sure_current};
+    ghost use Rattle.w2c_io.specs.InMemory.{sure_contents, sure_current, sure_trace};
 
     /// No files.
     pub fn new(alloc: Global) -> Self
         ensures contents { sure_contents result ≡ map.empty }
         ensures current { sure_current result ≡ None }
+        ensures trace { sure_trace result ≡ [] }
     {
         SureFiles {
             alloc,
             entries: Vec::new(alloc),
             is_open: false,
+            calls: Record::new(),
         }
     }
 
@@ -39,6 +44,7 @@ impl SureFiles {
         ensures closed { OnOk result (sure_current self.new ≡ None) }
         ensures err { OnErr result (sure_contents self.new ≡ sure_contents self.old) }
         ensures current { OnErr result (sure_current self.new ≡ sure_current self.old) }
+        ensures trace { sure_trace self.new ≡ sure_trace self.old }
     {
         let name = String::from_str(self.alloc, name)?;
         let bytes = bytes.to_vec(self.alloc)?;
@@ -57,7 +63,7 @@ impl SureFiles {
 }
 
 impl Files for SureFiles {
-    ghost use Rattle.w2c_io.specs.InMemory.{sure_contents, sure_current};
+    ghost use Rattle.w2c_io.specs.InMemory.{sure_contents, sure_current, sure_trace};
 
     ghost told = { λ s. Some (sure_contents s) };
 
@@ -69,27 +75,58 @@ impl Files for SureFiles {
 
     ghost fault_name = { λ s. None };
 
+    ghost trace = { sure_trace };
+
     fn read(&mut self, alloc: Global, name: &str, limit: usize) -> Result<Bytes, ReadAnswer> {
-        read_stored(alloc, self.entries.as_slice(), name, limit)
+        let result = read_stored(alloc, self.entries.as_slice(), name, limit);
+        self.calls = self.calls.then(&Call::Read(name, limit, &result));
+        result
     }
 
     fn begin(&mut self, name: &str) -> Result<(), WriteAnswer> {
-        self.is_open = false;
-        let name = String::from_str(self.alloc, name)?;
-        add(&mut self.entries, name, Vec::new(self.alloc))?;
-        self.is_open = true;
-        Ok(())
+        let result = begin_entry(self.alloc, &mut self.entries, name);
+        self.is_open = result.is_ok();
+        self.calls = self.calls.then(&Call::Begin(name, &result));
+        result
     }
 
     fn put(&mut self, piece: &[u8]) -> Result<(), WriteAnswer> {
-        grow(&mut self.entries, piece)?;
-        Ok(())
+        let result = put_entry(&mut self.entries, piece);
+        self.calls = self.calls.then(&Call::Put(piece, &result));
+        result
     }
 
     fn finish(&mut self) -> Result<(), WriteAnswer> {
         self.is_open = false;
-        Ok(())
+        let result = Ok(());
+        self.calls = self.calls.then(&Call::Finish(&result));
+        result
     }
+}
+
+// A newest entry of this name, with no bytes.
+fn begin_entry(alloc: Global, entries: &mut Vec<Entry>, name: &str) -> Result<(), WriteAnswer>
+    ensures stored { OnOk result (stored entries.new.items ≡ map.insert (stored entries.old.items) name.now []) }
+    ensures open { OnOk result (open_name true entries.new.items ≡ Some name.now) }
+    ensures err { OnErr result (entries.new.items ≡ entries.old.items) }
+    ensures sure { IsErrOf result writing.Failed → ⊥ }
+{
+    let name = String::from_str(alloc, name)?;
+    add(entries, name, Vec::new(alloc))?;
+    Ok(())
+}
+
+// A piece at the end of the newest entry.
+fn put_entry(entries: &mut Vec<Entry>, piece: &[u8]) -> Result<(), WriteAnswer>
+    requires { 0 < length entries.old.items }
+    ensures ok { OnOk result (Some (stored entries.new.items)
+        ≡ appending (Some (stored entries.old.items)) (open_name true entries.old.items) piece.now) }
+    ensures err { OnErr result (stored entries.new.items ≡ stored entries.old.items) }
+    ensures open { open_name true entries.new.items ≡ open_name true entries.old.items }
+    ensures sure { IsErrOf result writing.Failed → ⊥ }
+{
+    grow(entries, piece)?;
+    Ok(())
 }
 
 /// Reads a file among entries. It never answers Failed.

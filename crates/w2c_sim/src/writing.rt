@@ -1,7 +1,8 @@
 // The texts of a module's unit and header, written into the current file.
-ghost use Rattle.std.specs.Prelude.{◌≡◌, ◌≤◌, length, IsSome, IfOk, OnOk, OnErr};
+ghost use Rattle.std.specs.Prelude.{◌≡◌, ◌≤◌, length, IsSome, IfOk, IfErr, OnOk, OnErr};
 ghost use Rattle.w2c_io.specs.Contents.{appending, AppendsPart};
 ghost use Rattle.w2c_io.specs.Causes.{WriteCause, name_after_write};
+ghost use Rattle.w2c_io.specs.Passed.{Passes, PutsText, PutsPart};
 ghost use Rattle.c_tree.specs.Spelled.{Formed};
 ghost use Rattle.c_print.specs.Print.{print_of};
 ghost use Rattle.c_unit.specs.Tails.{left_of};
@@ -39,6 +40,8 @@ pub fn write_unit<F: Files>(
     ensures cause { WriteCause (F.write_faults files.old) (F.write_faults files.new) result }
     ensures fault { F.fault_name files.new ≡ name_after_write result (F.current files.old) (F.fault_name files.old) }
     ensures reads { F.read_faults files.new ≡ F.read_faults files.old }
+    ensures passed { OnOk result (Passes (F.trace files.old) (F.trace files.new) (PutsText (text_of m.now name.now))) }
+    ensures tried { IfErr result (λ why. Passes (F.trace files.old) (F.trace files.new) (PutsPart (text_of m.now name.now) why)) }
 {
     // It says that the module is valid and has a file, so that its unit is one that a text spells.
     let _ = m.module();
@@ -62,6 +65,8 @@ fn write_items<F: Files>(
     ensures cause { WriteCause (F.write_faults files.old) (F.write_faults files.new) result }
     ensures fault { F.fault_name files.new ≡ name_after_write result (F.current files.old) (F.fault_name files.old) }
     ensures reads { F.read_faults files.new ≡ F.read_faults files.old }
+    ensures passed { OnOk result (Passes (F.trace files.old) (F.trace files.new) (PutsText (print_of (left_of items.old)))) }
+    ensures tried { IfErr result (λ why. Passes (F.trace files.old) (F.trace files.new) (PutsPart (print_of (left_of items.old)) why)) }
 {
     files.put(Tok::Include.text())?;
     'more: while let Some(item) = items.next(alloc)? {
@@ -94,6 +99,8 @@ pub fn write_header<F: Files>(
     ensures cause { WriteCause (F.write_faults files.old) (F.write_faults files.new) result }
     ensures fault { F.fault_name files.new ≡ name_after_write result (F.current files.old) (F.fault_name files.old) }
     ensures reads { F.read_faults files.new ≡ F.read_faults files.old }
+    ensures passed { OnOk result (Passes (F.trace files.old) (F.trace files.new) (PutsText (header_text_of m.now name.now))) }
+    ensures tried { IfErr result (λ why. Passes (F.trace files.old) (F.trace files.new) (PutsPart (header_text_of m.now name.now) why)) }
 {
     let text = header_text(alloc, m, name)?;
     files.put(text.as_slice())

@@ -1,7 +1,7 @@
 use Rattle.std.proofs.Common.{refl, ◌∙◌, [], Some}
 use Rattle.std.proofs.lemmas.Result.{err_from_is_err_and}
 use Rattle.w2c_io.proofs.Growth.{nothing_grown}
-use Rattle.w2c_io.proofs.mem_files.MemFilesFiles.put.Goals as goal
+use Rattle.w2c_io.proofs.mem_files.MemFiles.put_now.Goals as goal
 
 pub returns-in_err-name-clause-part : goal.returns-in_err-name-clause-part
 returns-in_err-name-clause-part c =

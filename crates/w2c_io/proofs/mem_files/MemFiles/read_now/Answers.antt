@@ -2,7 +2,7 @@ use Rattle.std.proofs.Common.{rules, IsTrue}
 use Rattle.w2c_io.specs.declared.mem_files.FileCall.TheVariants as calls
 use Rattle.w2c_io.specs.InMemory.{plan_of}
 use Rattle.w2c_io.specs.Planned.{is_planned}
-use Rattle.w2c_io.proofs.mem_files.MemFilesFiles.read.Goals as goal
+use Rattle.w2c_io.proofs.mem_files.MemFiles.read_now.Goals as goal
 
 -- a file is looked for only where the call is not planned to fail
 pub returns-in_err-read_stored-clause-all_planned : goal.returns-in_err-read_stored-clause-all_planned
