@@ -1,3 +1,6 @@
 pub mod Loops
+pub mod Passing
 pub mod Standing
 pub mod Stops
+mod FilePassed
+mod ReadPassed

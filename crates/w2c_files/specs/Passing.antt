@@ -40,7 +40,7 @@ ReadsSome each most names why events =
     × (names ≡ front ++ rest) × ReadsAll each front all first × (events ≡ first ++ last)
     × (((last ≡ []) × (why ≡ stop.Memory))
     ⊎ ((name : Name) × (after : List Name) × (answer : Result (List ℕ) ReadAnswer) × (rest ≡ name ∷ after)
-        × (last ≡ Read name each answer ∷ []) × StopsBy (most - total all) (length all) answer why))
+    × (last ≡ Read name each answer ∷ []) × StopsBy (most - total all) (length all) answer why))
 
 -- ---- writing
 

@@ -1,7 +1,7 @@
 -- What passed through files in calls one after another.
-use Rattle.std.proofs.Common.{◌≡◌, ◌⊎◌, ℕ, List, [], ◌∷◌, ◌++◌, Result, Ok, Err, refl, sym, ◌∙◌, ap, subst, append_assoc, inl, inr}
+use Rattle.std.proofs.Common.{◌≡◌, ℕ, List, [], ◌∷◌, ◌++◌, Result, Ok, Err, OnOk, IfErr, refl, sym, ◌∙◌, ap, subst, append_assoc, inl, inr}
 use Rattle.std.proofs.lemmas.List.{append-nil}
-use Rattle.w2c_io.specs.Contents.{Name, IsPrefix}
+use Rattle.w2c_io.specs.Contents.{Name}
 use Rattle.w2c_io.specs.declared.answers.WriteAnswer.{WriteAnswer}
 use Rattle.w2c_io.specs.declared.answers.WriteAnswer.TheVariants as writing
 use Rattle.w2c_io.specs.Events.{Event, Read, Begin, Put, Finish}
@@ -100,6 +100,43 @@ part_behind whole front back rest why first last split (pieces, is, calls) part 
     fails_longer rest more why (Read name limit answer ∷ events) h = absurd h
     fails_longer rest more why (Begin name answer ∷ events) h = absurd h
     fails_longer rest more why (Finish answer ∷ events) h = absurd h
+
+-- ---- texts in pieces, in calls one after another
+
+-- memory was wanting before a piece was put
+pub memory_wanted : (old : List Event) (text : List ℕ) → Passes old old (PutsPart text writing.Memory)
+memory_wanted old text = none_passed old (PutsPart text writing.Memory) (memory_behind text [] text [] refl nothing_put)
+
+-- a text was put in one piece, as it is answered
+pub whole_passed : (old new : List Event) (piece text : List ℕ) (result : Result (Unit {0}) WriteAnswer) → piece ≡ text
+    → new ≡ old ++ Put piece result ∷ [] → OnOk result (Passes old new (PutsText text))
+whole_passed old new piece text (Ok tt) same is = (Put piece (Ok tt) ∷ [], is, put_same piece text (Put piece (Ok tt) ∷ []) same (one_put piece))
+whole_passed old new piece text (Err why) same is = tt
+
+pub vain_passed : (old new : List Event) (piece text : List ℕ) (result : Result (Unit {0}) WriteAnswer) → piece ≡ text
+    → new ≡ old ++ Put piece result ∷ [] → IfErr result (λ why. Passes old new (PutsPart text why))
+vain_passed old new piece text (Ok x) same is = tt
+vain_passed old new piece text (Err why) same is =
+    (Put piece (Err why) ∷ [], is, put_in_vain text piece [] why (sym same ∙ sym (append-nil piece)))
+
+-- one text, then another
+pub more_passed : (old middle new : List Event) (front back : List ℕ) → Passes old middle (PutsText front) → Passes middle new (PutsText back)
+    → Passes old new (PutsText (front ++ back))
+more_passed old middle new front back =
+    both_passed old middle new (PutsText front) (PutsText back) (PutsText (front ++ back)) (both_put front back)
+
+-- one text, then a part of another
+pub part_passed : (old middle new : List Event) (whole front back rest : List ℕ) (why : WriteAnswer) → whole ≡ front ++ (back ++ rest)
+    → Passes old middle (PutsText front) → Passes middle new (PutsPart back why) → Passes old new (PutsPart whole why)
+part_passed old middle new whole front back rest why split =
+    both_passed old middle new (PutsText front) (PutsPart back why) (PutsPart whole why)
+    (λ first last. part_behind whole front back rest why first last split)
+
+-- one text, and memory was wanting for what follows
+pub front_passed : (old new : List Event) (whole front rest : List ℕ) → whole ≡ front ++ rest → Passes old new (PutsText front)
+    → Passes old new (PutsPart whole writing.Memory)
+front_passed old new whole front rest split =
+    passed_so old new (PutsText front) (PutsPart whole writing.Memory) (λ events. memory_behind whole front rest events split)
 
 -- ---- a file from its begin to its finish
 

@@ -1,7 +1,7 @@
 -- What passed through files in a call: the calls that were made, each with its answer.
 use Rattle.std.specs.Prelude.{◌≡◌, ◌⊎◌, ℕ, List, [], ◌∷◌, ◌++◌, Result, Ok, Err}
 use Rattle.w2c_io.specs.Contents.{Name, IsPrefix}
-use Rattle.w2c_io.specs.Events.{Event, Read, Begin, Put, Finish}
+use Rattle.w2c_io.specs.Events.{Event, Begin, Put, Finish}
 use Rattle.w2c_io.specs.declared.answers.WriteAnswer.{WriteAnswer}
 use Rattle.w2c_io.specs.declared.answers.WriteAnswer.TheVariants as writing
 

@@ -1,6 +1,8 @@
 use Rattle.std.proofs.Common.{◌≡◌, ◌≤◌, ◌+◌, length, take}
 use Rattle.std.specs.List.{AllByRecursion}
+use Rattle.w2c_io.specs.Passed.{Passes}
 use Rattle.w2c_io.specs.Telling.{Tells}
+use Rattle.w2c_files.specs.Passing.{ReadsAll}
 use Rattle.w2c_files.specs.Reading.{AreHeld, total}
 use Rattle.w2c_files.specs.Words.{names_of}
 use Rattle.w2c_files.proofs.reading.read_files.Given as goal
@@ -18,5 +20,6 @@ invariant-loop-k g l =
       held : Tells (files.told l.fn.files) (λ contents. AreHeld contents (take l.k (names_of l.names)) l.all.items);
       many : length l.all.items ≡ l.k;
       fit : AllByRecursion (λ bytes. length bytes ≤ l.limits.each) l.all.items;
+      passed : Passes (files.trace l.fn.files) (files.trace l.files) (ReadsAll l.limits.each (take l.k (names_of l.names)) l.all.items);
       left : total l.all.items + l.left ≡ l.limits.all;
     }

@@ -1,5 +1,7 @@
 use Rattle.std.proofs.Common.{◌≡◌, ◌++◌, List, ℕ, Some, length}
 use Rattle.w2c_io.specs.Contents.{holding}
+use Rattle.w2c_io.specs.Passed.{Passes}
+use Rattle.w2c_files.proofs.FilePassed.{Began}
 use Rattle.w2c_files.proofs.writing.write_file.Given as goal
 
 -- a part of the text is written
@@ -8,6 +10,7 @@ invariant-loop-rest g l =
     let files = g.F.Files in
     record {
       held : (part : List ℕ) × (l.text ≡ part ++ l.rest) × (files.told l.files ≡ holding (files.told l.fn.files) l.name part);
+      passed : (part : List ℕ) × (l.text ≡ part ++ l.rest) × Passes (files.trace l.fn.files) (files.trace l.files) (Began l.name part);
       current : files.current l.files ≡ Some l.name;
       reads : files.read_faults l.files ≡ files.read_faults l.fn.files;
       kept : files.write_faults l.files ≡ files.write_faults l.fn.files;
