@@ -1,3 +1,4 @@
+pub mod ItemsWritten
 pub mod Onto
 pub mod PageText
 pub mod Spells

@@ -1,2 +1,1 @@
-pub mod ItemsWritten
 pub mod OneFile

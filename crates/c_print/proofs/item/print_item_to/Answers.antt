@@ -1,4 +1,4 @@
-use Rattle.std.proofs.Common.{◌≡◌, ◌∙◌, subst}
+use Rattle.std.proofs.Common.{◌≡◌, ◌∙◌}
 use Rattle.std.proofs.lemmas.Result.{err_from_is_err_and}
 use Rattle.w2c_io.proofs.Passed.{memory_wanted, whole_passed, vain_passed}
 use Rattle.c_tree.specs.View.{item_of}

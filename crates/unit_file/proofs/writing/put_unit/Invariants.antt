@@ -1,6 +1,6 @@
 use Rattle.std.proofs.Common.{◌≡◌, drop}
 use Rattle.c_tree.specs.View.{unit_of}
-use Rattle.unit_file.proofs.ItemsWritten.{IsWritten}
+use Rattle.c_print.proofs.ItemsWritten.{ArePut, IsWritten}
 use Rattle.unit_file.proofs.writing.put_unit.Given as goal
 
 -- the items from this one on are left
@@ -10,6 +10,7 @@ invariant-loop-item g l =
     record {
       written : IsWritten (files.told l.fn.files) (files.told l.files) (files.current l.fn.files) (unit_of l.unit)
           (unit_of (drop l.item-index l.unit));
+      passed : ArePut (files.trace l.fn.files) (files.trace l.files) (unit_of l.unit) (unit_of (drop l.item-index l.unit));
       current : files.current l.files ≡ files.current l.fn.files;
       fault : files.fault_name l.files ≡ files.fault_name l.fn.files;
       reads : files.read_faults l.files ≡ files.read_faults l.fn.files;

@@ -1,5 +1,7 @@
 use Rattle.std.proofs.Common.{◌≡◌, ◌∙◌, subst, Result, Ok, Err, OnOk, OnErr, inr}
+use Rattle.std.proofs.lemmas.Result.{err_from_is_err_and}
 use Rattle.w2c_io.specs.Contents.{appending, AppendsPart}
+use Rattle.w2c_io.proofs.Passed.{memory_wanted, vain_passed, whole_passed}
 use Rattle.w2c_sim.specs.Translation.{header_text_of}
 use Rattle.w2c_sim.proofs.writing.write_header.Goals as goal
 
@@ -32,3 +34,24 @@ returns-clause-fault g c = c.put.ensures.named
 
 pub returns-clause-reads : goal.returns-clause-reads
 returns-clause-reads g c = c.put.ensures.reads
+
+-- ---- what passes through the files
+
+pub returns-in_err-text-clause-tried : goal.returns-in_err-text-clause-tried
+returns-in_err-text-clause-tried g c =
+    let p = err_from_is_err_and c.from_residual.result c.from_residual.ensures.1 in
+    rw (p.1, p.2) (memory_wanted (g.F.Files.trace c.args.files.now) (header_text_of c.args.m.now c.args.name.now))
+
+pub returns-clause-passed : goal.returns-clause-passed
+returns-clause-passed g c =
+    let files = g.F.Files in
+    let text : c.as_slice.result.now ≡ header_text_of c.args.m.now c.args.name.now = c.as_slice.ensures ∙ c.in_ok-text.ensures in
+    whole_passed (files.trace c.args.files.now) (files.trace c.put.new.self) c.as_slice.result.now
+    (header_text_of c.args.m.now c.args.name.now) c.put.result text c.put.ensures.traced
+
+pub returns-clause-tried : goal.returns-clause-tried
+returns-clause-tried g c =
+    let files = g.F.Files in
+    let text : c.as_slice.result.now ≡ header_text_of c.args.m.now c.args.name.now = c.as_slice.ensures ∙ c.in_ok-text.ensures in
+    vain_passed (files.trace c.args.files.now) (files.trace c.put.new.self) c.as_slice.result.now
+    (header_text_of c.args.m.now c.args.name.now) c.put.result text c.put.ensures.traced

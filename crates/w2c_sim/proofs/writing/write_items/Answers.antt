@@ -1,4 +1,4 @@
-use Rattle.std.proofs.Common.{◌≡◌, ◌∙◌, ap, sym, subst, arith, IsSome, Option, Result, Err, inr}
+use Rattle.std.proofs.Common.{◌≡◌, ◌∙◌, ap, sym, subst, arith, IsSome, Option, Result, Ok, Err, inr}
 use Rattle.std.proofs.lemmas.Result.{err_from_is_err_and}
 use Rattle.w2c_io.specs.Contents.{Name, appending, AppendsPart}
 use Rattle.w2c_io.specs.declared.answers.WriteAnswer.{WriteAnswer}
@@ -6,7 +6,12 @@ use Rattle.c_tree.specs.View.{item_of}
 use Rattle.c_print.specs.Print.{print_item_of}
 use Rattle.c_unit.specs.Tails.{left_of}
 use Rattle.w2c_io.proofs.Causes.{cause_behind, memory_cause, done_cause, named_behind}
-use Rattle.w2c_sim.proofs.ItemsWritten.{begun, given_item, none_left, is_contained, one_more, all_written, stops_at_include, stops_between, stops_in, shorter}
+use Rattle.w2c_io.proofs.Passed.{vain_passed, whole_passed}
+use Rattle.c_tree.specs.declared.token.Tok.TheVariants as tok
+use Rattle.c_tree.specs.Tokens.{fixed_text}
+use Rattle.c_print.proofs.ItemsWritten.{begun, is_contained, one_more, all_written, stops_at_include, stops_between, stops_in}
+use Rattle.c_print.proofs.ItemsWritten.{put_include, put_more, put_all, fails_at_include, fails_between, fails_in}
+use Rattle.w2c_sim.proofs.ItemsWritten.{given_item, none_left, shorter}
 use Rattle.w2c_sim.proofs.writing.write_items.Goals as goal
 
 pub returns-in_err-put-clause-part : goal.returns-in_err-put-clause-part
@@ -22,6 +27,14 @@ returns-in_err-put-clause-cause g c =
     let p = err_from_is_err_and c.from_residual.result c.from_residual.ensures.1 in
     rw (p.1, p.2) c.in_err-put.ensures.cause
 
+pub returns-in_err-put-clause-tried : goal.returns-in_err-put-clause-tried
+returns-in_err-put-clause-tried g c =
+    let files = g.F.Files in
+    let p = err_from_is_err_and c.from_residual.result c.from_residual.ensures.1 in
+    rw (p.1, p.2) (fails_at_include (files.trace c.args.files.now) (files.trace c.put.new.self) (left_of c.args.items.now)
+    c.in_err-put.field-0.0 (vain_passed (files.trace c.args.files.now) (files.trace c.put.new.self) c.text.result.now (fixed_text tok.Include)
+    (Err c.in_err-put.field-0.0) c.text.ensures c.in_err-put.ensures.traced))
+
 pub more-init : goal.more-init
 more-init g c =
     let files = g.F.Files in
@@ -30,6 +43,9 @@ more-init g c =
           (files.current c.args.files.now) (left_of c.args.items.now)
           (subst (λ l. files.told c.put.new.self ≡ appending (files.told c.args.files.now) (files.current c.args.files.now) l)
           c.text.ensures c.in_ok-put.ensures.written);
+      passed = put_include (files.trace c.args.files.now) (files.trace c.put.new.self) (left_of c.args.items.now)
+          (whole_passed (files.trace c.args.files.now) (files.trace c.put.new.self) c.text.result.now (fixed_text tok.Include) (Ok tt)
+          c.text.ensures c.in_ok-put.ensures.traced);
       current = c.in_ok-put.ensures.current;
       fault = c.in_ok-put.ensures.named;
       reads = c.in_ok-put.ensures.reads;
@@ -42,6 +58,13 @@ returns-in_err-item-clause-part g c =
     let p = err_from_is_err_and c.from_residual-in_err-item.result c.from_residual-in_err-item.ensures.1 in
     rw p.1 (stops_between (files.told c.args.files.now) (files.told c.more.files) (files.current c.args.files.now)
     (left_of c.args.items.now) (left_of c.more.items) c.more.invariant.written)
+
+pub returns-in_err-item-clause-tried : goal.returns-in_err-item-clause-tried
+returns-in_err-item-clause-tried g c =
+    let files = g.F.Files in
+    let p = err_from_is_err_and c.from_residual-in_err-item.result c.from_residual-in_err-item.ensures.1 in
+    rw (p.1, p.2) (fails_between (files.trace c.args.files.now) (files.trace c.more.files) (left_of c.args.items.now)
+    (left_of c.more.items) c.more.invariant.passed)
 
 pub returns-in_err-item-clause-cause : goal.returns-in_err-item-clause-cause
 returns-in_err-item-clause-cause g c =
@@ -77,6 +100,16 @@ returns-in_err-written-clause-part g c =
     (subst (λ (current : Option Name). AppendsPart (files.told c.more.files) (files.told c.print_item_to-written.new.files) current
     (print_item_of (item_of c.in-Some.item))) c.more.invariant.current c.in_err-written.ensures.part))
 
+pub returns-in_err-written-clause-tried : goal.returns-in_err-written-clause-tried
+returns-in_err-written-clause-tried g c =
+    let files = g.F.Files in
+    let next = given_item c.in-Some.item c.in_ok-item.field-0 (left_of c.more.items) (left_of c.next.new.self) c.in-Some.is
+    c.in_ok-item.ensures.given in
+    let p = err_from_is_err_and c.from_residual-in_err-written.result c.from_residual-in_err-written.ensures.1 in
+    rw (p.1, p.2) (fails_in (files.trace c.args.files.now) (files.trace c.more.files) (files.trace c.print_item_to-written.new.files)
+    (left_of c.args.items.now) (left_of c.more.items) (left_of c.next.new.self) (item_of c.in-Some.item) c.in_err-written.field-0.0
+    c.more.invariant.passed next c.in_err-written.ensures.tried)
+
 pub returns-in_err-written-clause-cause : goal.returns-in_err-written-clause-cause
 returns-in_err-written-clause-cause g c =
     let files = g.F.Files in
@@ -110,6 +143,9 @@ more-preserved g c =
           (item_of c.in-Some.item) c.more.invariant.written next (c.in_ok-written.ensures.written
           ∙ ap (λ (current : Option Name). appending (files.told c.more.files) current (print_item_of (item_of c.in-Some.item)))
           c.more.invariant.current);
+      passed = put_more (files.trace c.args.files.now) (files.trace c.more.files) (files.trace c.print_item_to-written.new.files)
+          (left_of c.args.items.now) (left_of c.more.items) (left_of c.next.new.self) (item_of c.in-Some.item)
+          c.more.invariant.passed next c.in_ok-written.ensures.passed;
       current = c.in_ok-written.ensures.current ∙ c.more.invariant.current;
       fault = ◌∙◌ {b = files.fault_name c.more.files} c.in_ok-written.ensures.named c.more.invariant.fault;
       reads = c.in_ok-written.ensures.reads ∙ c.more.invariant.reads;
@@ -121,6 +157,12 @@ returns-clause-written g c =
     let files = g.F.Files in
     all_written (files.told c.args.files.now) (files.told c.more.files) (files.current c.args.files.now)
     (left_of c.args.items.now) (left_of c.more.items) c.more.invariant.written
+    (none_left c.in_ok-item.field-0 (left_of c.more.items) (left_of c.next.new.self) c.in_default.not-Some c.in_ok-item.ensures.given)
+
+pub returns-clause-passed : goal.returns-clause-passed
+returns-clause-passed g c =
+    let files = g.F.Files in
+    put_all (files.trace c.args.files.now) (files.trace c.more.files) (left_of c.args.items.now) (left_of c.more.items) c.more.invariant.passed
     (none_left c.in_ok-item.field-0 (left_of c.more.items) (left_of c.next.new.self) c.in_default.not-Some c.in_ok-item.ensures.given)
 
 pub more-smaller : goal.more-smaller

@@ -1,6 +1,6 @@
 use Rattle.std.proofs.Common.{◌≡◌, length}
 use Rattle.c_unit.specs.Tails.{left_of}
-use Rattle.w2c_sim.proofs.ItemsWritten.{IsWritten}
+use Rattle.c_print.proofs.ItemsWritten.{ArePut, IsWritten}
 use Rattle.w2c_sim.proofs.writing.write_items.Given as goal
 
 abbrev pub invariant-more : goal.invariant-more
@@ -9,6 +9,7 @@ invariant-more g l =
     record {
       written : IsWritten (files.told l.fn.files) (files.told l.files) (files.current l.fn.files)
           (left_of l.fn.items) (left_of l.items);
+      passed : ArePut (files.trace l.fn.files) (files.trace l.files) (left_of l.fn.items) (left_of l.items);
       current : files.current l.files ≡ files.current l.fn.files;
       fault : files.fault_name l.files ≡ files.fault_name l.fn.files;
       reads : files.read_faults l.files ≡ files.read_faults l.fn.files;

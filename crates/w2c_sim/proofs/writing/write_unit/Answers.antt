@@ -1,10 +1,14 @@
-use Rattle.std.proofs.Common.{◌≡◌, sym, subst, OnOk, OnErr}
+use Rattle.std.proofs.Common.{◌≡◌, sym, subst, OnOk, OnErr, IfErr}
+use Rattle.std.proofs.lemmas.Result.{err_from_is_err_and}
 use Rattle.w2c_io.specs.Contents.{appending, AppendsPart}
+use Rattle.w2c_io.specs.Passed.{Passes, PutsText, PutsPart}
+use Rattle.w2c_io.proofs.Passed.{memory_wanted}
 use Rattle.wasm_spelling.specs.Places.{IsFormed}
 use Rattle.wasm_valid.specs.Verdict.{IsValid}
 use Rattle.wasm_binary.proofs.Result.{slice_bytes}
 use Rattle.c_tree.specs.Spelled.{Formed}
 use Rattle.c_print.specs.Print.{print_of}
+use Rattle.w2c_sim.specs.Translation.{text_of}
 use Rattle.w2c_sim.proofs.Accepting.{named_is_accepted}
 use Rattle.w2c_sim.proofs.Spelling.{unit_is_formed}
 use Rattle.w2c_sim.proofs.writing.write_unit.Goals as goal
@@ -40,3 +44,22 @@ returns-clause-fault g c = c.write_items.ensures.fault
 
 pub returns-clause-reads : goal.returns-clause-reads
 returns-clause-reads g c = c.write_items.ensures.reads
+
+-- ---- what passes through the files
+
+pub returns-in_err-items-clause-tried : goal.returns-in_err-items-clause-tried
+returns-in_err-items-clause-tried g c =
+    let p = err_from_is_err_and c.from_residual.result c.from_residual.ensures.1 in
+    rw (p.1, p.2) (memory_wanted (g.F.Files.trace c.args.files.now) (text_of c.args.m.now c.args.name.now))
+
+pub returns-clause-passed : goal.returns-clause-passed
+returns-clause-passed g c =
+    let files = g.F.Files in
+    subst (λ items. OnOk c.write_items.result (Passes (files.trace c.args.files.now) (files.trace c.write_items.new.files)
+    (PutsText (print_of items)))) c.in_ok-items.ensures.left c.write_items.ensures.passed
+
+pub returns-clause-tried : goal.returns-clause-tried
+returns-clause-tried g c =
+    let files = g.F.Files in
+    subst (λ items. IfErr c.write_items.result (λ why. Passes (files.trace c.args.files.now) (files.trace c.write_items.new.files)
+    (PutsPart (print_of items) why))) c.in_ok-items.ensures.left c.write_items.ensures.tried

@@ -1,28 +1,14 @@
 -- The include line and the first items of a unit stand in the current file, and the others are left.
-use Rattle.std.proofs.Common.{
-  ◌≡◌,
-  ℕ,
-  ◌≤◌,
-  List,
-  [],
-  ◌∷◌,
-  ◌++◌,
-  append_assoc,
-  append-nil,
-  refl,
-  sym,
-  ◌∙◌,
-  ap,
-  subst,
-  arith,
-  Option,
-  Result,
-  Ok,
-}
+use Rattle.std.proofs.Common.{◌≡◌, List, [], ◌∷◌, ◌++◌, append_assoc, append-nil, refl, sym, ◌∙◌, ap, subst, arith, Option}
 use Rattle.std.specs.List.{Contains}
 use Rattle.std.proofs.lemmas.List.Elements.{Contains-append_right}
 use Rattle.w2c_io.specs.Contents.{Name, Told, appending, AppendsPart}
-use Rattle.w2c_io.proofs.Appending.{append_more, part_in_front, part_behind}
+use Rattle.w2c_io.specs.declared.answers.WriteAnswer.{WriteAnswer}
+use Rattle.w2c_io.specs.declared.answers.WriteAnswer.TheVariants as writing
+use Rattle.w2c_io.specs.Events.{Event}
+use Rattle.w2c_io.specs.Passed.{Passes, PutsText, PutsPart}
+use Rattle.w2c_io.proofs.Appending.{append_more, part_in_front, done_is_part, part_behind}
+use Rattle.w2c_io.proofs.Passed.{front_passed, more_passed, none_passed, nothing_put, part_passed}
 use Rattle.c_tree.specs.declared.token.Tok.TheVariants as tok
 use Rattle.c_tree.specs.Tree.{Item}
 use Rattle.c_tree.specs.Tokens.{fixed_text}
@@ -87,6 +73,12 @@ pub stops_at_include : (old now : Told) (current : Option Name) (all : List Item
     → AppendsPart old now current (fixed_text tok.Include) → AppendsPart old now current (print_of all)
 stops_at_include old now current all part = part_in_front old now current (fixed_text tok.Include) (each print_item_of all) part
 
+pub stops_between : (old now : Told) (current : Option Name) (all left : List Item)
+    → IsWritten old now current all left → AppendsPart old now current (print_of all)
+stops_between old now current all left so_far =
+    subst (AppendsPart old now current) (sym (ap print_of so_far.split ∙ print_both so_far.given left))
+    (done_is_part old now current (print_of so_far.given) (each print_item_of left) so_far.stands)
+
 pub stops_in : (old before now : Told) (current : Option Name) (all left after : List Item) (item : Item)
     → IsWritten old before current all left → left ≡ item ∷ after → AppendsPart before now current (print_item_of item)
     → AppendsPart old now current (print_of all)
@@ -95,3 +87,50 @@ stops_in old before now current all left after item so_far next part =
     (sym (ap print_of (so_far.split ∙ ap (λ l. so_far.given ++ l) next) ∙ print_both so_far.given (item ∷ after)))
     (part_behind old before now current (print_of so_far.given) (each print_item_of (item ∷ after)) so_far.stands
     (part_in_front before now current (print_item_of item) (each print_item_of after) part))
+
+-- ---- what passes through the files meanwhile
+
+-- the include line and the first items were put, and the others are left
+pub record ArePut (old now : List Event) (all left : List Item) : Type 0 where
+  pub given : List Item
+  pub split : all ≡ given ++ left
+  pub put : Passes old now (PutsText (print_of given))
+
+pub put_include : (old now : List Event) (all : List Item) → Passes old now (PutsText (fixed_text tok.Include)) → ArePut old now all all
+put_include old now all put = record {
+  given = [];
+  split = refl;
+  put = subst (λ l. Passes old now (PutsText l)) (sym (append-nil (fixed_text tok.Include))) put;
+}
+
+pub put_more : (old before now : List Event) (all left after : List Item) (item : Item) → ArePut old before all left → left ≡ item ∷ after
+    → Passes before now (PutsText (print_item_of item)) → ArePut old now all after
+put_more old before now all left after item so_far next put = record {
+  given = so_far.given ++ item ∷ [];
+  split = so_far.split ∙ ap (λ l. so_far.given ++ l) next ∙ sym (append_assoc so_far.given (item ∷ []) after);
+  put = subst (λ l. Passes old now (PutsText l)) (sym (print_next so_far.given item))
+      (more_passed old before now (print_of so_far.given) (print_item_of item) so_far.put put);
+}
+
+pub put_all : (old now : List Event) (all left : List Item) → ArePut old now all left → left ≡ [] → Passes old now (PutsText (print_of all))
+put_all old now all left so_far none =
+    subst (λ items. Passes old now (PutsText (print_of items)))
+    (sym (so_far.split ∙ ap (λ l. so_far.given ++ l) none ∙ append-nil so_far.given)) so_far.put
+
+pub fails_at_include : (old now : List Event) (all : List Item) (why : WriteAnswer) → Passes old now (PutsPart (fixed_text tok.Include) why)
+    → Passes old now (PutsPart (print_of all) why)
+fails_at_include old now all why part =
+    part_passed old old now (print_of all) [] (fixed_text tok.Include) (each print_item_of all) why refl
+    (none_passed old (PutsText []) nothing_put) part
+
+pub fails_between : (old now : List Event) (all left : List Item) → ArePut old now all left
+    → Passes old now (PutsPart (print_of all) writing.Memory)
+fails_between old now all left so_far =
+    front_passed old now (print_of all) (print_of so_far.given) (each print_item_of left)
+    (ap print_of so_far.split ∙ print_both so_far.given left) so_far.put
+
+pub fails_in : (old before now : List Event) (all left after : List Item) (item : Item) (why : WriteAnswer) → ArePut old before all left
+    → left ≡ item ∷ after → Passes before now (PutsPart (print_item_of item) why) → Passes old now (PutsPart (print_of all) why)
+fails_in old before now all left after item why so_far next part =
+    part_passed old before now (print_of all) (print_of so_far.given) (print_item_of item) (each print_item_of after) why
+    (ap print_of (so_far.split ∙ ap (λ l. so_far.given ++ l) next) ∙ print_both so_far.given (item ∷ after)) so_far.put part
