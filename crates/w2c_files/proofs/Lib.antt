@@ -1,3 +1,4 @@
+pub mod Honest
 pub mod Loops
 pub mod Passing
 pub mod Standing

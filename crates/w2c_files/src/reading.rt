@@ -6,7 +6,7 @@ ghost use Rattle.w2c_io.specs.Passed.{Passes};
 ghost use Rattle.w2c_io.specs.Telling.{Tells};
 ghost use Rattle.w2c_files.specs.declared.reading.ReadStop.TheVariants.{Memory as memory_wanted};
 ghost use Rattle.w2c_files.specs.Passing.{ReadsAll, ReadsOne, ReadsSome};
-ghost use Rattle.w2c_files.specs.Reading.{AreRead};
+ghost use Rattle.w2c_files.specs.Reading.{AreRead, total};
 ghost use Rattle.w2c_files.specs.Stopping.{StopsAt, StopsFile};
 ghost use Rattle.w2c_files.specs.Words.{names_of};
 
@@ -56,6 +56,7 @@ pub fn read_files<F: Files>(
     ensures read { IfOk result (λ all. Tells (F.told files.old) (λ contents. AreRead limits.each limits.all contents (names_of names.now) all.items)) }
     ensures many { IfOk result (λ all. length all.items ≡ length names.now) }
     ensures fit { IfOk result (λ all. AllByRecursion (λ bytes. length bytes ≤ limits.each) all.items) }
+    ensures together { IfOk result (λ all. total all.items ≤ limits.all) }
     ensures stop { IfErr result (StopsAt limits.each limits.all (F.told files.old) (names_of names.now)
         (F.read_faults files.old) (F.read_faults files.new) (F.fault_name files.new)) }
     // What passed through the files, those of the system too: each was read once, in order, and gave these bytes.
