@@ -25,14 +25,34 @@ one_at (n ∷ names) (suc k) name at = inr (one_at names k name at)
 same_name : (names : List Name) (k : ℕ) (name other : Name) → slice_get names k ≡ Some name → slice_get names k ≡ Some other → other ≡ name
 same_name names k name other at is = same_some other name (sym is ∙ at)
 
+-- the number of a file that is not read is that of one of so many
+pub at_within : {A : Type 0} (xs : List A) (k : ℕ) (x : A) → slice_get xs k ≡ Some x → k < length xs
+at_within [] k x at = absurd cc
+at_within (y ∷ xs) zero x at = omega arith
+at_within (y ∷ xs) (suc k) x at = let more = at_within xs k x at in omega (arith, more)
+
+module _ (each most : ℕ) (told : Told) (names : List Name) (before after : ℕ) (named : Option Name) (k : ℕ) (why : ReadStop)
+    (stops : StopsAt each most told names before after named why) where
+  pub long_within : why ≡ read.TooLong k → k < length names
+  long_within is = by_name (subst (StopsAt each most told names before after named) is stops)
+    where
+      by_name : StopsAt each most told names before after named (read.TooLong k) → k < length names
+      by_name (name, at, long) = at_within names k name at
+
+  pub past_within : (place : ℕ) → why ≡ read.Past k place → k < length names
+  past_within place is = by_name (subst (StopsAt each most told names before after named) is stops)
+    where
+      by_name : StopsAt each most told names before after named (read.Past k place) → k < length names
+      by_name (within, name, at, past) = at_within names k name at
+
 -- ---- 16 units do not pass the limit of all
 
-units_bytes : (texts : List (List ℕ)) → AllByRecursion (λ text. length text ≤ most_unit_bytes) texts
+pub units_bytes : (texts : List (List ℕ)) → AllByRecursion (λ text. length text ≤ most_unit_bytes) texts
     → total texts ≤ most_unit_bytes * length texts
 units_bytes [] fit = omega arith
 units_bytes (text ∷ texts) fit = let more = units_bytes texts fit.1 in omega (arith, more, fit.0)
 
-as_many : (contents : Contents) (names : List Name) (texts : List (List ℕ)) → AreHeld contents names texts → length texts ≡ length names
+pub as_many : (contents : Contents) (names : List Name) (texts : List (List ℕ)) → AreHeld contents names texts → length texts ≡ length names
 as_many contents [] [] held = refl
 as_many contents (n ∷ names) (t ∷ texts) held = ap suc (as_many contents names texts held.1)
 as_many contents [] (t ∷ texts) held = absurd held

@@ -5,3 +5,5 @@ pub mod Said
 pub mod NumberedLines
 pub mod ArgumentValues
 pub mod InputStops
+pub mod Passing
+pub mod Honest

@@ -3,6 +3,7 @@ pub mod Numbers
 pub mod Command
 pub mod CommandLine
 pub mod Inputs
+pub mod Passing
 pub mod CallsFile
 pub mod CallLine
 pub mod Arguments

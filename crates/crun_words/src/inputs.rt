@@ -1,12 +1,15 @@
 // Reads the files that a line names.
-ghost use Rattle.std.specs.Prelude.{◌≡◌, ◌<◌, ◌≤◌, length, slice_get, Some, IfOk, IfErr, string_bytes, OnOk};
+ghost use Rattle.std.specs.Prelude.{◌≡◌, ◌∷◌, ◌<◌, ◌≤◌, [], length, slice_get, Ok, Some, IfOk, IfErr, string_bytes, OnOk};
 ghost use Rattle.std.specs.FinMap.{get};
 ghost use Rattle.std.specs.List.{AllByRecursion};
+ghost use Rattle.w2c_io.specs.Events.{Read};
+ghost use Rattle.w2c_io.specs.Passed.{Passes};
 ghost use Rattle.w2c_io.specs.Telling.{Tells};
 ghost use Rattle.w2c_files.specs.Words.{names_of};
 ghost use Rattle.crun_words.specs.declared.inputs.InputStop.TheVariants.{Memory as memory_wanted};
 ghost use Rattle.crun_words.specs.declared.inputs.FileStop.TheVariants.{Memory as file_memory_wanted};
-ghost use Rattle.crun_words.specs.Inputs.{most_calls_bytes, most_journal_bytes, most_unit_bytes, AreInputs, AreUnits, StopsCalls, StopsFile, StopsInputs, StopsJournal, StopsUnits};
+ghost use Rattle.crun_words.specs.Inputs.{most_calls_bytes, most_journal_bytes, most_unit_bytes, AllRead, AreInputs, AreUnits, Held, StopsCalls, StopsFile, StopsInputs, StopsJournal, StopsUnits, UnitsRead};
+ghost use Rattle.crun_words.specs.Passing.{GivesInputs, GivesJournal, GivesUnits, TriesCalls, TriesFile, TriesInputs, TriesJournal, TriesUnits};
 
 use crate::line::UNITS;
 use c_tree::UNIT_BYTES;
@@ -71,6 +74,10 @@ pub fn read_inputs<F: Files>(
     ensures calls_fit { IfOk result (λ inputs. length inputs.calls ≤ most_calls_bytes) }
     ensures stop { IfErr result (StopsInputs (F.told files.old) (names_of units.now) calls.now
         (F.read_faults files.old) (F.read_faults files.new) (F.fault_name files.new)) }
+    // What passed through the files, those of the system too.
+    ensures passed { IfOk result (λ inputs. Passes (F.trace files.old) (F.trace files.new)
+        (GivesInputs (names_of units.now) calls.now (AllRead inputs.units.items inputs.calls))) }
+    ensures tried { IfErr result (λ stop. Passes (F.trace files.old) (F.trace files.new) (TriesInputs (names_of units.now) calls.now stop)) }
 {
     let texts = match read_units(alloc, units, files) {
         Ok(texts) => texts,
@@ -104,6 +111,8 @@ pub fn read_units<F: Files>(
     ensures fit { IfOk result (λ all. AllByRecursion (λ text. length text ≤ most_unit_bytes) all.items) }
     ensures stop { IfErr result (StopsUnits (F.told files.old) (names_of units.now)
         (F.read_faults files.old) (F.read_faults files.new) (F.fault_name files.new)) }
+    ensures passed { IfOk result (λ all. Passes (F.trace files.old) (F.trace files.new) (GivesUnits (names_of units.now) (UnitsRead all.items))) }
+    ensures tried { IfErr result (λ stop. Passes (F.trace files.old) (F.trace files.new) (TriesUnits (names_of units.now) stop)) }
 {
     // No 16 units pass the second limit.
     let limits = Limits {
@@ -140,6 +149,9 @@ fn read_calls<F: Files>(alloc: Global, calls: &str, files: &mut F) -> Result<Byt
     ensures fit { IfOk result (λ text. length text ≤ most_calls_bytes) }
     ensures stop { IfErr result (StopsCalls (F.told files.old) calls.now
         (F.read_faults files.old) (F.read_faults files.new) (F.fault_name files.new)) }
+    ensures passed { IfOk result (λ text. Passes (F.trace files.old) (F.trace files.new)
+        (λ events. events ≡ Read calls.now most_calls_bytes (Ok text) ∷ [])) }
+    ensures tried { IfErr result (λ stop. Passes (F.trace files.old) (F.trace files.new) (TriesCalls calls.now stop)) }
 {
     match read_file(alloc, calls, CALLS_BYTES, files) {
         Ok(text) => Ok(text),
@@ -165,6 +177,8 @@ pub fn read_journal_file<F: Files>(
     ensures fit { IfOk result (λ text. length text ≤ most_journal_bytes) }
     ensures stop { IfErr result (StopsJournal (F.told files.old) name.now
         (F.read_faults files.old) (F.read_faults files.new) (F.fault_name files.new)) }
+    ensures passed { IfOk result (λ text. Passes (F.trace files.old) (F.trace files.new) (GivesJournal name.now (Held text))) }
+    ensures tried { IfErr result (λ stop. Passes (F.trace files.old) (F.trace files.new) (TriesJournal name.now stop)) }
 {
     match read_file(alloc, name, JOURNAL_BYTES, files) {
         Ok(text) => Ok(text),
@@ -206,6 +220,9 @@ fn read_file<F: Files>(
     ensures fit { IfOk result (λ text. length text ≤ most) }
     ensures stop { IfErr result (StopsFile most (F.told files.old) name.now
         (F.read_faults files.old) (F.read_faults files.new) (F.fault_name files.new)) }
+    ensures passed { IfOk result (λ text. Passes (F.trace files.old) (F.trace files.new)
+        (λ events. events ≡ Read name.now most (Ok text) ∷ [])) }
+    ensures tried { IfErr result (λ stop. Passes (F.trace files.old) (F.trace files.new) (TriesFile most name.now stop)) }
 {
     match files.read(alloc, name, most) {
         Ok(text) => Ok(text),

@@ -1,8 +1,11 @@
 use Rattle.std.proofs.Common.{◌≡◌, ◌∙◌, ℕ, subst}
 use Rattle.w2c_io.specs.Contents.{Told}
+use Rattle.w2c_io.proofs.Passed.{both_passed, passed_so}
 use Rattle.w2c_files.specs.Words.{names_of}
-use Rattle.crun_words.specs.Inputs.{StopsCalls}
+use Rattle.crun_words.specs.Inputs.{StopsCalls, UnitsRead}
+use Rattle.crun_words.specs.Passing.{GivesUnits, TriesCalls, TriesInputs, TriesUnits}
 use Rattle.crun_words.proofs.InputStops.{stops_at_calls, stops_at_unit}
+use Rattle.crun_words.proofs.Passing.{calls_tried, units_tried}
 use Rattle.crun_words.proofs.inputs.read_inputs.Goals as goal
 
 pub returns-in-Err-clause-stop : goal.returns-in-Err-clause-stop
@@ -28,3 +31,21 @@ returns-clause-read g c = λ contents tells. record {
   calls_are = c.in-Ok-read_calls.ensures.read contents (c.read_units.ensures.told ∙ tells);
   calls_fit = c.in-Ok-read_calls.ensures.fit;
 }
+
+pub returns-in-Err-clause-tried : goal.returns-in-Err-clause-tried
+returns-in-Err-clause-tried g c =
+    let files = g.F.Files in
+    let units = names_of c.args.units.now in
+    let calls = c.args.calls.now in
+    passed_so (files.trace c.args.files.now) (files.trace c.read_units.new.files) (TriesUnits units c.in-Err.stop)
+    (TriesInputs units calls c.in-Err.stop) (units_tried units calls c.in-Err.stop) c.in-Err.ensures.tried
+
+pub returns-in-Err-read_calls-clause-tried : goal.returns-in-Err-read_calls-clause-tried
+returns-in-Err-read_calls-clause-tried g c =
+    let files = g.F.Files in
+    let units = names_of c.args.units.now in
+    let calls = c.args.calls.now in
+    let texts = c.in-Ok.texts.items in
+    both_passed (files.trace c.args.files.now) (files.trace c.read_units.new.files) (files.trace c.read_calls.new.files)
+    (GivesUnits units (UnitsRead texts)) (TriesCalls calls c.in-Err-read_calls.stop) (TriesInputs units calls c.in-Err-read_calls.stop)
+    (calls_tried units calls texts c.in-Err-read_calls.stop) c.in-Ok.ensures.passed c.in-Err-read_calls.ensures.tried
