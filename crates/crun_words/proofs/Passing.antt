@@ -1,6 +1,5 @@
 -- What passes through the files that are read, from what each step says.
-use Rattle.std.proofs.Common.{◌≡◌, ◌⊎◌, inl, inr, ℕ, zero, suc, List, [], ◌∷◌, ◌++◌, length, map, slice_get, Option, Some, Result, Ok, Err, refl, sym, ap, ◌∙◌, subst, append_assoc}
-use Rattle.std.specs.Prelude.{string_bytes}
+use Rattle.std.proofs.Common.{◌≡◌, inl, inr, ℕ, List, [], ◌∷◌, ◌++◌, length, slice_get, Some, Result, Ok, Err, refl, sym, ap, ◌∙◌, subst, append_assoc}
 use Rattle.std.proofs.lemmas.List.{append-nil, map-append}
 use Rattle.w2c_io.specs.Contents.{Name}
 use Rattle.w2c_io.specs.Events.{Event, Read}
@@ -30,22 +29,7 @@ use Rattle.crun_words.specs.Inputs.{
   UnitsReading,
   UnitTooLong,
 }
-use Rattle.crun_words.specs.Passing.{
-  FindsNone,
-  GivesInputs,
-  GivesJournal,
-  GivesUnits,
-  IsAway,
-  IsOver,
-  limited,
-  ReadsCalls,
-  ReadsFile,
-  ReadsInOrder,
-  ReadsUnto,
-  TriesCalls,
-  TriesInputs,
-  TriesUnits,
-}
+use Rattle.crun_words.specs.Passing.{GivesInputs, GivesJournal, GivesUnits, IsAway, IsOver, limited, ReadsFile, ReadsInOrder, ReadsUnto, TriesCalls, TriesInputs, TriesUnits}
 use Rattle.crun_words.proofs.Lists.{same_some}
 
 -- ---- in order
@@ -169,7 +153,7 @@ module _ (names : List Name) (k : ℕ) (name : Name) (at : slice_get names k ≡
   unto front rest all first last other after answer split gave calls rest_is last_is number =
       let names_are : names ≡ front ++ other ∷ after = split ∙ ap (λ (r : List Name). front ++ r) rest_is in
       let there : slice_get names k ≡ Some other =
-          (λ i. slice_get (names_are i) (number i)) ∙ last_name most_unit_bytes front all first other after gave in
+      (λ i. slice_get (names_are i) (number i)) ∙ last_name most_unit_bytes front all first other after gave in
       subst (λ (n : Name). ReadsUnto names n all answer events) (same_some other name (sym there ∙ at)) (record {
         front = front;
         rest = after;

@@ -1,5 +1,5 @@
 -- The call that words say.
-use Rattle.std.proofs.Common.{◌≡◌, ℕ, List, [], ◌∷◌, refl, sym, ap, ◌∙◌, subst}
+use Rattle.std.proofs.Common.{◌≡◌, ℕ, List, [], ◌∷◌, sym, ◌∙◌, subst}
 use Rattle.crun_words.specs.CallLine.{words_in, AreNumbers, Call, IsSymbolOf, SayCall, SaysCall}
 use Rattle.crun_words.proofs.Lists.{same_items, same_parts}
 use Rattle.crun_words.proofs.Names.{one_symbol}

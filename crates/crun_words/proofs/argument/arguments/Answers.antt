@@ -1,4 +1,4 @@
-use Rattle.std.proofs.Common.{◌≡◌, ◌∙◌, ◌<◌, ap, sym, subst, ℕ, List, length, Option, Some, None, IfNone, rules, arith, slice_get, slice_index_or}
+use Rattle.std.proofs.Common.{◌<◌, subst, length, Option, IfNone, rules, arith, slice_index_or}
 use Rattle.std.proofs.lemmas.Option.{slice_get-get_or}
 use Rattle.w2c_base.specs.declared.value.Value.{Value}
 use Rattle.c_tree.specs.declared.tree.CType.TheVariants.{Void}

@@ -1,7 +1,7 @@
 use Rattle.std.proofs.Common.{◌≡◌, ◌∙◌, ◌∷◌, ap, subst, ℕ, List, Option, IfNone}
 use Rattle.std.specs.Borrow.{Bor}
 use Rattle.w2c_files.specs.Words.{names_of}
-use Rattle.crun_words.specs.CallLine.{Call, IsSymbolOf, SayCall}
+use Rattle.crun_words.specs.CallLine.{IsSymbolOf}
 use Rattle.crun_words.proofs.Said.{said_by}
 use Rattle.crun_words.proofs.call.call_of_words.Goals as goal
 

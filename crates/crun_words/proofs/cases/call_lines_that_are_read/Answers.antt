@@ -1,7 +1,6 @@
-use Rattle.std.proofs.Common.{◌≡◌, ◌<◌, ◌++◌, All, codes, [], ◌∷◌, arith, refl}
+use Rattle.std.proofs.Common.{◌<◌, codes, [], ◌∷◌, arith, refl}
 use Rattle.std.proofs.lemmas.List.Elements.{All-from_recursion}
 use Rattle.crun_words.specs.CallLine.{IsBytes, SaysCall}
-use Rattle.crun_words.specs.CallsFile.{call_lines_of}
 use Rattle.crun_words.proofs.cases.call_lines_that_are_read.Goals as goal
 
 add_bytes : IsBytes (codes "add")
