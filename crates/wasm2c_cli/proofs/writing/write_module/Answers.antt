@@ -4,6 +4,7 @@ use Rattle.w2c_files.proofs.Standing.{at_first}
 use Rattle.wasm2c_cli.specs.Job.{module_files}
 use Rattle.wasm2c_cli.specs.Parts.{seen_target}
 use Rattle.wasm2c_cli.proofs.ModuleFiles.{second_at, stops_at}
+use Rattle.wasm2c_cli.proofs.Passing.{first_ends, second_ends, two_written}
 use Rattle.wasm2c_cli.proofs.writing.write_module.Goals as goal
 
 pub returns-in-Err-clause-stop : goal.returns-in-Err-clause-stop
@@ -29,3 +30,28 @@ returns-in-Err-header_to_file-clause-stop g c =
     (text_of m t.module_name) (header_text_of m t.module_name) (search rules) (search rules))
     (λ failed. record { rose = search rules; named = search rules })
     (search rules)
+
+pub returns-in-Err-clause-tried : goal.returns-in-Err-clause-tried
+returns-in-Err-clause-tried g c =
+    let files = g.F.Files in
+    let t = seen_target c.args.target.now in
+    let m = c.args.module.now in
+    first_ends (files.trace c.args.files.now) (files.trace c.unit_to_file.new.files) t.c_file (text_of m t.module_name) _ c.in-Err.answer
+    c.stop_for.result (search rules) (search rules)
+
+pub returns-in-Err-header_to_file-clause-tried : goal.returns-in-Err-header_to_file-clause-tried
+returns-in-Err-header_to_file-clause-tried g c =
+    let files = g.F.Files in
+    let t = seen_target c.args.target.now in
+    let m = c.args.module.now in
+    second_ends (files.trace c.args.files.now) (files.trace c.unit_to_file.new.files) (files.trace c.header_to_file.new.files) t.c_file
+    t.header (text_of m t.module_name) (header_text_of m t.module_name) c.in-Err-header_to_file.answer
+    c.stop_for-in-Err-header_to_file.result (search rules) (search rules) (search rules)
+
+pub returns-clause-passed : goal.returns-clause-passed
+returns-clause-passed g c =
+    let files = g.F.Files in
+    let t = seen_target c.args.target.now in
+    let m = c.args.module.now in
+    two_written (files.trace c.args.files.now) (files.trace c.unit_to_file.new.files) (files.trace c.header_to_file.new.files) t.c_file
+    t.header (text_of m t.module_name) (header_text_of m t.module_name) (search rules) (search rules)
