@@ -15,7 +15,7 @@ mod translating;
 mod work;
 mod writing;
 
-pub use law::{distinct_files, one_job};
+pub use law::{distinct_files, honest_files, one_job};
 use std::process::ExitCode;
 pub use top::{sure_top, wasm2c_top};
 use w2c_io::{StdFiles, StdSink, ToldSink, std_words};

@@ -5,12 +5,20 @@ use Rattle.wasm2c_cli.specs.Job.{files_of}
 use Rattle.wasm2c_cli.specs.Parts.{AreTaken, StopsAccepting, StopsWriting, seen_targets}
 use Rattle.wasm2c_cli.proofs.LineStops.{all_kept}
 use Rattle.wasm2c_cli.proofs.Taken.{length-taken}
-use Rattle.wasm2c_cli.proofs.Translated.{accepting_stops, translation_finished, writing_stopped}
+use Rattle.wasm2c_cli.proofs.Translated.{accepting_stops, reading_stopped, translation_finished, writing_stopped}
 use Rattle.w2c_io.specs.Passed.{Passes}
 use Rattle.w2c_files.specs.Passing.{WritesFiles}
 use Rattle.wasm2c_cli.specs.PartsPassing.{EndsWriting}
 use Rattle.wasm2c_cli.proofs.PassingLines.{accepting_passed, all_passed, reading_passed, writing_passed}
 use Rattle.wasm2c_cli.proofs.translating.translate.Goals as goal
+
+pub returns-in-Err-clause-stop : goal.returns-in-Err-clause-stop
+returns-in-Err-clause-stop g c =
+    let files = g.F.Files in
+    reading_stopped (names_of c.args.inputs.now) (seen_targets c.args.targets.now) (files.told c.args.files.now)
+    (files.told c.read_modules.new.files) (files.read_faults c.args.files.now) (files.read_faults c.read_modules.new.files)
+    (files.write_faults c.args.files.now) (files.write_faults c.read_modules.new.files) (files.fault_name c.read_modules.new.files)
+    c.in-Err.stop c.in-Err.ensures.stop c.in-Err.ensures.told
 
 pub returns-in-Err-accept_modules-clause-stop : goal.returns-in-Err-accept_modules-clause-stop
 returns-in-Err-accept_modules-clause-stop g c =
