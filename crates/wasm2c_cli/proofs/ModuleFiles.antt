@@ -55,6 +55,11 @@ module _ (old mid new : Told) (c_file header : Name) (text more : List ℕ) (fir
   pub second_at : IsBegun mid new header more → StandsAt old new ((c_file, text) ∷ (header, more) ∷ []) header
   second_at begun = at_behind old mid new ((c_file, text) ∷ []) ((header, more) ∷ []) header first (at_first mid new header more [] begun)
 
+pub both_stand : (old middle new : Told) (c_file header first second : Name) → first ≡ c_file → second ≡ header → (text more : List ℕ)
+    → middle ≡ holding old first text → new ≡ holding middle second more → new ≡ written old ((c_file, text) ∷ (header, more) ∷ [])
+both_stand old middle new c_file header first second same same' text more one two =
+    two ∙ (λ i. holding (one i) second more) ∙ (λ i. holding (holding old (same i) text) (same' i) more)
+
 -- the stop at a file that stands in part
 pub stops_at : (old new : Told) (files : List (Name × List ℕ)) (before after : ℕ) (named : Option Name) (answer : WriteAnswer) (file : Name)
     (stop : Stop) → StandsAt old new files file → (answer ≡ answers.Failed → Faulted file before after named) → StopsAtFile answer file stop

@@ -214,31 +214,38 @@ ends_at files answer file put (stops.Unwritten name) broken (failed, same) =
 ends_at files answer file put stops.Memory broken is = broken_some files file answer put broken
 
 -- the first of files is broken off
-pub first_ends : (old new : List Event) (name : Name) (text : List ℕ) (rest : List (Name × List ℕ)) (answer : WriteAnswer) (stop : Stop)
-    → Passes old new (BreaksOff name text answer) → StopsAtFile answer name stop
+pub first_ends : (old new : List Event) (name file : Name) → file ≡ name → (text : List ℕ) (rest : List (Name × List ℕ))
+    (answer : WriteAnswer) (stop : Stop) → Passes old new (BreaksOff file text answer) → StopsAtFile answer file stop
     → Passes old new (EndsWriting ((name, text) ∷ rest) stop)
-first_ends old new name text rest answer stop passed is =
-    passed_so old new (BreaksOff name text answer) (EndsWriting ((name, text) ∷ rest) stop)
-    (λ put broken. ends_at ((name, text) ∷ rest) answer name put stop (first_broken name text rest answer put broken) is) passed
+first_ends old new name file same text rest answer stop passed is =
+    passed_so old new (BreaksOff file text answer) (EndsWriting ((name, text) ∷ rest) stop)
+    (λ put broken. ends_at ((name, text) ∷ rest) answer name put stop
+    (first_broken name text rest answer put (subst (λ (n : Name). BreaksOff n text answer put) same broken))
+    (subst (λ (n : Name). StopsAtFile answer n stop) same is)) passed
 
-module _ (old middle new : List Event) (name other : Name) (text more : List ℕ) where
+module _ (old middle new : List Event) (name other first second : Name) (same : first ≡ name) (same' : second ≡ other)
+    (text more : List ℕ) where
   -- the second is
-  pub second_ends : (answer : WriteAnswer) (stop : Stop) → Passes old middle (WritesFile name text)
-      → Passes middle new (BreaksOff other more answer) → StopsAtFile answer other stop
+  pub second_ends : (answer : WriteAnswer) (stop : Stop) → Passes old middle (WritesFile first text)
+      → Passes middle new (BreaksOff second more answer) → StopsAtFile answer second stop
       → Passes old new (EndsWriting ((name, text) ∷ (other, more) ∷ []) stop)
   second_ends answer stop one broken is =
-      both_passed old middle new (WritesFile name text) (BreaksOff other more answer)
+      both_passed old middle new (WritesFile first text) (BreaksOff second more answer)
       (EndsWriting ((name, text) ∷ (other, more) ∷ []) stop)
-      (λ first last wrote breaks. ends_at ((name, text) ∷ (other, more) ∷ []) answer other (first ++ last) stop
-      (behind_broken ((name, text) ∷ []) ((other, more) ∷ []) other answer first last (one_written name text first wrote)
-      (first_broken other more [] answer last breaks)) is)
+      (λ front back wrote breaks. ends_at ((name, text) ∷ (other, more) ∷ []) answer other (front ++ back) stop
+      (behind_broken ((name, text) ∷ []) ((other, more) ∷ []) other answer front back
+      (one_written name text front (subst (λ (n : Name). WritesFile n text front) same wrote))
+      (first_broken other more [] answer back (subst (λ (n : Name). BreaksOff n more answer back) same' breaks)))
+      (subst (λ (n : Name). StopsAtFile answer n stop) same' is))
       one broken
 
-  pub two_written : Passes old middle (WritesFile name text) → Passes middle new (WritesFile other more)
+  pub two_written : Passes old middle (WritesFile first text) → Passes middle new (WritesFile second more)
       → Passes old new (WritesFiles ((name, text) ∷ (other, more) ∷ []))
-  two_written = both_passed old middle new (WritesFile name text) (WritesFile other more) (WritesFiles ((name, text) ∷ (other, more) ∷ []))
-      (λ first last wrote then. both_written ((name, text) ∷ []) ((other, more) ∷ []) first last (one_written name text first wrote)
-      (one_written other more last then))
+  two_written = both_passed old middle new (WritesFile first text) (WritesFile second more)
+      (WritesFiles ((name, text) ∷ (other, more) ∷ []))
+      (λ front back wrote then. both_written ((name, text) ∷ []) ((other, more) ∷ []) front back
+      (one_written name text front (subst (λ (n : Name). WritesFile n text front) same wrote))
+      (one_written other more back (subst (λ (n : Name). WritesFile n more back) same' then)))
 
 -- behind files that are written, and in front of others
 pub ends_among : (front files rest : List (Name × List ℕ)) (first last : List Event) (stop : Stop) → WritesFiles front first
