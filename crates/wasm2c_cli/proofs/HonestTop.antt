@@ -1,5 +1,5 @@
 -- What stands after a call, where the files behave as files: what its clauses on contents say.
-use Rattle.std.proofs.Common.{◌≡◌, ◌⊎◌, ℕ, ◌≤◌, List, [], ◌++◌, refl, sym, ◌∙◌, ap, subst, arith, Option, Some, None, MatchOption, inl, inr}
+use Rattle.std.proofs.Common.{◌≡◌, ◌⊎◌, ℕ, ◌≤◌, List, [], ◌++◌, refl, ◌∙◌, ap, subst, arith, Option, Some, None, MatchOption, inl, inr}
 use Rattle.w2c_io.specs.Contents.{Name, Contents, Told}
 use Rattle.w2c_io.specs.Events.{Event}
 use Rattle.w2c_io.specs.Honest.{AreHonest}
@@ -91,7 +91,7 @@ module _ (line : Line) (m : Contents) (given put : List Event) (new : Told) (cur
     refused_job file reason (inl (inl (stops, is))) = inl (most_module_bytes, ModuleBytes, is)
     refused_job file reason (inl (inr (place, stops, is))) = inl (place, SetBytes, is)
     refused_job file reason (inr (sources, read, first)) = inr (
-      inr (sources, sources_so (ReadsWhole (inputs_of line) given) (AreReadOf line m) all_held line sources read, first))
+        inr (sources, sources_so (ReadsWhole (inputs_of line) given) (AreReadOf line m) all_held line sources read, first))
 
 -- ---- the words
 
@@ -176,13 +176,12 @@ module _ (words : List Name) (status : ℕ) (says : List ℕ → Type 0) (m : Co
             → AreHonest (p.given ++ p.put) (Some m) call.current new call.after
             → (files : List (Name × List ℕ)) × IsJob words m (Write files) × (new ≡ written (Some m) files)
         on_line line is p honest = elim p.follows [
-          | inl job ↦ let (files, over, wrote) = written_whole line job.0 p.given p.put job.1 job.2 in
-              (
-                files,
-                of_words line (Write files) is
-                    (written_job line m p.given p.put new call.current call.after p.reads honest (fits line is) files over),
-                whole_put line m p.given p.put new call.current call.after p.reads honest files wrote,
-              )
+          | inl job ↦ let (files, over, wrote) = written_whole line job.0 p.given p.put job.1 job.2 in (
+            files,
+            of_words line (Write files) is
+                (written_job line m p.given p.put new call.current call.after p.reads honest (fits line is) files over),
+            whole_put line m p.given p.put new call.current call.after p.reads honest files wrote,
+          )
           | inr memory ↦ absurd (no_end (inr memory.0))
         ]
 

@@ -154,7 +154,7 @@ module _ (targets : List plan.Target) (modules : List Module) (k : ℕ) (t : pla
         (both_passed old before new (WritesFiles (files_of (take k targets) (take k modules))) (EndsWriting (module_files t m) stop)
         (EndsWriting (files_of (take k targets) (take k modules) ++ (module_files t m ++ rest)) stop)
         (λ first last whole ends.
-            ends_among (files_of (take k targets) (take k modules)) (module_files t m) rest first last stop whole ends) so_far tried)
+        ends_among (files_of (take k targets) (take k modules)) (module_files t m) rest first last stop whole ends) so_far tried)
 
 pub all_files_put : (old new : List Event) (targets : List plan.Target) (modules : List Module) (k : ℕ) → k ≡ length targets
     → length modules ≡ length targets → Passes old new (WritesFiles (files_of (take k targets) (take k modules)))

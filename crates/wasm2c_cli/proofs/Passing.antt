@@ -1,5 +1,5 @@
 -- What passes through files that are read or written one after another, by the stop.
-use Rattle.std.proofs.Common.{◌≡◌, ℕ, ◌-◌, zero, suc, List, [], ◌∷◌, ◌++◌, length, refl, sym, ◌∙◌, ap, subst, append_assoc, arith, Option, Some, Result, Ok, Err, OnOk, IfErr, slice_get, string_bytes, inl, inr}
+use Rattle.std.proofs.Common.{◌≡◌, ℕ, ◌-◌, zero, suc, List, [], ◌∷◌, ◌++◌, length, refl, sym, ◌∙◌, ap, subst, append_assoc, arith, Some, Result, Ok, Err, OnOk, IfErr, slice_get, string_bytes, inl, inr}
 use Rattle.std.proofs.lemmas.List.{append-nil}
 use Rattle.w2c_io.specs.Contents.{Name}
 use Rattle.w2c_io.specs.Events.{Event, Read, Begin, Finish}
@@ -9,7 +9,7 @@ use Rattle.w2c_io.specs.declared.answers.ReadAnswer.TheVariants as reading
 use Rattle.w2c_io.specs.declared.answers.WriteAnswer.{WriteAnswer}
 use Rattle.w2c_io.specs.declared.answers.WriteAnswer.TheVariants as writing
 use Rattle.w2c_io.proofs.Passed.{both_passed, file_written, finished_in_vain, passed_so}
-use Rattle.w2c_files.specs.Passing.{ReadsAll, ReadsSome, StopsBy, WritesFiles, BreaksOffAt, WritesSome}
+use Rattle.w2c_files.specs.Passing.{ReadsAll, ReadsSome, StopsBy, WritesFiles, BreaksOffAt}
 use Rattle.w2c_files.specs.Reading.{Unreadable, Missing as NotThere, TooLong, Past, total}
 use Rattle.w2c_files.specs.declared.reading.ReadStop.{ReadStop}
 use Rattle.w2c_files.specs.declared.reading.ReadStop.TheVariants as read

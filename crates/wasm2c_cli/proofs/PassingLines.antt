@@ -1,8 +1,8 @@
 -- What passes through the files for each form of a line.
-use Rattle.std.proofs.Common.{◌≡◌, ◌⊎◌, ℕ, ◌≤◌, List, [], ◌∷◌, ◌++◌, length, refl, sym, ◌∙◌, ap, subst, append_assoc, Option, Some, Result, Ok, Err, OnOk, IfOk, IfErr, string_bytes, inl, inr}
+use Rattle.std.proofs.Common.{◌≡◌, ℕ, ◌≤◌, List, [], ◌∷◌, ◌++◌, length, refl, sym, subst, Some, Result, Ok, Err, OnOk, IfErr, inl, inr}
 use Rattle.std.specs.List.{AllByRecursion}
 use Rattle.std.proofs.lemmas.List.{append-nil}
-use Rattle.std.proofs.lemmas.Result.{IfErr-weaker, IfOk-weaker}
+use Rattle.std.proofs.lemmas.Result.{IfErr-weaker}
 use Rattle.w2c_io.specs.Contents.{Name}
 use Rattle.w2c_io.specs.Events.{Event}
 use Rattle.w2c_io.specs.Passed.{Passes}
@@ -16,8 +16,8 @@ use Rattle.wasm2c_cli.specs.declared.stop.Stop.{Stop}
 use Rattle.wasm2c_cli.specs.declared.stop.Stop.TheVariants as stops
 use Rattle.wasm2c_cli.specs.Job.{Write, files_of, module_files}
 use Rattle.wasm2c_cli.specs.Parts.{AreTaken, HasPassed, IsNamed, IsTakenFile, StopsAccepting}
-use Rattle.wasm2c_cli.specs.PartsPassing.{AllAccepted, EndsLine, EndsTranslating, EndsWriting, GeneratesAll, PassesWhole, PassesWork, TranslatesAll, TriesLine, TriesReading, TriesTranslating, TriesWork}
-use Rattle.wasm2c_cli.specs.Passing.{IsJobOver, ReadsFirst, ReadsWhole}
+use Rattle.wasm2c_cli.specs.PartsPassing.{AllAccepted, EndsLine, EndsTranslating, EndsWriting, PassesWhole, PassesWork, TranslatesAll, TriesLine, TriesReading, TriesTranslating, TriesWork}
+use Rattle.wasm2c_cli.specs.Passing.{IsJobOver}
 use Rattle.wasm2c_cli.specs.Plan as plan
 use Rattle.wasm2c_cli.specs.Plan.{inputs_of, target, targets_of}
 use Rattle.wasm2c_cli.specs.Runtime.{runtime_files}
@@ -141,21 +141,29 @@ translation_ended t stop events tried = record {
     ends stops.Usage given put why = why
     ends (stops.Refused name reason) given put why = why
     ends (stops.Unread name) given put why = why
-    ends (stops.Unwritten name) given put (modules, all, broken) = (files_of (targets_of (translate t)) modules, record {
-      sources = all.sources;
-      modules = modules;
-      read = all.read;
-      accepted = all.accepted;
-      written = refl;
-    }, broken)
+    ends (stops.Unwritten name) given put (modules, all, broken) = (
+      files_of (targets_of (translate t)) modules,
+      record {
+        sources = all.sources;
+        modules = modules;
+        read = all.read;
+        accepted = all.accepted;
+        written = refl;
+      },
+      broken,
+    )
     ends stops.Memory given put (inl none) = inl none
-    ends stops.Memory given put (inr (modules, all, some)) = inr (files_of (targets_of (translate t)) modules, record {
-      sources = all.sources;
-      modules = modules;
-      read = all.read;
-      accepted = all.accepted;
-      written = refl;
-    }, some)
+    ends stops.Memory given put (inr (modules, all, some)) = inr (
+      files_of (targets_of (translate t)) modules,
+      record {
+        sources = all.sources;
+        modules = modules;
+        read = all.read;
+        accepted = all.accepted;
+        written = refl;
+      },
+      some,
+    )
 
 set_ended : (s : FileSet) (stop : Stop) (events : List Event)
     → TriesTranslating (inputs_of (set s)) (targets_of (set s)) stop events → TriesLine (set s) stop events
@@ -172,21 +180,29 @@ set_ended s stop events tried = record {
     ends stops.Usage given put why = why
     ends (stops.Refused name reason) given put why = why
     ends (stops.Unread name) given put why = why
-    ends (stops.Unwritten name) given put (modules, all, broken) = (files_of (targets_of (set s)) modules, record {
-      sources = all.sources;
-      modules = modules;
-      read = all.read;
-      accepted = all.accepted;
-      written = refl;
-    }, broken)
+    ends (stops.Unwritten name) given put (modules, all, broken) = (
+      files_of (targets_of (set s)) modules,
+      record {
+        sources = all.sources;
+        modules = modules;
+        read = all.read;
+        accepted = all.accepted;
+        written = refl;
+      },
+      broken,
+    )
     ends stops.Memory given put (inl none) = inl none
-    ends stops.Memory given put (inr (modules, all, some)) = inr (files_of (targets_of (set s)) modules, record {
-      sources = all.sources;
-      modules = modules;
-      read = all.read;
-      accepted = all.accepted;
-      written = refl;
-    }, some)
+    ends stops.Memory given put (inr (modules, all, some)) = inr (
+      files_of (targets_of (set s)) modules,
+      record {
+        sources = all.sources;
+        modules = modules;
+        read = all.read;
+        accepted = all.accepted;
+        written = refl;
+      },
+      some,
+    )
 
 module _ {A : Type 0} (old new : List Event) (result : Result A Stop) where
   pub translation_tried : (t : Translation)

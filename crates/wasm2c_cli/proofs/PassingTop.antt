@@ -1,5 +1,5 @@
 -- What the end of the work says of what passed through the files.
-use Rattle.std.proofs.Common.{◌≡◌, ◌⊎◌, ℕ, List, [], ◌∷◌, ◌++◌, length, refl, sym, ◌∙◌, ap, subst, arith, Option, Some, None, MatchOption, string_bytes, inl, inr}
+use Rattle.std.proofs.Common.{◌≡◌, ◌⊎◌, ℕ, List, [], ◌∷◌, ◌++◌, length, refl, sym, ◌∙◌, ap, subst, Option, Some, None, MatchOption, string_bytes, inl, inr}
 use Rattle.std.specs.List.{AllByRecursion}
 use Rattle.std.proofs.lemmas.List.{length-map}
 use Rattle.w2c_io.specs.Contents.{Name}
@@ -9,20 +9,19 @@ use Rattle.w2c_files.specs.Passing.{WritesFiles}
 use Rattle.w2c_files.proofs.Passing.{all_some, broken_some}
 use Rattle.wasm_spelling.specs.Limits.{most_module_bytes}
 use Rattle.wasm_tree.specs.declared.tree.Module.{Module}
-use Rattle.w2c_sim.specs.Selections.{File, IsTranslated as IsTranslatedFile, TranslationTheorem}
+use Rattle.w2c_sim.specs.Selections.{TranslationTheorem}
 use Rattle.wasm2c_words.specs.CommandLine.{Line, translate, set, generate, runtime, line_of}
-use Rattle.wasm2c_cli.specs.declared.stop.Reason.{Reason}
 use Rattle.wasm2c_cli.specs.declared.stop.Stop.{Stop}
 use Rattle.wasm2c_cli.specs.declared.stop.Stop.TheVariants as stops
 use Rattle.wasm2c_cli.specs.Job.{Job, Missing, Refused, Write, AreSourcesBy, files_of}
 use Rattle.wasm2c_cli.specs.Lines.{line_for, status_of, usage_line}
-use Rattle.wasm2c_cli.specs.Parts.{AreTaken, HasPassed, IsNamed}
+use Rattle.wasm2c_cli.specs.Parts.{AreTaken, IsNamed}
 use Rattle.wasm2c_cli.specs.PartsPassing.{PassesWhole, PassesWork, TranslatesAll, TriesLine, TriesWork}
-use Rattle.wasm2c_cli.specs.Passing.{Follows, IsJobOver, IsUnitOf, PassesFor, PassesLine, PutsLinked, PutsLinkedUnits, ReadsFirst, ReadsWhole}
+use Rattle.wasm2c_cli.specs.Passing.{Follows, IsJobOver, IsUnitOf, PassesFor, PassesLine, PutsLinkedUnits, ReadsFirst, ReadsWhole}
 use Rattle.wasm2c_cli.specs.Plan.{Target, inputs_of, targets_of, target_in}
 use Rattle.wasm2c_cli.specs.Runtime.{runtime_files}
 use Rattle.wasm2c_cli.specs.Top.{NamesModules}
-use Rattle.wasm2c_cli.specs.Units.{DoTheSameWithOthers, HoldAll, HoldsText, HoldsUnit, texts_made}
+use Rattle.wasm2c_cli.specs.Units.{HoldAll, HoldsText, HoldsUnit, texts_made}
 use Rattle.wasm2c_cli.proofs.Passing.{all_read_first, many_read, none_read}
 use Rattle.wasm2c_cli.proofs.Taken.{length-taken, taken_accepted}
 use Rattle.wasm2c_cli.proofs.TopLaws.{all_translated, hold_units, hold_weaker, no_runtime, targets_have}
@@ -281,8 +280,7 @@ puts_linked theorem words events (line, is, has, whole) names =
     let units : HoldAll (HoldsUnit None) (targets_of line) m.sources m.modules =
     hold_units None (targets_of line) m.sources m.modules (targets_have line has) m.named m.taken m.many (λ name text one. tt) in
     let held : HoldAll (HoldsText None) (targets_of line) m.sources m.modules =
-    hold_weaker (HoldsUnit None) (HoldsText None) (λ t bytes tree unit. unit.text) (targets_of line) m.sources m.modules units in
-    (
+    hold_weaker (HoldsUnit None) (HoldsText None) (λ t bytes tree unit. unit.text) (targets_of line) m.sources m.modules units in (
       line,
       is,
       record {
