@@ -1,5 +1,4 @@
 pub mod FileStops
-pub mod Honest
 pub mod HonestTop
 pub mod JobLaws
 pub mod LineStops

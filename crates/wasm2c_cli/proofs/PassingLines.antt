@@ -8,6 +8,7 @@ use Rattle.w2c_io.specs.Events.{Event}
 use Rattle.w2c_io.specs.Passed.{Passes}
 use Rattle.w2c_io.proofs.Passed.{both_passed, none_passed, passed_so}
 use Rattle.w2c_files.specs.Passing.{ReadsAll, WritesFiles}
+use Rattle.w2c_files.specs.Reading.{total}
 use Rattle.wasm_spelling.specs.Bytes.{AreBytes}
 use Rattle.wasm_spelling.specs.Limits.{most_module_bytes}
 use Rattle.wasm_tree.specs.declared.tree.Module.{Module}
@@ -19,7 +20,7 @@ use Rattle.wasm2c_cli.specs.Parts.{AreTaken, HasPassed, IsNamed, IsTakenFile, St
 use Rattle.wasm2c_cli.specs.PartsPassing.{AllAccepted, EndsLine, EndsTranslating, EndsWriting, PassesWhole, PassesWork, TranslatesAll, TriesLine, TriesReading, TriesTranslating, TriesWork}
 use Rattle.wasm2c_cli.specs.Passing.{IsJobOver}
 use Rattle.wasm2c_cli.specs.Plan as plan
-use Rattle.wasm2c_cli.specs.Plan.{inputs_of, target, targets_of}
+use Rattle.wasm2c_cli.specs.Plan.{inputs_of, most_set_bytes, target, targets_of}
 use Rattle.wasm2c_cli.specs.Runtime.{runtime_files}
 use Rattle.wasm2c_cli.proofs.Passing.{all_read_first, none_read}
 use Rattle.wasm2c_cli.proofs.Taken.{taken_accepted}
@@ -48,7 +49,8 @@ module _ (inputs : List Name) (targets : List plan.Target) (old new : List Event
   reading_passed stop =
       passed_so old new (TriesReading inputs stop) (TriesTranslating inputs targets stop) (λ given tried. reading_ended stop given tried)
 
-  module _ (sources : List (List ℕ)) (fit : AllByRecursion (λ bytes. length bytes ≤ most_module_bytes) sources) where
+  module _ (sources : List (List ℕ)) (fit : AllByRecursion (λ bytes. length bytes ≤ most_module_bytes) sources)
+      (together : total sources ≤ most_set_bytes) where
     -- not all are accepted
     accepting_ended : (stop : Stop) (given : List Event) → StopsAccepting inputs sources stop
         → ReadsAll most_module_bytes inputs sources given → TriesTranslating inputs targets stop given
@@ -62,7 +64,7 @@ module _ (inputs : List Name) (targets : List plan.Target) (old new : List Event
       where
         ends : (stop : Stop) → StopsAccepting inputs sources stop → EndsTranslating inputs targets given [] stop
         ends stops.Usage why = absurd why
-        ends (stops.Refused name reason) why = (refl, inr (sources, record { calls = calls; fit = fit }, why))
+        ends (stops.Refused name reason) why = (refl, inr (sources, record { calls = calls; fit = fit; together = together }, why))
         ends (stops.Unread name) why = absurd why
         ends (stops.Unwritten name) why = absurd why
         ends stops.Memory why = inl refl
@@ -77,7 +79,7 @@ module _ (inputs : List Name) (targets : List plan.Target) (old new : List Event
       all_accepted : (given : List Event) → ReadsAll most_module_bytes inputs sources given → AllAccepted inputs given modules
       all_accepted given calls = record {
         sources = sources;
-        read = record { calls = calls; fit = fit };
+        read = record { calls = calls; fit = fit; together = together };
         accepted = taken_accepted sources modules taken;
       }
 
@@ -117,7 +119,7 @@ module _ (inputs : List Name) (targets : List plan.Target) (old new : List Event
             sources = sources;
             modules = modules;
             split = refl;
-            read = record { calls = calls; fit = fit };
+            read = record { calls = calls; fit = fit; together = together };
             taken = taken;
             named = named;
             files = files;

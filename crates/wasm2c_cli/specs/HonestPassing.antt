@@ -1,12 +1,9 @@
 -- What passes for words over files that behave as files, which begin with some contents.
-use Rattle.std.specs.Prelude.{◌≡◌, ℕ, ◌≤◌, List, Option, Some}
+use Rattle.std.specs.Prelude.{ℕ, List, Option, Some}
 use Rattle.w2c_io.specs.Contents.{Name, Contents, Told}
 use Rattle.w2c_io.specs.Events.{Event}
 use Rattle.w2c_io.specs.Honest.{AreHonest}
-use Rattle.w2c_files.specs.Reading.{AreHeld, total}
-use Rattle.wasm2c_words.specs.CommandLine.{Line, line_of}
 use Rattle.wasm2c_cli.specs.Passing.{PassesFor}
-use Rattle.wasm2c_cli.specs.Plan.{inputs_of, most_set_bytes}
 
 -- a call of this status was made on such files, and left them so
 pub record PassesHonestly (words : List Name) (status : ℕ) (says : List ℕ → Type 0) (contents : Contents) (new : Told) : Type 0 where
@@ -15,8 +12,3 @@ pub record PassesHonestly (words : List Name) (status : ℕ) (says : List ℕ �
   pub after : Option Name
   pub passes : PassesFor words status says events
   pub honest : AreHonest events (Some contents) current new after
-
--- the files that the words name hold no more bytes together than a call reads
-abbrev pub FitTogether : List Name → Contents → Type 0
-FitTogether words contents = (line : Line) → line_of words ≡ Some line
-    → (all : List (List ℕ)) → AreHeld contents (inputs_of line) all → total all ≤ most_set_bytes

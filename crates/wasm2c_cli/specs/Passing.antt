@@ -28,10 +28,11 @@ ReadsFirst (name ∷ names) (event ∷ events) =
     ((bytes : List ℕ) × (event ≡ Read name most_module_bytes (Ok bytes)) × ReadsFirst names events)
     ⊎ ((answer : Result (List ℕ) ReadAnswer) × (event ≡ Read name most_module_bytes answer) × (events ≡ []))
 
--- all of these files were read, each once and in order, and gave these bytes, none more than a module may have
+-- all of these files were read, each once and in order, and gave these bytes, no more than a module and a call may have
 pub record ReadsWhole (names : List Name) (given : List Event) (all : List (List ℕ)) : Type 0 where
   pub calls : ReadsAll most_module_bytes names all given
   pub fit : AllByRecursion (λ bytes. length bytes ≤ most_module_bytes) all
+  pub together : total all ≤ most_set_bytes
 
 -- why reading stops at a file, by what its read answered behind so many bytes of the files before it
 abbrev pub StopsByAnswer : ℕ → Result (List ℕ) ReadAnswer → Unreadable → Type 0

@@ -6,7 +6,7 @@ ghost use Rattle.w2c_files.specs.Standing.{file_names, AreDistinct, StandsAt};
 ghost use Rattle.wasm_spelling.specs.declared.fault.Which.{Which};
 ghost use Rattle.wasm2c_cli.specs.declared.stop.Reason.{Reason};
 ghost use Rattle.wasm2c_cli.specs.declared.stop.Reason.TheVariants.{Limit};
-ghost use Rattle.wasm2c_cli.specs.HonestPassing.{PassesHonestly, FitTogether};
+ghost use Rattle.wasm2c_cli.specs.HonestPassing.{PassesHonestly};
 ghost use Rattle.wasm2c_cli.specs.Job.{IsJob, Job, Refused, Write};
 ghost use Rattle.wasm2c_cli.specs.Lines.{refused_line, write_line};
 ghost use Rattle.wasm2c_cli.specs.Stops.{Done, StandsOfJob};
@@ -29,15 +29,15 @@ pub fn honest_files()
     ensures untouched { (words : List Name) (status : ℕ) (said new_said : Option (List ℕ)) (faults new_faults : ℕ) (m : Contents) (new : Told)
         → PassesHonestly words status (Says said new_said faults new_faults) m new → (status ≡ 1) ⊎ (status ≡ 2) ⊎ (status ≡ 3) → new ≡ Some m }
     ensures done { (words : List Name) (said new_said : Option (List ℕ)) (faults new_faults : ℕ) (m : Contents) (new : Told)
-        → PassesHonestly words 0 (Says said new_said faults new_faults) m new → FitTogether words m → Done words (Some m) new }
+        → PassesHonestly words 0 (Says said new_said faults new_faults) m new → Done words (Some m) new }
     ensures refused { (words : List Name) (said new_said : Option (List ℕ)) (faults new_faults : ℕ) (m : Contents) (new : Told)
-        → PassesHonestly words 1 (Says said new_said faults new_faults) m new → FitTogether words m
+        → PassesHonestly words 1 (Says said new_said faults new_faults) m new
         → (file : Name) × (reason : Reason) × Says said new_said faults new_faults (refused_line file reason)
         × (((place : ℕ) × (which : Which) × (reason ≡ Limit place which)) ⊎ IsJob words m (Refused file reason)) }
     ensures write_fault { (words : List Name) (said new_said : Option (List ℕ)) (faults new_faults : ℕ) (m : Contents) (new : Told)
-        → PassesHonestly words 4 (Says said new_said faults new_faults) m new → FitTogether words m
+        → PassesHonestly words 4 (Says said new_said faults new_faults) m new
         → (file : Name) × (files : List (Name × List ℕ)) × IsJob words m (Write files) × StandsAt (Some m) new files file
         × Says said new_said faults new_faults (write_line file) }
     ensures stands { (words : List Name) (said new_said : Option (List ℕ)) (faults new_faults : ℕ) (m : Contents) (new : Told)
-        → PassesHonestly words 5 (Says said new_said faults new_faults) m new → FitTogether words m → StandsOfJob words m (Some m) new }
+        → PassesHonestly words 5 (Says said new_said faults new_faults) m new → StandsOfJob words m (Some m) new }
 {}

@@ -8,17 +8,17 @@ returns-clause-untouched c = λ words status said said' faults faults' m new cal
     honest_untouched words status (Says said said' faults faults') m new call ends
 
 pub returns-clause-done : goal.returns-clause-done
-returns-clause-done c = λ words said said' faults faults' m new call fits.
-    honest_done words 0 (Says said said' faults faults') m new call fits refl
+returns-clause-done c = λ words said said' faults faults' m new call.
+    honest_done words 0 (Says said said' faults faults') m new call refl
 
 pub returns-clause-refused : goal.returns-clause-refused
-returns-clause-refused c = λ words said said' faults faults' m new call fits.
-    honest_refused words 1 (Says said said' faults faults') m new call fits refl
+returns-clause-refused c = λ words said said' faults faults' m new call.
+    honest_refused words 1 (Says said said' faults faults') m new call refl
 
 pub returns-clause-write_fault : goal.returns-clause-write_fault
-returns-clause-write_fault c = λ words said said' faults faults' m new call fits.
-    honest_write_fault words 4 (Says said said' faults faults') m new call fits refl
+returns-clause-write_fault c = λ words said said' faults faults' m new call.
+    honest_write_fault words 4 (Says said said' faults faults') m new call refl
 
 pub returns-clause-stands : goal.returns-clause-stands
-returns-clause-stands c = λ words said said' faults faults' m new call fits.
-    honest_stands words 5 (Says said said' faults faults') m new call fits refl
+returns-clause-stands c = λ words said said' faults faults' m new call.
+    honest_stands words 5 (Says said said' faults faults') m new call refl
