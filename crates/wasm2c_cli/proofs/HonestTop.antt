@@ -1,7 +1,7 @@
 -- What stands after a call, where the files behave as files: what its clauses on contents say.
 use Rattle.std.proofs.Common.{◌≡◌, ◌⊎◌, ℕ, List, [], ◌∷◌, ◌++◌, refl, ◌∙◌, ap, subst, arith, Option, Some, None, Ok, MatchOption, inl, inr}
 use Rattle.w2c_io.specs.Contents.{Name, Contents, Told}
-use Rattle.w2c_io.specs.Events.{Event, Read}
+use Rattle.w2c_io.specs.Events.{Event}
 use Rattle.w2c_io.specs.Honest.{AreHonest, Does}
 use Rattle.w2c_io.specs.declared.answers.WriteAnswer.{WriteAnswer}
 use Rattle.w2c_files.specs.Passing.{WritesFiles, BreaksOffAt, WritesSome}
