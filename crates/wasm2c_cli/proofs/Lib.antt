@@ -1,8 +1,12 @@
 pub mod FileStops
+pub mod HonestTop
 pub mod JobLaws
 pub mod LineStops
 pub mod ModuleFiles
 pub mod Passed
+pub mod Passing
+pub mod PassingLines
+pub mod PassingTop
 pub mod ReasonLaws
 pub mod Taken
 pub mod TopLaws

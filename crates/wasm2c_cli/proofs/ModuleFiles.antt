@@ -3,11 +3,16 @@ use Rattle.std.proofs.Common.{◌≡◌, ◌<◌, ◌+◌, ◌≤◌, ℕ, zero,
 use Rattle.std.specs.List.{AllByRecursion}
 use Rattle.w2c_io.specs.Contents.{Name, Told, holding, appending, AppendsPart}
 use Rattle.w2c_io.specs.Causes.{Faulted}
+use Rattle.w2c_io.specs.Events.{Event}
+use Rattle.w2c_io.specs.Passed.{Passes}
 use Rattle.w2c_io.specs.declared.answers.WriteAnswer.{WriteAnswer}
 use Rattle.w2c_io.specs.declared.answers.WriteAnswer.TheVariants as answers
+use Rattle.w2c_io.proofs.Passed.{both_passed}
 use Rattle.w2c_io.proofs.Telling.{rose_from}
+use Rattle.w2c_files.specs.Passing.{WritesFiles}
 use Rattle.w2c_files.specs.Standing.{IsOneOf, file_names, written, IsBegun, Stands, StandsAt}
 use Rattle.w2c_files.proofs.Loops.{next_at}
+use Rattle.w2c_files.proofs.Passing.{both_written}
 use Rattle.w2c_files.proofs.Standing.{at_before, at_behind, at_first, put_more, part_begun, stands_before, stands_behind, written_joined}
 use Rattle.wasm_tree.specs.declared.tree.Module.{Module}
 use Rattle.wasm2c_cli.specs.declared.plan.Target.{Target}
@@ -15,8 +20,10 @@ use Rattle.wasm2c_cli.specs.declared.stop.Stop.{Stop}
 use Rattle.wasm2c_cli.specs.declared.stop.Stop.TheVariants as stops
 use Rattle.wasm2c_cli.specs.Job.{files_of, module_files}
 use Rattle.wasm2c_cli.specs.Parts.{IsNamed, StopsAtFile, StopsWriting, seen_target, seen_targets}
+use Rattle.wasm2c_cli.specs.PartsPassing.{EndsWriting}
 use Rattle.wasm2c_cli.specs.Plan as plan
 use Rattle.wasm2c_cli.specs.Plan.{names_of_targets}
+use Rattle.wasm2c_cli.proofs.Passing.{ends_among}
 
 -- ---- what holds, whatever the answer
 
@@ -47,6 +54,11 @@ put_part old begun part_put new current name text is_begun is_current (inr (part
 module _ (old mid new : Told) (c_file header : Name) (text more : List ℕ) (first : mid ≡ holding old c_file text) where
   pub second_at : IsBegun mid new header more → StandsAt old new ((c_file, text) ∷ (header, more) ∷ []) header
   second_at begun = at_behind old mid new ((c_file, text) ∷ []) ((header, more) ∷ []) header first (at_first mid new header more [] begun)
+
+pub both_stand : (old middle new : Told) (c_file header first second : Name) → first ≡ c_file → second ≡ header → (text more : List ℕ)
+    → middle ≡ holding old first text → new ≡ holding middle second more → new ≡ written old ((c_file, text) ∷ (header, more) ∷ [])
+both_stand old middle new c_file header first second same same' text more one two =
+    two ∙ (λ i. holding (one i) second more) ∙ (λ i. holding (holding old (same i) text) (same' i) more)
 
 -- the stop at a file that stands in part
 pub stops_at : (old new : Told) (files : List (Name × List ℕ)) (before after : ℕ) (named : Option Name) (answer : WriteAnswer) (file : Name)
@@ -126,6 +138,35 @@ module _ (targets : List plan.Target) (modules : List Module) (k : ℕ) (t : pla
     stops_all start here after named stops.Usage later why = absurd why
     stops_all start here after named (stops.Refused name reason) later why = absurd why
     stops_all start here after named (stops.Unread name) later why = absurd why
+
+  -- the same of what was put
+  module _ (old before new : List Event) (so_far : Passes old before (WritesFiles (files_of (take k targets) (take k modules)))) where
+    pub one_more_put : Passes before new (WritesFiles (module_files t m))
+        → Passes old new (WritesFiles (files_of (take (k + 1) targets) (take (k + 1) modules)))
+    one_more_put one = subst (λ (l : List (Name × List ℕ)). Passes old new (WritesFiles l)) (sym next_files)
+        (both_passed old before new (WritesFiles (files_of (take k targets) (take k modules))) (WritesFiles (module_files t m))
+        (WritesFiles (files_of (take k targets) (take k modules) ++ module_files t m))
+        (both_written (files_of (take k targets) (take k modules)) (module_files t m)) so_far one)
+
+    pub ends_all : (stop : Stop) → Passes before new (EndsWriting (module_files t m) stop)
+        → Passes old new (EndsWriting (files_of targets modules) stop)
+    ends_all stop tried = subst (λ (l : List (Name × List ℕ)). Passes old new (EndsWriting l stop)) (sym all_files)
+        (both_passed old before new (WritesFiles (files_of (take k targets) (take k modules))) (EndsWriting (module_files t m) stop)
+        (EndsWriting (files_of (take k targets) (take k modules) ++ (module_files t m ++ rest)) stop)
+        (λ first last whole ends.
+        ends_among (files_of (take k targets) (take k modules)) (module_files t m) rest first last stop whole ends) so_far tried)
+
+pub all_files_put : (old new : List Event) (targets : List plan.Target) (modules : List Module) (k : ℕ) → k ≡ length targets
+    → length modules ≡ length targets → Passes old new (WritesFiles (files_of (take k targets) (take k modules)))
+    → Passes old new (WritesFiles (files_of targets modules))
+all_files_put old new targets modules k end many =
+    subst (λ (l : List (Name × List ℕ)). Passes old new (WritesFiles l))
+    (λ i. files_of (whole targets k end i) (whole modules k (end ∙ sym many) i))
+  where
+    whole : {A : Type 0} (xs : List A) (j : ℕ) → j ≡ length xs → take j xs ≡ xs
+    whole [] j is = ap (λ n. take n []) is
+    whole (x ∷ xs) zero is = absurd (omega (arith, is))
+    whole (x ∷ xs) (suc j) is = ap (λ (l : List _). x ∷ l) (whole xs j (omega (arith, is)))
 
 pub all_files_written : (old : Told) (targets : List plan.Target) (modules : List Module) (k : ℕ) → k ≡ length targets
     → length modules ≡ length targets

@@ -32,7 +32,7 @@ use Rattle.wasm2c_cli.proofs.Taken.{length-taken, taken_accepted}
 
 -- ---- the job of words, by that of their line
 
-is_job : (words : List Name) (line : Line) (contents : Contents) (job : Job) → line_of words ≡ Some line → IsJobOf line contents job
+pub is_job : (words : List Name) (line : Line) (contents : Contents) (job : Job) → line_of words ≡ Some line → IsJobOf line contents job
     → IsJob words contents job
 is_job words line contents job is of_line =
     subst (λ (o : Option Line). MatchOption o (job ≡ Usage) (λ l. IsJobOf l contents job)) (sym is) of_line
@@ -220,7 +220,7 @@ all_there : (old : Contents) (new : Told) (files : List (Name × List ℕ)) → 
 all_there old None files distinct whole name text has = tt
 all_there old (Some after) files distinct whole name text has = stand_whole files old after distinct (sym whole) name text has
 
-hold_units : (new : Told) (targets : List Target) (sources : List (List ℕ)) (modules : List Module) → AllByRecursion HasName targets
+pub hold_units : (new : Told) (targets : List Target) (sources : List (List ℕ)) (modules : List Module) → AllByRecursion HasName targets
     → AllByRecursion IsNamed targets → AreTaken sources modules → length modules ≡ length targets
     → ((name : Name) (text : List ℕ) → HasText name text (files_of targets modules) → HasFile new name text)
     → HoldAll (HoldsUnit new) targets sources modules
@@ -241,7 +241,7 @@ hold_units new (t ∷ targets) (bytes ∷ sources) (m ∷ modules) ((some, short
     (here, hold_units new targets sources modules has named taken (omega (arith, many)) (λ name text one. there name text (inr (inr one))))
 
 -- what a line has passed, of its modules
-targets_have : (line : Line) → HasPassed line → AllByRecursion HasName (targets_of line)
+pub targets_have : (line : Line) → HasPassed line → AllByRecursion HasName (targets_of line)
 targets_have (translate t) (c_file, has) = (has, tt)
 targets_have (set s) (has, apart) = has
 targets_have (generate g) (c_file, has, some, few) = (has, tt)
@@ -269,7 +269,7 @@ stand_units distinct line contents old new passed names m told = record {
       (m.stand ∙ ap (λ (t : Told). written t (files_of (targets_of line) m.modules)) told));
 }
 
-no_runtime : (words : List Name) (line : Line) → NamesModules words → line_of words ≡ Some line → (dir : Name) → line ≡ runtime dir → ⊥
+pub no_runtime : (words : List Name) (line : Line) → NamesModules words → line_of words ≡ Some line → (dir : Name) → line ≡ runtime dir → ⊥
 no_runtime words line names is dir e = names dir (is ∙ ap (λ (l : Line). Some l) e)
 
 pub finish_units : LinesAreDistinct → (words : List Name) (old new : Told) (f : Finished) → FinishesWork words old new f
@@ -281,7 +281,7 @@ finish_units distinct words old new f (line, is, passed, fin) names = λ content
 -- ---- what is linked of the units
 
 -- what holds of each, where it follows of one
-hold_weaker : (P Q : Stand) → ((t : Target) (bytes : List ℕ) (m : Module) → P t bytes m → Q t bytes m)
+pub hold_weaker : (P Q : Stand) → ((t : Target) (bytes : List ℕ) (m : Module) → P t bytes m → Q t bytes m)
     → (targets : List Target) (sources : List (List ℕ)) (modules : List Module) → HoldAll P targets sources modules
     → HoldAll Q targets sources modules
 hold_weaker P Q weaker [] [] [] held = tt
@@ -296,7 +296,7 @@ hold_weaker P Q weaker (t ∷ targets) (bytes ∷ sources) (m ∷ modules) (here
 
 -- files that are translated, and others
 module _ (new : Told) (others : List File) (translated : AllByRecursion IsTranslatedFile others) where
-  all_translated : (targets : List Target) (sources : List (List ℕ)) (modules : List Module)
+  pub all_translated : (targets : List Target) (sources : List (List ℕ)) (modules : List Module)
       → HoldAll (HoldsText new) targets sources modules
       → AllByRecursion IsTranslatedFile (texts_made targets sources modules ++ others)
   all_translated [] [] [] held = translated

@@ -15,11 +15,21 @@ use Rattle.wasm2c_cli.specs.declared.stop.Stop.TheVariants as stops
 use Rattle.wasm2c_cli.specs.declared.work.Finished.{Finished}
 use Rattle.wasm2c_cli.specs.declared.work.Finished.TheVariants as finished
 use Rattle.wasm2c_cli.specs.Job.{files_of}
-use Rattle.wasm2c_cli.specs.Parts.{AreTaken, FinishesTranslating, IsNamed, IsTranslated, StopsAccepting, StopsTranslating, StopsWriting}
+use Rattle.wasm2c_cli.specs.Parts.{AreTaken, FinishesTranslating, IsNamed, IsTranslated, StopsAccepting, StopsReading, StopsTranslating, StopsWriting}
 use Rattle.wasm2c_cli.specs.Plan as plan
 use Rattle.wasm2c_cli.specs.Plan.{most_set_bytes}
 use Rattle.wasm2c_cli.proofs.ModuleFiles.{one_of_targets}
 use Rattle.wasm2c_cli.proofs.Taken.{refused_is_one, taken_accepted}
+
+-- not all files are read
+pub reading_stopped : (inputs : List Name) (targets : List plan.Target) (old new : Told) (r r' w w' : ℕ) (named : Option Name) (stop : Stop)
+    → StopsReading old inputs r r' named stop → new ≡ old → StopsTranslating inputs targets old new r r' w w' named stop
+reading_stopped inputs targets old new r r' w w' named stops.Usage why same = absurd why
+reading_stopped inputs targets old new r r' w w' named (stops.Refused name reason) (one, limit) same =
+    (one, λ contents tells. inl (limit contents tells), same)
+reading_stopped inputs targets old new r r' w w' named (stops.Unread name) (one, why) same = (one, why, same)
+reading_stopped inputs targets old new r r' w w' named (stops.Unwritten name) why same = absurd why
+reading_stopped inputs targets old new r r' w w' named stops.Memory why same = λ contents tells. inl same
 
 module _ (inputs : List Name) (targets : List plan.Target) (old mid : Told) (sources : List (List ℕ)) (same : mid ≡ old)
     (read : Tells old (λ contents. AreRead most_module_bytes most_set_bytes contents inputs sources)) where

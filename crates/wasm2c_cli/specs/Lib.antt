@@ -7,5 +7,8 @@ pub mod Lines
 pub mod Units
 pub mod Stops
 pub mod Top
+pub mod Passing
+pub mod HonestPassing
 -- of the code alone
 pub mod Parts
+pub mod PartsPassing

@@ -8,7 +8,7 @@ use Rattle.wasm_spelling.specs.declared.fault.Which.TheVariants.{ModuleBytes, Se
 use Rattle.wasm_spelling.specs.Limits.{most_module_bytes}
 use Rattle.wasm_valid.specs.Verdict.{Accepted, Invalid as is_invalid}
 use Rattle.wasm_valid.specs.FileVerdict.{FileVerdict, Unread, Read, IsVerdictOn}
-use Rattle.w2c_files.specs.Reading.{StopsReading, TooLong, Past}
+use Rattle.w2c_files.specs.Reading.{StopsReading, Unreadable, TooLong, Past}
 use Rattle.w2c_sim.specs.declared.refusal.Refusal.{Refusal}
 use Rattle.w2c_sim.specs.declared.refusal.Refusal.TheVariants as refusals
 use Rattle.wasm2c_cli.specs.Plan.{most_set_bytes}
@@ -32,11 +32,15 @@ IsAccepted bytes = (tree : Module) × IsVerdictOn bytes (Read tree Accepted)
 abbrev pub IsRefused : List ℕ → Reason → Type 0
 IsRefused bytes reason = (verdict : FileVerdict) × IsVerdictOn bytes verdict × (reason_for verdict ≡ Some reason)
 
--- reading stops at the file, since it has too many bytes for a module, or too many behind those of the files in front of it
+-- reading stops so, since a file has too many bytes for a module, or too many behind those of the files in front of it
+abbrev pub PassesLimitBy : (Unreadable → Type 0) → Reason → Type 0
+PassesLimitBy Stops reason =
+    (Stops TooLong × (reason ≡ Limit most_module_bytes ModuleBytes))
+    ⊎ ((place : ℕ) × Stops (Past place) × (reason ≡ Limit place SetBytes))
+
+-- reading stops so at the file, by what the files hold
 abbrev pub PassesLimit : Contents → List Name → Name → Reason → Type 0
-PassesLimit contents names file reason =
-    (StopsReading most_module_bytes most_set_bytes contents names file TooLong × (reason ≡ Limit most_module_bytes ModuleBytes))
-    ⊎ ((place : ℕ) × StopsReading most_module_bytes most_set_bytes contents names file (Past place) × (reason ≡ Limit place SetBytes))
+PassesLimit contents names file reason = PassesLimitBy (StopsReading most_module_bytes most_set_bytes contents names file) reason
 
 -- the first of the files that is refused: those in front of it are accepted
 abbrev pub IsFirstRefused : List Name → List (List ℕ) → Name → Reason → Type 0

@@ -31,12 +31,16 @@ HoldAll Holds [] [] [] = Unit {0}
 HoldAll Holds (t ∷ targets) (bytes ∷ sources) (m ∷ modules) = Holds t bytes m × HoldAll Holds targets sources modules
 HoldAll Holds _ _ _ = ⊥
 
--- it stands of all modules that a line asks for
-pub record StandAll (Holds : Stand) (line : Line) (contents : Contents) : Type 0 where
+-- it stands of all modules of a line, of whose bytes Sources is so
+pub record StandAllBy (Holds : Stand) (line : Line) (Sources : List (List ℕ) → Type 0) : Type 0 where
   pub sources : List (List ℕ)
   pub modules : List Module
-  pub read : AreSources line contents sources
+  pub read : Sources sources
   pub all : HoldAll Holds (targets_of line) sources modules
+
+-- it stands of all modules that a line asks for
+abbrev pub StandAll : Stand → Line → Contents → Type 0
+StandAll Holds line contents = StandAllBy Holds line (AreSources line contents)
 
 abbrev pub WritesUnits : List Name → Told → Told → Type 0
 WritesUnits words old new = Tells old (λ contents. (line : Line) × (line_of words ≡ Some line) × StandAll (HoldsUnit new) line contents)

@@ -1,8 +1,15 @@
 // Laws of the job.
-ghost use Rattle.std.specs.Prelude.{◌≡◌, List, ℕ};
-ghost use Rattle.w2c_io.specs.Contents.{Name, Contents};
-ghost use Rattle.w2c_files.specs.Standing.{file_names, AreDistinct};
-ghost use Rattle.wasm2c_cli.specs.Job.{IsJob, Job, Write};
+ghost use Rattle.std.specs.Prelude.{◌≡◌, ◌⊎◌, List, ℕ, Option, Some};
+ghost use Rattle.w2c_io.specs.Contents.{Name, Contents, Told};
+ghost use Rattle.w2c_io.specs.Telling.{Says};
+ghost use Rattle.w2c_files.specs.Standing.{file_names, AreDistinct, StandsAt};
+ghost use Rattle.wasm_spelling.specs.declared.fault.Which.{Which};
+ghost use Rattle.wasm2c_cli.specs.declared.stop.Reason.{Reason};
+ghost use Rattle.wasm2c_cli.specs.declared.stop.Reason.TheVariants.{Limit};
+ghost use Rattle.wasm2c_cli.specs.HonestPassing.{PassesHonestly};
+ghost use Rattle.wasm2c_cli.specs.Job.{IsJob, Job, Refused, Write};
+ghost use Rattle.wasm2c_cli.specs.Lines.{refused_line, write_line};
+ghost use Rattle.wasm2c_cli.specs.Stops.{Done, StandsOfJob};
 
 /// The law that words ask for at most one job over what the files hold.
 pub fn one_job()
@@ -14,4 +21,23 @@ pub fn one_job()
 pub fn distinct_files()
     ensures { (words : List Name) (contents : Contents) (files : List (Name × List ℕ))
         → IsJob words contents (Write files) → AreDistinct (file_names files) }
+{}
+
+/// The law of files that behave as files: what passed for words then says of what they hold what the clauses of the top call
+/// on contents say. So after status 0 the job's files stand whole and nothing else has changed.
+pub fn honest_files()
+    ensures untouched { (words : List Name) (status : ℕ) (said new_said : Option (List ℕ)) (faults new_faults : ℕ) (m : Contents) (new : Told)
+        → PassesHonestly words status (Says said new_said faults new_faults) m new → (status ≡ 1) ⊎ (status ≡ 2) ⊎ (status ≡ 3) → new ≡ Some m }
+    ensures done { (words : List Name) (said new_said : Option (List ℕ)) (faults new_faults : ℕ) (m : Contents) (new : Told)
+        → PassesHonestly words 0 (Says said new_said faults new_faults) m new → Done words (Some m) new }
+    ensures refused { (words : List Name) (said new_said : Option (List ℕ)) (faults new_faults : ℕ) (m : Contents) (new : Told)
+        → PassesHonestly words 1 (Says said new_said faults new_faults) m new
+        → (file : Name) × (reason : Reason) × Says said new_said faults new_faults (refused_line file reason)
+        × (((place : ℕ) × (which : Which) × (reason ≡ Limit place which)) ⊎ IsJob words m (Refused file reason)) }
+    ensures write_fault { (words : List Name) (said new_said : Option (List ℕ)) (faults new_faults : ℕ) (m : Contents) (new : Told)
+        → PassesHonestly words 4 (Says said new_said faults new_faults) m new
+        → (file : Name) × (files : List (Name × List ℕ)) × IsJob words m (Write files) × StandsAt (Some m) new files file
+        × Says said new_said faults new_faults (write_line file) }
+    ensures stands { (words : List Name) (said new_said : Option (List ℕ)) (faults new_faults : ℕ) (m : Contents) (new : Told)
+        → PassesHonestly words 5 (Says said new_said faults new_faults) m new → StandsOfJob words m (Some m) new }
 {}

@@ -15,10 +15,10 @@ mod translating;
 mod work;
 mod writing;
 
-pub use law::{distinct_files, one_job};
+pub use law::{distinct_files, honest_files, one_job};
 use std::process::ExitCode;
 pub use top::{sure_top, wasm2c_top};
-use w2c_io::{StdFiles, StdSink, std_words};
+use w2c_io::{StdFiles, StdSink, ToldSink, std_words};
 
 fn main(rt: HostRuntime) -> ExitCode {
     ExitCode::from(status(&rt))
@@ -31,6 +31,6 @@ fn status(rt: &HostRuntime) -> u8 {
     };
     let alloc = rt.alloc();
     let mut files = StdFiles::new(rt, alloc);
-    let mut err = StdSink::err(rt);
+    let mut err = ToldSink::new(StdSink::err(rt));
     wasm2c_top(alloc, words.as_slice(), &mut files, &mut err)
 }

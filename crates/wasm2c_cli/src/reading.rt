@@ -1,11 +1,14 @@
 // Reads the files that a line names.
 ghost use Rattle.std.specs.Prelude.{◌≡◌, ◌<◌, ◌≤◌, length, slice_get, Some, IfOk, IfErr, OnOk, string_bytes};
 ghost use Rattle.std.specs.List.{AllByRecursion};
+ghost use Rattle.w2c_io.specs.Passed.{Passes};
 ghost use Rattle.w2c_io.specs.Telling.{Tells};
-ghost use Rattle.w2c_files.specs.Reading.{AreRead};
+ghost use Rattle.w2c_files.specs.Passing.{ReadsAll};
+ghost use Rattle.w2c_files.specs.Reading.{AreRead, total};
 ghost use Rattle.w2c_files.specs.Words.{names_of};
 ghost use Rattle.wasm_spelling.specs.Limits.{most_module_bytes};
 ghost use Rattle.wasm2c_cli.specs.Parts.{IsAtFile, StopsAtRead, StopsReading};
+ghost use Rattle.wasm2c_cli.specs.PartsPassing.{TriesReading};
 ghost use Rattle.wasm2c_cli.specs.Plan.{most_set_bytes};
 
 use crate::stop::{Reason, Stop};
@@ -30,8 +33,12 @@ pub fn read_modules<F: Files>(
         (λ contents. AreRead most_module_bytes most_set_bytes contents (names_of inputs.now) all.items)) }
     ensures many { IfOk result (λ all. length all.items ≡ length inputs.now) }
     ensures fit { IfOk result (λ all. AllByRecursion (λ bytes. length bytes ≤ most_module_bytes) all.items) }
+    ensures together { IfOk result (λ all. total all.items ≤ most_set_bytes) }
     ensures stop { IfErr result (StopsReading (F.told files.old) (names_of inputs.now)
         (F.read_faults files.old) (F.read_faults files.new) (F.fault_name files.new)) }
+    ensures passed { IfOk result (λ all. Passes (F.trace files.old) (F.trace files.new)
+        (ReadsAll most_module_bytes (names_of inputs.now) all.items)) }
+    ensures tried { IfErr result (λ stop. Passes (F.trace files.old) (F.trace files.new) (TriesReading (names_of inputs.now) stop)) }
 {
     let limits = Limits {
         each: MODULE_BYTES,

@@ -1,9 +1,12 @@
 // The two files of the runtime that units are compiled with.
 ghost use Rattle.std.specs.Prelude.{◌≡◌, ◌++◌, ◌≤◌, IfErr, IfOk, OnOk, string_bytes};
+ghost use Rattle.w2c_io.specs.Passed.{Passes};
+ghost use Rattle.w2c_files.specs.Passing.{WritesFiles};
 ghost use Rattle.w2c_files.specs.Standing.{written};
 ghost use Rattle.wasm2c_words.specs.CommandLine.{runtime};
 ghost use Rattle.wasm2c_cli.specs.declared.work.Finished.TheVariants.{Written};
 ghost use Rattle.wasm2c_cli.specs.Parts.{FinishesLine, StopsWriting, runtime_under};
+ghost use Rattle.wasm2c_cli.specs.PartsPassing.{EndsWriting, PassesWhole, TriesLine};
 ghost use Rattle.wasm2c_cli.specs.Runtime.{runtime_header, runtime_source};
 ghost use Rattle.wasm2c_cli.specs.Stops.{KeepsCurrent, StopsLine};
 
@@ -24,6 +27,8 @@ pub fn write_runtime<F: Files>(alloc: Global, dir: &str, files: &mut F) -> Resul
     ensures writes_kept { OnOk result (F.write_faults files.new ≡ F.write_faults files.old) }
     ensures stop { IfErr result (StopsLine (runtime dir.now) (F.told files.old) (F.told files.new)
         (F.read_faults files.old) (F.read_faults files.new) (F.write_faults files.old) (F.write_faults files.new) (F.fault_name files.new)) }
+    ensures passed { OnOk result (Passes (F.trace files.old) (F.trace files.new) (PassesWhole (runtime dir.now))) }
+    ensures tried { IfErr result (λ stop. Passes (F.trace files.old) (F.trace files.new) (TriesLine (runtime dir.now) stop)) }
 {
     let header = name_in(alloc, dir, "/w2c_rt.h")?;
     let source = name_in(alloc, dir, "/w2c_rt.c")?;
@@ -52,6 +57,10 @@ fn write_texts<F: Files>(
     ensures kept { OnOk result (F.write_faults files.new ≡ F.write_faults files.old) }
     ensures stop { IfErr result (StopsWriting (F.told files.old) (F.told files.new) (runtime_under header_file.now source_file.now)
         (F.write_faults files.old) (F.write_faults files.new) (F.fault_name files.new)) }
+    ensures passed { OnOk result (Passes (F.trace files.old) (F.trace files.new)
+        (WritesFiles (runtime_under header_file.now source_file.now))) }
+    ensures tried { IfErr result (λ stop. Passes (F.trace files.old) (F.trace files.new)
+        (EndsWriting (runtime_under header_file.now source_file.now) stop)) }
 {
     if let Err(answer) = write_file(header_file, header().as_bytes(), files) {
         return Err(stop_for(alloc, answer, header_file));

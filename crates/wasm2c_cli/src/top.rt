@@ -2,6 +2,7 @@
 ghost use Rattle.std.specs.Prelude.{◌≡◌, ◌⊎◌, ◌≤◌, List, ℕ, length, Some, None};
 ghost use Rattle.w2c_io.specs.Contents.{Name, Contents};
 ghost use Rattle.w2c_io.specs.Causes.{Rose, Faulted};
+ghost use Rattle.w2c_io.specs.Passed.{Passes};
 ghost use Rattle.w2c_io.specs.Telling.{Tells, Says, SaysPart};
 ghost use Rattle.w2c_files.specs.Standing.{StandsAt};
 ghost use Rattle.w2c_files.specs.Words.{texts};
@@ -10,6 +11,7 @@ ghost use Rattle.wasm2c_words.specs.CommandLine.{Generation as Generated, line_o
 ghost use Rattle.wasm2c_cli.specs.declared.stop.Reason.{Reason};
 ghost use Rattle.wasm2c_cli.specs.Job.{IsJob, Job, Missing, Refused, Write};
 ghost use Rattle.wasm2c_cli.specs.Lines.{IsLine, read_line, refused_line, summary_line, usage_line, write_line};
+ghost use Rattle.wasm2c_cli.specs.Passing.{PassesFor, PutsLinkedUnits};
 ghost use Rattle.wasm2c_cli.specs.Stops.{Done, Generates, IsInput, IsOutput, StandsOfJob};
 ghost use Rattle.wasm2c_cli.specs.Top.{Answers, NamesModules};
 ghost use Rattle.wasm2c_cli.specs.Units.{WritesLinkedUnits, WritesUnits};
@@ -73,6 +75,14 @@ pub fn wasm2c_top<F: Files, E: Sink>(
     ensures stands { result ≡ 5 → Tells (F.told files.old) (λ m. StandsOfJob (texts words.now) m (F.told files.old) (F.told files.new)) }
     ensures part { result ≡ 5 → (line : List ℕ) × IsLine line × SaysPart (E.told err.old) (E.told err.new) line }
     ensures status { result ≤ 5 }
+
+    // What passed through the files, those of the system too: the files that the words name are read, each once and in order, and
+    // the job over the bytes that the reads gave decides what is written, which line is said, and the status.
+    ensures passed { Passes (F.trace files.old) (F.trace files.new) (PassesFor (texts words.now) result
+        (Says (E.told err.old) (E.told err.new) (E.faults err.old) (E.faults err.new))) }
+    // The translation theorem of what was put.
+    ensures linked_put { result ≡ 0 → NamesModules (texts words.now)
+        → Passes (F.trace files.old) (F.trace files.new) (PutsLinkedUnits (texts words.now)) }
 {
     linked_units_do_what_modules_do();
     match work(alloc, words, files) {

@@ -1,12 +1,14 @@
 // Translates the modules of files, and a module that is generated.
 ghost use Rattle.std.specs.Prelude.{◌≡◌, ◌≤◌, length, IfOk, IfErr, OnOk};
 ghost use Rattle.std.specs.List.{AllByRecursion};
+ghost use Rattle.w2c_io.specs.Passed.{Passes};
 ghost use Rattle.w2c_files.specs.Words.{names_of};
 ghost use Rattle.w2c_gen.specs.GeneratedFile.{IsGeneratedFile};
 ghost use Rattle.wasm_spelling.specs.Limits.{most_module_bytes};
 ghost use Rattle.wasm2c_words.specs.CommandLine.{generate as generates};
 ghost use Rattle.wasm2c_words.specs.Seen.{seen_generation};
 ghost use Rattle.wasm2c_cli.specs.Parts.{FinishesLine, FinishesTranslating, HasName, IsFitGeneration, IsGenerated, StopsTranslating, seen_targets};
+ghost use Rattle.wasm2c_cli.specs.PartsPassing.{PassesWhole, TranslatesAll, TriesLine, TriesTranslating};
 ghost use Rattle.wasm2c_cli.specs.Stops.{KeepsCurrent, StopsLine};
 
 use crate::accepting::accept_modules;
@@ -38,6 +40,10 @@ pub fn translate<F: Files>(
     ensures current { IfErr result (KeepsCurrent (F.current files.old) (F.current files.new)) }
     ensures stop { IfErr result (StopsTranslating (names_of inputs.now) (seen_targets targets.now) (F.told files.old) (F.told files.new)
         (F.read_faults files.old) (F.read_faults files.new) (F.write_faults files.old) (F.write_faults files.new) (F.fault_name files.new)) }
+    ensures passed { OnOk result (Passes (F.trace files.old) (F.trace files.new)
+        (TranslatesAll (names_of inputs.now) (seen_targets targets.now))) }
+    ensures tried { IfErr result (λ stop. Passes (F.trace files.old) (F.trace files.new)
+        (TriesTranslating (names_of inputs.now) (seen_targets targets.now) stop)) }
 {
     let sources = match read_modules(alloc, inputs, files) {
         Ok(sources) => sources,
@@ -65,6 +71,9 @@ pub fn generate_module<F: Files>(
     ensures writes_kept { OnOk result (F.write_faults files.new ≡ F.write_faults files.old) }
     ensures stop { IfErr result (StopsLine (generates (seen_generation line.entry)) (F.told files.old) (F.told files.new)
         (F.read_faults files.old) (F.read_faults files.new) (F.write_faults files.old) (F.write_faults files.new) (F.fault_name files.new)) }
+    ensures passed { OnOk result (Passes (F.trace files.old) (F.trace files.new) (PassesWhole (generates (seen_generation line.entry)))) }
+    ensures tried { IfErr result (λ stop. Passes (F.trace files.old) (F.trace files.new)
+        (TriesLine (generates (seen_generation line.entry)) stop)) }
 {
     let bytes = generate(alloc, line.count)?;
     match write_generated(alloc, line, bytes.as_slice(), files) {
@@ -91,6 +100,9 @@ fn write_generated<F: Files>(
     ensures writes_kept { OnOk result (F.write_faults files.new ≡ F.write_faults files.old) }
     ensures stop { IfErr result (StopsLine (generates (seen_generation line.entry)) (F.told files.old) (F.told files.new)
         (F.read_faults files.old) (F.read_faults files.new) (F.write_faults files.old) (F.write_faults files.new) (F.fault_name files.new)) }
+    ensures passed { OnOk result (Passes (F.trace files.old) (F.trace files.new) (PassesWhole (generates (seen_generation line.entry)))) }
+    ensures tried { IfErr result (λ stop. Passes (F.trace files.old) (F.trace files.new)
+        (TriesLine (generates (seen_generation line.entry)) stop)) }
 {
     let target = Target::beside(alloc, line.output, line.module_name)?;
     match accept(alloc, bytes) {

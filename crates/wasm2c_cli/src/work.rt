@@ -1,8 +1,10 @@
 // The work that a command line asks for.
 ghost use Rattle.std.specs.Prelude.{◌≡◌, ◌≤◌, IfErr, IfOk, OnOk};
+ghost use Rattle.w2c_io.specs.Passed.{Passes};
 ghost use Rattle.w2c_files.specs.Words.{texts};
 ghost use Rattle.wasm2c_words.specs.Seen.{seen_line};
 ghost use Rattle.wasm2c_cli.specs.Parts.{FinishesLine, FinishesWork, HasPassed};
+ghost use Rattle.wasm2c_cli.specs.PartsPassing.{PassesWhole, PassesWork, TriesLine, TriesWork};
 ghost use Rattle.wasm2c_cli.specs.Stops.{KeepsCurrent, StopsLine, StopsWork};
 
 use crate::plan::{Target, set_targets};
@@ -33,6 +35,8 @@ pub fn work<F: Files>(alloc: Global, words: &[String], files: &mut F) -> Result<
     ensures writes_kept { OnOk result (F.write_faults files.new ≡ F.write_faults files.old) }
     ensures stop { IfErr result (StopsWork (texts words.now) (F.told files.old) (F.told files.new)
         (F.read_faults files.old) (F.read_faults files.new) (F.write_faults files.old) (F.write_faults files.new) (F.fault_name files.new)) }
+    ensures passed { OnOk result (Passes (F.trace files.old) (F.trace files.new) (PassesWork (texts words.now))) }
+    ensures tried { IfErr result (λ stop. Passes (F.trace files.old) (F.trace files.new) (TriesWork (texts words.now) stop)) }
 {
     let line = read_words(alloc, words)?;
     work_on(alloc, line, files)
@@ -48,6 +52,8 @@ fn work_on<F: Files>(alloc: Global, line: Line<'_>, files: &mut F) -> Result<Fin
     ensures writes_kept { OnOk result (F.write_faults files.new ≡ F.write_faults files.old) }
     ensures stop { IfErr result (StopsLine (seen_line line.entry) (F.told files.old) (F.told files.new)
         (F.read_faults files.old) (F.read_faults files.new) (F.write_faults files.old) (F.write_faults files.new) (F.fault_name files.new)) }
+    ensures passed { OnOk result (Passes (F.trace files.old) (F.trace files.new) (PassesWhole (seen_line line.entry))) }
+    ensures tried { IfErr result (λ stop. Passes (F.trace files.old) (F.trace files.new) (TriesLine (seen_line line.entry) stop)) }
 {
     match line {
         Line::Translate(one) => {

@@ -4,11 +4,14 @@ ghost use Rattle.std.specs.List.{AllByRecursion};
 ghost use Rattle.w2c_io.specs.declared.answers.WriteAnswer.TheVariants as writing;
 ghost use Rattle.w2c_io.specs.Contents.{holding};
 ghost use Rattle.w2c_io.specs.Causes.{WriteCause};
+ghost use Rattle.w2c_io.specs.Passed.{Passes, WritesFile, BreaksOff};
+ghost use Rattle.w2c_files.specs.Passing.{WritesFiles};
 ghost use Rattle.w2c_files.specs.Standing.{written, IsBegun};
 ghost use Rattle.w2c_sim.specs.Translation.{text_of, header_text_of};
 ghost use Rattle.wasm_spelling.specs.Bytes.{AreBytes};
 ghost use Rattle.wasm2c_cli.specs.declared.work.Finished.TheVariants.{Written};
 ghost use Rattle.wasm2c_cli.specs.Job.{files_of, module_files};
+ghost use Rattle.wasm2c_cli.specs.PartsPassing.{EndsWriting};
 ghost use Rattle.wasm2c_cli.specs.Parts.{HasName, IsNamed, StopsAtFile, StopsWriting, seen_target, seen_targets};
 
 use crate::plan::Target;
@@ -37,6 +40,8 @@ pub fn write_modules<F: Files>(
     ensures kept { OnOk result (F.write_faults files.new ≡ F.write_faults files.old) }
     ensures stop { IfErr result (StopsWriting (F.told files.old) (F.told files.new) (files_of (seen_targets targets.now) modules.now)
         (F.write_faults files.old) (F.write_faults files.new) (F.fault_name files.new)) }
+    ensures passed { OnOk result (Passes (F.trace files.old) (F.trace files.new) (WritesFiles (files_of (seen_targets targets.now) modules.now))) }
+    ensures tried { IfErr result (λ stop. Passes (F.trace files.old) (F.trace files.new) (EndsWriting (files_of (seen_targets targets.now) modules.now) stop)) }
 {
     for k in 0..targets.len() {
         match write_module(alloc, &targets[k], &modules[k], files) {
@@ -62,6 +67,8 @@ pub fn write_module<F: Files>(
     ensures kept { OnOk result (F.write_faults files.new ≡ F.write_faults files.old) }
     ensures stop { IfErr result (StopsWriting (F.told files.old) (F.told files.new) (module_files (seen_target target.now) module.now)
         (F.write_faults files.old) (F.write_faults files.new) (F.fault_name files.new)) }
+    ensures passed { OnOk result (Passes (F.trace files.old) (F.trace files.new) (WritesFiles (module_files (seen_target target.now) module.now))) }
+    ensures tried { IfErr result (λ stop. Passes (F.trace files.old) (F.trace files.new) (EndsWriting (module_files (seen_target target.now) module.now) stop)) }
 {
     let c_file = target.c_file.as_str();
     let header = target.header.as_str();
@@ -102,6 +109,10 @@ fn unit_to_file<F: Files>(
     ensures reads { F.read_faults files.new ≡ F.read_faults files.old }
     ensures cause { WriteCause (F.write_faults files.old) (F.write_faults files.new) result }
     ensures named { IsErrOf result writing.Failed → F.fault_name files.new ≡ Some file.now }
+    ensures passed { OnOk result (Passes (F.trace files.old) (F.trace files.new)
+        (WritesFile file.now (text_of module.now module_name.now))) }
+    ensures tried { IfErr result (λ why. Passes (F.trace files.old) (F.trace files.new)
+        (BreaksOff file.now (text_of module.now module_name.now) why)) }
     ensures bytes { AreBytes module_name.now }
 {
     files.begin(file)?;
@@ -127,6 +138,10 @@ fn header_to_file<F: Files>(
     ensures reads { F.read_faults files.new ≡ F.read_faults files.old }
     ensures cause { WriteCause (F.write_faults files.old) (F.write_faults files.new) result }
     ensures named { IsErrOf result writing.Failed → F.fault_name files.new ≡ Some file.now }
+    ensures passed { OnOk result (Passes (F.trace files.old) (F.trace files.new)
+        (WritesFile file.now (header_text_of module.now module_name.now))) }
+    ensures tried { IfErr result (λ why. Passes (F.trace files.old) (F.trace files.new)
+        (BreaksOff file.now (header_text_of module.now module_name.now) why)) }
 {
     files.begin(file)?;
     if let Err(answer) = write_header(alloc, module, module_name, files) {

@@ -1,5 +1,6 @@
 use Rattle.w2c_files.specs.Words.{names_of}
 use Rattle.wasm2c_cli.proofs.FileStops.{at_file, reading_stops}
+use Rattle.wasm2c_cli.proofs.Passing.{reading_tried}
 use Rattle.wasm2c_cli.proofs.reading.read_modules.Goals as goal
 
 pub stop_for-requires : goal.stop_for-requires
@@ -14,3 +15,9 @@ returns-in-Err-clause-stop g c =
     reading_stops (files.told c.args.files.now) (names_of c.args.inputs.now) (files.read_faults c.args.files.now)
     (files.read_faults c.read_files.new.files) (files.fault_name c.read_files.new.files) c.in-Err.why c.stop_for.result
     c.in-Err.ensures.stop c.stop_for.ensures
+
+pub returns-in-Err-clause-tried : goal.returns-in-Err-clause-tried
+returns-in-Err-clause-tried g c =
+    let files = g.F.Files in
+    reading_tried (files.trace c.args.files.now) (files.trace c.read_files.new.files) (names_of c.args.inputs.now) c.in-Err.why
+    c.stop_for.result c.in-Err.ensures.tried c.stop_for.ensures

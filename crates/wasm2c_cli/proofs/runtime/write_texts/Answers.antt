@@ -1,8 +1,9 @@
-use Rattle.std.proofs.Common.{rules}
+use Rattle.std.proofs.Common.{refl, rules}
 use Rattle.w2c_files.proofs.Standing.{at_first}
 use Rattle.wasm2c_cli.specs.Parts.{runtime_under}
 use Rattle.wasm2c_cli.specs.Runtime.{runtime_header, runtime_source}
 use Rattle.wasm2c_cli.proofs.ModuleFiles.{second_at, stops_at}
+use Rattle.wasm2c_cli.proofs.Passing.{first_ends, second_ends, two_written}
 use Rattle.wasm2c_cli.proofs.runtime.write_texts.Goals as goal
 
 pub returns-in-Err-clause-stop : goal.returns-in-Err-clause-stop
@@ -27,3 +28,23 @@ returns-in-Err-write_file-clause-stop g c =
     c.args.header_file.now c.args.source_file.now runtime_header runtime_source (search rules) (search rules))
     (λ failed. record { rose = search rules; named = search rules })
     (search rules)
+
+pub returns-in-Err-clause-tried : goal.returns-in-Err-clause-tried
+returns-in-Err-clause-tried g c =
+    let files = g.F.Files in
+    first_ends (files.trace c.args.files.now) (files.trace c.write_file.new.files) c.args.header_file.now c.args.header_file.now refl
+    runtime_header _ c.in-Err.answer c.stop_for.result (search rules) (search rules)
+
+pub returns-in-Err-write_file-clause-tried : goal.returns-in-Err-write_file-clause-tried
+returns-in-Err-write_file-clause-tried g c =
+    let files = g.F.Files in
+    second_ends (files.trace c.args.files.now) (files.trace c.write_file.new.files) (files.trace c.write_file-2.new.files)
+    c.args.header_file.now c.args.source_file.now c.args.header_file.now c.args.source_file.now refl refl runtime_header runtime_source
+    c.in-Err-write_file.answer c.stop_for-in-Err-write_file.result (search rules) (search rules) (search rules)
+
+pub returns-clause-passed : goal.returns-clause-passed
+returns-clause-passed g c =
+    let files = g.F.Files in
+    two_written (files.trace c.args.files.now) (files.trace c.write_file.new.files) (files.trace c.write_file-2.new.files)
+    c.args.header_file.now c.args.source_file.now c.args.header_file.now c.args.source_file.now refl refl runtime_header runtime_source
+    (search rules) (search rules)

@@ -2,6 +2,11 @@ use Rattle.w2c_files.specs.Words.{texts}
 use Rattle.wasm2c_cli.proofs.Passed.{distinct_outputs}
 use Rattle.wasm2c_cli.proofs.TopLaws.{are_linked, finish_complete, finish_done, finish_no_stop, finish_part, finish_silent, finish_stands, finish_summary, finish_units}
 use Rattle.wasm2c_cli.proofs.TopLaws.{stop_complete, stop_current, stop_not, stop_part, stop_refused, stop_stands, stop_unread, stop_untouched, stop_unwritten}
+use Rattle.w2c_io.specs.Telling.{Says}
+use Rattle.w2c_io.proofs.Passed.{passed_so}
+use Rattle.wasm2c_cli.specs.PartsPassing.{PassesWork, TriesWork}
+use Rattle.wasm2c_cli.specs.Passing.{PassesFor, PutsLinkedUnits}
+use Rattle.wasm2c_cli.proofs.PassingTop.{finish_passes, puts_linked, stop_passes}
 use Rattle.wasm2c_cli.proofs.top.wasm2c_top.Goals as goal
 
 -- ---- work that was finished
@@ -156,3 +161,35 @@ pub returns-in-Err-clause-part : goal.returns-in-Err-clause-part
 returns-in-Err-clause-part g c = λ five.
     let err = g.E.Sink in
     stop_part c.in-Err.stop (err.told c.args.err.now) (err.told c.report.new.err) c.report.ensures.part
+
+-- ---- what passed through the files
+
+pub returns-in-Ok-clause-passed : goal.returns-in-Ok-clause-passed
+returns-in-Ok-clause-passed g c =
+    let files = g.F.Files in
+    let err = g.E.Sink in
+    let words = texts c.args.words.now in
+    let says = Says (err.told c.args.err.now) (err.told c.summarize.new.err) (err.faults c.args.err.now) (err.faults c.summarize.new.err) in
+    passed_so (files.trace c.args.files.now) (files.trace c.work.new.files) (PassesWork words) (PassesFor words c.summarize.result says)
+    (λ events whole. finish_passes words c.summarize.result says events whole c.summarize.ensures.status) c.in-Ok.ensures.passed
+
+pub returns-in-Err-clause-passed : goal.returns-in-Err-clause-passed
+returns-in-Err-clause-passed g c =
+    let files = g.F.Files in
+    let err = g.E.Sink in
+    let words = texts c.args.words.now in
+    let says = Says (err.told c.args.err.now) (err.told c.report.new.err) (err.faults c.args.err.now) (err.faults c.report.new.err) in
+    passed_so (files.trace c.args.files.now) (files.trace c.work.new.files) (TriesWork words c.in-Err.stop)
+    (PassesFor words c.report.result says)
+    (λ events tried. stop_passes words c.report.result says events c.in-Err.stop tried c.report.ensures.status c.report.ensures.says)
+    c.in-Err.ensures.tried
+
+pub returns-in-Ok-clause-linked_put : goal.returns-in-Ok-clause-linked_put
+returns-in-Ok-clause-linked_put g c = λ zero names.
+    let files = g.F.Files in
+    let words = texts c.args.words.now in
+    passed_so (files.trace c.args.files.now) (files.trace c.work.new.files) (PassesWork words) (PutsLinkedUnits words)
+    (λ events whole. puts_linked c.linked_units_do_what_modules_do.ensures words events whole names) c.in-Ok.ensures.passed
+
+pub returns-in-Err-clause-linked_put : goal.returns-in-Err-clause-linked_put
+returns-in-Err-clause-linked_put g c = stop_not c.report.result c.in-Err.stop c.report.ensures.status

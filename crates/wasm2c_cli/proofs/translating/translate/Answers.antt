@@ -5,8 +5,20 @@ use Rattle.wasm2c_cli.specs.Job.{files_of}
 use Rattle.wasm2c_cli.specs.Parts.{AreTaken, StopsAccepting, StopsWriting, seen_targets}
 use Rattle.wasm2c_cli.proofs.LineStops.{all_kept}
 use Rattle.wasm2c_cli.proofs.Taken.{length-taken}
-use Rattle.wasm2c_cli.proofs.Translated.{accepting_stops, translation_finished, writing_stopped}
+use Rattle.wasm2c_cli.proofs.Translated.{accepting_stops, reading_stopped, translation_finished, writing_stopped}
+use Rattle.w2c_io.specs.Passed.{Passes}
+use Rattle.w2c_files.specs.Passing.{WritesFiles}
+use Rattle.wasm2c_cli.specs.PartsPassing.{EndsWriting}
+use Rattle.wasm2c_cli.proofs.PassingLines.{accepting_passed, all_passed, reading_passed, writing_passed}
 use Rattle.wasm2c_cli.proofs.translating.translate.Goals as goal
+
+pub returns-in-Err-clause-stop : goal.returns-in-Err-clause-stop
+returns-in-Err-clause-stop g c =
+    let files = g.F.Files in
+    reading_stopped (names_of c.args.inputs.now) (seen_targets c.args.targets.now) (files.told c.args.files.now)
+    (files.told c.read_modules.new.files) (files.read_faults c.args.files.now) (files.read_faults c.read_modules.new.files)
+    (files.write_faults c.args.files.now) (files.write_faults c.read_modules.new.files) (files.fault_name c.read_modules.new.files)
+    c.in-Err.stop c.in-Err.ensures.stop c.in-Err.ensures.told
 
 pub returns-in-Err-accept_modules-clause-stop : goal.returns-in-Err-accept_modules-clause-stop
 returns-in-Err-accept_modules-clause-stop g c =
@@ -68,3 +80,46 @@ returns-clause-stop g c =
     (subst (λ l. IfErr c.write_modules.result (StopsWriting (files.told c.read_modules.new.files) (files.told c.write_modules.new.files)
     (files_of targets l) (files.write_faults c.read_modules.new.files) (files.write_faults c.write_modules.new.files)
     (files.fault_name c.write_modules.new.files))) seen-2 c.write_modules.ensures.stop)
+
+pub returns-in-Err-clause-tried : goal.returns-in-Err-clause-tried
+returns-in-Err-clause-tried g c =
+    let files = g.F.Files in
+    reading_passed (names_of c.args.inputs.now) (seen_targets c.args.targets.now) (files.trace c.args.files.now)
+    (files.trace c.read_modules.new.files) c.in-Err.stop c.in-Err.ensures.tried
+
+pub returns-in-Err-accept_modules-clause-tried : goal.returns-in-Err-accept_modules-clause-tried
+returns-in-Err-accept_modules-clause-tried g c =
+    let files = g.F.Files in
+    let names = names_of c.args.inputs.now in
+    let seen : c.as_slice.result.now ≡ c.in-Ok.sources.items = search rules in
+    accepting_passed names (seen_targets c.args.targets.now) (files.trace c.args.files.now) (files.trace c.read_modules.new.files)
+    c.in-Ok.sources.items c.in-Ok.ensures.fit c.in-Ok.ensures.together c.in-Err-accept_modules.stop
+    (subst (λ l. StopsAccepting names l c.in-Err-accept_modules.stop) seen c.in-Err-accept_modules.ensures.stop) c.in-Ok.ensures.passed
+
+pub returns-clause-passed : goal.returns-clause-passed
+returns-clause-passed g c =
+    let files = g.F.Files in
+    let names = names_of c.args.inputs.now in
+    let targets = seen_targets c.args.targets.now in
+    let modules = c.in-Ok-accept_modules.modules.items in
+    let seen : c.as_slice.result.now ≡ c.in-Ok.sources.items = search rules in
+    let seen-2 : c.as_slice-2.result.now ≡ modules = search rules in
+    let taken : AreTaken c.in-Ok.sources.items modules = subst (λ l. AreTaken l modules) seen c.in-Ok-accept_modules.ensures.taken in
+    all_passed names targets (files.trace c.args.files.now) (files.trace c.write_modules.new.files) c.in-Ok.sources.items c.in-Ok.ensures.fit c.in-Ok.ensures.together
+    modules taken (files.trace c.read_modules.new.files) c.in-Ok.ensures.passed c.write_modules.result c.write_modules.ensures.names
+    (subst (λ l. OnOk c.write_modules.result (Passes (files.trace c.read_modules.new.files) (files.trace c.write_modules.new.files)
+    (WritesFiles (files_of targets l)))) seen-2 c.write_modules.ensures.passed)
+
+pub returns-clause-tried : goal.returns-clause-tried
+returns-clause-tried g c =
+    let files = g.F.Files in
+    let names = names_of c.args.inputs.now in
+    let targets = seen_targets c.args.targets.now in
+    let modules = c.in-Ok-accept_modules.modules.items in
+    let seen : c.as_slice.result.now ≡ c.in-Ok.sources.items = search rules in
+    let seen-2 : c.as_slice-2.result.now ≡ modules = search rules in
+    let taken : AreTaken c.in-Ok.sources.items modules = subst (λ l. AreTaken l modules) seen c.in-Ok-accept_modules.ensures.taken in
+    writing_passed names targets (files.trace c.args.files.now) (files.trace c.write_modules.new.files) c.in-Ok.sources.items
+    c.in-Ok.ensures.fit c.in-Ok.ensures.together modules taken (files.trace c.read_modules.new.files) c.in-Ok.ensures.passed c.write_modules.result
+    (subst (λ l. IfErr c.write_modules.result (λ stop. Passes (files.trace c.read_modules.new.files) (files.trace c.write_modules.new.files)
+    (EndsWriting (files_of targets l) stop))) seen-2 c.write_modules.ensures.tried)

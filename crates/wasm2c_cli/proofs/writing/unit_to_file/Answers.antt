@@ -3,6 +3,8 @@ use Rattle.wasm_binary.proofs.Result.{slice_bytes}
 use Rattle.w2c_files.proofs.Standing.{whole_begun}
 use Rattle.w2c_sim.specs.Translation.{text_of}
 use Rattle.wasm2c_cli.proofs.ModuleFiles.{in_err, in_ok, put_part, put_whole}
+use Rattle.w2c_io.proofs.Passed.{part_written}
+use Rattle.wasm2c_cli.proofs.Passing.{finished, not_finished}
 use Rattle.wasm2c_cli.proofs.writing.unit_to_file.Goals as goal
 
 pub returns-in-Err-clause-begun : goal.returns-in-Err-clause-begun
@@ -38,3 +40,24 @@ returns-in-Err-clause-bytes g c = slice_bytes c.args.module_name.now c.type_inv.
 
 pub returns-clause-bytes : goal.returns-clause-bytes
 returns-clause-bytes g c = slice_bytes c.args.module_name.now c.type_inv.module_name
+
+pub returns-in-Err-clause-tried : goal.returns-in-Err-clause-tried
+returns-in-Err-clause-tried g c =
+    let files = g.F.Files in
+    part_written (files.trace c.args.files.now) (files.trace c.begin.new.self) (files.trace c.write_unit.new.files)
+    (files.trace c.give_up.new.files) c.args.file.now (text_of c.args.module.now c.args.module_name.now) c.in-Err.answer
+    c.in_ok-begin.ensures.traced c.in-Err.ensures.tried c.give_up.ensures.passed
+
+pub returns-clause-passed : goal.returns-clause-passed
+returns-clause-passed g c =
+    let files = g.F.Files in
+    finished (files.trace c.args.files.now) (files.trace c.begin.new.self) (files.trace c.write_unit.new.files) (files.trace c.finish.new.self)
+    c.args.file.now (text_of c.args.module.now c.args.module_name.now) c.finish.result c.in_ok-begin.ensures.traced
+    c.in_default.ensures.passed c.finish.ensures.traced
+
+pub returns-clause-tried : goal.returns-clause-tried
+returns-clause-tried g c =
+    let files = g.F.Files in
+    not_finished (files.trace c.args.files.now) (files.trace c.begin.new.self) (files.trace c.write_unit.new.files) (files.trace c.finish.new.self)
+    c.args.file.now (text_of c.args.module.now c.args.module_name.now) c.finish.result c.in_ok-begin.ensures.traced
+    c.in_default.ensures.passed c.finish.ensures.traced

@@ -1,9 +1,10 @@
-use Rattle.std.proofs.Common.{rules}
+use Rattle.std.proofs.Common.{◌≡◌, rules}
 use Rattle.w2c_sim.specs.Translation.{text_of, header_text_of}
 use Rattle.w2c_files.proofs.Standing.{at_first}
 use Rattle.wasm2c_cli.specs.Job.{module_files}
 use Rattle.wasm2c_cli.specs.Parts.{seen_target}
-use Rattle.wasm2c_cli.proofs.ModuleFiles.{second_at, stops_at}
+use Rattle.wasm2c_cli.proofs.ModuleFiles.{both_stand, second_at, stops_at}
+use Rattle.wasm2c_cli.proofs.Passing.{first_ends, second_ends, two_written}
 use Rattle.wasm2c_cli.proofs.writing.write_module.Goals as goal
 
 pub returns-in-Err-clause-stop : goal.returns-in-Err-clause-stop
@@ -29,3 +30,46 @@ returns-in-Err-header_to_file-clause-stop g c =
     (text_of m t.module_name) (header_text_of m t.module_name) (search rules) (search rules))
     (λ failed. record { rose = search rules; named = search rules })
     (search rules)
+
+pub returns-in-Err-clause-tried : goal.returns-in-Err-clause-tried
+returns-in-Err-clause-tried g c =
+    let files = g.F.Files in
+    let t = seen_target c.args.target.now in
+    let m = c.args.module.now in
+    let file : c.as_str-c_file.result.now ≡ t.c_file = search rules in
+    first_ends (files.trace c.args.files.now) (files.trace c.unit_to_file.new.files) t.c_file c.as_str-c_file.result.now file
+    (text_of m t.module_name) _ c.in-Err.answer c.stop_for.result c.in-Err.ensures.tried c.stop_for.ensures
+
+pub returns-in-Err-header_to_file-clause-tried : goal.returns-in-Err-header_to_file-clause-tried
+returns-in-Err-header_to_file-clause-tried g c =
+    let files = g.F.Files in
+    let t = seen_target c.args.target.now in
+    let m = c.args.module.now in
+    let file : c.as_str-c_file.result.now ≡ t.c_file = search rules in
+    let header : c.as_str-header.result.now ≡ t.header = search rules in
+    second_ends (files.trace c.args.files.now) (files.trace c.unit_to_file.new.files) (files.trace c.header_to_file.new.files) t.c_file
+    t.header c.as_str-c_file.result.now c.as_str-header.result.now file header (text_of m t.module_name) (header_text_of m t.module_name)
+    c.in-Err-header_to_file.answer c.stop_for-in-Err-header_to_file.result c.in_default.ensures.passed
+    c.in-Err-header_to_file.ensures.tried c.stop_for-in-Err-header_to_file.ensures
+
+pub returns-clause-whole : goal.returns-clause-whole
+returns-clause-whole g c =
+    let files = g.F.Files in
+    let t = seen_target c.args.target.now in
+    let m = c.args.module.now in
+    let file : c.as_str-c_file.result.now ≡ t.c_file = search rules in
+    let header : c.as_str-header.result.now ≡ t.header = search rules in
+    both_stand (files.told c.args.files.now) (files.told c.unit_to_file.new.files) (files.told c.header_to_file.new.files) t.c_file
+    t.header c.as_str-c_file.result.now c.as_str-header.result.now file header (text_of m t.module_name) (header_text_of m t.module_name)
+    c.in_default.ensures.whole c.in_default-header_to_file.ensures.whole
+
+pub returns-clause-passed : goal.returns-clause-passed
+returns-clause-passed g c =
+    let files = g.F.Files in
+    let t = seen_target c.args.target.now in
+    let m = c.args.module.now in
+    let file : c.as_str-c_file.result.now ≡ t.c_file = search rules in
+    let header : c.as_str-header.result.now ≡ t.header = search rules in
+    two_written (files.trace c.args.files.now) (files.trace c.unit_to_file.new.files) (files.trace c.header_to_file.new.files) t.c_file
+    t.header c.as_str-c_file.result.now c.as_str-header.result.now file header (text_of m t.module_name) (header_text_of m t.module_name)
+    c.in_default.ensures.passed c.in_default-header_to_file.ensures.passed

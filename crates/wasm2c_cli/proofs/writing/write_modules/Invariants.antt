@@ -1,5 +1,7 @@
 use Rattle.std.proofs.Common.{◌≡◌, ◌≤◌, take}
 use Rattle.std.specs.List.{AllByRecursion}
+use Rattle.w2c_io.specs.Passed.{Passes}
+use Rattle.w2c_files.specs.Passing.{WritesFiles}
 use Rattle.w2c_files.specs.Standing.{written}
 use Rattle.wasm2c_cli.specs.Job.{files_of}
 use Rattle.wasm2c_cli.specs.Parts.{IsNamed, seen_targets}
@@ -15,4 +17,6 @@ invariant-loop-k g l =
       reads : files.read_faults l.files ≡ files.read_faults l.fn.files;
       later : files.write_faults l.fn.files ≤ files.write_faults l.files;
       kept : files.write_faults l.files ≡ files.write_faults l.fn.files;
+      put : Passes (files.trace l.fn.files) (files.trace l.files)
+          (WritesFiles (files_of (take l.k (seen_targets l.targets)) (take l.k l.modules)));
     }

@@ -1,0 +1,267 @@
+-- What passes through files that are read or written one after another, by the stop.
+use Rattle.std.proofs.Common.{◌≡◌, ℕ, ◌-◌, zero, suc, List, [], ◌∷◌, ◌++◌, length, refl, sym, ◌∙◌, ap, subst, append_assoc, arith, Some, Result, Ok, Err, OnOk, IfErr, slice_get, string_bytes, inl, inr}
+use Rattle.std.proofs.lemmas.List.{append-nil}
+use Rattle.w2c_io.specs.Contents.{Name}
+use Rattle.w2c_io.specs.Events.{Event, Read, Begin, Finish}
+use Rattle.w2c_io.specs.Passed.{Passes, PutsText, WritesFile, BreaksOff}
+use Rattle.w2c_io.specs.declared.answers.ReadAnswer.{ReadAnswer}
+use Rattle.w2c_io.specs.declared.answers.ReadAnswer.TheVariants as reading
+use Rattle.w2c_io.specs.declared.answers.WriteAnswer.{WriteAnswer}
+use Rattle.w2c_io.specs.declared.answers.WriteAnswer.TheVariants as writing
+use Rattle.w2c_io.proofs.Passed.{both_passed, file_written, finished_in_vain, passed_so}
+use Rattle.w2c_files.specs.Passing.{ReadsAll, ReadsSome, StopsBy, WritesFiles, BreaksOffAt}
+use Rattle.w2c_files.specs.Reading.{Unreadable, Missing as NotThere, TooLong, Past, total}
+use Rattle.w2c_files.specs.declared.reading.ReadStop.{ReadStop}
+use Rattle.w2c_files.specs.declared.reading.ReadStop.TheVariants as read
+use Rattle.w2c_files.proofs.Passing.{behind_broken, both_written, broken_some, first_broken, longer_broken, one_written}
+use Rattle.wasm_spelling.specs.Limits.{most_module_bytes}
+use Rattle.wasm_spelling.specs.declared.fault.Which.TheVariants.{ModuleBytes, SetBytes}
+use Rattle.wasm2c_cli.specs.declared.stop.Reason.{Reason}
+use Rattle.wasm2c_cli.specs.declared.stop.Reason.TheVariants.{Limit}
+use Rattle.wasm2c_cli.specs.declared.stop.Stop.{Stop}
+use Rattle.wasm2c_cli.specs.declared.stop.Stop.TheVariants as stops
+use Rattle.wasm2c_cli.specs.Parts.{StopsAtFile, StopsAtLimit, StopsAtRead, StopsAtUnreadable}
+use Rattle.wasm2c_cli.specs.PartsPassing.{EndsReading, EndsWriting, TriesReading}
+use Rattle.wasm2c_cli.specs.Passing.{ReadsFirst, StopsAfter, StopsByAnswer}
+use Rattle.wasm2c_cli.specs.Plan.{most_set_bytes}
+use Rattle.wasm2c_cli.specs.Reasons.{PassesLimitBy}
+
+-- ---- the first of files are read
+
+pub none_read : (names : List Name) → ReadsFirst names []
+none_read [] = tt
+none_read (n ∷ names) = tt
+
+-- the files in front gave bytes
+front_read : (front rest : List Name) (all : List (List ℕ)) (first : List Event) → ReadsAll most_module_bytes front all first
+    → ReadsFirst (front ++ rest) first
+front_read [] rest [] first reads = subst (ReadsFirst rest) (sym reads) (none_read rest)
+front_read [] rest (b ∷ all) first reads = absurd reads
+front_read (n ∷ front) rest [] first reads = absurd reads
+front_read (n ∷ front) rest (b ∷ all) [] reads = absurd reads
+front_read (n ∷ front) rest (b ∷ all) (e ∷ first) reads = inl (b, reads.0, front_read front rest all first reads.1)
+
+pub all_read_first : (names : List Name) (all : List (List ℕ)) (given : List Event) → ReadsAll most_module_bytes names all given
+    → ReadsFirst names given
+all_read_first names all given reads =
+    subst (λ (l : List Name). ReadsFirst l given) (append-nil names) (front_read names [] all given reads)
+
+-- and the next was read last
+last_read : (front rest : List Name) (name : Name) (all : List (List ℕ)) (first : List Event) (answer : Result (List ℕ) ReadAnswer)
+    → ReadsAll most_module_bytes front all first
+    → ReadsFirst (front ++ name ∷ rest) (first ++ Read name most_module_bytes answer ∷ [])
+last_read [] rest name [] first answer reads =
+    subst (λ (l : List Event). ReadsFirst (name ∷ rest) (l ++ Read name most_module_bytes answer ∷ [])) (sym reads)
+    (inr (answer, refl, refl))
+last_read [] rest name (b ∷ all) first answer reads = absurd reads
+last_read (n ∷ front) rest name [] first answer reads = absurd reads
+last_read (n ∷ front) rest name (b ∷ all) [] answer reads = absurd reads
+last_read (n ∷ front) rest name (b ∷ all) (e ∷ first) answer reads =
+    inl (b, reads.0, last_read front rest name all first answer reads.1)
+
+pub many_read : (each : ℕ) (names : List Name) (all : List (List ℕ)) (events : List Event) → ReadsAll each names all events
+    → length all ≡ length names
+many_read each [] [] events reads = refl
+many_read each [] (b ∷ all) events reads = absurd reads
+many_read each (n ∷ names) [] events reads = absurd reads
+many_read each (n ∷ names) (b ∷ all) [] reads = absurd reads
+many_read each (n ∷ names) (b ∷ all) (e ∷ events) reads = ap suc (many_read each names all events reads.1)
+
+-- ---- where reading stops
+
+-- the name behind so many
+name_behind : (front rest : List Name) (name file : Name) (k : ℕ) → k ≡ length front → slice_get (front ++ name ∷ rest) k ≡ Some file
+    → name ≡ file
+name_behind [] rest name file zero many at = cc
+name_behind [] rest name file (suc k) many at = absurd (omega (arith, many))
+name_behind (n ∷ front) rest name file zero many at = absurd (omega (arith, many))
+name_behind (n ∷ front) rest name file (suc k) many at = name_behind front rest name file k (omega (arith, many)) at
+
+by_unread : (left number before : ℕ) (answer : Result (List ℕ) ReadAnswer) (k : ℕ) → StopsBy left number answer (read.Unread k)
+    → (k ≡ number) × StopsByAnswer before answer NotThere
+by_unread left number before (Ok bytes) k is = absurd is
+by_unread left number before (Err reading.Absent) k is = (is, tt)
+by_unread left number before (Err reading.Failed) k is = (is, tt)
+by_unread left number before (Err reading.TooLong) k is = absurd is
+by_unread left number before (Err reading.Memory) k is = absurd is
+
+by_length : (left number before : ℕ) (answer : Result (List ℕ) ReadAnswer) (k : ℕ) → StopsBy left number answer (read.TooLong k)
+    → (k ≡ number) × StopsByAnswer before answer TooLong
+by_length left number before (Ok bytes) k is = absurd is
+by_length left number before (Err reading.Absent) k is = absurd is
+by_length left number before (Err reading.Failed) k is = absurd is
+by_length left number before (Err reading.TooLong) k is = (is, tt)
+by_length left number before (Err reading.Memory) k is = absurd is
+
+by_place : (number before : ℕ) (answer : Result (List ℕ) ReadAnswer) (k place : ℕ)
+    → StopsBy (most_set_bytes - before) number answer (read.Past k place) → (k ≡ number) × StopsByAnswer before answer (Past place)
+by_place number before (Ok bytes) k place (same, is, long) = (same, (long, is))
+by_place number before (Err reading.Absent) k place is = absurd is
+by_place number before (Err reading.Failed) k place is = absurd is
+by_place number before (Err reading.TooLong) k place is = absurd is
+by_place number before (Err reading.Memory) k place is = absurd is
+
+module _ (names : List Name) (given : List Event) where
+  abbrev Stopped : ReadStop → Type 0
+  Stopped why = ReadsSome most_module_bytes most_set_bytes names why given
+
+  some_read : (why : ReadStop) → Stopped why → ReadsFirst names given
+  some_read why (front, rest, all, first, last, split, reads, calls, inl (none, memory)) =
+      subst (λ (l : List Name). ReadsFirst l given) (sym split)
+      (subst (ReadsFirst (front ++ rest)) (sym (calls ∙ ap (λ (l : List Event). first ++ l) none ∙ append-nil first))
+      (front_read front rest all first reads))
+  some_read why (front, rest, all, first, last, split, reads, calls, inr (name, after, answer, is, one, stops)) =
+      subst (λ (l : List Name). ReadsFirst l given) (sym (split ∙ ap (λ (l : List Name). front ++ l) is))
+      (subst (ReadsFirst (front ++ name ∷ after)) (sym (calls ∙ ap (λ (l : List Event). first ++ l) one))
+      (last_read front after name all first answer reads))
+
+  -- the file with a number
+  stopped_at : (why : ReadStop) (k : ℕ) (reason : Unreadable) (file : Name) → (why ≡ read.Memory → ⊥)
+      → ((all : List (List ℕ)) (answer : Result (List ℕ) ReadAnswer) → StopsBy (most_set_bytes - total all) (length all) answer why
+      → (k ≡ length all) × StopsByAnswer (total all) answer reason)
+      → Stopped why → slice_get names k ≡ Some file → StopsAfter names given file reason
+  stopped_at why k reason file not_memory by (front, rest, all, first, last, split, reads, calls, inl (none, memory)) at = absurd (not_memory memory)
+  stopped_at why k reason file not_memory by (front, rest, all, first, last, split, reads, calls, inr (name, after, answer, is, one, stops)) at =
+      let because = by all answer stops in
+      let parts : names ≡ front ++ name ∷ after = split ∙ ap (λ (l : List Name). front ++ l) is in
+      let same : name ≡ file = name_behind front after name file k
+      (because.0 ∙ many_read most_module_bytes front all first reads) (subst (λ (l : List Name). slice_get l k ≡ Some file) parts at) in
+      record {
+        front = front;
+        rest = after;
+        all = all;
+        answer = answer;
+        first = first;
+        split = parts ∙ ap (λ (n : Name). front ++ n ∷ after) same;
+        read = reads;
+        calls = calls ∙ ap (λ (l : List Event). first ++ l) one ∙ ap (λ (n : Name). first ++ Read n most_module_bytes answer ∷ []) same;
+        stops = because.1;
+      }
+
+  unread_at : (k : ℕ) (file : Name) → Stopped (read.Unread k) → slice_get names k ≡ Some file → StopsAfter names given file NotThere
+  unread_at k file = stopped_at (read.Unread k) k NotThere file (λ e. cc)
+      (λ all answer stops. by_unread (most_set_bytes - total all) (length all) (total all) answer k stops)
+
+  too_long_at : (k : ℕ) (file : Name) → Stopped (read.TooLong k) → slice_get names k ≡ Some file → StopsAfter names given file TooLong
+  too_long_at k file = stopped_at (read.TooLong k) k TooLong file (λ e. cc)
+      (λ all answer stops. by_length (most_set_bytes - total all) (length all) (total all) answer k stops)
+
+  past_at : (k place : ℕ) (file : Name) → Stopped (read.Past k place) → slice_get names k ≡ Some file
+      → StopsAfter names given file (Past place)
+  past_at k place file = stopped_at (read.Past k place) k (Past place) file (λ e. cc)
+      (λ all answer stops. by_place (length all) (total all) answer k place stops)
+
+  ends_unread : (k : ℕ) (stop : Stop) → Stopped (read.Unread k) → StopsAtUnreadable names k stop → EndsReading names given stop
+  ends_unread k stops.Usage why is = absurd is
+  ends_unread k (stops.Refused name reason) why is = absurd is
+  ends_unread k (stops.Unread name) why at = unread_at k (string_bytes name) why at
+  ends_unread k (stops.Unwritten name) why is = absurd is
+  ends_unread k stops.Memory why is = tt
+
+  ends_at_limit : (limit : Reason) (k : ℕ) (stop : Stop)
+      → ((file : Name) → slice_get names k ≡ Some file → PassesLimitBy (StopsAfter names given file) limit)
+      → StopsAtLimit limit names k stop → EndsReading names given stop
+  ends_at_limit limit k stops.Usage passes is = absurd is
+  ends_at_limit limit k (stops.Refused name reason) passes (is, at) =
+      subst (λ (r : Reason). PassesLimitBy (StopsAfter names given (string_bytes name)) r) (sym is) (passes (string_bytes name) at)
+  ends_at_limit limit k (stops.Unread name) passes is = absurd is
+  ends_at_limit limit k (stops.Unwritten name) passes is = absurd is
+  ends_at_limit limit k stops.Memory passes is = tt
+
+  reading_ends : (why : ReadStop) (stop : Stop) → Stopped why → StopsAtRead why names stop → EndsReading names given stop
+  reading_ends (read.Unread k) stop why is = ends_unread k stop why is
+  reading_ends (read.TooLong k) stop why is =
+      ends_at_limit (Limit most_module_bytes ModuleBytes) k stop (λ file at. inl (too_long_at k file why at, refl)) is
+  reading_ends (read.Past k place) stop why is =
+      ends_at_limit (Limit place SetBytes) k stop (λ file at. inr (place, past_at k place file why at, refl)) is
+  reading_ends read.Memory stop why is = subst (EndsReading names given) (sym is) tt
+
+  tries_reading : (why : ReadStop) (stop : Stop) → StopsAtRead why names stop → Stopped why → TriesReading names stop given
+  tries_reading why stop is some = record { reads = some_read why some; ends = reading_ends why stop some is }
+
+pub reading_tried : (old new : List Event) (names : List Name) (why : ReadStop) (stop : Stop)
+    → Passes old new (ReadsSome most_module_bytes most_set_bytes names why) → StopsAtRead why names stop
+    → Passes old new (TriesReading names stop)
+reading_tried old new names why stop passed is =
+    passed_so old new (ReadsSome most_module_bytes most_set_bytes names why) (TriesReading names stop)
+    (λ given. tries_reading names given why stop is) passed
+
+-- ---- one file, as its finish answers
+
+pub finished : (old begun middle new : List Event) (name : Name) (text : List ℕ) (result : Result (Unit {0}) WriteAnswer)
+    → begun ≡ old ++ Begin name (Ok tt) ∷ [] → Passes begun middle (PutsText text) → new ≡ middle ++ Finish result ∷ []
+    → OnOk result (Passes old new (WritesFile name text))
+finished old begun middle new name text (Ok tt) begins put ends = file_written old begun middle new name text begins put ends
+finished old begun middle new name text (Err why) begins put ends = tt
+
+pub not_finished : (old begun middle new : List Event) (name : Name) (text : List ℕ) (result : Result (Unit {0}) WriteAnswer)
+    → begun ≡ old ++ Begin name (Ok tt) ∷ [] → Passes begun middle (PutsText text) → new ≡ middle ++ Finish result ∷ []
+    → IfErr result (λ why. Passes old new (BreaksOff name text why))
+not_finished old begun middle new name text (Ok x) begins put ends = tt
+not_finished old begun middle new name text (Err why) begins put ends =
+    finished_in_vain old begun middle new name text why begins put ends
+
+-- ---- where writing stops
+
+ends_at : (files : List (Name × List ℕ)) (answer : WriteAnswer) (file : Name) (put : List Event) (stop : Stop)
+    → BreaksOffAt files file answer put → StopsAtFile answer file stop → EndsWriting files stop put
+ends_at files answer file put stops.Usage broken is = absurd is
+ends_at files answer file put (stops.Refused name reason) broken is = absurd is
+ends_at files answer file put (stops.Unread name) broken is = absurd is
+ends_at files answer file put (stops.Unwritten name) broken (failed, same) =
+    subst (λ (n : Name). BreaksOffAt files n writing.Failed put) (sym same)
+    (subst (λ (a : WriteAnswer). BreaksOffAt files file a put) failed broken)
+ends_at files answer file put stops.Memory broken is = broken_some files file answer put broken
+
+-- the first of files is broken off
+pub first_ends : (old new : List Event) (name file : Name) → file ≡ name → (text : List ℕ) (rest : List (Name × List ℕ))
+    (answer : WriteAnswer) (stop : Stop) → Passes old new (BreaksOff file text answer) → StopsAtFile answer file stop
+    → Passes old new (EndsWriting ((name, text) ∷ rest) stop)
+first_ends old new name file same text rest answer stop passed is =
+    passed_so old new (BreaksOff file text answer) (EndsWriting ((name, text) ∷ rest) stop)
+    (λ put broken. ends_at ((name, text) ∷ rest) answer name put stop
+    (first_broken name text rest answer put (subst (λ (n : Name). BreaksOff n text answer put) same broken))
+    (subst (λ (n : Name). StopsAtFile answer n stop) same is)) passed
+
+module _ (old middle new : List Event) (name other first second : Name) (same : first ≡ name) (same' : second ≡ other)
+    (text more : List ℕ) where
+  -- the second is
+  pub second_ends : (answer : WriteAnswer) (stop : Stop) → Passes old middle (WritesFile first text)
+      → Passes middle new (BreaksOff second more answer) → StopsAtFile answer second stop
+      → Passes old new (EndsWriting ((name, text) ∷ (other, more) ∷ []) stop)
+  second_ends answer stop one broken is =
+      both_passed old middle new (WritesFile first text) (BreaksOff second more answer)
+      (EndsWriting ((name, text) ∷ (other, more) ∷ []) stop)
+      (λ front back wrote breaks. ends_at ((name, text) ∷ (other, more) ∷ []) answer other (front ++ back) stop
+      (behind_broken ((name, text) ∷ []) ((other, more) ∷ []) other answer front back
+      (one_written name text front (subst (λ (n : Name). WritesFile n text front) same wrote))
+      (first_broken other more [] answer back (subst (λ (n : Name). BreaksOff n more answer back) same' breaks)))
+      (subst (λ (n : Name). StopsAtFile answer n stop) same' is))
+      one broken
+
+  pub two_written : Passes old middle (WritesFile first text) → Passes middle new (WritesFile second more)
+      → Passes old new (WritesFiles ((name, text) ∷ (other, more) ∷ []))
+  two_written = both_passed old middle new (WritesFile first text) (WritesFile second more)
+      (WritesFiles ((name, text) ∷ (other, more) ∷ []))
+      (λ front back wrote then. both_written ((name, text) ∷ []) ((other, more) ∷ []) front back
+      (one_written name text front (subst (λ (n : Name). WritesFile n text front) same wrote))
+      (one_written other more back (subst (λ (n : Name). WritesFile n more back) same' then)))
+
+-- behind files that are written, and in front of others
+pub ends_among : (front files rest : List (Name × List ℕ)) (first last : List Event) (stop : Stop) → WritesFiles front first
+    → EndsWriting files stop last → EndsWriting (front ++ (files ++ rest)) stop (first ++ last)
+ends_among front files rest first last stops.Usage whole ends = absurd ends
+ends_among front files rest first last (stops.Refused name reason) whole ends = absurd ends
+ends_among front files rest first last (stops.Unread name) whole ends = absurd ends
+ends_among front files rest first last (stops.Unwritten name) whole ends =
+    behind_broken front (files ++ rest) (string_bytes name) writing.Failed first last whole
+    (longer_broken files rest (string_bytes name) writing.Failed last ends)
+ends_among front files rest first last stops.Memory whole (inl s) = inl (record {
+  done = front ++ s.done;
+  rest = s.rest ++ rest;
+  split = ap (λ (l : List (Name × List ℕ)). front ++ (l ++ rest)) s.split
+      ∙ ap (λ (l : List (Name × List ℕ)). front ++ l) (append_assoc s.done s.rest rest) ∙ sym (append_assoc front s.done (s.rest ++ rest));
+  whole = both_written front s.done first last whole s.whole;
+})
+ends_among front files rest first last stops.Memory whole (inr (name, why, at)) =
+    inr (name, why, behind_broken front (files ++ rest) name why first last whole (longer_broken files rest name why last at))

@@ -1,0 +1,308 @@
+-- What passes through the files for each form of a line.
+use Rattle.std.proofs.Common.{◌≡◌, ℕ, ◌≤◌, List, [], ◌∷◌, ◌++◌, length, refl, sym, subst, Some, Result, Ok, Err, OnOk, IfErr, inl, inr}
+use Rattle.std.specs.List.{AllByRecursion}
+use Rattle.std.proofs.lemmas.List.{append-nil}
+use Rattle.std.proofs.lemmas.Result.{IfErr-weaker}
+use Rattle.w2c_io.specs.Contents.{Name}
+use Rattle.w2c_io.specs.Events.{Event}
+use Rattle.w2c_io.specs.Passed.{Passes}
+use Rattle.w2c_io.proofs.Passed.{both_passed, none_passed, passed_so}
+use Rattle.w2c_files.specs.Passing.{ReadsAll, WritesFiles}
+use Rattle.w2c_files.specs.Reading.{total}
+use Rattle.wasm_spelling.specs.Bytes.{AreBytes}
+use Rattle.wasm_spelling.specs.Limits.{most_module_bytes}
+use Rattle.wasm_tree.specs.declared.tree.Module.{Module}
+use Rattle.wasm2c_words.specs.CommandLine.{Line, Translation, FileSet, Generation, translate, set, generate, runtime, line_of}
+use Rattle.wasm2c_cli.specs.declared.stop.Stop.{Stop}
+use Rattle.wasm2c_cli.specs.declared.stop.Stop.TheVariants as stops
+use Rattle.wasm2c_cli.specs.Job.{Write, files_of, module_files}
+use Rattle.wasm2c_cli.specs.Parts.{AreTaken, HasPassed, IsNamed, IsTakenFile, StopsAccepting}
+use Rattle.wasm2c_cli.specs.PartsPassing.{AllAccepted, EndsLine, EndsTranslating, EndsWriting, PassesWhole, PassesWork, TranslatesAll, TriesLine, TriesReading, TriesTranslating, TriesWork}
+use Rattle.wasm2c_cli.specs.Passing.{IsJobOver}
+use Rattle.wasm2c_cli.specs.Plan as plan
+use Rattle.wasm2c_cli.specs.Plan.{inputs_of, most_set_bytes, target, targets_of}
+use Rattle.wasm2c_cli.specs.Runtime.{runtime_files}
+use Rattle.wasm2c_cli.proofs.Passing.{all_read_first, none_read}
+use Rattle.wasm2c_cli.proofs.Taken.{taken_accepted}
+
+-- ---- translating files
+
+module _ (inputs : List Name) (targets : List plan.Target) (old new : List Event) where
+  -- not all are read
+  reading_ended : (stop : Stop) (given : List Event) → TriesReading inputs stop given → TriesTranslating inputs targets stop given
+  reading_ended stop given tried = record {
+    given = given;
+    put = [];
+    split = sym (append-nil given);
+    reads = tried.reads;
+    ends = ends stop tried;
+  }
+    where
+      ends : (stop : Stop) → TriesReading inputs stop given → EndsTranslating inputs targets given [] stop
+      ends stops.Usage tried = absurd tried.ends
+      ends (stops.Refused name reason) tried = (refl, inl tried.ends)
+      ends (stops.Unread name) tried = (refl, tried.ends)
+      ends (stops.Unwritten name) tried = absurd tried.ends
+      ends stops.Memory tried = inl refl
+
+  pub reading_passed : (stop : Stop) → Passes old new (TriesReading inputs stop) → Passes old new (TriesTranslating inputs targets stop)
+  reading_passed stop =
+      passed_so old new (TriesReading inputs stop) (TriesTranslating inputs targets stop) (λ given tried. reading_ended stop given tried)
+
+  module _ (sources : List (List ℕ)) (fit : AllByRecursion (λ bytes. length bytes ≤ most_module_bytes) sources)
+      (together : total sources ≤ most_set_bytes) where
+    -- not all are accepted
+    accepting_ended : (stop : Stop) (given : List Event) → StopsAccepting inputs sources stop
+        → ReadsAll most_module_bytes inputs sources given → TriesTranslating inputs targets stop given
+    accepting_ended stop given why calls = record {
+      given = given;
+      put = [];
+      split = sym (append-nil given);
+      reads = all_read_first inputs sources given calls;
+      ends = ends stop why;
+    }
+      where
+        ends : (stop : Stop) → StopsAccepting inputs sources stop → EndsTranslating inputs targets given [] stop
+        ends stops.Usage why = absurd why
+        ends (stops.Refused name reason) why = (refl, inr (sources, record { calls = calls; fit = fit; together = together }, why))
+        ends (stops.Unread name) why = absurd why
+        ends (stops.Unwritten name) why = absurd why
+        ends stops.Memory why = inl refl
+
+    pub accepting_passed : (stop : Stop) → StopsAccepting inputs sources stop → Passes old new (ReadsAll most_module_bytes inputs sources)
+        → Passes old new (TriesTranslating inputs targets stop)
+    accepting_passed stop why = passed_so old new (ReadsAll most_module_bytes inputs sources) (TriesTranslating inputs targets stop)
+        (λ given calls. accepting_ended stop given why calls)
+
+    module _ (modules : List Module) (taken : AreTaken sources modules) (middle : List Event)
+        (read : Passes old middle (ReadsAll most_module_bytes inputs sources)) where
+      all_accepted : (given : List Event) → ReadsAll most_module_bytes inputs sources given → AllAccepted inputs given modules
+      all_accepted given calls = record {
+        sources = sources;
+        read = record { calls = calls; fit = fit; together = together };
+        accepted = taken_accepted sources modules taken;
+      }
+
+      writing_ended : (stop : Stop) (given put : List Event) → ReadsAll most_module_bytes inputs sources given
+          → EndsWriting (files_of targets modules) stop put → TriesTranslating inputs targets stop (given ++ put)
+      writing_ended stop given put calls why = record {
+        given = given;
+        put = put;
+        split = refl;
+        reads = all_read_first inputs sources given calls;
+        ends = ends stop why;
+      }
+        where
+          ends : (stop : Stop) → EndsWriting (files_of targets modules) stop put → EndsTranslating inputs targets given put stop
+          ends stops.Usage why = absurd why
+          ends (stops.Refused name reason) why = absurd why
+          ends (stops.Unread name) why = absurd why
+          ends (stops.Unwritten name) broken = (modules, all_accepted given calls, broken)
+          ends stops.Memory some = inr (modules, all_accepted given calls, some)
+
+      pub writing_passed : {A : Type 0} (result : Result A Stop)
+          → IfErr result (λ stop. Passes middle new (EndsWriting (files_of targets modules) stop))
+          → IfErr result (λ stop. Passes old new (TriesTranslating inputs targets stop))
+      writing_passed result = IfErr-weaker result _ _
+          (λ stop tried. both_passed old middle new (ReadsAll most_module_bytes inputs sources)
+          (EndsWriting (files_of targets modules) stop) (TriesTranslating inputs targets stop)
+          (λ given put calls why. writing_ended stop given put calls why) read tried)
+
+      pub all_passed : {A : Type 0} (result : Result A Stop) → OnOk result (AllByRecursion IsNamed targets)
+          → OnOk result (Passes middle new (WritesFiles (files_of targets modules)))
+          → OnOk result (Passes old new (TranslatesAll inputs targets))
+      all_passed (Ok x) named wrote =
+          both_passed old middle new (ReadsAll most_module_bytes inputs sources) (WritesFiles (files_of targets modules))
+          (TranslatesAll inputs targets) (λ given put calls files. record {
+            given = given;
+            put = put;
+            sources = sources;
+            modules = modules;
+            split = refl;
+            read = record { calls = calls; fit = fit; together = together };
+            taken = taken;
+            named = named;
+            files = files;
+          }) read wrote
+      all_passed (Err stop) named wrote = tt
+
+-- ---- a line of one file, and a set
+
+translation_ended : (t : Translation) (stop : Stop) (events : List Event)
+    → TriesTranslating (inputs_of (translate t)) (targets_of (translate t)) stop events → TriesLine (translate t) stop events
+translation_ended t stop events tried = record {
+  given = tried.given;
+  put = tried.put;
+  split = tried.split;
+  reads = tried.reads;
+  ends = ends stop tried.given tried.put tried.ends;
+}
+  where
+    ends : (stop : Stop) (given put : List Event) → EndsTranslating (inputs_of (translate t)) (targets_of (translate t)) given put stop
+        → EndsLine (translate t) given put stop
+    ends stops.Usage given put why = why
+    ends (stops.Refused name reason) given put why = why
+    ends (stops.Unread name) given put why = why
+    ends (stops.Unwritten name) given put (modules, all, broken) = (
+      files_of (targets_of (translate t)) modules,
+      record {
+        sources = all.sources;
+        modules = modules;
+        read = all.read;
+        accepted = all.accepted;
+        written = refl;
+      },
+      broken,
+    )
+    ends stops.Memory given put (inl none) = inl none
+    ends stops.Memory given put (inr (modules, all, some)) = inr (
+      files_of (targets_of (translate t)) modules,
+      record {
+        sources = all.sources;
+        modules = modules;
+        read = all.read;
+        accepted = all.accepted;
+        written = refl;
+      },
+      some,
+    )
+
+set_ended : (s : FileSet) (stop : Stop) (events : List Event)
+    → TriesTranslating (inputs_of (set s)) (targets_of (set s)) stop events → TriesLine (set s) stop events
+set_ended s stop events tried = record {
+  given = tried.given;
+  put = tried.put;
+  split = tried.split;
+  reads = tried.reads;
+  ends = ends stop tried.given tried.put tried.ends;
+}
+  where
+    ends : (stop : Stop) (given put : List Event) → EndsTranslating (inputs_of (set s)) (targets_of (set s)) given put stop
+        → EndsLine (set s) given put stop
+    ends stops.Usage given put why = why
+    ends (stops.Refused name reason) given put why = why
+    ends (stops.Unread name) given put why = why
+    ends (stops.Unwritten name) given put (modules, all, broken) = (
+      files_of (targets_of (set s)) modules,
+      record {
+        sources = all.sources;
+        modules = modules;
+        read = all.read;
+        accepted = all.accepted;
+        written = refl;
+      },
+      broken,
+    )
+    ends stops.Memory given put (inl none) = inl none
+    ends stops.Memory given put (inr (modules, all, some)) = inr (
+      files_of (targets_of (set s)) modules,
+      record {
+        sources = all.sources;
+        modules = modules;
+        read = all.read;
+        accepted = all.accepted;
+        written = refl;
+      },
+      some,
+    )
+
+module _ {A : Type 0} (old new : List Event) (result : Result A Stop) where
+  pub translation_tried : (t : Translation)
+      → IfErr result (λ stop. Passes old new (TriesTranslating (inputs_of (translate t)) (targets_of (translate t)) stop))
+      → IfErr result (λ stop. Passes old new (TriesLine (translate t) stop))
+  translation_tried t = IfErr-weaker result _ _
+      (λ stop. passed_so old new (TriesTranslating (inputs_of (translate t)) (targets_of (translate t)) stop) (TriesLine (translate t) stop)
+      (λ events tried. translation_ended t stop events tried))
+
+  pub set_tried : (s : FileSet)
+      → IfErr result (λ stop. Passes old new (TriesTranslating (inputs_of (set s)) (targets_of (set s)) stop))
+      → IfErr result (λ stop. Passes old new (TriesLine (set s) stop))
+  set_tried s = IfErr-weaker result _ _
+      (λ stop. passed_so old new (TriesTranslating (inputs_of (set s)) (targets_of (set s)) stop) (TriesLine (set s) stop)
+      (λ events tried. set_ended s stop events tried))
+
+-- ---- a generated module
+
+module _ (g : Generation) (bytes : List ℕ) (m : Module) (taken : IsTakenFile g bytes m) where
+  abbrev files : List (Name × List ℕ)
+  files = module_files (target g.output g.module_name) m
+
+  job : IsJobOver (generate g) [] (Write files)
+  job = record {
+    sources = bytes ∷ [];
+    modules = m ∷ [];
+    read = (bytes, taken.file, refl);
+    accepted = (taken.accepted, tt);
+    written = refl;
+  }
+
+  generation_ended : (stop : Stop) (events : List Event) → EndsWriting files stop events → TriesLine (generate g) stop events
+  generation_ended stop events why =
+      record { given = []; put = events; split = refl; reads = none_read []; ends = ends stop why }
+    where
+      ends : (stop : Stop) → EndsWriting files stop events → EndsLine (generate g) [] events stop
+      ends stops.Usage why = absurd why
+      ends (stops.Refused name reason) why = absurd why
+      ends (stops.Unread name) why = absurd why
+      ends (stops.Unwritten name) broken = (files, job, broken)
+      ends stops.Memory some = inr (files, job, some)
+
+  module _ {A : Type 0} (old new : List Event) (result : Result A Stop) where
+    pub generation_tried : IfErr result (λ stop. Passes old new (EndsWriting files stop))
+        → IfErr result (λ stop. Passes old new (TriesLine (generate g) stop))
+    generation_tried = IfErr-weaker result _ _
+        (λ stop. passed_so old new (EndsWriting files stop) (TriesLine (generate g) stop) (λ events why. generation_ended stop events why))
+
+    pub generation_passed : AreBytes g.module_name → OnOk result (Passes old new (WritesFiles files))
+        → OnOk result (Passes old new (PassesWhole (generate g)))
+    generation_passed named = by_result result
+      where
+        by_result : (r : Result A Stop) → OnOk r (Passes old new (WritesFiles files)) → OnOk r (Passes old new (PassesWhole (generate g)))
+        by_result (Ok x) wrote = passed_so old new (WritesFiles files) (PassesWhole (generate g))
+            (λ events whole. record { bytes = bytes; generated = m; taken = taken; named = named; files = whole }) wrote
+        by_result (Err stop) wrote = tt
+
+-- ---- the runtime
+
+runtime_ended : (dir : Name) (stop : Stop) (events : List Event) → EndsWriting (runtime_files dir) stop events
+    → TriesLine (runtime dir) stop events
+runtime_ended dir stop events why = record { given = []; put = events; split = refl; reads = none_read []; ends = ends stop why }
+  where
+    ends : (stop : Stop) → EndsWriting (runtime_files dir) stop events → EndsLine (runtime dir) [] events stop
+    ends stops.Usage why = absurd why
+    ends (stops.Refused name reason) why = absurd why
+    ends (stops.Unread name) why = absurd why
+    ends (stops.Unwritten name) broken = (runtime_files dir, refl, broken)
+    ends stops.Memory some = inr (runtime_files dir, refl, some)
+
+module _ {A : Type 0} (old new : List Event) (dir : Name) (files : List (Name × List ℕ)) (same : files ≡ runtime_files dir)
+    (result : Result A Stop) where
+  pub runtime_tried : IfErr result (λ stop. Passes old new (EndsWriting files stop))
+      → IfErr result (λ stop. Passes old new (TriesLine (runtime dir) stop))
+  runtime_tried = IfErr-weaker result _ _
+      (λ stop tried. passed_so old new (EndsWriting (runtime_files dir) stop) (TriesLine (runtime dir) stop) (λ events why. runtime_ended dir stop events why)
+      (subst (λ (l : List (Name × List ℕ)). Passes old new (EndsWriting l stop)) same tried))
+
+  pub runtime_passed : OnOk result (Passes old new (WritesFiles files)) → OnOk result (Passes old new (PassesWhole (runtime dir)))
+  runtime_passed wrote = subst (λ (l : List (Name × List ℕ)). OnOk result (Passes old new (WritesFiles l))) same wrote
+
+-- ---- memory is wanting before a call is made
+
+pub none_tried : (line : Line) (old : List Event) → Passes old old (TriesLine line stops.Memory)
+none_tried line old = none_passed old (TriesLine line stops.Memory)
+    (record { given = []; put = []; split = refl; reads = none_read (inputs_of line); ends = inl refl })
+
+-- ---- the work on the line of words
+
+module _ {A : Type 0} (old new : List Event) (words : List Name) (line : Line) (result : Result A Stop) (is : line_of words ≡ Some line) where
+  pub work_tried : IfErr result (λ stop. Passes old new (TriesLine line stop)) → IfErr result (λ stop. Passes old new (TriesWork words stop))
+  work_tried = IfErr-weaker result _ _
+      (λ stop. passed_so old new (TriesLine line stop) (TriesWork words stop) (λ events tried. inr (inr (line, is, tried))))
+
+  pub work_passed : HasPassed line → OnOk result (Passes old new (PassesWhole line)) → OnOk result (Passes old new (PassesWork words))
+  work_passed has = by_result result
+    where
+      by_result : (r : Result A Stop) → OnOk r (Passes old new (PassesWhole line)) → OnOk r (Passes old new (PassesWork words))
+      by_result (Ok x) passed =
+          passed_so old new (PassesWhole line) (PassesWork words) (λ events whole. (line, is, has, whole)) passed
+      by_result (Err stop) passed = tt

@@ -1,0 +1,24 @@
+use Rattle.std.proofs.Common.{refl}
+use Rattle.w2c_io.specs.Telling.{Says}
+use Rattle.wasm2c_cli.proofs.HonestTop.{honest_done, honest_refused, honest_stands, honest_untouched, honest_write_fault}
+use Rattle.wasm2c_cli.proofs.law.honest_files.Goals as goal
+
+pub returns-clause-untouched : goal.returns-clause-untouched
+returns-clause-untouched c = λ words status said said' faults faults' m new call ends.
+    honest_untouched words status (Says said said' faults faults') m new call ends
+
+pub returns-clause-done : goal.returns-clause-done
+returns-clause-done c = λ words said said' faults faults' m new call.
+    honest_done words 0 (Says said said' faults faults') m new call refl
+
+pub returns-clause-refused : goal.returns-clause-refused
+returns-clause-refused c = λ words said said' faults faults' m new call.
+    honest_refused words 1 (Says said said' faults faults') m new call refl
+
+pub returns-clause-write_fault : goal.returns-clause-write_fault
+returns-clause-write_fault c = λ words said said' faults faults' m new call.
+    honest_write_fault words 4 (Says said said' faults faults') m new call refl
+
+pub returns-clause-stands : goal.returns-clause-stands
+returns-clause-stands c = λ words said said' faults faults' m new call.
+    honest_stands words 5 (Says said said' faults faults') m new call refl
