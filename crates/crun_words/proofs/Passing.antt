@@ -79,7 +79,7 @@ pub some_in_order : (each most : ℕ) (names : List Name) (why : ReadStop) (even
 some_in_order each most names why events (front, rest, all, first, last, split, gave, calls, inl (none, is)) =
     front_in_order each names front rest all events first last split gave calls (subst (ReadsInOrder (limited each rest)) (sym none) tt)
 some_in_order each most names why events
-    (front, rest, all, first, last, split, gave, calls, inr (name, after, answer, rest_is, last_is, stops)) =
+    (front, rest, all, first, last, split, gave, calls, inr (name, after, answer, rest_is, last_is, stops, together)) =
     front_in_order each names front rest all events first last split gave calls
     (subst (λ (r : List Name). ReadsInOrder (limited each r) last) (sym rest_is)
     (subst (ReadsInOrder (limited each (name ∷ after))) (sym last_is) (last_read name each (limited each after) answer)))
@@ -193,7 +193,7 @@ module _ (names : List Name) (k : ℕ) (name : Name) (at : slice_get names k ≡
     where
       go : ReadsSome most_unit_bytes most_units_bytes names (read.Unread k) events → GivesUnits names (NoUnit name) events
       go (front, rest, all, first, last, split, gave, calls, inl (none, memory)) = absurd (cc)
-      go (front, rest, all, first, last, split, gave, calls, inr (other, after, answer, rest_is, last_is, stops)) =
+      go (front, rest, all, first, last, split, gave, calls, inr (other, after, answer, rest_is, last_is, stops, together)) =
           let away = is_away _ (length all) answer stops in
           (all, answer, away.0, unto front rest all first last other after answer split gave calls rest_is last_is away.1)
 
@@ -203,7 +203,7 @@ module _ (names : List Name) (k : ℕ) (name : Name) (at : slice_get names k ≡
     where
       go : ReadsSome most_unit_bytes most_units_bytes names (read.TooLong k) events → GivesUnits names (UnitTooLong name) events
       go (front, rest, all, first, last, split, gave, calls, inl (none, memory)) = absurd (cc)
-      go (front, rest, all, first, last, split, gave, calls, inr (other, after, answer, rest_is, last_is, stops)) =
+      go (front, rest, all, first, last, split, gave, calls, inr (other, after, answer, rest_is, last_is, stops, together)) =
           let long = is_long _ (length all) answer stops in
           (all, answer, long.0, unto front rest all first last other after answer split gave calls rest_is last_is long.1)
 
@@ -213,7 +213,7 @@ module _ (names : List Name) (k : ℕ) (name : Name) (at : slice_get names k ≡
     where
       go : ReadsSome most_unit_bytes most_units_bytes names (read.Past k place) events → GivesUnits names (UnitTooLong name) events
       go (front, rest, all, first, last, split, gave, calls, inl (none, memory)) = absurd (cc)
-      go (front, rest, all, first, last, split, gave, calls, inr (other, after, answer, rest_is, last_is, stops)) =
+      go (front, rest, all, first, last, split, gave, calls, inr (other, after, answer, rest_is, last_is, stops, together)) =
           let past = is_past _ (length all) place answer stops in
           (all, answer, past.0, unto front rest all first last other after answer split gave calls rest_is last_is past.1)
 

@@ -47,6 +47,17 @@ reads_held each (n ∷ names) (b ∷ all) (e ∷ given) m old new current after 
     let found = subst (λ (x : Event). Does x old current told name) is does in
     (held_here old m n b told_is found.0, reads_held each names all given m told new name after (found.1 ∙ told_is) reads rest)
 
+pub reads_kept : (each : ℕ) (names : List Name) (all : List (List ℕ)) (given : List Event) (old new : Told) (current after : Option Name)
+    → ReadsAll each names all given → AreHonest given old current new after → new ≡ old
+reads_kept each [] [] given old new current after reads honest =
+    (subst (λ (es : List Event). AreHonest es old current new after) reads honest).0
+reads_kept each [] (b ∷ all) given old new current after reads honest = absurd reads
+reads_kept each (n ∷ names) [] given old new current after reads honest = absurd reads
+reads_kept each (n ∷ names) (b ∷ all) [] old new current after reads honest = absurd reads
+reads_kept each (n ∷ names) (b ∷ all) (e ∷ given) old new current after (is, reads) (told, name, does, rest) =
+    let found = subst (λ (x : Event). Does x old current told name) is does in
+    reads_kept each names all given told new name after reads rest ∙ found.1
+
 pub reads_fit : (each : ℕ) (names : List Name) (all : List (List ℕ)) (given : List Event) (old new : Told) (current after : Option Name)
     → ReadsAll each names all given → AreHonest given old current new after → AllByRecursion (λ bytes. length bytes ≤ each) all
 reads_fit each [] [] given old new current after reads honest = tt

@@ -55,7 +55,9 @@ next_stops each most left old before new names k name all why at many room (even
       answer,
       refl,
       read,
-      subst (λ n. StopsBy (most - total all) n answer why) (sym many) (subst (λ n. StopsBy n k answer why) (let e : left ≡ most - total all = omega (arith, room) in e) stops),
+      subst (λ n. StopsBy (most - total all) n answer why) (sym many)
+          (subst (λ n. StopsBy n k answer why) (let e : left ≡ most - total all = omega (arith, room) in e) stops),
+      omega (arith, room),
     ),
   ),
 )

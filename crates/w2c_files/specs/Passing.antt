@@ -1,5 +1,5 @@
 -- What passes through files that are read or written one after another.
-use Rattle.std.specs.Prelude.{◌≡◌, ◌⊎◌, ℕ, ◌<◌, ◌-◌, List, [], ◌∷◌, ◌++◌, length, Result, Ok, Err}
+use Rattle.std.specs.Prelude.{◌≡◌, ◌⊎◌, ℕ, ◌<◌, ◌≤◌, ◌-◌, List, [], ◌∷◌, ◌++◌, length, Result, Ok, Err}
 use Rattle.w2c_io.specs.Contents.{Name}
 use Rattle.w2c_io.specs.Events.{Event, Read}
 use Rattle.w2c_io.specs.Passed.{WritesFile, BreaksOff}
@@ -40,7 +40,7 @@ ReadsSome each most names why events =
     × (names ≡ front ++ rest) × ReadsAll each front all first × (events ≡ first ++ last)
     × (((last ≡ []) × (why ≡ stop.Memory))
     ⊎ ((name : Name) × (after : List Name) × (answer : Result (List ℕ) ReadAnswer) × (rest ≡ name ∷ after)
-    × (last ≡ Read name each answer ∷ []) × StopsBy (most - total all) (length all) answer why))
+    × (last ≡ Read name each answer ∷ []) × StopsBy (most - total all) (length all) answer why × (total all ≤ most)))
 
 -- ---- writing
 

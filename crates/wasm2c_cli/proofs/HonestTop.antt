@@ -1,24 +1,23 @@
 -- What stands after a call, where the files behave as files: what its clauses on contents say.
-use Rattle.std.proofs.Common.{◌≡◌, ◌⊎◌, ℕ, List, [], ◌∷◌, ◌++◌, refl, ◌∙◌, ap, subst, arith, Option, Some, None, Ok, MatchOption, inl, inr}
+use Rattle.std.proofs.Common.{◌≡◌, ◌⊎◌, ℕ, List, [], ◌∷◌, ◌++◌, refl, ◌∙◌, ap, subst, arith, Option, Some, None, Result, Ok, Err, MatchOption, inl, inr}
 use Rattle.w2c_io.specs.Contents.{Name, Contents, Told}
-use Rattle.w2c_io.specs.Events.{Event}
+use Rattle.w2c_io.specs.Events.{Event, Read}
 use Rattle.w2c_io.specs.Honest.{AreHonest, Does}
+use Rattle.w2c_io.specs.declared.answers.ReadAnswer.{ReadAnswer}
+use Rattle.w2c_io.specs.declared.answers.ReadAnswer.TheVariants as reading
 use Rattle.w2c_io.specs.declared.answers.WriteAnswer.{WriteAnswer}
 use Rattle.w2c_files.specs.Passing.{WritesFiles, BreaksOffAt, WritesSome}
-use Rattle.w2c_files.specs.Reading.{AreHeld}
+use Rattle.w2c_files.specs.Reading.{AreHeld, Unreadable, Missing as NotThere, TooLong, Past, IsUnreadable, StopsReading, total}
 use Rattle.w2c_files.specs.Standing.{written, Stands, StandsAt}
-use Rattle.w2c_files.proofs.Honest.{broken_stands, files_hold, honest_both, read_keeps, reads_held, some_stand}
-use Rattle.wasm_spelling.specs.declared.fault.Which.{Which}
-use Rattle.wasm_spelling.specs.declared.fault.Which.TheVariants.{ModuleBytes, SetBytes}
+use Rattle.w2c_files.proofs.Honest.{broken_stands, files_hold, honest_both, read_keeps, reads_fit, reads_held, reads_kept, some_stand}
 use Rattle.wasm_spelling.specs.Limits.{most_module_bytes}
 use Rattle.wasm2c_words.specs.CommandLine.{Line, translate, set, generate, runtime, line_of}
 use Rattle.wasm2c_cli.specs.declared.stop.Reason.{Reason}
-use Rattle.wasm2c_cli.specs.declared.stop.Reason.TheVariants.{Limit}
 use Rattle.wasm2c_cli.specs.HonestPassing.{PassesHonestly}
 use Rattle.wasm2c_cli.specs.Job.{Job, Usage, Missing, Refused, Write, AreReadOf, AreSourcesBy, IsJob, IsJobOf, TranslatesBy, WritesBy}
 use Rattle.wasm2c_cli.specs.Lines.{refused_line, usage_line, write_line}
-use Rattle.wasm2c_cli.specs.Passing.{Follows, IsJobOver, PassesLine, ReadsFirst, ReadsWhole}
-use Rattle.wasm2c_cli.specs.Plan.{inputs_of}
+use Rattle.wasm2c_cli.specs.Passing.{Follows, IsJobOver, PassesLine, ReadsFirst, ReadsWhole, StopsAfter, StopsByAnswer}
+use Rattle.wasm2c_cli.specs.Plan.{inputs_of, most_set_bytes}
 use Rattle.wasm2c_cli.specs.Stops.{Done, StandsOfJob}
 use Rattle.wasm2c_cli.proofs.TopLaws.{is_job}
 
@@ -102,12 +101,49 @@ module _ (line : Line) (m : Contents) (given put : List Event) (new : Told) (cur
   written_job : (files : List (Name × List ℕ)) → IsJobOver line given (Write files) → IsJobOf line m (Write files)
   written_job files job = writes_so (ReadsWhole (inputs_of line) given) (AreReadOf line m) all_held line files job
 
-  refused_job : (file : Name) (reason : Reason) → IsJobOver line given (Refused file reason)
-      → ((place : ℕ) × (which : Which) × (reason ≡ Limit place which)) ⊎ IsJobOf line m (Refused file reason)
-  refused_job file reason (inl (inl (stops, is))) = inl (most_module_bytes, ModuleBytes, is)
-  refused_job file reason (inl (inr (place, stops, is))) = inl (place, SetBytes, is)
-  refused_job file reason (inr (sources, read, first)) = inr (
-      inr (sources, sources_so (ReadsWhole (inputs_of line) given) (AreReadOf line m) all_held line sources read, first))
+  -- what was read in front of the file that stopped the reading, and what the last read found
+  stopped_job : (file : Name) (why : Unreadable) → (why ≡ NotThere → ⊥) → StopsAfter (inputs_of line) given file why
+      → StopsReading most_module_bytes most_set_bytes m (inputs_of line) file why
+  stopped_job file why there at =
+      let (told, name, before, behind) = honest_both given put (Some m) new current after honest in
+      let (middle, other, first, last) = honest_both at.first (Read file most_module_bytes at.answer ∷ []) (Some m) told current name
+      (subst (λ (es : List Event). AreHonest es (Some m) current told name) at.calls before) in
+      let kept = reads_kept most_module_bytes at.front at.all at.first (Some m) middle current other at.read first in
+      record {
+        front = at.front;
+        rest = at.rest;
+        all = at.all;
+        split = at.split;
+        read = record {
+          held = reads_held most_module_bytes at.front at.all at.first m (Some m) middle current other refl at.read first;
+          fit = reads_fit most_module_bytes at.front at.all at.first (Some m) middle current other at.read first;
+          together = at.together;
+        };
+        stops = unreadable at.answer why there at.stops
+            (subst (λ (t : Told). Does (Read file most_module_bytes at.answer) t other last.0 last.1) kept last.2);
+      }
+    where
+      unreadable : {told : Told} {here there : Option Name} (answer : Result (List ℕ) ReadAnswer) (why : Unreadable) → (why ≡ NotThere → ⊥)
+          → StopsByAnswer (total at.all) answer why → Does (Read file most_module_bytes answer) (Some m) here told there
+          → IsUnreadable most_module_bytes most_set_bytes (total at.all) m file why
+      unreadable answer NotThere there stops does = absurd (there refl)
+      unreadable (Ok bytes) TooLong there stops does = absurd stops
+      unreadable (Err reading.TooLong) TooLong there stops does = does.0
+      unreadable (Err reading.Absent) TooLong there stops does = absurd stops
+      unreadable (Err reading.Failed) TooLong there stops does = absurd stops
+      unreadable (Err reading.Memory) TooLong there stops does = absurd stops
+      unreadable (Ok bytes) (Past place) there (long, is) does =
+          (bytes, does.0, does.3, omega (arith, long, at.together), is)
+      unreadable (Err reading.TooLong) (Past place) there stops does = absurd stops
+      unreadable (Err reading.Absent) (Past place) there stops does = absurd stops
+      unreadable (Err reading.Failed) (Past place) there stops does = absurd stops
+      unreadable (Err reading.Memory) (Past place) there stops does = absurd stops
+
+  refused_job : (file : Name) (reason : Reason) → IsJobOver line given (Refused file reason) → IsJobOf line m (Refused file reason)
+  refused_job file reason (inl (inl (stops, is))) = inl (inl (stopped_job file TooLong (λ e. cc) stops, is))
+  refused_job file reason (inl (inr (place, stops, is))) = inl (inr (place, stopped_job file (Past place) (λ e. cc) stops, is))
+  refused_job file reason (inr (sources, read, first)) =
+      inr (sources, sources_so (ReadsWhole (inputs_of line) given) (AreReadOf line m) all_held line sources read, first)
 
 -- ---- the words
 
@@ -273,10 +309,10 @@ module _ (words : List Name) (status : ℕ) (says : List ℕ → Type 0) (m : Co
         | inr memory ↦ inl (none_put line m p.given p.put new call.current call.after p.reads honest memory.1)
       ]
 
-  -- ---- status 1: the job is a refusal, or a limit of bytes is passed
+  -- ---- status 1: the job is a refusal
 
   pub honest_refused : status ≡ 1 → (file : Name) × (reason : Reason) × says (refused_line file reason)
-      × (((place : ℕ) × (which : Which) × (reason ≡ Limit place which)) ⊎ IsJob words m (Refused file reason))
+      × IsJob words m (Refused file reason)
   honest_refused one = by_words (λ nothing ends. absurd (no_end ends)) (λ line is p. on_line line is p (split_of line p))
     where
       no_end : ((status ≡ 2) × says usage_line) ⊎ (status ≡ 5) → ⊥
@@ -286,17 +322,15 @@ module _ (words : List Name) (status : ℕ) (says : List ℕ → Type 0) (m : Co
       on_job : (line : Line) → line_of words ≡ Some line → (p : PassesLine line status says call.events)
           → AreHonest (p.given ++ p.put) (Some m) call.current new call.after → (job : Job) → IsJobOver line p.given job
           → Follows job status says p.put → (file : Name) × (reason : Reason) × says (refused_line file reason)
-          × (((place : ℕ) × (which : Which) × (reason ≡ Limit place which)) ⊎ IsJob words m (Refused file reason))
+          × IsJob words m (Refused file reason)
       on_job line found p honest Usage job follows = absurd follows
       on_job line found p honest (Missing file) job (three, none, said) = absurd (omega (arith, one, three))
       on_job line found p honest (Refused file reason) job (is, none, said) = (
         file,
         reason,
         said,
-        elim (refused_job line m p.given p.put new call.current call.after p.reads honest file reason job) [
-          | inl limit ↦ inl limit
-          | inr of_line ↦ inr (of_words line (Refused file reason) found of_line)
-        ],
+        of_words line (Refused file reason) found
+            (refused_job line m p.given p.put new call.current call.after p.reads honest file reason job),
       )
       on_job line found p honest (Write files) job (inl (zero, wrote)) = absurd (omega (arith, one, zero))
       on_job line found p honest (Write files) job (inr (inl (four, file, broken, said))) = absurd (omega (arith, one, four))
@@ -305,7 +339,7 @@ module _ (words : List Name) (status : ℕ) (says : List ℕ → Type 0) (m : Co
       on_line : (line : Line) → line_of words ≡ Some line → (p : PassesLine line status says call.events)
           → AreHonest (p.given ++ p.put) (Some m) call.current new call.after
           → (file : Name) × (reason : Reason) × says (refused_line file reason)
-          × (((place : ℕ) × (which : Which) × (reason ≡ Limit place which)) ⊎ IsJob words m (Refused file reason))
+          × IsJob words m (Refused file reason)
       on_line line is p honest = elim p.follows [
         | inl job ↦ on_job line is p honest job.0 job.1 job.2
         | inr memory ↦ absurd (no_end (inr memory.0))

@@ -110,7 +110,7 @@ module _ (names : List Name) (given : List Event) where
       subst (λ (l : List Name). ReadsFirst l given) (sym split)
       (subst (ReadsFirst (front ++ rest)) (sym (calls ∙ ap (λ (l : List Event). first ++ l) none ∙ append-nil first))
       (front_read front rest all first reads))
-  some_read why (front, rest, all, first, last, split, reads, calls, inr (name, after, answer, is, one, stops)) =
+  some_read why (front, rest, all, first, last, split, reads, calls, inr (name, after, answer, is, one, stops, together)) =
       subst (λ (l : List Name). ReadsFirst l given) (sym (split ∙ ap (λ (l : List Name). front ++ l) is))
       (subst (ReadsFirst (front ++ name ∷ after)) (sym (calls ∙ ap (λ (l : List Event). first ++ l) one))
       (last_read front after name all first answer reads))
@@ -121,7 +121,7 @@ module _ (names : List Name) (given : List Event) where
       → (k ≡ length all) × StopsByAnswer (total all) answer reason)
       → Stopped why → slice_get names k ≡ Some file → StopsAfter names given file reason
   stopped_at why k reason file not_memory by (front, rest, all, first, last, split, reads, calls, inl (none, memory)) at = absurd (not_memory memory)
-  stopped_at why k reason file not_memory by (front, rest, all, first, last, split, reads, calls, inr (name, after, answer, is, one, stops)) at =
+  stopped_at why k reason file not_memory by (front, rest, all, first, last, split, reads, calls, inr (name, after, answer, is, one, stops, together)) at =
       let because = by all answer stops in
       let parts : names ≡ front ++ name ∷ after = split ∙ ap (λ (l : List Name). front ++ l) is in
       let same : name ≡ file = name_behind front after name file k
@@ -135,6 +135,7 @@ module _ (names : List Name) (given : List Event) where
         split = parts ∙ ap (λ (n : Name). front ++ n ∷ after) same;
         read = reads;
         calls = calls ∙ ap (λ (l : List Event). first ++ l) one ∙ ap (λ (n : Name). first ++ Read n most_module_bytes answer ∷ []) same;
+        together = together;
         stops = because.1;
       }
 

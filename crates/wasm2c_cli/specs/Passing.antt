@@ -52,6 +52,7 @@ pub record StopsAfter (names : List Name) (given : List Event) (file : Name) (wh
   pub split : names ≡ front ++ file ∷ rest
   pub read : ReadsAll most_module_bytes front all first
   pub calls : given ≡ first ++ Read file most_module_bytes answer ∷ []
+  pub together : total all ≤ most_set_bytes
   pub stops : StopsByAnswer (total all) answer why
 
 -- what a line asks for, over what the reads gave

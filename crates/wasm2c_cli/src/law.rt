@@ -3,9 +3,7 @@ ghost use Rattle.std.specs.Prelude.{◌≡◌, ◌⊎◌, List, ℕ, Option, Som
 ghost use Rattle.w2c_io.specs.Contents.{Name, Contents, Told};
 ghost use Rattle.w2c_io.specs.Telling.{Says};
 ghost use Rattle.w2c_files.specs.Standing.{file_names, AreDistinct, StandsAt};
-ghost use Rattle.wasm_spelling.specs.declared.fault.Which.{Which};
 ghost use Rattle.wasm2c_cli.specs.declared.stop.Reason.{Reason};
-ghost use Rattle.wasm2c_cli.specs.declared.stop.Reason.TheVariants.{Limit};
 ghost use Rattle.wasm2c_cli.specs.HonestPassing.{PassesHonestly};
 ghost use Rattle.wasm2c_cli.specs.Job.{IsJob, Job, Refused, Write};
 ghost use Rattle.wasm2c_cli.specs.Lines.{refused_line, write_line};
@@ -33,7 +31,7 @@ pub fn honest_files()
     ensures refused { (words : List Name) (said new_said : Option (List ℕ)) (faults new_faults : ℕ) (m : Contents) (new : Told)
         → PassesHonestly words 1 (Says said new_said faults new_faults) m new
         → (file : Name) × (reason : Reason) × Says said new_said faults new_faults (refused_line file reason)
-        × (((place : ℕ) × (which : Which) × (reason ≡ Limit place which)) ⊎ IsJob words m (Refused file reason)) }
+        × IsJob words m (Refused file reason) }
     ensures write_fault { (words : List Name) (said new_said : Option (List ℕ)) (faults new_faults : ℕ) (m : Contents) (new : Told)
         → PassesHonestly words 4 (Says said new_said faults new_faults) m new
         → (file : Name) × (files : List (Name × List ℕ)) × IsJob words m (Write files) × StandsAt (Some m) new files file
