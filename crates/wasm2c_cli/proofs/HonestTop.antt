@@ -119,25 +119,25 @@ module _ (line : Line) (m : Contents) (given put : List Event) (new : Told) (cur
           fit = reads_fit most_module_bytes at.front at.all at.first (Some m) middle current other at.read first;
           together = at.together;
         };
-        stops = unreadable at.answer why there at.stops
+        stops = unreadable last.0 other last.1 at.answer why there at.stops
             (subst (λ (t : Told). Does (Read file most_module_bytes at.answer) t other last.0 last.1) kept last.2);
       }
     where
-      unreadable : {told : Told} {here there : Option Name} (answer : Result (List ℕ) ReadAnswer) (why : Unreadable) → (why ≡ NotThere → ⊥)
-          → StopsByAnswer (total at.all) answer why → Does (Read file most_module_bytes answer) (Some m) here told there
+      unreadable : (told : Told) (here there : Option Name) (answer : Result (List ℕ) ReadAnswer) (why : Unreadable)
+          → (why ≡ NotThere → ⊥) → StopsByAnswer (total at.all) answer why → Does (Read file most_module_bytes answer) (Some m) here told there
           → IsUnreadable most_module_bytes most_set_bytes (total at.all) m file why
-      unreadable answer NotThere there stops does = absurd (there refl)
-      unreadable (Ok bytes) TooLong there stops does = absurd stops
-      unreadable (Err reading.TooLong) TooLong there stops does = does.0
-      unreadable (Err reading.Absent) TooLong there stops does = absurd stops
-      unreadable (Err reading.Failed) TooLong there stops does = absurd stops
-      unreadable (Err reading.Memory) TooLong there stops does = absurd stops
-      unreadable (Ok bytes) (Past place) there (long, is) does =
+      unreadable told here now answer NotThere there stops does = absurd (there refl)
+      unreadable told here now (Ok bytes) TooLong there stops does = absurd stops
+      unreadable told here now (Err reading.TooLong) TooLong there stops does = does.0
+      unreadable told here now (Err reading.Absent) TooLong there stops does = absurd stops
+      unreadable told here now (Err reading.Failed) TooLong there stops does = absurd stops
+      unreadable told here now (Err reading.Memory) TooLong there stops does = absurd stops
+      unreadable told here now (Ok bytes) (Past place) there (long, is) does =
           (bytes, does.0, does.3, omega (arith, long, at.together), is)
-      unreadable (Err reading.TooLong) (Past place) there stops does = absurd stops
-      unreadable (Err reading.Absent) (Past place) there stops does = absurd stops
-      unreadable (Err reading.Failed) (Past place) there stops does = absurd stops
-      unreadable (Err reading.Memory) (Past place) there stops does = absurd stops
+      unreadable told here now (Err reading.TooLong) (Past place) there stops does = absurd stops
+      unreadable told here now (Err reading.Absent) (Past place) there stops does = absurd stops
+      unreadable told here now (Err reading.Failed) (Past place) there stops does = absurd stops
+      unreadable told here now (Err reading.Memory) (Past place) there stops does = absurd stops
 
   refused_job : (file : Name) (reason : Reason) → IsJobOver line given (Refused file reason) → IsJobOf line m (Refused file reason)
   refused_job file reason (inl (inl (stops, is))) = inl (inl (stopped_job file TooLong (λ e. cc) stops, is))

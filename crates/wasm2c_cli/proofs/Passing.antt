@@ -120,8 +120,10 @@ module _ (names : List Name) (given : List Event) where
       → ((all : List (List ℕ)) (answer : Result (List ℕ) ReadAnswer) → StopsBy (most_set_bytes - total all) (length all) answer why
       → (k ≡ length all) × StopsByAnswer (total all) answer reason)
       → Stopped why → slice_get names k ≡ Some file → StopsAfter names given file reason
-  stopped_at why k reason file not_memory by (front, rest, all, first, last, split, reads, calls, inl (none, memory)) at = absurd (not_memory memory)
-  stopped_at why k reason file not_memory by (front, rest, all, first, last, split, reads, calls, inr (name, after, answer, is, one, stops, together)) at =
+  stopped_at why k reason file not_memory by (front, rest, all, first, last, split, reads, calls, inl (none, memory)) at =
+      absurd (not_memory memory)
+  stopped_at why k reason file apart by
+      (front, rest, all, first, last, split, reads, calls, inr (name, after, answer, is, one, stops, together)) at =
       let because = by all answer stops in
       let parts : names ≡ front ++ name ∷ after = split ∙ ap (λ (l : List Name). front ++ l) is in
       let same : name ≡ file = name_behind front after name file k

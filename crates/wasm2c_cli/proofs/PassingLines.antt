@@ -211,7 +211,8 @@ module _ {A : Type 0} (old new : List Event) (result : Result A Stop) where
       → IfErr result (λ stop. Passes old new (TriesTranslating (inputs_of (translate t)) (targets_of (translate t)) stop))
       → IfErr result (λ stop. Passes old new (TriesLine (translate t) stop))
   translation_tried t = IfErr-weaker result _ _
-      (λ stop. passed_so old new (TriesTranslating (inputs_of (translate t)) (targets_of (translate t)) stop) (TriesLine (translate t) stop)
+      (λ stop. passed_so old new (TriesTranslating (inputs_of (translate t)) (targets_of (translate t)) stop)
+      (TriesLine (translate t) stop)
       (λ events tried. translation_ended t stop events tried))
 
   pub set_tried : (s : FileSet)
@@ -280,7 +281,8 @@ module _ {A : Type 0} (old new : List Event) (dir : Name) (files : List (Name ×
   pub runtime_tried : IfErr result (λ stop. Passes old new (EndsWriting files stop))
       → IfErr result (λ stop. Passes old new (TriesLine (runtime dir) stop))
   runtime_tried = IfErr-weaker result _ _
-      (λ stop tried. passed_so old new (EndsWriting (runtime_files dir) stop) (TriesLine (runtime dir) stop) (λ events why. runtime_ended dir stop events why)
+      (λ stop tried. passed_so old new (EndsWriting (runtime_files dir) stop) (TriesLine (runtime dir) stop)
+      (λ events why. runtime_ended dir stop events why)
       (subst (λ (l : List (Name × List ℕ)). Passes old new (EndsWriting l stop)) same tried))
 
   pub runtime_passed : OnOk result (Passes old new (WritesFiles files)) → OnOk result (Passes old new (PassesWhole (runtime dir)))
@@ -294,8 +296,10 @@ none_tried line old = none_passed old (TriesLine line stops.Memory)
 
 -- ---- the work on the line of words
 
-module _ {A : Type 0} (old new : List Event) (words : List Name) (line : Line) (result : Result A Stop) (is : line_of words ≡ Some line) where
-  pub work_tried : IfErr result (λ stop. Passes old new (TriesLine line stop)) → IfErr result (λ stop. Passes old new (TriesWork words stop))
+module _ {A : Type 0} (old new : List Event) (words : List Name) (line : Line) (result : Result A Stop)
+    (is : line_of words ≡ Some line) where
+  pub work_tried : IfErr result (λ stop. Passes old new (TriesLine line stop))
+      → IfErr result (λ stop. Passes old new (TriesWork words stop))
   work_tried = IfErr-weaker result _ _
       (λ stop. passed_so old new (TriesLine line stop) (TriesWork words stop) (λ events tried. inr (inr (line, is, tried))))
 

@@ -293,7 +293,8 @@ puts_linked theorem words events (line, is, has, whole) names =
           modules = m.modules;
           read = m.read;
           all = hold_weaker (HoldsUnit None) IsUnitOf
-              (λ t bytes tree unit. record { is_module = unit.text.is_module; unit = unit.unit }) (targets_of line) m.sources m.modules units;
+              (λ t bytes tree unit. record { is_module = unit.text.is_module; unit = unit.unit }) (targets_of line) m.sources m.modules
+              units;
         };
         files = m.files;
         same = λ others translated. theorem (texts_made (targets_of line) m.sources m.modules ++ others)

@@ -24,8 +24,9 @@ pub fn distinct_files()
 /// The law of files that behave as files: what passed for words then says of what they hold what the clauses of the top call
 /// on contents say. So after status 0 the job's files stand whole and nothing else has changed.
 pub fn honest_files()
-    ensures untouched { (words : List Name) (status : ℕ) (said new_said : Option (List ℕ)) (faults new_faults : ℕ) (m : Contents) (new : Told)
-        → PassesHonestly words status (Says said new_said faults new_faults) m new → (status ≡ 1) ⊎ (status ≡ 2) ⊎ (status ≡ 3) → new ≡ Some m }
+    ensures untouched { (words : List Name) (status : ℕ) (said new_said : Option (List ℕ)) (faults new_faults : ℕ) (m : Contents)
+        (new : Told) → PassesHonestly words status (Says said new_said faults new_faults) m new
+        → (status ≡ 1) ⊎ (status ≡ 2) ⊎ (status ≡ 3) → new ≡ Some m }
     ensures done { (words : List Name) (said new_said : Option (List ℕ)) (faults new_faults : ℕ) (m : Contents) (new : Told)
         → PassesHonestly words 0 (Says said new_said faults new_faults) m new → Done words (Some m) new }
     ensures refused { (words : List Name) (said new_said : Option (List ℕ)) (faults new_faults : ℕ) (m : Contents) (new : Told)
