@@ -42,6 +42,10 @@ ReadsSome each most names why events =
     ⊎ ((name : Name) × (after : List Name) × (answer : Result (List ℕ) ReadAnswer) × (rest ≡ name ∷ after)
     × (last ≡ Read name each answer ∷ []) × StopsBy (most - total all) (length all) answer why × (total all ≤ most)))
 
+-- the last call was a read of this file, which failed
+abbrev pub FailsLast : Name → List Event → Type 0
+FailsLast file events = (front : List Event) × (limit : ℕ) × (events ≡ front ++ Read file limit (Err reading.Failed) ∷ [])
+
 -- ---- writing
 
 -- the files were written whole, one after another

@@ -6,8 +6,9 @@ use Rattle.w2c_io.specs.Honest.{AreHonest, Does}
 use Rattle.w2c_io.specs.declared.answers.ReadAnswer.{ReadAnswer}
 use Rattle.w2c_io.specs.declared.answers.ReadAnswer.TheVariants as reading
 use Rattle.w2c_io.specs.declared.answers.WriteAnswer.{WriteAnswer}
-use Rattle.w2c_files.specs.Passing.{WritesFiles, BreaksOffAt, WritesSome}
-use Rattle.w2c_files.specs.Reading.{AreHeld, Unreadable, Missing as NotThere, TooLong, Past, IsUnreadable, StopsReading, total}
+use Rattle.std.proofs.lemmas.List.{append-nil}
+use Rattle.w2c_files.specs.Passing.{FailsLast, WritesFiles, BreaksOffAt, WritesSome}
+use Rattle.w2c_files.specs.Reading.{AreHeld, AreRead, Unreadable, Missing as NotThere, TooLong, Past, IsUnreadable, StopsReading, total}
 use Rattle.w2c_files.specs.Standing.{written, Stands, StandsAt}
 use Rattle.w2c_files.proofs.Honest.{broken_stands, files_hold, honest_both, read_keeps, reads_fit, reads_held, reads_kept, some_stand}
 use Rattle.wasm_spelling.specs.Limits.{most_module_bytes}
@@ -15,7 +16,7 @@ use Rattle.wasm2c_words.specs.CommandLine.{Line, translate, set, generate, runti
 use Rattle.wasm2c_cli.specs.declared.stop.Reason.{Reason}
 use Rattle.wasm2c_cli.specs.HonestPassing.{PassesHonestly}
 use Rattle.wasm2c_cli.specs.Job.{Job, Usage, Missing, Refused, Write, AreReadOf, AreSourcesBy, IsJob, IsJobOf, TranslatesBy, WritesBy}
-use Rattle.wasm2c_cli.specs.Lines.{refused_line, usage_line, write_line}
+use Rattle.wasm2c_cli.specs.Lines.{read_line, refused_line, usage_line, write_line}
 use Rattle.wasm2c_cli.specs.Passing.{Follows, IsJobOver, PassesLine, ReadsFirst, ReadsWhole, StopsAfter, StopsByAnswer}
 use Rattle.wasm2c_cli.specs.Plan.{inputs_of, most_set_bytes}
 use Rattle.wasm2c_cli.specs.Stops.{Done, StandsOfJob}
@@ -138,6 +139,37 @@ module _ (line : Line) (m : Contents) (given put : List Event) (new : Told) (cur
       unreadable told here now (Err reading.Absent) (Past place) there stops does = absurd stops
       unreadable told here now (Err reading.Failed) (Past place) there stops does = absurd stops
       unreadable told here now (Err reading.Memory) (Past place) there stops does = absurd stops
+
+  missing_job : (file : Name) → StopsAfter (inputs_of line) given file NotThere
+      → IsJobOf line m (Missing file) ⊎ FailsLast file given
+  missing_job file at =
+      let (told, name, before, behind) = honest_both given put (Some m) new current after honest in
+      let (middle, other, first, last) = honest_both at.first (Read file most_module_bytes at.answer ∷ []) (Some m) told current name
+      (subst (λ (es : List Event). AreHonest es (Some m) current told name) at.calls before) in
+      let kept = reads_kept most_module_bytes at.front at.all at.first (Some m) middle current other at.read first in
+      by_answer last.0 other last.1 at.answer at.stops at.calls
+      (subst (λ (t : Told). Does (Read file most_module_bytes at.answer) t other last.0 last.1) kept last.2)
+      (record {
+        held = reads_held most_module_bytes at.front at.all at.first m (Some m) middle current other refl at.read first;
+        fit = reads_fit most_module_bytes at.front at.all at.first (Some m) middle current other at.read first;
+        together = at.together;
+      })
+    where
+      by_answer : (told : Told) (here now : Option Name) (answer : Result (List ℕ) ReadAnswer) → StopsByAnswer (total at.all) answer NotThere
+          → given ≡ at.first ++ Read file most_module_bytes answer ∷ [] → Does (Read file most_module_bytes answer) (Some m) here told now
+          → AreRead most_module_bytes most_set_bytes m at.front at.all → IsJobOf line m (Missing file) ⊎ FailsLast file given
+      by_answer told here now (Err reading.Absent) stops calls does read = inl (record {
+        front = at.front;
+        rest = at.rest;
+        all = at.all;
+        split = at.split;
+        read = read;
+        stops = does.0;
+      })
+      by_answer told here now (Err reading.Failed) stops calls does read = inr (at.first, most_module_bytes, calls)
+      by_answer told here now (Err reading.TooLong) stops calls does read = absurd stops
+      by_answer told here now (Err reading.Memory) stops calls does read = absurd stops
+      by_answer told here now (Ok bytes) stops calls does read = absurd stops
 
   refused_job : (file : Name) (reason : Reason) → IsJobOver line given (Refused file reason) → IsJobOf line m (Refused file reason)
   refused_job file reason (inl (inl (stops, is))) = inl (inl (stopped_job file TooLong (λ e. cc) stops, is))
@@ -340,6 +372,47 @@ module _ (words : List Name) (status : ℕ) (says : List ℕ → Type 0) (m : Co
           → AreHonest (p.given ++ p.put) (Some m) call.current new call.after
           → (file : Name) × (reason : Reason) × says (refused_line file reason)
           × IsJob words m (Refused file reason)
+      on_line line is p honest = elim p.follows [
+        | inl job ↦ on_job line is p honest job.0 job.1 job.2
+        | inr memory ↦ absurd (no_end (inr memory.0))
+      ]
+
+  -- ---- status 3: the file is not there, or its read failed
+
+  pub honest_missing : status ≡ 3 → (file : Name) × says (read_line file) × (IsJob words m (Missing file) ⊎ FailsLast file call.events)
+  honest_missing three = by_words (λ nothing ends. absurd (no_end ends)) (λ line is p. on_line line is p (split_of line p))
+    where
+      no_end : ((status ≡ 2) × says usage_line) ⊎ (status ≡ 5) → ⊥
+      no_end (inl (two, said)) = omega (arith, three, two)
+      no_end (inr five) = omega (arith, three, five)
+
+      Ends : Type 0
+      Ends = (file : Name) × says (read_line file) × (IsJob words m (Missing file) ⊎ FailsLast file call.events)
+
+      on_job : (line : Line) → line_of words ≡ Some line → (p : PassesLine line status says call.events)
+          → AreHonest (p.given ++ p.put) (Some m) call.current new call.after → (job : Job) → IsJobOver line p.given job
+          → Follows job status says p.put → Ends
+      on_job line found p honest Usage job follows = absurd follows
+      on_job line found p honest (Refused file reason) job (one, none, said) = absurd (omega (arith, three, one))
+      on_job line found p honest (Missing file) job (is, none, said) = (
+        file,
+        said,
+        elim (missing_job line m p.given p.put new call.current call.after p.reads honest file job) [
+          | inl of_line ↦ inl (of_words line (Missing file) found of_line)
+          | inr (front, limit, calls) ↦ inr (
+            front,
+            limit,
+            p.split ∙ (λ i. calls i ++ none i)
+                ∙ append-nil (front ++ Read file limit (Err reading.Failed) ∷ []),
+          )
+        ],
+      )
+      on_job line found p honest (Write files) job (inl (zero, wrote)) = absurd (omega (arith, three, zero))
+      on_job line found p honest (Write files) job (inr (inl (four, file, broken, said))) = absurd (omega (arith, three, four))
+      on_job line found p honest (Write files) job (inr (inr (five, some))) = absurd (omega (arith, three, five))
+
+      on_line : (line : Line) → line_of words ≡ Some line → (p : PassesLine line status says call.events)
+          → AreHonest (p.given ++ p.put) (Some m) call.current new call.after → Ends
       on_line line is p honest = elim p.follows [
         | inl job ↦ on_job line is p honest job.0 job.1 job.2
         | inr memory ↦ absurd (no_end (inr memory.0))

@@ -2,11 +2,12 @@
 ghost use Rattle.std.specs.Prelude.{◌≡◌, ◌⊎◌, List, ℕ, Option, Some};
 ghost use Rattle.w2c_io.specs.Contents.{Name, Contents, Told};
 ghost use Rattle.w2c_io.specs.Telling.{Says};
+ghost use Rattle.w2c_files.specs.Passing.{FailsLast};
 ghost use Rattle.w2c_files.specs.Standing.{file_names, AreDistinct, StandsAt};
 ghost use Rattle.wasm2c_cli.specs.declared.stop.Reason.{Reason};
 ghost use Rattle.wasm2c_cli.specs.HonestPassing.{PassesHonestly};
-ghost use Rattle.wasm2c_cli.specs.Job.{IsJob, Job, Refused, Write};
-ghost use Rattle.wasm2c_cli.specs.Lines.{refused_line, write_line};
+ghost use Rattle.wasm2c_cli.specs.Job.{IsJob, Job, Missing, Refused, Write};
+ghost use Rattle.wasm2c_cli.specs.Lines.{read_line, refused_line, write_line};
 ghost use Rattle.wasm2c_cli.specs.Stops.{Done, StandsOfJob};
 
 /// The law that words ask for at most one job over what the files hold.
@@ -33,6 +34,9 @@ pub fn honest_files()
         → PassesHonestly words 1 (Says said new_said faults new_faults) m new
         → (file : Name) × (reason : Reason) × Says said new_said faults new_faults (refused_line file reason)
         × IsJob words m (Refused file reason) }
+    ensures missing { (words : List Name) (said new_said : Option (List ℕ)) (faults new_faults : ℕ) (m : Contents) (new : Told)
+        → (call : PassesHonestly words 3 (Says said new_said faults new_faults) m new)
+        → (file : Name) × Says said new_said faults new_faults (read_line file) × (IsJob words m (Missing file) ⊎ FailsLast file call.events) }
     ensures write_fault { (words : List Name) (said new_said : Option (List ℕ)) (faults new_faults : ℕ) (m : Contents) (new : Told)
         → PassesHonestly words 4 (Says said new_said faults new_faults) m new
         → (file : Name) × (files : List (Name × List ℕ)) × IsJob words m (Write files) × StandsAt (Some m) new files file
