@@ -107,6 +107,12 @@ kept_part (Some name) None old new part = absurd part
 kept_part (Some name) (Some file) old new (inl same) = inl same
 kept_part (Some name) (Some file) old new (inr (text, prefix, is)) = inr (name, text, refl, is)
 
+pub kept_whole : (name : Option Name) (file : Option JournalFile) (old new : Told) → IsWritten name file old new
+    → (new ≡ old) ⊎ ((other : Name) × (text : List ℕ) × (name ≡ Some other) × (new ≡ holding old other text))
+kept_whole None file old new same = inl same
+kept_whole (Some name) None old new is = absurd is
+kept_whole (Some name) (Some file) old new (is, text) = inr (name, journal_text (recorded file), refl, is)
+
 -- ---- symbols
 
 own_symbols : (h : Host) (functions : List HostFunction) → symbol_names (map (symbol_in h.name) functions) ≡ map (symbol_of h) functions
