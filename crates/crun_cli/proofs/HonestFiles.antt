@@ -30,13 +30,13 @@ use Rattle.std.proofs.Common.{
   arith,
 }
 use Rattle.std.proofs.lemmas.List.{append-nil}
-use Rattle.std.specs.Prelude.{◌&&◌, if◌then◌else◌, nat_le, option_and_then}
+use Rattle.std.specs.Prelude.{◌&&◌, if◌then◌else◌, option_and_then}
 use Rattle.std.specs.FinMap.{get, insert}
 use Rattle.w2c_base.specs.Run.{Host}
 use Rattle.w2c_io.specs.Contents.{Name, Contents, Told, appending, bytes_or_none, holding}
-use Rattle.w2c_io.specs.Events.{Event, Read, Begin, Put, Finish}
+use Rattle.w2c_io.specs.Events.{Event, Read, Begin, Finish}
 use Rattle.w2c_io.specs.Honest.{AreHonest, Does}
-use Rattle.w2c_io.specs.Passed.{joined, puts, PutsText, WritesFile}
+use Rattle.w2c_io.specs.Passed.{joined, puts, WritesFile}
 use Rattle.w2c_io.specs.declared.answers.ReadAnswer.{ReadAnswer}
 use Rattle.w2c_io.specs.declared.answers.ReadAnswer.TheVariants as reading
 use Rattle.w2c_io.specs.declared.answers.WriteAnswer.{WriteAnswer}
@@ -84,7 +84,7 @@ use Rattle.crun_words.specs.Passing.{limited, AllAnswer, GivesJournal, ReadsInOr
 use Rattle.crun_words.proofs.Honest.{answer_both, honest_both, inputs_honest, journal_honest, units_honest}
 use Rattle.crun_job.specs.Job.{IsTextsJob, Job, Run, Stops, Write}
 use Rattle.crun_job.specs.Lines.{error_line, Reason, status_of, Unwritten, Usage, WantOfMemory}
-use Rattle.crun_cli.specs.Ends.{Finished, HasPlayed, IsJobWith, IsJournaled, IsRunStatus, journal_of, Ran, WithHosts, WithHostsBy}
+use Rattle.crun_cli.specs.Ends.{Finished, HasPlayed, IsJobWith, IsJournaled, IsRunStatus, journal_of, WithHosts, WithHostsBy}
 use Rattle.crun_cli.specs.Jobs.{
   symbols_of,
   IsJobBy,
@@ -101,7 +101,6 @@ use Rattle.crun_cli.specs.Passing.{
   IsReadLast,
   IsRunJobOver,
   IsUnitsJobOver,
-  PassesBy,
   PassesFor,
   PassesLine,
   PassesRun,
@@ -110,7 +109,6 @@ use Rattle.crun_cli.specs.Passing.{
   reason_for,
   run_reads,
   StopsFor,
-  WritesBehind,
   WritesJournal,
   WritesOfRun,
   WritesOutput,
@@ -223,8 +221,8 @@ pieces_put told name (piece ∷ pieces) bytes new after (t, n, does, rest) =
     (subst (λ (x : Told). AreHonest (puts pieces) x n new after) (does.0 ∙ put_more told name bytes piece) rest))
     ∙ ap (holding told name) (append_assoc bytes piece (joined pieces))
 
-pub file_holds : (name : Name) (text : List ℕ) (events : List Event) (old : Told) (current : Option Name) (new : Told) (after : Option Name)
-    → WritesFile name text events → AreHonest events old current new after → new ≡ holding old name text
+pub file_holds : (name : Name) (text : List ℕ) (events : List Event) (old : Told) (current : Option Name) (new : Told)
+    (after : Option Name) → WritesFile name text events → AreHonest events old current new after → new ≡ holding old name text
 file_holds name text events old current new after (middle, (pieces, is, calls), all) honest =
     go (subst (λ (l : List Event). AreHonest l old current new after) all honest)
   where
@@ -253,8 +251,8 @@ none_behind_calls None last more = more
 none_behind_calls (Some name) last more = more
 
 module _ (m : Contents) (line : RunLine) (handed : List Host) where
-  texts_behind : (o : Option Name) (texts : List (List ℕ)) (text : List ℕ) (last : List Event) (job : Job) (current : Option Name) (new : Told)
-      (after : Option Name) → AreHonest last (Some m) current new after → AllAnswer last
+  texts_behind : (o : Option Name) (texts : List (List ℕ)) (text : List ℕ) (last : List Event) (job : Job) (current : Option Name)
+      (new : Told) (after : Option Name) → AreHonest last (Some m) current new after → AllAnswer last
       → MatchOption o (IsTextsJob line (symbols_of handed) texts text job)
       (λ name. (r : JournalReading) × GivesJournal name r last × IsReplayJob line name texts text r job)
       → MatchOption o (IsTextsJob line (symbols_of handed) texts text job)
@@ -276,10 +274,9 @@ module _ (m : Contents) (line : RunLine) (handed : List Host) where
       → AreHonest given (Some m) current new after → AllAnswer given → IsRunJobOver line handed given job → IsRunJob line handed m job
   run_job_honest few given job current new after honest answers (r, first, last, split, gives, more, of) =
       let both = honest_both first last (Some m) current new after
-          (subst (λ (l : List Event). AreHonest l (Some m) current new after) split honest) in
+      (subst (λ (l : List Event). AreHonest l (Some m) current new after) split honest) in
       let answer = answer_both first last (subst AllAnswer split answers) in
-      let found = inputs_honest m line.units few current both.0 both.1 line.calls r first gives both.2 answer.0 in
-      (
+      let found = inputs_honest m line.units few current both.0 both.1 line.calls r first gives both.2 answer.0 in (
         r,
         found.0,
         by_behind r last job both.1 new after (subst (λ (t : Told). AreHonest last t both.1 new after) found.1 both.3) answer.1 of,
@@ -398,7 +395,8 @@ module _ {H : Type 0} (hm : HostModule H) (hosts : List H) (words : List Name) (
     module _ (line : RunLine) {G : Type 0} (n : HostModule G) (gs : List G) (units : List (List tree.Item)) (calls : List SymbolCall)
         (steps : ℕ) (shown : Bool) (steps_are : steps ≡ line.steps) (shown_is : shown ≡ line.shows_state) where
       abbrev Writes : Type 0
-      Writes = WritesRun n gs line.journal units calls steps shown old.out.told new.out.told (λ s. status ≡ s) (StopsFor status Said) written
+      Writes = WritesRun n gs line.journal units calls steps shown old.out.told new.out.told (λ s. status ≡ s) (StopsFor status Said)
+          written
 
       abbrev RunWith : ℕ → Bool → ℕ → Type 0
       RunWith k b s = (run : HasRun n gs units calls k b old.out.told new.out.told s)
@@ -410,7 +408,7 @@ module _ {H : Type 0} (hm : HostModule H) (hosts : List H) (words : List Name) (
           whole : RunWith steps shown w.status → status ≡ w.status → HasPlayed n gs line units calls old new status
           whole of is =
               let done : RunWith line.steps line.shows_state status = subst (RunWith line.steps line.shows_state) (sym is)
-                  (subst (λ b. RunWith line.steps b w.status) shown_is (subst (λ k. RunWith k shown w.status) steps_are of)) in
+              (subst (λ b. RunWith line.steps b w.status) shown_is (subst (λ k. RunWith k shown w.status) steps_are of)) in
               record { run = done.0; written = done.1 }
 
           by : (WritesJournal line.journal (journal_of n gs w.run.asks) written × (status ≡ w.status))
@@ -440,12 +438,12 @@ module _ {H : Type 0} (hm : HostModule H) (hosts : List H) (words : List Name) (
   with_honest (Some name) files given current middle after reads honest answers P Q so
       (j, replays, (text, (first, last, split, gives), is_journal), are, of) =
       let both = honest_both first last (Some m) current middle after
-          (subst (λ (l : List Event). AreHonest l (Some m) current middle after) split honest) in
+      (subst (λ (l : List Event). AreHonest l (Some m) current middle after) split honest) in
       let kept : both.0 ≡ Some m = reads_keep files first (Some m) current both.0 both.1
-          (first_reads files first last (subst (ReadsInOrder files) split reads)) both.2 in
+      (first_reads files first last (subst (ReadsInOrder files) split reads)) both.2 in
       let held = journal_honest m name (Held text) last both.1 middle after gives
-          (subst (λ (t : Told). AreHonest last t both.1 middle after) kept both.3)
-          (answer_both first last (subst AllAnswer split answers)).1 in
+      (subst (λ (t : Told). AreHonest last t both.1 middle after) kept both.3)
+      (answer_both first last (subst AllAnswer split answers)).1 in
       (j, replays, (text, held.0, is_journal), are, so _ _ replays of)
 
   none_with : (o : Option Name) (Reads : Name → JournalReading → Type 0) (P : (G : Type 0) → HostModule G → List G → Type 0)
@@ -463,12 +461,11 @@ module _ {H : Type 0} (hm : HostModule H) (hosts : List H) (words : List Name) (
   run_comes line is given written current name after middle reads honest answers same behind (Run units calls steps shown) job of =
       let are = run_steps m line (hosts_of hm hosts) units calls steps shown job in
       let P : (G : Type 0) → HostModule G → List G → Type 0 = λ G n gs. WritesRun n gs line.journal units calls steps shown
-          old.out.told new.out.told (λ s. status ≡ s) (StopsFor status Said) written in
+      old.out.told new.out.told (λ s. status ≡ s) (StopsFor status Said) written in
       let asks : IsJobWith hm hosts words m (Run units calls line.steps line.shows_state) =
-          there (runs line) is (Run units calls line.steps line.shows_state)
-          (subst (λ b. IsRunJob line (hosts_of hm hosts) m (Run units calls line.steps b)) are.1
-          (subst (λ k. IsRunJob line (hosts_of hm hosts) m (Run units calls k shown)) are.0 job)) in
-      (
+      there (runs line) is (Run units calls line.steps line.shows_state)
+      (subst (λ b. IsRunJob line (hosts_of hm hosts) m (Run units calls line.steps b)) are.1
+      (subst (λ k. IsRunJob line (hosts_of hm hosts) m (Run units calls k shown)) are.0 job)) in (
         (λ run. inl (
           line,
           units,
@@ -502,7 +499,7 @@ module _ {H : Type 0} (hm : HostModule H) (hosts : List H) (words : List Name) (
           → PassesUnits units IsOf (λ s. status ≡ s) (StopsFor status Said) events → Comes
       units_come form is units IsOf few jobs quiet p =
           let both = honest_both p.given p.written old.files.told old.files.current new.files.told new.files.current
-              (subst (λ (l : List Event). AreHonest l old.files.told old.files.current new.files.told new.files.current) p.split honest) in
+          (subst (λ (l : List Event). AreHonest l old.files.told old.files.current new.files.told new.files.current) p.split honest) in
           let answer = answer_both p.given p.written (subst AllAnswer p.split answers) in
           let kept = reads_keep (limited most_unit_bytes units) p.given old.files.told old.files.current both.0 both.1 p.reads both.2 in
           by p.given p.written both.0 both.1 kept
@@ -522,7 +519,7 @@ module _ {H : Type 0} (hm : HostModule H) (hosts : List H) (words : List Name) (
           → PassesRun hm hosts line old.out.told new.out.told (λ s. status ≡ s) (StopsFor status Said) events → Comes
       run_line line is p =
           let both = honest_both p.given p.written old.files.told old.files.current new.files.told new.files.current
-              (subst (λ (l : List Event). AreHonest l old.files.told old.files.current new.files.told new.files.current) p.split honest) in
+          (subst (λ (l : List Event). AreHonest l old.files.told old.files.current new.files.told new.files.current) p.split honest) in
           let answer = answer_both p.given p.written (subst AllAnswer p.split answers) in
           let kept = reads_keep (run_reads line) p.given old.files.told old.files.current both.0 both.1 p.reads both.2 in
           by p.given p.written both.0 both.1 kept p.reads

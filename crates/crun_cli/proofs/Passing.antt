@@ -19,12 +19,10 @@ use Rattle.std.proofs.Common.{
   refl,
   sym,
   ap,
-  ◌∙◌,
   subst,
   string_bytes,
 }
 use Rattle.std.proofs.lemmas.List.{append-nil}
-use Rattle.w2c_base.specs.Run.{Host}
 use Rattle.w2c_io.specs.Contents.{Name, Told}
 use Rattle.w2c_io.specs.Events.{Event}
 use Rattle.w2c_io.specs.Passed.{WritesFile, BreaksOff}
@@ -37,8 +35,7 @@ use Rattle.c_hosts.specs.declared.journal.Asked.{Asked}
 use Rattle.c_hosts.specs.Asking.{hosts_of}
 use Rattle.host_replay.specs.declared.file.JournalFile.{JournalFile}
 use Rattle.host_replay.specs.declared.replay.ReplayHost.{ReplayHost}
-use Rattle.host_replay.specs.Recording.{recorded}
-use Rattle.host_replay.specs.Replayed.{AreReplays, replaying}
+use Rattle.host_replay.specs.Replayed.{replaying}
 use Rattle.host_replay.specs.Texts.{journal_text, Recorded}
 use Rattle.host_replay.specs.Writable.{AreDistinct}
 use Rattle.host_replay.proofs.Given.{hosts_same}
@@ -60,10 +57,19 @@ use Rattle.crun_words.specs.Inputs.{
   NoUnit,
   Reading,
   UnitsRead,
-  UnitsReading,
   UnitTooLong,
 }
-use Rattle.crun_words.specs.Passing.{GivesInputs, GivesJournal, GivesUnits, limited, ReadsFile, ReadsInOrder, TriesInputs, TriesJournal, TriesUnits}
+use Rattle.crun_words.specs.Passing.{
+  GivesInputs,
+  GivesJournal,
+  GivesUnits,
+  limited,
+  ReadsFile,
+  ReadsInOrder,
+  TriesInputs,
+  TriesJournal,
+  TriesUnits,
+}
 use Rattle.crun_words.proofs.Passing.{inputs_in_order, journal_in_order, journal_read, longer, units_in_order}
 use Rattle.crun_job.specs.declared.refusal.UnitsRefusal.{UnitsRefusal}
 use Rattle.crun_job.specs.declared.refusal.UnitsRefusal.TheVariants as refusal
@@ -87,7 +93,7 @@ use Rattle.crun_job.specs.Lines.{
 use Rattle.crun_job.specs.Seen.{reason_of}
 use Rattle.crun_job.specs.Stopping.{stop_for, StopsTexts, StopsUnit}
 use Rattle.crun_cli.specs.Ends.{journal_of, WithHostsBy}
-use Rattle.crun_cli.specs.Jobs.{symbols_of, IsJobBy, IsMerged, IsReplayJob, IsTextsJobBy, IsTrimmedText}
+use Rattle.crun_cli.specs.Jobs.{symbols_of, IsJobBy, IsMerged, IsReplayJob, IsTrimmedText}
 use Rattle.crun_cli.specs.Passing.{
   BreaksJournal,
   IsReadLast,
@@ -103,7 +109,6 @@ use Rattle.crun_cli.specs.Passing.{
   reason_for,
   run_reads,
   StopsFor,
-  WritesBehind,
   WritesJournal,
   WritesOfRun,
   WritesOutput,
@@ -111,7 +116,7 @@ use Rattle.crun_cli.specs.Passing.{
   WritesUnit,
 }
 use Rattle.crun_cli.specs.Recording.{HasRecorded, IsBlankFor, IsFilled, IsText, IsWritten}
-use Rattle.crun_cli.specs.Runs.{HasPart, HasRun}
+use Rattle.crun_cli.specs.Runs.{HasPart}
 use Rattle.crun_cli.specs.Trying.{GivesReplays, PutsJournal, PutsJournalPart, TriesReplay, TriesUnit, WritesOfTexts, WritesOfTextsJob}
 
 -- ---- a unit that is written
@@ -237,7 +242,8 @@ module _ {H : Type 0} (m : HostModule H) (hosts : List H) where
       line_unwritten part stopped = inr (Run units calls steps shown, job, inr (part, refl, stopped))
 
       module _ (status : ℕ) (file filled : Option JournalFile)
-          (ran : HasRecorded m hosts units calls steps shown old new status file filled) (blank : IsBlankFor m hosts line.journal file) where
+          (ran : HasRecorded m hosts units calls steps shown old new status file filled)
+          (blank : IsBlankFor m hosts line.journal file) where
         pub run_written : (before after : Told) (written : List Event) → AreDistinct (hosts_of m hosts)
             → IsWritten line.journal filled before after → PutsJournal line.journal filled written → Ends status → Writes written
         run_written before after written distinct holds puts ends = inr (
@@ -518,8 +524,8 @@ module _ {H : Type 0} (m : HostModule H) (hosts : List H) (old new : Option (Lis
 
   pub line_so : (line : Line) (events : List Event) → PassesLine m hosts line old new Ends Stopped events
       → PassesLine m hosts line old new Ends' Stopped' events
-  line_so (runs line) events p = by_so (run_reads line) (IsRunJobOver line (hosts_of m hosts)) (WritesOfRun m hosts line old new Ends Stopped)
-      (WritesOfRun m hosts line old new Ends' Stopped') (of_run_so line) events p
+  line_so (runs line) events p = by_so (run_reads line) (IsRunJobOver line (hosts_of m hosts))
+      (WritesOfRun m hosts line old new Ends Stopped) (WritesOfRun m hosts line old new Ends' Stopped') (of_run_so line) events p
   line_so (merges line) events (same, p) = (same, units_so line.units (IsMerged line (symbols_of (hosts_of m hosts))) events p)
   line_so (trims line) events (same, p) = (same, units_so (line.unit ∷ []) (IsTrimmedText line) events p)
 

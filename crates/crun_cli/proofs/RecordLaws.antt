@@ -36,7 +36,7 @@ use Rattle.crun_job.specs.Lines.{
   WantOfMemory,
 }
 use Rattle.crun_job.specs.Stopping.{StopsTexts}
-use Rattle.crun_cli.specs.Ends.{journal_of, AreOffered, HasJournalPart, HasPlayed, HasPlayedPart, IsJournaled, IsRunStatus}
+use Rattle.crun_cli.specs.Ends.{journal_of, AreOffered, HasPlayed, HasPlayedPart, IsJournaled, IsRunStatus}
 use Rattle.crun_cli.specs.Jobs.{symbols_of}
 use Rattle.crun_cli.specs.Outside.{IsUntouched, Outside}
 use Rattle.crun_cli.specs.Recording.{HasRecorded, IsBlank, IsBlankFor, IsFilled, IsNamed, IsText, IsWritten, IsWrittenPart}

@@ -1,7 +1,7 @@
 -- What a call comes to over the job that the words ask for, and what it leaves: the lines on the stream, the journal of a run, and
 -- the file of a unit.
-use Rattle.std.specs.Prelude.{◌≡◌, ◌⊎◌, ℕ, Bool, true, List, Option, Some, None}
-use Rattle.w2c_io.specs.Contents.{Name, Contents, Told, extended, holding}
+use Rattle.std.specs.Prelude.{◌≡◌, ◌⊎◌, ℕ, true, List, Option, Some, None}
+use Rattle.w2c_io.specs.Contents.{Name, Contents, Told, holding}
 use Rattle.w2c_io.specs.Causes.{Faulted, Rose}
 use Rattle.w2c_io.specs.Telling.{Tells}
 use Rattle.w2c_files.specs.Standing.{IsBegun}
@@ -21,7 +21,7 @@ use Rattle.c_hosts.specs.Journals.{events_in}
 use Rattle.host_replay.specs.Runs.{asked_events, run_with}
 use Rattle.host_replay.specs.Reading.{IsJournal}
 use Rattle.host_replay.specs.Texts.{journal_text, Recorded}
-use Rattle.crun_words.specs.CommandLine.{RunLine, Line, line_of, runs}
+use Rattle.crun_words.specs.CommandLine.{RunLine, line_of, runs}
 use Rattle.crun_words.specs.Inputs.{IsJournalReading, JournalReading}
 use Rattle.crun_job.specs.Job.{Job, Run, Stops, Write}
 use Rattle.crun_job.specs.Lines.{

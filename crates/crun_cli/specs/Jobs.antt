@@ -32,7 +32,7 @@ use Rattle.crun_words.specs.Inputs.{
 }
 use Rattle.crun_job.specs.declared.stop.Cause.{Cause}
 use Rattle.crun_job.specs.declared.stop.Cause.TheVariants.{TooLong}
-use Rattle.crun_job.specs.Job.{IsTextsJob, Job, Run, Stops, Write}
+use Rattle.crun_job.specs.Job.{IsTextsJob, Job, Stops, Write}
 use Rattle.crun_job.specs.Lines.{JournalLine, JournalTooLong, CallsTooLong, Refused, Unread, Usage}
 use Rattle.crun_job.specs.Links.{AreLinked, IsRefusedUnit, Symbols}
 use Rattle.crun_job.specs.Texts.{AreUnitTexts, IsFirstRefusedText}

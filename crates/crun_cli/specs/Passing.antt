@@ -1,7 +1,7 @@
 -- What passes through the files in a call: the files that the words name are read first, each once and in order, and then the file
 -- that they name for writing is written, if they name one. What is written, and how the call ends, follows from the bytes that the
 -- reads gave.
-use Rattle.std.specs.Prelude.{◌≡◌, ◌⊎◌, ℕ, Bool, List, [], ◌∷◌, ◌++◌, MatchOption, Option, Some, None, Result, Ok, Err}
+use Rattle.std.specs.Prelude.{◌≡◌, ◌⊎◌, ℕ, Bool, List, [], ◌∷◌, ◌++◌, MatchOption, Option, Some, None}
 use Rattle.w2c_base.specs.Run.{Host}
 use Rattle.w2c_io.specs.Contents.{Name}
 use Rattle.w2c_io.specs.Events.{Event}
@@ -16,7 +16,7 @@ use Rattle.c_hosts.specs.declared.host.HostModule.{Ghosts as HostModule}
 use Rattle.c_hosts.specs.Asking.{hosts_of}
 use Rattle.host_replay.specs.Reading.{IsJournal}
 use Rattle.host_replay.specs.Texts.{journal_text, Recorded}
-use Rattle.crun_words.specs.CommandLine.{MergeLine, RunLine, TrimLine, Line, line_of, runs, merges, trims}
+use Rattle.crun_words.specs.CommandLine.{RunLine, Line, line_of, runs, merges, trims}
 use Rattle.crun_words.specs.Inputs.{
   AllRead,
   JournalReading,
@@ -32,7 +32,7 @@ use Rattle.crun_words.specs.Passing.{GivesInputs, GivesJournal, GivesUnits, limi
 use Rattle.crun_job.specs.Job.{Job, Run, Stops, Write}
 use Rattle.crun_job.specs.Lines.{error_line, status_of, Reason, Unwritten, Usage, WantOfMemory}
 use Rattle.crun_cli.specs.Ends.{journal_of, WithHostsBy}
-use Rattle.crun_cli.specs.Jobs.{symbols_of, IsBehindUnits, IsJobBy, IsMerged, IsTrimmedText, IsUnitsJobBy}
+use Rattle.crun_cli.specs.Jobs.{symbols_of, IsJobBy, IsMerged, IsTrimmedText, IsUnitsJobBy}
 use Rattle.crun_cli.specs.Runs.{HasPart, HasRun}
 
 -- ---- which files are read

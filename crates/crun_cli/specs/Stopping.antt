@@ -1,5 +1,5 @@
 -- Why the work stops: before anything is written, or in the middle of it.
-use Rattle.std.specs.Prelude.{◌≡◌, ◌⊎◌, ℕ, List, Option, Some}
+use Rattle.std.specs.Prelude.{◌≡◌, ◌⊎◌, ℕ, List, Some}
 use Rattle.w2c_io.specs.Contents.{Name, Contents}
 use Rattle.w2c_io.specs.Causes.{Faulted, Rose}
 use Rattle.w2c_io.specs.Telling.{Tells}

@@ -1,5 +1,5 @@
 -- How a call of the code ends, and what passes through the files in each step.
-use Rattle.std.specs.Prelude.{◌≡◌, ◌⊎◌, ℕ, List, [], ◌∷◌, Option, Some, None, Result, Ok, Err}
+use Rattle.std.specs.Prelude.{◌≡◌, ◌⊎◌, ℕ, List, [], Option, Some, None, Result, Ok, Err}
 use Rattle.w2c_io.specs.Contents.{Name}
 use Rattle.w2c_io.specs.Events.{Event}
 use Rattle.w2c_io.specs.Passed.{WritesFile, BreaksOff}

@@ -56,7 +56,8 @@ pub fn merge_units<F: Files>(
         ⊎ ((text : List ℕ) × (F.told files.new ≡ holding (F.told files.old) (seen_merge line.now).output text)) }
     // What passed through the files, those of the system too.
     ensures passed { Passes (F.trace files.old) (F.trace files.new)
-        (PassesUnits (seen_merge line.now).units (IsMerged (seen_merge line.now) (c_symbols hosts.now)) (done_by result) (stopped_by result)) }
+        (PassesUnits (seen_merge line.now).units (IsMerged (seen_merge line.now) (c_symbols hosts.now))
+        (done_by result) (stopped_by result)) }
 {
     let one = match merged_unit(alloc, line, hosts, files) {
         Ok(one) => one,
@@ -86,7 +87,8 @@ fn merged_unit<F: Files>(
     ensures kept { OnOk result (F.read_faults files.new ≡ F.read_faults files.old) }
     ensures writes { F.write_faults files.new ≡ F.write_faults files.old }
     ensures passed { IfOk result (λ one. Passes (F.trace files.old) (F.trace files.new) (λ events.
-        IsUnitsJobOver (seen_merge line.now).units (IsMerged (seen_merge line.now) (c_symbols hosts.now)) events (Write (seen_merge line.now).output (unit_of one)))) }
+        IsUnitsJobOver (seen_merge line.now).units (IsMerged (seen_merge line.now) (c_symbols hosts.now)) events
+        (Write (seen_merge line.now).output (unit_of one)))) }
     ensures tried { IfErr result (λ stop. Passes (F.trace files.old) (F.trace files.new)
         (TriesUnit (seen_merge line.now).units (IsMerged (seen_merge line.now) (c_symbols hosts.now)) (reason_of stop))) }
 {

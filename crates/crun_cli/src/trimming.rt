@@ -76,7 +76,8 @@ fn trimmed_unit<F: Files>(
     ensures kept { OnOk result (F.read_faults files.new ≡ F.read_faults files.old) }
     ensures writes { F.write_faults files.new ≡ F.write_faults files.old }
     ensures passed { IfOk result (λ trimmed. Passes (F.trace files.old) (F.trace files.new) (λ events.
-        IsUnitsJobOver ((seen_trim line.now).unit ∷ []) (IsTrimmedText (seen_trim line.now)) events (Write (seen_trim line.now).output (unit_of trimmed)))) }
+        IsUnitsJobOver ((seen_trim line.now).unit ∷ []) (IsTrimmedText (seen_trim line.now)) events
+        (Write (seen_trim line.now).output (unit_of trimmed)))) }
     ensures tried { IfErr result (λ stop. Passes (F.trace files.old) (F.trace files.new)
         (TriesUnit ((seen_trim line.now).unit ∷ []) (IsTrimmedText (seen_trim line.now)) (reason_of stop))) }
 {

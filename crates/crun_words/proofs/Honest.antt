@@ -1,14 +1,11 @@
 -- Over files that behave as files, and whose reads answer, reading comes to what it comes to over what they hold.
 use Rattle.std.proofs.Common.{
   ◌≡◌,
-  ◌⊎◌,
   inl,
   inr,
   ℕ,
   ◌+◌,
   ◌-◌,
-  ◌*◌,
-  ◌<◌,
   ◌≤◌,
   List,
   [],
@@ -18,7 +15,6 @@ use Rattle.std.proofs.Common.{
   length-append,
   Option,
   Some,
-  None,
   Result,
   Ok,
   Err,
@@ -29,7 +25,6 @@ use Rattle.std.proofs.Common.{
   subst,
   arith,
 }
-use Rattle.std.specs.FinMap.{get}
 use Rattle.std.specs.List.{AllByRecursion}
 use Rattle.w2c_io.specs.Contents.{Name, Contents, Told}
 use Rattle.w2c_io.specs.Events.{Event, Read}
@@ -60,17 +55,7 @@ use Rattle.crun_words.specs.Inputs.{
   UnitsReading,
   UnitTooLong,
 }
-use Rattle.crun_words.specs.Passing.{
-  AllAnswer,
-  Answers,
-  GivesInputs,
-  GivesJournal,
-  GivesUnits,
-  IsAway,
-  IsOver,
-  ReadsCalls,
-  ReadsUnto,
-}
+use Rattle.crun_words.specs.Passing.{AllAnswer, Answers, GivesInputs, GivesJournal, GivesUnits, IsAway, IsOver, ReadsUnto}
 use Rattle.crun_words.proofs.InputStops.{as_many, units_bytes}
 
 -- ---- one part behind the other
@@ -110,10 +95,10 @@ module _ (m : Contents) where
       (tt, tt, (subst (λ (e : List Event). AreHonest e (Some m) current new after) is honest).0)
   all_held each (n ∷ names) (b ∷ all) (e ∷ events) current new after (is, more) (told, name, does, rest) (answer, answers) =
       let found : Does (Read n each (Ok b)) (Some m) current told name =
-          subst (λ (x : Event). Does x (Some m) current told name) is does in
+      subst (λ (x : Event). Does x (Some m) current told name) is does in
       let fits : length b ≤ each = subst Answers is answer in
       let then = all_held each names all events name new after more
-          (subst (λ (t : Told). AreHonest events t name new after) found.1 rest) answers in
+      (subst (λ (t : Told). AreHonest events t name new after) found.1 rest) answers in
       ((found.0, then.0), (fits, then.1), then.2)
   all_held each [] (b ∷ all) events current new after gave honest answers = absurd gave
   all_held each (n ∷ names) [] events current new after gave honest answers = absurd gave
@@ -137,7 +122,7 @@ module _ (m : Contents) where
   then_one names all first events name most answer current new after few gave is honest answers =
       let last : List Event = Read name most answer ∷ [] in
       let both = honest_both first last (Some m) current new after
-          (subst (λ (e : List Event). AreHonest e (Some m) current new after) is honest) in
+      (subst (λ (e : List Event). AreHonest e (Some m) current new after) is honest) in
       let answer' = answer_both first last (subst AllAnswer is answers) in
       let held = all_held most_unit_bytes names all first current both.0 both.1 gave both.2 answer'.0 in (
         are_read names all few held.0 held.1,
@@ -159,8 +144,8 @@ module _ (m : Contents) where
         → Last name texts answer u.front
     the_last name texts answer events u honest answers =
         let short = few_front u.front u.rest name u.split in
-        let found = then_one u.front texts u.first events name most_unit_bytes answer current new after (omega (arith, short)) u.gave u.calls
-            honest answers in
+        let found = then_one u.front texts u.first events name most_unit_bytes answer current new after (omega (arith, short))
+        u.gave u.calls honest answers in
         (short, found.0, found.1)
 
     pub units_honest : (r : UnitsReading) (events : List Event) → GivesUnits units r events → AreHonest events (Some m) current new after
@@ -215,7 +200,7 @@ module _ (m : Contents) where
     inputs_honest calls (LongUnit name) events unit honest answers = units_honest (UnitTooLong name) events unit honest answers
     inputs_honest calls LongCalls events (texts, (first, gave, is)) honest answers =
         let found = then_one units texts first events calls most_calls_bytes (Err reading.TooLong) current new after few gave is honest
-            answers in
+        answers in
         (((texts, found.0), found.1.1.0), found.1.1.1)
 
   pub journal_honest : (name : Name) (r : JournalReading) (events : List Event) (current : Option Name) (new : Told) (after : Option Name)
@@ -223,7 +208,7 @@ module _ (m : Contents) where
       → IsJournalReading m name r × (new ≡ Some m)
   journal_honest name (Held text) events current new after is honest answers =
       let found = one_read name most_journal_bytes (Ok text) current new after
-          (subst (λ (e : List Event). AreHonest e (Some m) current new after) is honest) (subst AllAnswer is answers) in
+      (subst (λ (e : List Event). AreHonest e (Some m) current new after) is honest) (subst AllAnswer is answers) in
       ((found.1.0, found.2), found.1.1)
   journal_honest name NoJournal events current new after (answer, away, is) honest answers =
       by answer away (one_read name most_journal_bytes answer current new after
@@ -238,5 +223,5 @@ module _ (m : Contents) where
       by (Err reading.Memory) away found = absurd away
   journal_honest name LongJournal events current new after is honest answers =
       let found = one_read name most_journal_bytes (Err reading.TooLong) current new after
-          (subst (λ (e : List Event). AreHonest e (Some m) current new after) is honest) (subst AllAnswer is answers) in
+      (subst (λ (e : List Event). AreHonest e (Some m) current new after) is honest) (subst AllAnswer is answers) in
       (found.1.0, found.1.1)

@@ -1,5 +1,5 @@
 -- Where reading the units and the calls file stops.
-use Rattle.std.proofs.Common.{◌≡◌, ◌⊎◌, inl, inr, ℕ, zero, suc, ◌+◌, ◌*◌, ◌<◌, ◌≤◌, List, [], ◌∷◌, ◌++◌, length, length-append, slice_get, Option, Some, None, refl, sym, ap, ◌∙◌, subst, arith, string_bytes}
+use Rattle.std.proofs.Common.{◌≡◌, ◌⊎◌, inl, inr, ℕ, zero, suc, ◌*◌, ◌<◌, ◌≤◌, List, [], ◌∷◌, length, length-append, slice_get, Option, Some, None, refl, sym, ap, ◌∙◌, subst, arith}
 use Rattle.std.specs.FinMap.{get}
 use Rattle.std.specs.List.{AllByRecursion}
 use Rattle.w2c_io.specs.Contents.{Name, Contents, Told}
@@ -8,7 +8,7 @@ use Rattle.w2c_io.specs.Telling.{Tells}
 use Rattle.w2c_io.proofs.Telling.{rose_from}
 use Rattle.w2c_files.specs.declared.reading.ReadStop.{ReadStop}
 use Rattle.w2c_files.specs.declared.reading.ReadStop.TheVariants as read
-use Rattle.w2c_files.specs.Reading.{AreHeld, AreRead, IsUnreadable, StopsReading, Missing, TooLong, Past, total}
+use Rattle.w2c_files.specs.Reading.{AreHeld, IsUnreadable, StopsReading, Missing, TooLong, Past, total}
 use Rattle.w2c_files.specs.Standing.{IsOneOf}
 use Rattle.w2c_files.specs.Stopping.{StopsAt}
 use Rattle.w2c_files.proofs.Stops.{one_stop, no_stop, same_bytes}
@@ -52,7 +52,8 @@ pub units_bytes : (texts : List (List ℕ)) → AllByRecursion (λ text. length 
 units_bytes [] fit = omega arith
 units_bytes (text ∷ texts) fit = let more = units_bytes texts fit.1 in omega (arith, more, fit.0)
 
-pub as_many : (contents : Contents) (names : List Name) (texts : List (List ℕ)) → AreHeld contents names texts → length texts ≡ length names
+pub as_many : (contents : Contents) (names : List Name) (texts : List (List ℕ)) → AreHeld contents names texts
+    → length texts ≡ length names
 as_many contents [] [] held = refl
 as_many contents (n ∷ names) (t ∷ texts) held = ap suc (as_many contents names texts held.1)
 as_many contents [] (t ∷ texts) held = absurd held

@@ -1,6 +1,26 @@
 -- What passes through the files that are read, from what each step says.
-use Rattle.std.proofs.Common.{◌≡◌, ◌⊎◌, inl, inr, ℕ, zero, suc, List, [], ◌∷◌, ◌++◌, length, map, slice_get, Option, Some, Result, Ok, Err, refl, sym, ap, ◌∙◌, subst, append_assoc}
-use Rattle.std.specs.Prelude.{string_bytes}
+use Rattle.std.proofs.Common.{
+  ◌≡◌,
+  inl,
+  inr,
+  ℕ,
+  List,
+  [],
+  ◌∷◌,
+  ◌++◌,
+  length,
+  slice_get,
+  Some,
+  Result,
+  Ok,
+  Err,
+  refl,
+  sym,
+  ap,
+  ◌∙◌,
+  subst,
+  append_assoc,
+}
 use Rattle.std.proofs.lemmas.List.{append-nil, map-append}
 use Rattle.w2c_io.specs.Contents.{Name}
 use Rattle.w2c_io.specs.Events.{Event, Read}
@@ -31,14 +51,12 @@ use Rattle.crun_words.specs.Inputs.{
   UnitTooLong,
 }
 use Rattle.crun_words.specs.Passing.{
-  FindsNone,
   GivesInputs,
   GivesJournal,
   GivesUnits,
   IsAway,
   IsOver,
   limited,
-  ReadsCalls,
   ReadsFile,
   ReadsInOrder,
   ReadsUnto,
@@ -54,7 +72,8 @@ use Rattle.crun_words.proofs.Lists.{same_some}
 pub all_then : (each : ℕ) (names : List Name) (all : List (List ℕ)) (first : List Event) (more : List (Name × ℕ)) (last : List Event)
     → ReadsAll each names all first → ReadsInOrder more last → ReadsInOrder (limited each names ++ more) (first ++ last)
 all_then each [] [] events more last is then = subst (λ (e : List Event). ReadsInOrder more (e ++ last)) (sym is) then
-all_then each (n ∷ names) (b ∷ all) (e ∷ events) more last (is, rest) then = inl (b, is, all_then each names all events more last rest then)
+all_then each (n ∷ names) (b ∷ all) (e ∷ events) more last (is, rest) then =
+    inl (b, is, all_then each names all events more last rest then)
 all_then each [] (b ∷ all) events more last h then = absurd h
 all_then each (n ∷ names) [] events more last h then = absurd h
 all_then each (n ∷ names) (b ∷ all) [] more last h then = absurd h
@@ -71,9 +90,9 @@ last_read : (name : Name) (most : ℕ) (more : List (Name × ℕ)) (answer : Res
     → ReadsInOrder ((name, most) ∷ more) (Read name most answer ∷ [])
 last_read name most more answer = inr (answer, refl, refl)
 
-pub unto_last : (each : ℕ) (front : List Name) (name : Name) (most : ℕ) (more : List (Name × ℕ)) (all : List (List ℕ)) (first events : List Event)
-    (answer : Result (List ℕ) ReadAnswer) → ReadsAll each front all first → events ≡ first ++ Read name most answer ∷ []
-    → ReadsInOrder (limited each front ++ (name, most) ∷ more) events
+pub unto_last : (each : ℕ) (front : List Name) (name : Name) (most : ℕ) (more : List (Name × ℕ)) (all : List (List ℕ))
+    (first events : List Event) (answer : Result (List ℕ) ReadAnswer) → ReadsAll each front all first
+    → events ≡ first ++ Read name most answer ∷ [] → ReadsInOrder (limited each front ++ (name, most) ∷ more) events
 unto_last each front name most more all first events answer gave is =
     subst (ReadsInOrder (limited each front ++ (name, most) ∷ more)) (sym is)
     (all_then each front all first ((name, most) ∷ more) (Read name most answer ∷ []) gave (last_read name most more answer))
@@ -132,15 +151,20 @@ inputs_in_order units calls LongCalls more events (texts, (first, gave, is)) =
     unto_last most_unit_bytes units calls most_calls_bytes more texts first events (Err reading.TooLong) gave is
 
 -- and then the journal was read
-pub journal_in_order : (units : List Name) (calls : Name) (texts : List (List ℕ)) (text : List ℕ) (journal : Name) (first last : List Event)
-    → GivesInputs units calls (AllRead texts text) first → ReadsFile most_journal_bytes journal last
+pub journal_in_order : (units : List Name) (calls : Name) (texts : List (List ℕ)) (text : List ℕ) (journal : Name)
+    (first last : List Event) → GivesInputs units calls (AllRead texts text) first → ReadsFile most_journal_bytes journal last
     → ReadsInOrder (limited most_unit_bytes units ++ (calls, most_calls_bytes) ∷ (journal, most_journal_bytes) ∷ []) (first ++ last)
 journal_in_order units calls texts text journal first last (front, gave, is) (answer, last_is) =
     subst (λ (e : List Event). ReadsInOrder (limited most_unit_bytes units ++ Two) (e ++ last)) (sym is)
     (subst (ReadsInOrder (limited most_unit_bytes units ++ Two))
     (sym (append_assoc front (Read calls most_calls_bytes (Ok text) ∷ []) last))
     (all_then most_unit_bytes units texts front Two (Read calls most_calls_bytes (Ok text) ∷ last) gave
-    (inl (text, refl, subst (ReadsInOrder ((journal, most_journal_bytes) ∷ [])) (sym last_is) (last_read journal most_journal_bytes [] answer)))))
+    (inl (
+      text,
+      refl,
+      subst (ReadsInOrder ((journal, most_journal_bytes) ∷ [])) (sym last_is)
+          (last_read journal most_journal_bytes [] answer),
+    ))))
   where
     Two : List (Name × ℕ)
     Two = (calls, most_calls_bytes) ∷ (journal, most_journal_bytes) ∷ []
@@ -169,7 +193,7 @@ module _ (names : List Name) (k : ℕ) (name : Name) (at : slice_get names k ≡
   unto front rest all first last other after answer split gave calls rest_is last_is number =
       let names_are : names ≡ front ++ other ∷ after = split ∙ ap (λ (r : List Name). front ++ r) rest_is in
       let there : slice_get names k ≡ Some other =
-          (λ i. slice_get (names_are i) (number i)) ∙ last_name most_unit_bytes front all first other after gave in
+      (λ i. slice_get (names_are i) (number i)) ∙ last_name most_unit_bytes front all first other after gave in
       subst (λ (n : Name). ReadsUnto names n all answer events) (same_some other name (sym there ∙ at)) (record {
         front = front;
         rest = after;
@@ -252,7 +276,8 @@ calls_tried units calls texts (stop.UnitTooLong name) first last gave tried = ab
 calls_tried units calls texts stop.CallsTooLong first last gave is = (texts, (first, gave, ap (λ (l : List Event). first ++ l) is))
 calls_tried units calls texts stop.JournalTooLong first last gave tried = absurd tried
 calls_tried units calls texts stop.Memory first last gave (answer, is) =
-    unto_last most_unit_bytes units calls most_calls_bytes [] texts first (first ++ last) answer gave (ap (λ (l : List Event). first ++ l) is)
+    unto_last most_unit_bytes units calls most_calls_bytes [] texts first (first ++ last) answer gave
+    (ap (λ (l : List Event). first ++ l) is)
 
 pub inputs_read : (units : List Name) (calls : Name) (texts : List (List ℕ)) (text : List ℕ) (first last : List Event)
     → ReadsAll most_unit_bytes units texts first → last ≡ Read calls most_calls_bytes (Ok text) ∷ []

@@ -1,6 +1,5 @@
-use Rattle.std.proofs.Common.{◌≡◌, ℕ, inl, inr, map, ap, refl, sym, subst}
+use Rattle.std.proofs.Common.{ℕ, inl, inr, map, ap, refl, sym, subst}
 use Rattle.std.specs.Prelude.{Err, Ok}
-use Rattle.w2c_io.specs.Passed.{Passes}
 use Rattle.w2c_io.proofs.Passed.{none_passed, passed_so}
 use Rattle.c_tree.specs.View.{unit_of}
 use Rattle.c_hosts.specs.Asking.{hosts_of}
@@ -79,14 +78,15 @@ pub returns-in-Err-clause-passed : goal.returns-in-Err-clause-passed
 returns-in-Err-clause-passed g c =
     let m = g.H.HostModule in
     let hosts = c.args.hosts.items in
+    let told = g.O.Sink.told c.args.out.now in
     let line = seen_run c.args.line.now in
     let texts = c.args.inputs.now.units.items in
     let text = c.args.inputs.now.calls in
     let old = g.F.Files.trace c.args.files.now in
     let ends = ended_by (Err c.in-Err.stop) in
     let stopped = stopped_by {A = ℕ} (Err c.in-Err.stop) in
-    none_passed old (WritesOfTexts m hosts line texts text (g.O.Sink.told c.args.out.now) (g.O.Sink.told c.args.out.now) ends stopped)
-    (texts_stopped m hosts line texts text (g.O.Sink.told c.args.out.now) (g.O.Sink.told c.args.out.now) ends stopped (reason_of c.in-Err.stop)
+    none_passed old (WritesOfTexts m hosts line texts text told told ends stopped)
+    (texts_stopped m hosts line texts text told told ends stopped (reason_of c.in-Err.stop)
     (subst (λ hs. StopsTexts line (symbols_of (hosts_of m hs)) texts text (reason_of c.in-Err.stop)) c.as_slice.ensures.value
     c.in-Err.ensures.stop) refl)
 
@@ -94,11 +94,12 @@ pub returns-in-Err-blank_journal-clause-passed : goal.returns-in-Err-blank_journ
 returns-in-Err-blank_journal-clause-passed g c =
     let m = g.H.HostModule in
     let hosts = c.args.hosts.items in
+    let told = g.O.Sink.told c.args.out.now in
     let line = seen_run c.args.line.now in
     let texts = c.args.inputs.now.units.items in
     let text = c.args.inputs.now.calls in
     none_passed (g.F.Files.trace c.args.files.now)
-    (WritesOfTexts m hosts line texts text (g.O.Sink.told c.args.out.now) (g.O.Sink.told c.args.out.now) (ended_by (Err stop.Memory))
+    (WritesOfTexts m hosts line texts text told told (ended_by (Err stop.Memory))
     (stopped_by {A = ℕ} (Err stop.Memory)))
     (inl (refl, refl))
 
@@ -106,6 +107,8 @@ pub returns-in-Err-Failed-clause-passed : goal.returns-in-Err-Failed-clause-pass
 returns-in-Err-Failed-clause-passed g c =
     let m = g.H.HostModule in
     let hosts = c.args.hosts.items in
+    let told = g.O.Sink.told c.args.out.now in
+    let told' = g.O.Sink.told c.play.new.out in
     let line = seen_run c.args.line.now in
     let texts = c.args.inputs.now.units.items in
     let text = c.args.inputs.now.calls in
@@ -115,19 +118,21 @@ returns-in-Err-Failed-clause-passed g c =
     subst (λ hs. IsTextsJob line (symbols_of (hosts_of m hs)) texts text (job_of task)) c.as_slice.ensures.value c.in-Ok.ensures.task in
     let ends = ended_by (Err stop.Unwritten) in
     let stopped = stopped_by {A = ℕ} (Err stop.Unwritten) in
-    none_passed old (WritesOfTexts m hosts line texts text (g.O.Sink.told c.args.out.now) (g.O.Sink.told c.play.new.out) ends stopped)
-    (line_unwritten m hosts line texts text (g.O.Sink.told c.args.out.now) (g.O.Sink.told c.play.new.out) ends stopped (map unit_of task.linked.0) (calls_seen task.calls.items)
+    none_passed old (WritesOfTexts m hosts line texts text told told' ends stopped)
+    (line_unwritten m hosts line texts text told told' ends stopped (map unit_of task.linked.0) (calls_seen task.calls.items)
     task.steps task.shows_state job c.in-Err-Failed.ensures.part refl)
 
 pub returns-in-Err-Memory-clause-passed : goal.returns-in-Err-Memory-clause-passed
 returns-in-Err-Memory-clause-passed g c =
     let m = g.H.HostModule in
     let hosts = c.args.hosts.items in
+    let told = g.O.Sink.told c.args.out.now in
+    let told' = g.O.Sink.told c.play.new.out in
     let line = seen_run c.args.line.now in
     let texts = c.args.inputs.now.units.items in
     let text = c.args.inputs.now.calls in
     none_passed (g.F.Files.trace c.args.files.now)
-    (WritesOfTexts m hosts line texts text (g.O.Sink.told c.args.out.now) (g.O.Sink.told c.play.new.out) (ended_by (Err stop.Memory))
+    (WritesOfTexts m hosts line texts text told told' (ended_by (Err stop.Memory))
     (stopped_by {A = ℕ} (Err stop.Memory)))
     (inl (refl, refl))
 
@@ -135,6 +140,8 @@ pub returns-in-Ok-write_journal-clause-passed : goal.returns-in-Ok-write_journal
 returns-in-Ok-write_journal-clause-passed g c =
     let m = g.H.HostModule in
     let hosts = c.args.hosts.items in
+    let told = g.O.Sink.told c.args.out.now in
+    let told' = g.O.Sink.told c.play.new.out in
     let line = seen_run c.args.line.now in
     let texts = c.args.inputs.now.units.items in
     let text = c.args.inputs.now.calls in
@@ -148,8 +155,8 @@ returns-in-Ok-write_journal-clause-passed g c =
     let ends = ended_by (Ok status) in
     let stopped = stopped_by {A = ℕ} (Ok status) in
     passed_so (files.trace c.args.files.now) (files.trace c.write_journal.new.files) (PutsJournal line.journal c.in-Ok-play.played.journal)
-    (WritesOfTexts m hosts line texts text (g.O.Sink.told c.args.out.now) (g.O.Sink.told c.play.new.out) ends stopped)
-    (λ events puts. run_written m hosts line texts text (g.O.Sink.told c.args.out.now) (g.O.Sink.told c.play.new.out) ends stopped (map unit_of task.linked.0)
+    (WritesOfTexts m hosts line texts text told told' ends stopped)
+    (λ events puts. run_written m hosts line texts text told told' ends stopped (map unit_of task.linked.0)
     (calls_seen task.calls.items) task.steps task.shows_state job status c.in-Ok-blank_journal.journal c.in-Ok-play.played.journal
     c.in-Ok-play.ensures.ran blank (files.told c.args.files.now) (files.told c.write_journal.new.files) events
     (offered_distinct m hosts c.requires.offered) c.in-Ok-write_journal.ensures.written puts refl)
@@ -159,6 +166,8 @@ pub returns-in-Err-Failed-write_journal-clause-passed : goal.returns-in-Err-Fail
 returns-in-Err-Failed-write_journal-clause-passed g c =
     let m = g.H.HostModule in
     let hosts = c.args.hosts.items in
+    let told = g.O.Sink.told c.args.out.now in
+    let told' = g.O.Sink.told c.play.new.out in
     let line = seen_run c.args.line.now in
     let texts = c.args.inputs.now.units.items in
     let text = c.args.inputs.now.calls in
@@ -173,8 +182,8 @@ returns-in-Err-Failed-write_journal-clause-passed g c =
     let stopped = stopped_by {A = ℕ} (Err stop.Unwritten) in
     passed_so (files.trace c.args.files.now) (files.trace c.write_journal.new.files)
     (PutsJournalPart line.journal c.in-Ok-play.played.journal why)
-    (WritesOfTexts m hosts line texts text (g.O.Sink.told c.args.out.now) (g.O.Sink.told c.play.new.out) ends stopped)
-    (λ events part. run_broken m hosts line texts text (g.O.Sink.told c.args.out.now) (g.O.Sink.told c.play.new.out) ends stopped (map unit_of task.linked.0)
+    (WritesOfTexts m hosts line texts text told told' ends stopped)
+    (λ events part. run_broken m hosts line texts text told told' ends stopped (map unit_of task.linked.0)
     (calls_seen task.calls.items) task.steps task.shows_state job c.in-Ok-play.played.status c.in-Ok-blank_journal.journal
     c.in-Ok-play.played.journal c.in-Ok-play.ensures.ran blank why events part
     (ap reason_for (sym c.in-Err-Failed-write_journal.field-0-is)))
@@ -184,6 +193,8 @@ pub returns-in-Err-Memory-write_journal-clause-passed : goal.returns-in-Err-Memo
 returns-in-Err-Memory-write_journal-clause-passed g c =
     let m = g.H.HostModule in
     let hosts = c.args.hosts.items in
+    let told = g.O.Sink.told c.args.out.now in
+    let told' = g.O.Sink.told c.play.new.out in
     let line = seen_run c.args.line.now in
     let texts = c.args.inputs.now.units.items in
     let text = c.args.inputs.now.calls in
@@ -198,8 +209,8 @@ returns-in-Err-Memory-write_journal-clause-passed g c =
     let stopped = stopped_by {A = ℕ} (Err stop.Memory) in
     passed_so (files.trace c.args.files.now) (files.trace c.write_journal.new.files)
     (PutsJournalPart line.journal c.in-Ok-play.played.journal why)
-    (WritesOfTexts m hosts line texts text (g.O.Sink.told c.args.out.now) (g.O.Sink.told c.play.new.out) ends stopped)
-    (λ events part. run_broken m hosts line texts text (g.O.Sink.told c.args.out.now) (g.O.Sink.told c.play.new.out) ends stopped (map unit_of task.linked.0)
+    (WritesOfTexts m hosts line texts text told told' ends stopped)
+    (λ events part. run_broken m hosts line texts text told told' ends stopped (map unit_of task.linked.0)
     (calls_seen task.calls.items) task.steps task.shows_state job c.in-Ok-play.played.status c.in-Ok-blank_journal.journal
     c.in-Ok-play.played.journal c.in-Ok-play.ensures.ran blank why events part
     (ap reason_for (sym c.in-Err-Memory-write_journal.field-0-is)))

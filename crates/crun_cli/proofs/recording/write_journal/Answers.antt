@@ -1,4 +1,4 @@
-use Rattle.std.proofs.Common.{◌≡◌, ◌∙◌, ap, inl, inr, refl, None, Some, sym, subst}
+use Rattle.std.proofs.Common.{◌∙◌, inl, inr, refl, None, Some, sym, subst}
 use Rattle.std.specs.Prelude.{option_map}
 use Rattle.w2c_io.specs.Passed.{BreaksOff, Passes, WritesFile}
 use Rattle.w2c_io.specs.declared.answers.WriteAnswer.TheVariants as answer

@@ -1,4 +1,4 @@
-use Rattle.std.proofs.Common.{◌≡◌, ◌∙◌, ℕ, List, Some, None, refl, sym, ap, subst}
+use Rattle.std.proofs.Common.{◌∙◌, ℕ, List, refl, sym, ap, subst}
 use Rattle.std.specs.Prelude.{option_map, Ok, Err}
 use Rattle.w2c_io.specs.Events.{Event}
 use Rattle.w2c_io.specs.Passed.{Passes}
@@ -157,7 +157,8 @@ returns-in-Err-clause-passed g c =
     let start = files.trace c.args.files.now in
     let middle = files.trace c.read_inputs.new.files in
     let told = g.O.Sink.told c.args.out.now in
-    subst (λ s. Passes start middle (PassesRun m hosts line told told (ended_by (Err s)) (stopped_by {A = ℕ} (Err s)))) (sym c.stop_of.ensures)
+    subst (λ s. Passes start middle (PassesRun m hosts line told told (ended_by (Err s)) (stopped_by {A = ℕ} (Err s))))
+    (sym c.stop_of.ensures)
     (passed_so start middle (TriesInputs line.units line.calls c.in-Err.stop)
     (PassesRun m hosts line told told (ended_by (Err (stop_for c.in-Err.stop))) (stopped_by {A = ℕ} (Err (stop_for c.in-Err.stop))))
     (λ events tried. inputs_stopped m hosts line told told (ended_by (Err (stop_for c.in-Err.stop)))
@@ -170,6 +171,8 @@ returns-in-Ok-run_and_record-clause-passed g c =
     let files = g.F.Files in
     let m = g.H.HostModule in
     let hosts = c.args.hosts.items in
+    let told = g.O.Sink.told c.args.out.now in
+    let told' = g.O.Sink.told c.run_and_record.new.out in
     let line : RunLine = seen_run c.args.line.now in
     let start = files.trace c.args.files.now in
     let middle = files.trace c.read_inputs.new.files in
@@ -182,9 +185,9 @@ returns-in-Ok-run_and_record-clause-passed g c =
     let new = files.trace c.run_and_record.new.files in
     let ends = ended_by (Ok c.in-Ok-run_and_record.status) in
     let stopped = stopped_by {A = ℕ} (Ok c.in-Ok-run_and_record.status) in
-    both_passed start middle new Gives (WritesOfTexts m hosts line texts text (g.O.Sink.told c.args.out.now) (g.O.Sink.told c.run_and_record.new.out) ends stopped)
-    (PassesRun m hosts line (g.O.Sink.told c.args.out.now) (g.O.Sink.told c.run_and_record.new.out) ends stopped)
-    (λ first last gave writes. handed_passed m hosts line (g.O.Sink.told c.args.out.now) (g.O.Sink.told c.run_and_record.new.out) ends stopped texts text first gave
+    both_passed start middle new Gives (WritesOfTexts m hosts line texts text told told' ends stopped)
+    (PassesRun m hosts line told told' ends stopped)
+    (λ first last gave writes. handed_passed m hosts line told told' ends stopped texts text first gave
     (ap (λ o. option_map (λ name. name.now) o) c.in-None.is) last writes)
     gives c.in-Ok-run_and_record.ensures.passed
 
@@ -193,6 +196,8 @@ returns-in-None-clause-passed g c =
     let files = g.F.Files in
     let m = g.H.HostModule in
     let hosts = c.args.hosts.items in
+    let told = g.O.Sink.told c.args.out.now in
+    let told' = g.O.Sink.told c.run_and_record.new.out in
     let line : RunLine = seen_run c.args.line.now in
     let start = files.trace c.args.files.now in
     let middle = files.trace c.read_inputs.new.files in
@@ -205,9 +210,9 @@ returns-in-None-clause-passed g c =
     let new = files.trace c.run_and_record.new.files in
     let ends = ended_by (Err c.in-Err-run_and_record.stop) in
     let stopped = stopped_by {A = ℕ} (Err c.in-Err-run_and_record.stop) in
-    both_passed start middle new Gives (WritesOfTexts m hosts line texts text (g.O.Sink.told c.args.out.now) (g.O.Sink.told c.run_and_record.new.out) ends stopped)
-    (PassesRun m hosts line (g.O.Sink.told c.args.out.now) (g.O.Sink.told c.run_and_record.new.out) ends stopped)
-    (λ first last gave writes. handed_passed m hosts line (g.O.Sink.told c.args.out.now) (g.O.Sink.told c.run_and_record.new.out) ends stopped texts text first gave
+    both_passed start middle new Gives (WritesOfTexts m hosts line texts text told told' ends stopped)
+    (PassesRun m hosts line told told' ends stopped)
+    (λ first last gave writes. handed_passed m hosts line told told' ends stopped texts text first gave
     (ap (λ o. option_map (λ name. name.now) o) c.in-None.is) last writes)
     gives c.in-Err-run_and_record.ensures.passed
 
@@ -241,6 +246,8 @@ returns-in-Ok-run_and_record-2-clause-passed g c =
     let files = g.F.Files in
     let m = g.H.HostModule in
     let hosts = c.args.hosts.items in
+    let told = g.O.Sink.told c.args.out.now in
+    let told' = g.O.Sink.told c.run_and_record-in-Some.new.out in
     let line : RunLine = seen_run c.args.line.now in
     let start = files.trace c.args.files.now in
     let middle = files.trace c.read_inputs.new.files in
@@ -257,9 +264,9 @@ returns-in-Ok-run_and_record-2-clause-passed g c =
     let ends = ended_by (Ok c.in-Ok-run_and_record-2.status) in
     let stopped = stopped_by {A = ℕ} (Ok c.in-Ok-run_and_record-2.status) in
     both_passed start read new (ReadsBoth line texts text name replays)
-    (WritesOfTexts replaying replays line texts text (g.O.Sink.told c.args.out.now) (g.O.Sink.told c.run_and_record-in-Some.new.out) ends stopped)
-    (PassesRun m hosts line (g.O.Sink.told c.args.out.now) (g.O.Sink.told c.run_and_record-in-Some.new.out) ends stopped)
-    (λ first last both writes. replayed_both m hosts line (g.O.Sink.told c.args.out.now) (g.O.Sink.told c.run_and_record-in-Some.new.out) ends stopped texts text name
+    (WritesOfTexts replaying replays line texts text told told' ends stopped)
+    (PassesRun m hosts line told told' ends stopped)
+    (λ first last both writes. replayed_both m hosts line told told' ends stopped texts text name
     (ap (λ o. option_map (λ n. n.now) o) c.in-Some.is) replays first last both writes)
     (both_passed start middle read Gives (GivesReplays name replays) (ReadsBoth line texts text name replays)
     (λ first last gave replay. (first, last, refl, gave, replay)) gives c.in-Ok-replayed_hosts.ensures.passed)
@@ -270,6 +277,8 @@ returns-clause-passed g c =
     let files = g.F.Files in
     let m = g.H.HostModule in
     let hosts = c.args.hosts.items in
+    let told = g.O.Sink.told c.args.out.now in
+    let told' = g.O.Sink.told c.run_and_record-in-Some.new.out in
     let line : RunLine = seen_run c.args.line.now in
     let start = files.trace c.args.files.now in
     let middle = files.trace c.read_inputs.new.files in
@@ -286,9 +295,9 @@ returns-clause-passed g c =
     let ends = ended_by (Err c.in-Err-run_and_record-2.stop) in
     let stopped = stopped_by {A = ℕ} (Err c.in-Err-run_and_record-2.stop) in
     both_passed start read new (ReadsBoth line texts text name replays)
-    (WritesOfTexts replaying replays line texts text (g.O.Sink.told c.args.out.now) (g.O.Sink.told c.run_and_record-in-Some.new.out) ends stopped)
-    (PassesRun m hosts line (g.O.Sink.told c.args.out.now) (g.O.Sink.told c.run_and_record-in-Some.new.out) ends stopped)
-    (λ first last both writes. replayed_both m hosts line (g.O.Sink.told c.args.out.now) (g.O.Sink.told c.run_and_record-in-Some.new.out) ends stopped texts text name
+    (WritesOfTexts replaying replays line texts text told told' ends stopped)
+    (PassesRun m hosts line told told' ends stopped)
+    (λ first last both writes. replayed_both m hosts line told told' ends stopped texts text name
     (ap (λ o. option_map (λ n. n.now) o) c.in-Some.is) replays first last both writes)
     (both_passed start middle read Gives (GivesReplays name replays) (ReadsBoth line texts text name replays)
     (λ first last gave replay. (first, last, refl, gave, replay)) gives c.in-Ok-replayed_hosts.ensures.passed)

@@ -1,10 +1,10 @@
-use Rattle.std.proofs.Common.{◌≡◌, ◌⊎◌, ℕ, List, Ok, Err, inl, inr, sym, subst, arith}
+use Rattle.std.proofs.Common.{◌≡◌, ℕ, List, Ok, Err, subst}
 use Rattle.w2c_io.proofs.Passed.{passed_so}
 use Rattle.w2c_files.specs.Words.{texts}
 use Rattle.w2c_io.specs.Telling.{Says}
 use Rattle.crun_job.specs.Lines.{error_line}
 use Rattle.crun_job.specs.Seen.{reason_of}
-use Rattle.crun_cli.specs.Outside.{outside, Outside}
+use Rattle.crun_cli.specs.Outside.{outside}
 use Rattle.crun_cli.specs.Passing.{PassesFor, PassesWords, StopsFor}
 use Rattle.crun_cli.specs.Trying.{ended_by, stopped_by}
 use Rattle.crun_cli.proofs.Passing.{stopped_for, words_so}
@@ -93,7 +93,8 @@ returns-in-Ok-clause-passed g c =
     let told' = g.O.Sink.told c.work.new.out in
     let ends = ended_by (Ok c.in-Ok.status) in
     let stopped = stopped_by {A = ℕ} (Ok c.in-Ok.status) in
-    let says = λ (line : List ℕ). Says (err.told c.args.err.now) (err.told c.args.err.now) (err.faults c.args.err.now) (err.faults c.args.err.now) line in
+    let says = λ (line : List ℕ). Says (err.told c.args.err.now) (err.told c.args.err.now) (err.faults c.args.err.now)
+    (err.faults c.args.err.now) line in
     passed_so (files.trace c.args.files.now) (files.trace c.work.new.files) (PassesWords _ hosts words told told' ends stopped)
     (PassesFor _ hosts words told told' c.in-Ok.status says)
     (words_so _ hosts told told' ends (λ s. c.in-Ok.status ≡ s) stopped (StopsFor c.in-Ok.status says)
@@ -111,7 +112,8 @@ returns-in-Err-clause-passed g c =
     let told' = g.O.Sink.told c.work.new.out in
     let ends = ended_by (Err c.in-Err.stop) in
     let stopped = stopped_by {A = ℕ} (Err c.in-Err.stop) in
-    let says = λ (line : List ℕ). Says (err.told c.args.err.now) (err.told c.report.new.err) (err.faults c.args.err.now) (err.faults c.report.new.err) line in
+    let says = λ (line : List ℕ). Says (err.told c.args.err.now) (err.told c.report.new.err) (err.faults c.args.err.now)
+    (err.faults c.report.new.err) line in
     passed_so (files.trace c.args.files.now) (files.trace c.work.new.files) (PassesWords _ hosts words told told' ends stopped)
     (PassesFor _ hosts words told told' c.report.result says)
     (words_so _ hosts told told' ends (λ s. c.report.result ≡ s) stopped (StopsFor c.report.result says)

@@ -1,4 +1,4 @@
-use Rattle.std.proofs.Common.{◌∙◌, Ok, Err, inl, refl, ap, subst}
+use Rattle.std.proofs.Common.{◌∙◌, Ok, Err, refl, ap, subst}
 use Rattle.w2c_io.specs.Passed.{Passes}
 use Rattle.w2c_io.proofs.Passed.{none_passed}
 use Rattle.c_link.specs.Offers.{c_symbols}
@@ -31,7 +31,8 @@ pub returns-clause-passed : goal.returns-clause-passed
 returns-clause-passed g c =
     let line = seen_merge c.args.line.now in
     subst (λ symbols. Passes (g.F.Files.trace c.args.files.now) (g.F.Files.trace c.merge_units.new.files)
-    (PassesUnits line.units (IsMerged line symbols) (done_by (Err c.in-Err-merge_units.stop)) (stopped_by {A = Unit {0}} (Err c.in-Err-merge_units.stop))))
+    (PassesUnits line.units (IsMerged line symbols) (done_by (Err c.in-Err-merge_units.stop))
+    (stopped_by {A = Unit {0}} (Err c.in-Err-merge_units.stop))))
     (ap c_symbols (c.as_slice.ensures.value ∙ c.in-Ok.ensures)) c.in-Err-merge_units.ensures.passed
 
 pub returns-in-Err-clause-passed : goal.returns-in-Err-clause-passed

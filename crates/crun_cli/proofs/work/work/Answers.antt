@@ -1,16 +1,15 @@
-use Rattle.std.proofs.Common.{◌∙◌, ℕ, [], ◌∷◌, inl, ap, refl, sym, subst, Ok, Err, Some}
+use Rattle.std.proofs.Common.{◌∙◌, ℕ, [], ◌∷◌, inl, ap, refl, subst, Ok, Err, Some}
 use Rattle.w2c_io.specs.Passed.{Passes}
 use Rattle.w2c_io.proofs.Passed.{none_passed, passed_so}
 use Rattle.w2c_files.specs.Words.{texts}
 use Rattle.c_hosts.specs.Asking.{hosts_of}
-use Rattle.crun_words.specs.CommandLine.{line_of, merges, runs, trims}
+use Rattle.crun_words.specs.CommandLine.{merges, runs, trims}
 use Rattle.crun_words.specs.Seen.{seen_line, seen_merge, seen_run, seen_trim}
 use Rattle.crun_job.specs.declared.stop.Stop.TheVariants as stop
 use Rattle.crun_job.specs.Seen.{reason_of}
-use Rattle.crun_cli.specs.Jobs.{symbols_of, IsMerged, IsMergeJob, IsTrimmedText}
+use Rattle.crun_cli.specs.Jobs.{symbols_of, IsMerged, IsTrimmedText}
 use Rattle.crun_cli.specs.Outside.{files_seen, sink_seen}
 use Rattle.crun_cli.specs.Passing.{PassesRun, PassesUnits, PassesWords}
-use Rattle.crun_cli.specs.Stopping.{StopsWrite}
 use Rattle.crun_cli.specs.Trying.{done_by, ended_by, stopped_by}
 use Rattle.crun_cli.proofs.Passing.{line_passed, line_so, usage_passed, words_wanting}
 use Rattle.crun_cli.proofs.WriteForms.{merge_done, merge_stop, trim_stop}

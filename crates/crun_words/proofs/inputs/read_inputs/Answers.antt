@@ -1,4 +1,4 @@
-use Rattle.std.proofs.Common.{◌≡◌, ◌∙◌, ℕ, subst}
+use Rattle.std.proofs.Common.{◌∙◌, subst}
 use Rattle.w2c_io.specs.Contents.{Told}
 use Rattle.w2c_io.proofs.Passed.{both_passed, passed_so}
 use Rattle.w2c_files.specs.Words.{names_of}
