@@ -21,6 +21,9 @@ pub mod WriteForms
 pub mod WriteJobs
 pub mod WriteStops
 pub mod OneJob
+-- what passes through the files
+pub mod Passing
 -- the top call
 pub mod AgainLaws
 pub mod TopLaws
+pub mod HonestFiles

@@ -36,7 +36,7 @@ use Rattle.crun_job.specs.Lines.{
   WantOfMemory,
 }
 use Rattle.crun_job.specs.Stopping.{StopsTexts}
-use Rattle.crun_cli.specs.Ends.{journal_of, AreOffered, HasJournalPart, HasPlayed, HasPlayedPart, IsJournaled, IsRunStatus}
+use Rattle.crun_cli.specs.Ends.{journal_of, AreOffered, HasPlayed, HasPlayedPart, IsJournaled, IsRunStatus}
 use Rattle.crun_cli.specs.Jobs.{symbols_of}
 use Rattle.crun_cli.specs.Outside.{IsUntouched, Outside}
 use Rattle.crun_cli.specs.Recording.{HasRecorded, IsBlank, IsBlankFor, IsFilled, IsNamed, IsText, IsWritten, IsWrittenPart}
@@ -106,6 +106,12 @@ kept_part None file old new part = absurd part
 kept_part (Some name) None old new part = absurd part
 kept_part (Some name) (Some file) old new (inl same) = inl same
 kept_part (Some name) (Some file) old new (inr (text, prefix, is)) = inr (name, text, refl, is)
+
+pub kept_whole : (name : Option Name) (file : Option JournalFile) (old new : Told) → IsWritten name file old new
+    → (new ≡ old) ⊎ ((other : Name) × (text : List ℕ) × (name ≡ Some other) × (new ≡ holding old other text))
+kept_whole None file old new same = inl same
+kept_whole (Some name) None old new is = absurd is
+kept_whole (Some name) (Some file) old new (is, text) = inr (name, journal_text (recorded file), refl, is)
 
 -- ---- symbols
 

@@ -1,7 +1,7 @@
 -- What a call comes to over the job that the words ask for, and what it leaves: the lines on the stream, the journal of a run, and
 -- the file of a unit.
-use Rattle.std.specs.Prelude.{◌≡◌, ◌⊎◌, ℕ, Bool, true, List, Option, Some, None}
-use Rattle.w2c_io.specs.Contents.{Name, Contents, Told, extended, holding}
+use Rattle.std.specs.Prelude.{◌≡◌, ◌⊎◌, ℕ, true, List, Option, Some, None}
+use Rattle.w2c_io.specs.Contents.{Name, Contents, Told, holding}
 use Rattle.w2c_io.specs.Causes.{Faulted, Rose}
 use Rattle.w2c_io.specs.Telling.{Tells}
 use Rattle.w2c_files.specs.Standing.{IsBegun}
@@ -21,7 +21,8 @@ use Rattle.c_hosts.specs.Journals.{events_in}
 use Rattle.host_replay.specs.Runs.{asked_events, run_with}
 use Rattle.host_replay.specs.Reading.{IsJournal}
 use Rattle.host_replay.specs.Texts.{journal_text, Recorded}
-use Rattle.crun_words.specs.CommandLine.{RunLine, Line, line_of, runs}
+use Rattle.crun_words.specs.CommandLine.{RunLine, line_of, runs}
+use Rattle.crun_words.specs.Inputs.{IsJournalReading, JournalReading}
 use Rattle.crun_job.specs.Job.{Job, Run, Stops, Write}
 use Rattle.crun_job.specs.Lines.{
   Reason,
@@ -37,7 +38,7 @@ use Rattle.crun_job.specs.Lines.{
   status_of,
 }
 use Rattle.crun_cli.specs.Files.{HasReading, IsToRead, IsToWrite, IsUnitFile}
-use Rattle.crun_cli.specs.Jobs.{HoldsJournal, IsJob}
+use Rattle.crun_cli.specs.Jobs.{IsJob, IsJournalBy}
 use Rattle.crun_cli.specs.Outside.{IsUntouched, Outside}
 use Rattle.crun_cli.specs.Runs.{HasPart, HasRun, HasStatus}
 
@@ -49,12 +50,18 @@ AreOffered m hosts = are_distinct (symbol_names (symbols_of_hosts (hosts_of m ho
 abbrev pub IsJobWith : {H : Type 0} → HostModule H → List H → List Name → Contents → Job → Type 0
 IsJobWith m hosts words contents job = IsJob words (hosts_of m hosts) contents job
 
--- this holds of the hosts that a run is with: those that were handed in, or hosts that reply again what a journal says
+-- this holds of the hosts that a run is with: those that were handed in, or hosts that reply again what a journal says, by what
+-- reading its file comes to
+abbrev pub WithHostsBy : {H : Type 0} → HostModule H → List H → Option Name → (Name → JournalReading → Type 0)
+    → ((G : Type 0) → HostModule G → List G → Type 0) → Type 0
+WithHostsBy {H} m hosts None Reads P = P H m hosts
+WithHostsBy m hosts (Some name) Reads P =
+    (j : Recorded) × (replays : List ReplayHost) × IsJournalBy (Reads name) j × AreReplays j replays × P ReplayHost replaying replays
+
+-- over what the files hold
 abbrev pub WithHosts : {H : Type 0} → HostModule H → List H → Option Name → Contents → ((G : Type 0) → HostModule G → List G → Type 0)
     → Type 0
-WithHosts {H} m hosts None contents P = P H m hosts
-WithHosts m hosts (Some name) contents P =
-    (j : Recorded) × (replays : List ReplayHost) × HoldsJournal contents name j × AreReplays j replays × P ReplayHost replaying replays
+WithHosts m hosts replayed contents P = WithHostsBy m hosts replayed (IsJournalReading contents) P
 
 -- the statuses of runs, that of a unit which was written among them
 abbrev pub IsRunStatus : ℕ → Type 0

@@ -32,7 +32,7 @@ use Rattle.crun_words.specs.Inputs.{
 }
 use Rattle.crun_job.specs.declared.stop.Cause.{Cause}
 use Rattle.crun_job.specs.declared.stop.Cause.TheVariants.{TooLong}
-use Rattle.crun_job.specs.Job.{IsTextsJob, Job, Run, Stops, Write}
+use Rattle.crun_job.specs.Job.{IsTextsJob, Job, Stops, Write}
 use Rattle.crun_job.specs.Lines.{JournalLine, JournalTooLong, CallsTooLong, Refused, Unread, Usage}
 use Rattle.crun_job.specs.Links.{AreLinked, IsRefusedUnit, Symbols}
 use Rattle.crun_job.specs.Texts.{AreUnitTexts, IsFirstRefusedText}
@@ -43,9 +43,13 @@ symbols_of hosts = c_symbols (symbols_of_hosts hosts)
 
 -- ---- the run form
 
--- a journal's file is there, and its text is this journal
+-- a journal's file is read, and its text is this journal
+abbrev pub IsJournalBy : (JournalReading → Type 0) → Recorded → Type 0
+IsJournalBy Reads j = (text : List ℕ) × Reads (Held text) × IsJournal text j
+
+-- over what the files hold
 abbrev pub HoldsJournal : Contents → Name → Recorded → Type 0
-HoldsJournal contents name j = (text : List ℕ) × IsJournalReading contents name (Held text) × IsJournal text j
+HoldsJournal contents name j = IsJournalBy (IsJournalReading contents name) j
 
 -- what the texts of the units and of the calls file come to behind the journal's file: the units are linked with its modules
 abbrev pub IsReplayJob : RunLine → Name → List (List ℕ) → List ℕ → JournalReading → Job → Type 0
@@ -55,18 +59,26 @@ IsReplayJob line name texts text (Held journal) job =
 IsReplayJob line name texts text NoJournal job = job ≡ Stops (Unread name)
 IsReplayJob line name texts text LongJournal job = job ≡ Stops JournalTooLong
 
--- what they come to: with the hosts that were handed in, or with the modules of the journal that is replayed
-abbrev pub IsJobOfTexts : RunLine → List Host → Contents → List (List ℕ) → List ℕ → Job → Type 0
-IsJobOfTexts line handed contents texts text job =
+-- what they come to: with the hosts that were handed in, or with the modules of the journal that is replayed, by what reading its
+-- file comes to
+abbrev pub IsTextsJobBy : RunLine → List Host → (Name → JournalReading → Type 0) → List (List ℕ) → List ℕ → Job → Type 0
+IsTextsJobBy line handed Reads texts text job =
     MatchOption line.replayed (IsTextsJob line (symbols_of handed) texts text job)
-    (λ name. (reading : JournalReading) × IsJournalReading contents name reading × IsReplayJob line name texts text reading job)
+    (λ name. (reading : JournalReading) × Reads name reading × IsReplayJob line name texts text reading job)
 
 -- by what reading the units and the calls file comes to
+abbrev pub IsJobBy : RunLine → List Host → (Name → JournalReading → Type 0) → Reading → Job → Type 0
+IsJobBy line handed Reads (AllRead texts text) job = IsTextsJobBy line handed Reads texts text job
+IsJobBy line handed Reads (NotThere file) job = job ≡ Stops (Unread file)
+IsJobBy line handed Reads (LongUnit file) job = job ≡ Stops (Refused file TooLong)
+IsJobBy line handed Reads LongCalls job = job ≡ Stops CallsTooLong
+
+-- over what the files hold
+abbrev pub IsJobOfTexts : RunLine → List Host → Contents → List (List ℕ) → List ℕ → Job → Type 0
+IsJobOfTexts line handed contents texts text job = IsTextsJobBy line handed (IsJournalReading contents) texts text job
+
 abbrev pub IsJobBehind : RunLine → List Host → Contents → Reading → Job → Type 0
-IsJobBehind line handed contents (AllRead texts text) job = IsJobOfTexts line handed contents texts text job
-IsJobBehind line handed contents (NotThere file) job = job ≡ Stops (Unread file)
-IsJobBehind line handed contents (LongUnit file) job = job ≡ Stops (Refused file TooLong)
-IsJobBehind line handed contents LongCalls job = job ≡ Stops CallsTooLong
+IsJobBehind line handed contents reading job = IsJobBy line handed (IsJournalReading contents) reading job
 
 abbrev pub IsRunJob : RunLine → List Host → Contents → Job → Type 0
 IsRunJob line handed contents job =
@@ -94,9 +106,12 @@ IsBehindUnits IsOf (UnitsRead texts) job = IsOf texts job
 IsBehindUnits IsOf (NoUnit file) job = job ≡ Stops (Unread file)
 IsBehindUnits IsOf (UnitTooLong file) job = job ≡ Stops (Refused file TooLong)
 
+abbrev pub IsUnitsJobBy : (UnitsReading → Type 0) → (List (List ℕ) → Job → Type 0) → Job → Type 0
+IsUnitsJobBy Reads IsOf job = (reading : UnitsReading) × Reads reading × IsBehindUnits IsOf reading job
+
+-- over what the files hold
 abbrev pub IsUnitsJob : Contents → List Name → (List (List ℕ) → Job → Type 0) → Job → Type 0
-IsUnitsJob contents units IsOf job =
-    (reading : UnitsReading) × IsUnitsReading contents units reading × IsBehindUnits IsOf reading job
+IsUnitsJob contents units IsOf job = IsUnitsJobBy (IsUnitsReading contents units) IsOf job
 
 abbrev pub IsMergeJob : MergeLine → Symbols → Contents → Job → Type 0
 IsMergeJob line symbols contents job = IsUnitsJob contents line.units (IsMerged line symbols) job

@@ -5,6 +5,7 @@ pub mod Files
 pub mod Outside
 pub mod Jobs
 pub mod Ends
+pub mod Passing
 pub mod Again
 pub mod EnvHost
 -- of the code alone
@@ -15,3 +16,4 @@ pub mod Recording
 pub mod Showing
 pub mod Output
 pub mod Stopping
+pub mod Trying

@@ -1,10 +1,8 @@
 -- Why the work stops: before anything is written, or in the middle of it.
-use Rattle.std.specs.Prelude.{◌≡◌, ◌⊎◌, ℕ, List, Option, Some}
+use Rattle.std.specs.Prelude.{◌≡◌, ◌⊎◌, ℕ, List, Some}
 use Rattle.w2c_io.specs.Contents.{Name, Contents}
 use Rattle.w2c_io.specs.Causes.{Faulted, Rose}
 use Rattle.w2c_io.specs.Telling.{Tells}
-use Rattle.w2c_io.specs.declared.answers.WriteAnswer.{WriteAnswer}
-use Rattle.w2c_io.specs.declared.answers.WriteAnswer.TheVariants as answer
 use Rattle.w2c_files.specs.Standing.{IsBegun, IsOneOf}
 use Rattle.c_tree.specs.Tree as tree
 use Rattle.c_meaning.specs.Linking.{SymbolCall}
@@ -32,11 +30,6 @@ use Rattle.crun_cli.specs.Ends.{Begun, BegunIfAny, HasPlayedPart, IsUnread, IsUn
 use Rattle.crun_cli.specs.Files.{HasReading}
 use Rattle.crun_cli.specs.Jobs.{symbols_of}
 use Rattle.crun_cli.specs.Outside.{AreUntouched, FilesSeen, IsUntouched, Outside}
-
--- why something is not written, as a reason
-abbrev pub reason_for : WriteAnswer → Reason
-reason_for answer.Failed = Unwritten
-reason_for answer.Memory = WantOfMemory
 
 -- ---- a run, over the texts of its units and of the calls file, with these hosts
 

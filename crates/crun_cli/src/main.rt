@@ -24,12 +24,12 @@ mod writing;
 
 use c_hosts::BoxedHost;
 use env::Env;
-pub use law::one_job;
+pub use law::{honest_files, one_job};
 use std::boxed::Box;
 use std::process::ExitCode;
 pub use top::crun_top;
 use w2c_base::Memory;
-use w2c_io::{StdFiles, StdSink, std_words};
+use w2c_io::{StdFiles, StdSink, ToldSink, std_words};
 
 fn main(rt: HostRuntime) -> ExitCode {
     match status(&rt) {
@@ -46,8 +46,8 @@ fn status(rt: &HostRuntime) -> Result<u8, Memory> {
     let mut hosts = Vec::new(alloc);
     hosts.push(BoxedHost { host })?;
     let mut files = StdFiles::new(rt, alloc);
-    let mut out = StdSink::out(rt);
-    let mut err = StdSink::err(rt);
+    let mut out = ToldSink::new(StdSink::out(rt));
+    let mut err = ToldSink::new(StdSink::err(rt));
     Ok(crun_top(
         alloc,
         words.as_slice(),

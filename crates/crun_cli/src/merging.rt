@@ -1,6 +1,7 @@
 // The form --merge: linked units are written as one.
 ghost use Rattle.std.specs.Prelude.{◌≡◌, ◌≤◌, ◌⊎◌, ℕ, List, IfErr, IfOk, OnOk, vec_len};
 ghost use Rattle.w2c_io.specs.Contents.{holding};
+ghost use Rattle.w2c_io.specs.Passed.{Passes};
 ghost use Rattle.w2c_io.specs.Telling.{Tells};
 ghost use Rattle.c_tree.specs.Spelled.{CSpells};
 ghost use Rattle.c_tree.specs.Tree as tree;
@@ -10,9 +11,11 @@ ghost use Rattle.c_link.specs.Offers.{c_symbols};
 ghost use Rattle.crun_words.specs.Seen.{seen_merge};
 ghost use Rattle.crun_job.specs.Job.{Write};
 ghost use Rattle.crun_job.specs.Seen.{reason_of};
-ghost use Rattle.crun_cli.specs.Jobs.{IsMergeJob};
+ghost use Rattle.crun_cli.specs.Jobs.{IsMerged, IsMergeJob};
 ghost use Rattle.crun_cli.specs.Outside.{files_seen};
+ghost use Rattle.crun_cli.specs.Passing.{IsUnitsJobOver, PassesUnits};
 ghost use Rattle.crun_cli.specs.Stopping.{StopsWrite};
+ghost use Rattle.crun_cli.specs.Trying.{done_by, stopped_by, TriesUnit};
 
 use crate::output::write_output;
 use c_check::CheckedUnit;
@@ -51,6 +54,10 @@ pub fn merge_units<F: Files>(
     ensures writes_kept { OnOk result (F.write_faults files.new ≡ F.write_faults files.old) }
     ensures kept { (F.told files.new ≡ F.told files.old)
         ⊎ ((text : List ℕ) × (F.told files.new ≡ holding (F.told files.old) (seen_merge line.now).output text)) }
+    // What passed through the files, those of the system too.
+    ensures passed { Passes (F.trace files.old) (F.trace files.new)
+        (PassesUnits (seen_merge line.now).units (IsMerged (seen_merge line.now) (c_symbols hosts.now))
+        (done_by result) (stopped_by result)) }
 {
     let one = match merged_unit(alloc, line, hosts, files) {
         Ok(one) => one,
@@ -79,6 +86,11 @@ fn merged_unit<F: Files>(
     ensures later { F.read_faults files.old ≤ F.read_faults files.new }
     ensures kept { OnOk result (F.read_faults files.new ≡ F.read_faults files.old) }
     ensures writes { F.write_faults files.new ≡ F.write_faults files.old }
+    ensures passed { IfOk result (λ one. Passes (F.trace files.old) (F.trace files.new) (λ events.
+        IsUnitsJobOver (seen_merge line.now).units (IsMerged (seen_merge line.now) (c_symbols hosts.now)) events
+        (Write (seen_merge line.now).output (unit_of one)))) }
+    ensures tried { IfErr result (λ stop. Passes (F.trace files.old) (F.trace files.new)
+        (TriesUnit (seen_merge line.now).units (IsMerged (seen_merge line.now) (c_symbols hosts.now)) (reason_of stop))) }
 {
     let texts = match read_units(alloc, line.units.as_slice(), files) {
         Ok(texts) => texts,

@@ -1,12 +1,15 @@
 // A unit that a line asks for, written into the file that the line names.
 ghost use Rattle.std.specs.Prelude.{◌≡◌, ◌≤◌, IfErr, OnOk};
 ghost use Rattle.w2c_io.specs.Contents.{holding};
+ghost use Rattle.w2c_io.specs.Passed.{Passes};
 ghost use Rattle.c_tree.specs.Spelled.{CSpells};
 ghost use Rattle.c_tree.specs.View.{unit_of};
 ghost use Rattle.c_print.specs.Print.{print_of};
 ghost use Rattle.crun_job.specs.Seen.{reason_of};
 ghost use Rattle.crun_cli.specs.Outside.{files_seen};
 ghost use Rattle.crun_cli.specs.Output.{StopsOutput};
+ghost use Rattle.crun_cli.specs.Passing.{WritesUnit};
+ghost use Rattle.crun_cli.specs.Trying.{done_by, stopped_by};
 
 use c_check::CheckedUnit;
 use crun_job::Stop;
@@ -33,6 +36,8 @@ pub fn write_output<F: Files>(
     ensures reads { F.read_faults files.new ≡ F.read_faults files.old }
     ensures writes { F.write_faults files.old ≤ F.write_faults files.new }
     ensures kept { OnOk result (F.write_faults files.new ≡ F.write_faults files.old) }
+    ensures passed { Passes (F.trace files.old) (F.trace files.new)
+        (WritesUnit (done_by result) (stopped_by result) output.now (unit_of unit.now)) }
 {
     match write_unit(alloc, output, unit, files) {
         Ok(()) => Ok(()),

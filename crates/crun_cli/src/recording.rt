@@ -2,6 +2,7 @@
 ghost use Rattle.std.specs.Prelude.{◌≡◌, ◌⊎◌, ◌≤◌, ℕ, List, None, Some, IfErr, IfOk, IsErrOf, OnErr, OnOk, length, map};
 ghost use Rattle.w2c_io.specs.Contents.{Name, holding};
 ghost use Rattle.w2c_io.specs.Causes.{Faulted, WriteCause};
+ghost use Rattle.w2c_io.specs.Passed.{Passes};
 ghost use Rattle.w2c_io.specs.declared.answers.WriteAnswer.TheVariants as writing;
 ghost use Rattle.c_tree.specs.View.{unit_of};
 ghost use Rattle.c_hosts.specs.Asking.{hosts_of};
@@ -16,6 +17,7 @@ ghost use Rattle.crun_cli.specs.Jobs.{symbols_of};
 ghost use Rattle.crun_cli.specs.Outside.{outside};
 ghost use Rattle.crun_cli.specs.Recording.{IsBlankFor, IsNamed, IsWritten, IsWrittenPart};
 ghost use Rattle.crun_cli.specs.Stopping.{IsTextsRun, StopsRun};
+ghost use Rattle.crun_cli.specs.Trying.{ended_by, stopped_by, PutsJournal, PutsJournalPart, WritesOfTexts};
 
 use crate::offering::offered_symbols;
 use crate::play::play;
@@ -55,6 +57,10 @@ pub fn run_and_record<F: Files, O: Sink, H: HostModule>(
     ensures kept { (F.told files.new ≡ F.told files.old) ⊎ ((file : Name) × (text : List ℕ) × ((seen_run line.now).journal ≡ Some file)
         × (F.told files.new ≡ holding (F.told files.old) file text)) }
     ensures current { (seen_run line.now).journal ≡ None → F.current files.new ≡ F.current files.old }
+    // What passed through the files, those of the system too.
+    ensures passed { Passes (F.trace files.old) (F.trace files.new)
+        (WritesOfTexts H.HostModule hosts.items (seen_run line.now) inputs.now.units.items inputs.now.calls
+        (O.told out.old) (O.told out.new) (ended_by result) (stopped_by result)) }
 {
     let task = match task_of(alloc, line, inputs, hosts.as_slice()) {
         Ok(task) => task,
@@ -132,6 +138,9 @@ fn write_journal<F: Files>(
     ensures failed { IsErrOf result writing.Failed → (file : Name) × ((seen_run line.now).journal ≡ Some file)
         × Faulted file (F.write_faults files.old) (F.write_faults files.new) (F.fault_name files.new) }
     ensures current { (seen_run line.now).journal ≡ None → F.current files.new ≡ F.current files.old }
+    ensures passed { OnOk result (Passes (F.trace files.old) (F.trace files.new) (PutsJournal (seen_run line.now).journal journal)) }
+    ensures tried { IfErr result (λ why. Passes (F.trace files.old) (F.trace files.new)
+        (PutsJournalPart (seen_run line.now).journal journal why)) }
 {
     let Some(name) = line.journal else {
         return Ok(());

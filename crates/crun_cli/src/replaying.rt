@@ -1,5 +1,6 @@
 // Hosts that reply again what a journal says.
 ghost use Rattle.std.specs.Prelude.{◌≡◌, ◌≤◌, IfErr, IfOk, OnOk};
+ghost use Rattle.w2c_io.specs.Passed.{Passes};
 ghost use Rattle.w2c_io.specs.Telling.{Tells};
 ghost use Rattle.host_replay.specs.Replayed.{AreReplays};
 ghost use Rattle.host_replay.specs.Texts.{Recorded};
@@ -8,6 +9,7 @@ ghost use Rattle.crun_cli.specs.Ends.{AreOffered};
 ghost use Rattle.crun_cli.specs.Jobs.{HoldsJournal};
 ghost use Rattle.crun_cli.specs.Outside.{files_seen};
 ghost use Rattle.crun_cli.specs.Stopping.{StopsReplay};
+ghost use Rattle.crun_cli.specs.Trying.{GivesReplays, TriesReplay};
 
 use c_hosts::HostModule;
 use crun_job::{Stop, stop_of};
@@ -32,6 +34,8 @@ pub fn replayed_hosts<F: Files>(
         (λ m. (j : Recorded) × HoldsJournal m name.now j × AreReplays j hosts.items)) }
     ensures offered { IfOk result (λ hosts. AreOffered ⟦<ReplayHost as HostModule>⟧ hosts.items) }
     ensures stop { IfErr result (λ stop. StopsReplay name.now (files_seen F.Files files.old) (files_seen F.Files files.new) (reason_of stop)) }
+    ensures passed { IfOk result (λ hosts. Passes (F.trace files.old) (F.trace files.new) (GivesReplays name.now hosts.items)) }
+    ensures tried { IfErr result (λ stop. Passes (F.trace files.old) (F.trace files.new) (TriesReplay name.now (reason_of stop))) }
 {
     let text = match read_journal_file(alloc, name, files) {
         Ok(text) => text,

@@ -2,13 +2,16 @@
 // journal says.
 ghost use Rattle.std.specs.Prelude.{◌≡◌, ◌⊎◌, ◌≤◌, List, ℕ, None, Some, IfErr, IfOk, vec_len, OnOk};
 ghost use Rattle.w2c_io.specs.Contents.{Name, holding};
+ghost use Rattle.w2c_io.specs.Passed.{Passes};
 ghost use Rattle.w2c_io.specs.Telling.{Tells};
 ghost use Rattle.crun_words.specs.CommandLine.{line_of, runs};
 ghost use Rattle.crun_words.specs.Seen.{seen_run};
 ghost use Rattle.crun_job.specs.Seen.{reason_of};
 ghost use Rattle.crun_cli.specs.Ends.{AreOffered, IsRunStatus, Ran};
 ghost use Rattle.crun_cli.specs.Outside.{outside};
+ghost use Rattle.crun_cli.specs.Passing.{PassesRun};
 ghost use Rattle.crun_cli.specs.Stopping.{StopsWork};
+ghost use Rattle.crun_cli.specs.Trying.{ended_by, stopped_by};
 
 use crate::recording::run_and_record;
 use crate::replaying::replayed_hosts;
@@ -45,6 +48,9 @@ pub fn run<F: Files, O: Sink, H: HostModule>(
     ensures kept { (F.told files.new ≡ F.told files.old) ⊎ ((file : Name) × (text : List ℕ) × ((seen_run line.now).journal ≡ Some file)
         × (F.told files.new ≡ holding (F.told files.old) file text)) }
     ensures current { (seen_run line.now).journal ≡ None → F.current files.new ≡ F.current files.old }
+    // What passed through the files, those of the system too.
+    ensures passed { Passes (F.trace files.old) (F.trace files.new) (PassesRun H.HostModule hosts.items (seen_run line.now)
+        (O.told out.old) (O.told out.new) (ended_by result) (stopped_by result)) }
 {
     let inputs = match read_inputs(alloc, line.units.as_slice(), line.calls, files) {
         Ok(inputs) => inputs,

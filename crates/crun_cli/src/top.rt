@@ -3,6 +3,7 @@ ghost use Rattle.std.specs.Prelude.{◌≡◌, ◌⊎◌, ◌≤◌, None};
 ghost use Rattle.w2c_files.specs.Words.{texts};
 ghost use Rattle.w2c_io.specs.Contents.{Name};
 ghost use Rattle.w2c_io.specs.Causes.{Rose};
+ghost use Rattle.w2c_io.specs.Passed.{Passes};
 ghost use Rattle.w2c_io.specs.Telling.{Tells, Says, SaysPart};
 ghost use Rattle.crun_words.specs.CommandLine.{line_of};
 ghost use Rattle.crun_job.specs.Job.{Stops};
@@ -23,6 +24,7 @@ ghost use Rattle.crun_cli.specs.Ends.{
 };
 ghost use Rattle.crun_cli.specs.Files.{WritesNothing};
 ghost use Rattle.crun_cli.specs.Outside.{outside, IsUntouched};
+ghost use Rattle.crun_cli.specs.Passing.{PassesFor};
 
 use crate::work::work;
 use c_hosts::{BoxedHost, HostModule};
@@ -93,6 +95,13 @@ pub fn crun_top<F: Files, O: Sink, E: Sink>(
     ensures part { result ≡ 5 → Tells (F.told files.old) (λ m. BegunIfAny ⟦<BoxedHost as HostModule>⟧ hosts.items (texts words.now) m
         (outside F.Files O.Sink files.old out.old) (outside F.Files O.Sink files.new out.new)) }
     ensures part_of_a_line { result ≡ 5 → (why : Reason) × SaysPart (E.told err.old) (E.told err.new) (error_line why) }
+
+    // What passed through the files, those of the system too: the files that the words name are read, each once and in order, and
+    // then the file that they name for writing is written, or a part of it, by what the reads gave. No other file is read or begun.
+    ensures passed { Passes (F.trace files.old) (F.trace files.new)
+        (PassesFor ⟦<BoxedHost as HostModule>⟧ hosts.items (texts words.now) (O.told out.old) (O.told out.new) result
+        (λ line. Says (E.told err.old) (E.told err.new) (E.faults err.old) (E.faults err.new) line)) }
+
     ensures status { result ≤ 8 }
 {
     match work(alloc, words, files, out, hosts) {

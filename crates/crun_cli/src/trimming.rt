@@ -1,6 +1,7 @@
 // The form --trim: a unit is written without the static functions that nothing needs.
 ghost use Rattle.std.specs.Prelude.{◌≡◌, ◌≤◌, ◌⊎◌, ℕ, List, [], ◌∷◌, IfErr, IfOk, OnOk};
 ghost use Rattle.w2c_io.specs.Contents.{holding};
+ghost use Rattle.w2c_io.specs.Passed.{Passes};
 ghost use Rattle.w2c_io.specs.Telling.{Tells};
 ghost use Rattle.c_tree.specs.Spelled.{CSpells};
 ghost use Rattle.c_tree.specs.Tree as tree;
@@ -9,9 +10,11 @@ ghost use Rattle.c_print.specs.Print.{print_of};
 ghost use Rattle.crun_words.specs.Seen.{seen_trim};
 ghost use Rattle.crun_job.specs.Job.{Write};
 ghost use Rattle.crun_job.specs.Seen.{reason_of};
-ghost use Rattle.crun_cli.specs.Jobs.{IsTrimJob};
+ghost use Rattle.crun_cli.specs.Jobs.{IsTrimmedText, IsTrimJob};
 ghost use Rattle.crun_cli.specs.Outside.{files_seen};
+ghost use Rattle.crun_cli.specs.Passing.{IsUnitsJobOver, PassesUnits};
 ghost use Rattle.crun_cli.specs.Stopping.{StopsWrite};
+ghost use Rattle.crun_cli.specs.Trying.{done_by, stopped_by, TriesUnit};
 
 use crate::output::write_output;
 use c_check::CheckedUnit;
@@ -43,6 +46,9 @@ pub fn trim_unit<F: Files>(alloc: Global, line: &TrimLine<'_>, files: &mut F) ->
     ensures writes_kept { OnOk result (F.write_faults files.new ≡ F.write_faults files.old) }
     ensures kept { (F.told files.new ≡ F.told files.old)
         ⊎ ((text : List ℕ) × (F.told files.new ≡ holding (F.told files.old) (seen_trim line.now).output text)) }
+    // What passed through the files, those of the system too.
+    ensures passed { Passes (F.trace files.old) (F.trace files.new)
+        (PassesUnits ((seen_trim line.now).unit ∷ []) (IsTrimmedText (seen_trim line.now)) (done_by result) (stopped_by result)) }
 {
     let trimmed = match trimmed_unit(alloc, line, files) {
         Ok(trimmed) => trimmed,
@@ -69,6 +75,11 @@ fn trimmed_unit<F: Files>(
     ensures later { F.read_faults files.old ≤ F.read_faults files.new }
     ensures kept { OnOk result (F.read_faults files.new ≡ F.read_faults files.old) }
     ensures writes { F.write_faults files.new ≡ F.write_faults files.old }
+    ensures passed { IfOk result (λ trimmed. Passes (F.trace files.old) (F.trace files.new) (λ events.
+        IsUnitsJobOver ((seen_trim line.now).unit ∷ []) (IsTrimmedText (seen_trim line.now)) events
+        (Write (seen_trim line.now).output (unit_of trimmed)))) }
+    ensures tried { IfErr result (λ stop. Passes (F.trace files.old) (F.trace files.new)
+        (TriesUnit ((seen_trim line.now).unit ∷ []) (IsTrimmedText (seen_trim line.now)) (reason_of stop))) }
 {
     let names = [line.unit];
     let texts = match read_units(alloc, &names, files) {

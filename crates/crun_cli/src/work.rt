@@ -2,6 +2,7 @@
 ghost use Rattle.std.specs.Prelude.{◌≡◌, ◌⊎◌, ◌≤◌, ℕ, List, OnOk, IfErr, IfOk, vec_len};
 ghost use Rattle.w2c_files.specs.Words.{texts};
 ghost use Rattle.w2c_io.specs.Contents.{holding};
+ghost use Rattle.w2c_io.specs.Passed.{Passes};
 ghost use Rattle.w2c_io.specs.Telling.{Tells};
 ghost use Rattle.c_tree.specs.Tree.{Item};
 ghost use Rattle.c_tree.specs.Spelled.{CSpells};
@@ -13,9 +14,11 @@ ghost use Rattle.crun_job.specs.Job.{Write};
 ghost use Rattle.crun_job.specs.Seen.{reason_of};
 ghost use Rattle.crun_cli.specs.Ends.{AreOffered, Finished, IsKept, IsRunStatus};
 ghost use Rattle.crun_cli.specs.Files.{HasReading, WritesNothing};
-ghost use Rattle.crun_cli.specs.Jobs.{symbols_of, IsMergeJob};
+ghost use Rattle.crun_cli.specs.Jobs.{symbols_of, IsMerged, IsMergeJob};
 ghost use Rattle.crun_cli.specs.Outside.{files_seen, outside};
+ghost use Rattle.crun_cli.specs.Passing.{PassesUnits, PassesWords};
 ghost use Rattle.crun_cli.specs.Stopping.{StopsWork, StopsWrite};
+ghost use Rattle.crun_cli.specs.Trying.{done_by, ended_by, stopped_by};
 
 use crate::merging::merge_units;
 use crate::offering::offered_symbols;
@@ -51,6 +54,9 @@ pub fn work<F: Files, O: Sink, H: HostModule>(
     ensures lines_kept { OnOk result (O.faults out.new ≡ O.faults out.old) }
     ensures kept { IsKept (texts words.now) (outside F.Files O.Sink files.old out.old) (outside F.Files O.Sink files.new out.new) }
     ensures current { WritesNothing (line_of (texts words.now)) → F.current files.new ≡ F.current files.old }
+    // What passed through the files, those of the system too.
+    ensures passed { Passes (F.trace files.old) (F.trace files.new) (PassesWords H.HostModule hosts.items (texts words.now)
+        (O.told out.old) (O.told out.new) (ended_by result) (stopped_by result)) }
 {
     let line = match read_words(alloc, words) {
         Ok(line) => line,
@@ -94,6 +100,9 @@ fn merge<F: Files, H: HostModule>(
     ensures writes_kept { OnOk result (F.write_faults files.new ≡ F.write_faults files.old) }
     ensures kept { (F.told files.new ≡ F.told files.old)
         ⊎ ((text : List ℕ) × (F.told files.new ≡ holding (F.told files.old) (seen_merge line.now).output text)) }
+    ensures passed { Passes (F.trace files.old) (F.trace files.new)
+        (PassesUnits (seen_merge line.now).units (IsMerged (seen_merge line.now) (symbols_of (hosts_of H.HostModule hosts.now)))
+        (done_by result) (stopped_by result)) }
 {
     let symbols = match offered_symbols(alloc, hosts) {
         Ok(symbols) => symbols,

@@ -1,5 +1,30 @@
 -- Over files that behave as files, and whose reads answer, reading comes to what it comes to over what they hold.
-use Rattle.std.proofs.Common.{◌≡◌, inl, inr, ℕ, ◌+◌, ◌-◌, ◌≤◌, List, [], ◌∷◌, ◌++◌, length, length-append, Option, Some, Result, Ok, Err, refl, sym, ap, ◌∙◌, subst, arith}
+use Rattle.std.proofs.Common.{
+  ◌≡◌,
+  inl,
+  inr,
+  ℕ,
+  ◌+◌,
+  ◌-◌,
+  ◌≤◌,
+  List,
+  [],
+  ◌∷◌,
+  ◌++◌,
+  length,
+  length-append,
+  Option,
+  Some,
+  Result,
+  Ok,
+  Err,
+  refl,
+  sym,
+  ap,
+  ◌∙◌,
+  subst,
+  arith,
+}
 use Rattle.std.specs.List.{AllByRecursion}
 use Rattle.w2c_io.specs.Contents.{Name, Contents, Told}
 use Rattle.w2c_io.specs.Events.{Event, Read}
@@ -119,8 +144,8 @@ module _ (m : Contents) where
         → Last name texts answer u.front
     the_last name texts answer events u honest answers =
         let short = few_front u.front u.rest name u.split in
-        let found = then_one u.front texts u.first events name most_unit_bytes answer current new after (omega (arith, short)) u.gave u.calls
-        honest answers in
+        let found = then_one u.front texts u.first events name most_unit_bytes answer current new after (omega (arith, short))
+        u.gave u.calls honest answers in
         (short, found.0, found.1)
 
     pub units_honest : (r : UnitsReading) (events : List Event) → GivesUnits units r events → AreHonest events (Some m) current new after

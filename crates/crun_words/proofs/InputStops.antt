@@ -52,7 +52,8 @@ pub units_bytes : (texts : List (List ℕ)) → AllByRecursion (λ text. length 
 units_bytes [] fit = omega arith
 units_bytes (text ∷ texts) fit = let more = units_bytes texts fit.1 in omega (arith, more, fit.0)
 
-pub as_many : (contents : Contents) (names : List Name) (texts : List (List ℕ)) → AreHeld contents names texts → length texts ≡ length names
+pub as_many : (contents : Contents) (names : List Name) (texts : List (List ℕ)) → AreHeld contents names texts
+    → length texts ≡ length names
 as_many contents [] [] held = refl
 as_many contents (n ∷ names) (t ∷ texts) held = ap suc (as_many contents names texts held.1)
 as_many contents [] (t ∷ texts) held = absurd held

@@ -1,5 +1,26 @@
 -- What passes through the files that are read, from what each step says.
-use Rattle.std.proofs.Common.{◌≡◌, inl, inr, ℕ, List, [], ◌∷◌, ◌++◌, length, slice_get, Some, Result, Ok, Err, refl, sym, ap, ◌∙◌, subst, append_assoc}
+use Rattle.std.proofs.Common.{
+  ◌≡◌,
+  inl,
+  inr,
+  ℕ,
+  List,
+  [],
+  ◌∷◌,
+  ◌++◌,
+  length,
+  slice_get,
+  Some,
+  Result,
+  Ok,
+  Err,
+  refl,
+  sym,
+  ap,
+  ◌∙◌,
+  subst,
+  append_assoc,
+}
 use Rattle.std.proofs.lemmas.List.{append-nil, map-append}
 use Rattle.w2c_io.specs.Contents.{Name}
 use Rattle.w2c_io.specs.Events.{Event, Read}
@@ -29,7 +50,20 @@ use Rattle.crun_words.specs.Inputs.{
   UnitsReading,
   UnitTooLong,
 }
-use Rattle.crun_words.specs.Passing.{GivesInputs, GivesJournal, GivesUnits, IsAway, IsOver, limited, ReadsFile, ReadsInOrder, ReadsUnto, TriesCalls, TriesInputs, TriesUnits}
+use Rattle.crun_words.specs.Passing.{
+  GivesInputs,
+  GivesJournal,
+  GivesUnits,
+  IsAway,
+  IsOver,
+  limited,
+  ReadsFile,
+  ReadsInOrder,
+  ReadsUnto,
+  TriesCalls,
+  TriesInputs,
+  TriesUnits,
+}
 use Rattle.crun_words.proofs.Lists.{same_some}
 
 -- ---- in order
@@ -38,7 +72,8 @@ use Rattle.crun_words.proofs.Lists.{same_some}
 pub all_then : (each : ℕ) (names : List Name) (all : List (List ℕ)) (first : List Event) (more : List (Name × ℕ)) (last : List Event)
     → ReadsAll each names all first → ReadsInOrder more last → ReadsInOrder (limited each names ++ more) (first ++ last)
 all_then each [] [] events more last is then = subst (λ (e : List Event). ReadsInOrder more (e ++ last)) (sym is) then
-all_then each (n ∷ names) (b ∷ all) (e ∷ events) more last (is, rest) then = inl (b, is, all_then each names all events more last rest then)
+all_then each (n ∷ names) (b ∷ all) (e ∷ events) more last (is, rest) then =
+    inl (b, is, all_then each names all events more last rest then)
 all_then each [] (b ∷ all) events more last h then = absurd h
 all_then each (n ∷ names) [] events more last h then = absurd h
 all_then each (n ∷ names) (b ∷ all) [] more last h then = absurd h
@@ -55,9 +90,9 @@ last_read : (name : Name) (most : ℕ) (more : List (Name × ℕ)) (answer : Res
     → ReadsInOrder ((name, most) ∷ more) (Read name most answer ∷ [])
 last_read name most more answer = inr (answer, refl, refl)
 
-pub unto_last : (each : ℕ) (front : List Name) (name : Name) (most : ℕ) (more : List (Name × ℕ)) (all : List (List ℕ)) (first events : List Event)
-    (answer : Result (List ℕ) ReadAnswer) → ReadsAll each front all first → events ≡ first ++ Read name most answer ∷ []
-    → ReadsInOrder (limited each front ++ (name, most) ∷ more) events
+pub unto_last : (each : ℕ) (front : List Name) (name : Name) (most : ℕ) (more : List (Name × ℕ)) (all : List (List ℕ))
+    (first events : List Event) (answer : Result (List ℕ) ReadAnswer) → ReadsAll each front all first
+    → events ≡ first ++ Read name most answer ∷ [] → ReadsInOrder (limited each front ++ (name, most) ∷ more) events
 unto_last each front name most more all first events answer gave is =
     subst (ReadsInOrder (limited each front ++ (name, most) ∷ more)) (sym is)
     (all_then each front all first ((name, most) ∷ more) (Read name most answer ∷ []) gave (last_read name most more answer))
@@ -116,15 +151,20 @@ inputs_in_order units calls LongCalls more events (texts, (first, gave, is)) =
     unto_last most_unit_bytes units calls most_calls_bytes more texts first events (Err reading.TooLong) gave is
 
 -- and then the journal was read
-pub journal_in_order : (units : List Name) (calls : Name) (texts : List (List ℕ)) (text : List ℕ) (journal : Name) (first last : List Event)
-    → GivesInputs units calls (AllRead texts text) first → ReadsFile most_journal_bytes journal last
+pub journal_in_order : (units : List Name) (calls : Name) (texts : List (List ℕ)) (text : List ℕ) (journal : Name)
+    (first last : List Event) → GivesInputs units calls (AllRead texts text) first → ReadsFile most_journal_bytes journal last
     → ReadsInOrder (limited most_unit_bytes units ++ (calls, most_calls_bytes) ∷ (journal, most_journal_bytes) ∷ []) (first ++ last)
 journal_in_order units calls texts text journal first last (front, gave, is) (answer, last_is) =
     subst (λ (e : List Event). ReadsInOrder (limited most_unit_bytes units ++ Two) (e ++ last)) (sym is)
     (subst (ReadsInOrder (limited most_unit_bytes units ++ Two))
     (sym (append_assoc front (Read calls most_calls_bytes (Ok text) ∷ []) last))
     (all_then most_unit_bytes units texts front Two (Read calls most_calls_bytes (Ok text) ∷ last) gave
-    (inl (text, refl, subst (ReadsInOrder ((journal, most_journal_bytes) ∷ [])) (sym last_is) (last_read journal most_journal_bytes [] answer)))))
+    (inl (
+      text,
+      refl,
+      subst (ReadsInOrder ((journal, most_journal_bytes) ∷ [])) (sym last_is)
+          (last_read journal most_journal_bytes [] answer),
+    ))))
   where
     Two : List (Name × ℕ)
     Two = (calls, most_calls_bytes) ∷ (journal, most_journal_bytes) ∷ []
@@ -236,7 +276,8 @@ calls_tried units calls texts (stop.UnitTooLong name) first last gave tried = ab
 calls_tried units calls texts stop.CallsTooLong first last gave is = (texts, (first, gave, ap (λ (l : List Event). first ++ l) is))
 calls_tried units calls texts stop.JournalTooLong first last gave tried = absurd tried
 calls_tried units calls texts stop.Memory first last gave (answer, is) =
-    unto_last most_unit_bytes units calls most_calls_bytes [] texts first (first ++ last) answer gave (ap (λ (l : List Event). first ++ l) is)
+    unto_last most_unit_bytes units calls most_calls_bytes [] texts first (first ++ last) answer gave
+    (ap (λ (l : List Event). first ++ l) is)
 
 pub inputs_read : (units : List Name) (calls : Name) (texts : List (List ℕ)) (text : List ℕ) (first last : List Event)
     → ReadsAll most_unit_bytes units texts first → last ≡ Read calls most_calls_bytes (Ok text) ∷ []

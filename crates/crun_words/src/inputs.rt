@@ -77,7 +77,8 @@ pub fn read_inputs<F: Files>(
     // What passed through the files, those of the system too.
     ensures passed { IfOk result (λ inputs. Passes (F.trace files.old) (F.trace files.new)
         (GivesInputs (names_of units.now) calls.now (AllRead inputs.units.items inputs.calls))) }
-    ensures tried { IfErr result (λ stop. Passes (F.trace files.old) (F.trace files.new) (TriesInputs (names_of units.now) calls.now stop)) }
+    ensures tried { IfErr result (λ stop. Passes (F.trace files.old) (F.trace files.new)
+        (TriesInputs (names_of units.now) calls.now stop)) }
 {
     let texts = match read_units(alloc, units, files) {
         Ok(texts) => texts,
@@ -111,7 +112,8 @@ pub fn read_units<F: Files>(
     ensures fit { IfOk result (λ all. AllByRecursion (λ text. length text ≤ most_unit_bytes) all.items) }
     ensures stop { IfErr result (StopsUnits (F.told files.old) (names_of units.now)
         (F.read_faults files.old) (F.read_faults files.new) (F.fault_name files.new)) }
-    ensures passed { IfOk result (λ all. Passes (F.trace files.old) (F.trace files.new) (GivesUnits (names_of units.now) (UnitsRead all.items))) }
+    ensures passed { IfOk result (λ all. Passes (F.trace files.old) (F.trace files.new)
+        (GivesUnits (names_of units.now) (UnitsRead all.items))) }
     ensures tried { IfErr result (λ stop. Passes (F.trace files.old) (F.trace files.new) (TriesUnits (names_of units.now) stop)) }
 {
     // No 16 units pass the second limit.

@@ -1,15 +1,20 @@
-use Rattle.std.proofs.Common.{◌≡◌, inl, inr, map, ap, subst}
-use Rattle.std.specs.Prelude.{Err}
+use Rattle.std.proofs.Common.{ℕ, inl, inr, map, ap, refl, sym, subst}
+use Rattle.std.specs.Prelude.{Err, Ok}
+use Rattle.w2c_io.proofs.Passed.{none_passed, passed_so}
 use Rattle.c_tree.specs.View.{unit_of}
 use Rattle.c_hosts.specs.Asking.{hosts_of}
 use Rattle.crun_words.specs.Seen.{seen_run}
+use Rattle.crun_job.specs.declared.stop.Stop.TheVariants as stop
 use Rattle.crun_job.specs.Job.{IsTextsJob}
-use Rattle.crun_job.specs.Seen.{calls_seen}
-use Rattle.crun_job.specs.Stopping.{job_of}
+use Rattle.crun_job.specs.Seen.{calls_seen, reason_of}
+use Rattle.crun_job.specs.Stopping.{job_of, StopsTexts}
 use Rattle.crun_cli.specs.Jobs.{symbols_of}
 use Rattle.crun_cli.specs.Outside.{outside}
+use Rattle.crun_cli.specs.Passing.{reason_for}
 use Rattle.crun_cli.specs.Recording.{IsBlankFor}
-use Rattle.crun_cli.proofs.RecordLaws.{journal_part, kept_part, offered_distinct, whole_run}
+use Rattle.crun_cli.specs.Trying.{ended_by, stopped_by, PutsJournal, PutsJournalPart, WritesOfTexts}
+use Rattle.crun_cli.proofs.Passing.{line_unwritten, run_broken, run_written, texts_stopped}
+use Rattle.crun_cli.proofs.RecordLaws.{journal_part, kept_part, kept_whole, offered_distinct, whole_run}
 use Rattle.crun_cli.proofs.recording.run_and_record.Goals as goal
 
 pub returns-in-Ok-write_journal-clause-ran : goal.returns-in-Ok-write_journal-clause-ran
@@ -68,3 +73,150 @@ pub returns-in-Err-Memory-write_journal-clause-kept : goal.returns-in-Err-Memory
 returns-in-Err-Memory-write_journal-clause-kept g c =
     kept_part (seen_run c.args.line.now).journal c.in-Ok-play.played.journal (g.F.Files.told c.args.files.now)
     (g.F.Files.told c.write_journal.new.files) c.in-Err-Memory-write_journal.ensures.part
+
+pub returns-in-Err-clause-passed : goal.returns-in-Err-clause-passed
+returns-in-Err-clause-passed g c =
+    let m = g.H.HostModule in
+    let hosts = c.args.hosts.items in
+    let told = g.O.Sink.told c.args.out.now in
+    let line = seen_run c.args.line.now in
+    let texts = c.args.inputs.now.units.items in
+    let text = c.args.inputs.now.calls in
+    let old = g.F.Files.trace c.args.files.now in
+    let ends = ended_by (Err c.in-Err.stop) in
+    let stopped = stopped_by {A = ℕ} (Err c.in-Err.stop) in
+    none_passed old (WritesOfTexts m hosts line texts text told told ends stopped)
+    (texts_stopped m hosts line texts text told told ends stopped (reason_of c.in-Err.stop)
+    (subst (λ hs. StopsTexts line (symbols_of (hosts_of m hs)) texts text (reason_of c.in-Err.stop)) c.as_slice.ensures.value
+    c.in-Err.ensures.stop) refl)
+
+pub returns-in-Err-blank_journal-clause-passed : goal.returns-in-Err-blank_journal-clause-passed
+returns-in-Err-blank_journal-clause-passed g c =
+    let m = g.H.HostModule in
+    let hosts = c.args.hosts.items in
+    let told = g.O.Sink.told c.args.out.now in
+    let line = seen_run c.args.line.now in
+    let texts = c.args.inputs.now.units.items in
+    let text = c.args.inputs.now.calls in
+    none_passed (g.F.Files.trace c.args.files.now)
+    (WritesOfTexts m hosts line texts text told told (ended_by (Err stop.Memory))
+    (stopped_by {A = ℕ} (Err stop.Memory)))
+    (inl (refl, refl))
+
+pub returns-in-Err-Failed-clause-passed : goal.returns-in-Err-Failed-clause-passed
+returns-in-Err-Failed-clause-passed g c =
+    let m = g.H.HostModule in
+    let hosts = c.args.hosts.items in
+    let told = g.O.Sink.told c.args.out.now in
+    let told' = g.O.Sink.told c.play.new.out in
+    let line = seen_run c.args.line.now in
+    let texts = c.args.inputs.now.units.items in
+    let text = c.args.inputs.now.calls in
+    let old = g.F.Files.trace c.args.files.now in
+    let task = c.in-Ok.task in
+    let job =
+    subst (λ hs. IsTextsJob line (symbols_of (hosts_of m hs)) texts text (job_of task)) c.as_slice.ensures.value c.in-Ok.ensures.task in
+    let ends = ended_by (Err stop.Unwritten) in
+    let stopped = stopped_by {A = ℕ} (Err stop.Unwritten) in
+    none_passed old (WritesOfTexts m hosts line texts text told told' ends stopped)
+    (line_unwritten m hosts line texts text told told' ends stopped (map unit_of task.linked.0) (calls_seen task.calls.items)
+    task.steps task.shows_state job c.in-Err-Failed.ensures.part refl)
+
+pub returns-in-Err-Memory-clause-passed : goal.returns-in-Err-Memory-clause-passed
+returns-in-Err-Memory-clause-passed g c =
+    let m = g.H.HostModule in
+    let hosts = c.args.hosts.items in
+    let told = g.O.Sink.told c.args.out.now in
+    let told' = g.O.Sink.told c.play.new.out in
+    let line = seen_run c.args.line.now in
+    let texts = c.args.inputs.now.units.items in
+    let text = c.args.inputs.now.calls in
+    none_passed (g.F.Files.trace c.args.files.now)
+    (WritesOfTexts m hosts line texts text told told' (ended_by (Err stop.Memory))
+    (stopped_by {A = ℕ} (Err stop.Memory)))
+    (inl (refl, refl))
+
+pub returns-in-Ok-write_journal-clause-passed : goal.returns-in-Ok-write_journal-clause-passed
+returns-in-Ok-write_journal-clause-passed g c =
+    let m = g.H.HostModule in
+    let hosts = c.args.hosts.items in
+    let told = g.O.Sink.told c.args.out.now in
+    let told' = g.O.Sink.told c.play.new.out in
+    let line = seen_run c.args.line.now in
+    let texts = c.args.inputs.now.units.items in
+    let text = c.args.inputs.now.calls in
+    let files = g.F.Files in
+    let task = c.in-Ok.task in
+    let job =
+    subst (λ hs. IsTextsJob line (symbols_of (hosts_of m hs)) texts text (job_of task)) c.as_slice.ensures.value c.in-Ok.ensures.task in
+    let blank =
+    subst (λ hs. IsBlankFor m hs line.journal c.in-Ok-blank_journal.journal) c.as_slice-2.ensures.value c.in-Ok-blank_journal.ensures in
+    let status = c.in-Ok-play.played.status in
+    let ends = ended_by (Ok status) in
+    let stopped = stopped_by {A = ℕ} (Ok status) in
+    passed_so (files.trace c.args.files.now) (files.trace c.write_journal.new.files) (PutsJournal line.journal c.in-Ok-play.played.journal)
+    (WritesOfTexts m hosts line texts text told told' ends stopped)
+    (λ events puts. run_written m hosts line texts text told told' ends stopped (map unit_of task.linked.0)
+    (calls_seen task.calls.items) task.steps task.shows_state job status c.in-Ok-blank_journal.journal c.in-Ok-play.played.journal
+    c.in-Ok-play.ensures.ran blank (files.told c.args.files.now) (files.told c.write_journal.new.files) events
+    (offered_distinct m hosts c.requires.offered) c.in-Ok-write_journal.ensures.written puts refl)
+    c.in-Ok-write_journal.ensures.passed
+
+pub returns-in-Err-Failed-write_journal-clause-passed : goal.returns-in-Err-Failed-write_journal-clause-passed
+returns-in-Err-Failed-write_journal-clause-passed g c =
+    let m = g.H.HostModule in
+    let hosts = c.args.hosts.items in
+    let told = g.O.Sink.told c.args.out.now in
+    let told' = g.O.Sink.told c.play.new.out in
+    let line = seen_run c.args.line.now in
+    let texts = c.args.inputs.now.units.items in
+    let text = c.args.inputs.now.calls in
+    let files = g.F.Files in
+    let task = c.in-Ok.task in
+    let job =
+    subst (λ hs. IsTextsJob line (symbols_of (hosts_of m hs)) texts text (job_of task)) c.as_slice.ensures.value c.in-Ok.ensures.task in
+    let blank =
+    subst (λ hs. IsBlankFor m hs line.journal c.in-Ok-blank_journal.journal) c.as_slice-2.ensures.value c.in-Ok-blank_journal.ensures in
+    let why = c.in-Err-Failed-write_journal.field-0 in
+    let ends = ended_by (Err stop.Unwritten) in
+    let stopped = stopped_by {A = ℕ} (Err stop.Unwritten) in
+    passed_so (files.trace c.args.files.now) (files.trace c.write_journal.new.files)
+    (PutsJournalPart line.journal c.in-Ok-play.played.journal why)
+    (WritesOfTexts m hosts line texts text told told' ends stopped)
+    (λ events part. run_broken m hosts line texts text told told' ends stopped (map unit_of task.linked.0)
+    (calls_seen task.calls.items) task.steps task.shows_state job c.in-Ok-play.played.status c.in-Ok-blank_journal.journal
+    c.in-Ok-play.played.journal c.in-Ok-play.ensures.ran blank why events part
+    (ap reason_for (sym c.in-Err-Failed-write_journal.field-0-is)))
+    c.in-Err-Failed-write_journal.ensures.tried
+
+pub returns-in-Err-Memory-write_journal-clause-passed : goal.returns-in-Err-Memory-write_journal-clause-passed
+returns-in-Err-Memory-write_journal-clause-passed g c =
+    let m = g.H.HostModule in
+    let hosts = c.args.hosts.items in
+    let told = g.O.Sink.told c.args.out.now in
+    let told' = g.O.Sink.told c.play.new.out in
+    let line = seen_run c.args.line.now in
+    let texts = c.args.inputs.now.units.items in
+    let text = c.args.inputs.now.calls in
+    let files = g.F.Files in
+    let task = c.in-Ok.task in
+    let job =
+    subst (λ hs. IsTextsJob line (symbols_of (hosts_of m hs)) texts text (job_of task)) c.as_slice.ensures.value c.in-Ok.ensures.task in
+    let blank =
+    subst (λ hs. IsBlankFor m hs line.journal c.in-Ok-blank_journal.journal) c.as_slice-2.ensures.value c.in-Ok-blank_journal.ensures in
+    let why = c.in-Err-Memory-write_journal.field-0 in
+    let ends = ended_by (Err stop.Memory) in
+    let stopped = stopped_by {A = ℕ} (Err stop.Memory) in
+    passed_so (files.trace c.args.files.now) (files.trace c.write_journal.new.files)
+    (PutsJournalPart line.journal c.in-Ok-play.played.journal why)
+    (WritesOfTexts m hosts line texts text told told' ends stopped)
+    (λ events part. run_broken m hosts line texts text told told' ends stopped (map unit_of task.linked.0)
+    (calls_seen task.calls.items) task.steps task.shows_state job c.in-Ok-play.played.status c.in-Ok-blank_journal.journal
+    c.in-Ok-play.played.journal c.in-Ok-play.ensures.ran blank why events part
+    (ap reason_for (sym c.in-Err-Memory-write_journal.field-0-is)))
+    c.in-Err-Memory-write_journal.ensures.tried
+
+pub returns-in-Ok-write_journal-clause-kept : goal.returns-in-Ok-write_journal-clause-kept
+returns-in-Ok-write_journal-clause-kept g c =
+    kept_whole (seen_run c.args.line.now).journal c.in-Ok-play.played.journal (g.F.Files.told c.args.files.now)
+    (g.F.Files.told c.write_journal.new.files) c.in-Ok-write_journal.ensures.written

@@ -1,16 +1,24 @@
-use Rattle.std.proofs.Common.{◌≡◌, ◌∙◌, Some, None, refl, sym, ap, subst}
-use Rattle.std.specs.Prelude.{option_map}
+use Rattle.std.proofs.Common.{◌∙◌, ℕ, List, refl, sym, ap, subst}
+use Rattle.std.specs.Prelude.{option_map, Ok, Err}
+use Rattle.w2c_io.specs.Events.{Event}
+use Rattle.w2c_io.specs.Passed.{Passes}
+use Rattle.w2c_io.proofs.Passed.{both_passed, passed_so}
 use Rattle.w2c_files.specs.Words.{names_of}
 use Rattle.w2c_io.specs.Telling.{Tells}
 use Rattle.host_replay.specs.Replayed.{replaying, AreReplays}
 use Rattle.host_replay.specs.Texts.{Recorded}
 use Rattle.crun_words.specs.CommandLine.{RunLine}
-use Rattle.crun_words.specs.Inputs.{AreInputs, StopsInputs}
+use Rattle.crun_words.specs.Inputs.{AllRead, AreInputs, StopsInputs}
+use Rattle.crun_words.specs.Passing.{GivesInputs, TriesInputs}
 use Rattle.crun_words.specs.Seen.{seen_run}
 use Rattle.crun_job.specs.Seen.{reason_of}
+use Rattle.crun_job.specs.Stopping.{stop_for}
 use Rattle.crun_cli.specs.Jobs.{HoldsJournal}
 use Rattle.crun_cli.specs.Outside.{files_seen, outside, sink_seen, FilesSeen, Outside, SinkSeen}
+use Rattle.crun_cli.specs.Passing.{PassesRun}
 use Rattle.crun_cli.specs.Stopping.{StopsWork}
+use Rattle.crun_cli.specs.Trying.{ended_by, stopped_by, GivesReplays, TriesReplay, WritesOfTexts}
+use Rattle.crun_cli.proofs.Passing.{handed_passed, inputs_stopped, replay_stopped, replayed_both, ReadsBoth}
 use Rattle.crun_cli.proofs.RunForm.{
   handed_ran,
   handed_stop,
@@ -139,3 +147,158 @@ returns-clause-stop g c = λ words is.
     (stop_from replaying replays line start middle out new (c.replayed_hosts.ensures.told ∙ c.read_inputs.ensures.told)
     (c.replayed_hosts.ensures.current ∙ c.read_inputs.ensures.current)
     (c.replayed_hosts.ensures.writes ∙ c.read_inputs.ensures.writes) texts text why c.in-Err-run_and_record-2.ensures.stop)
+
+pub returns-in-Err-clause-passed : goal.returns-in-Err-clause-passed
+returns-in-Err-clause-passed g c =
+    let files = g.F.Files in
+    let m = g.H.HostModule in
+    let hosts = c.args.hosts.items in
+    let line : RunLine = seen_run c.args.line.now in
+    let start = files.trace c.args.files.now in
+    let middle = files.trace c.read_inputs.new.files in
+    let told = g.O.Sink.told c.args.out.now in
+    subst (λ s. Passes start middle (PassesRun m hosts line told told (ended_by (Err s)) (stopped_by {A = ℕ} (Err s))))
+    (sym c.stop_of.ensures)
+    (passed_so start middle (TriesInputs line.units line.calls c.in-Err.stop)
+    (PassesRun m hosts line told told (ended_by (Err (stop_for c.in-Err.stop))) (stopped_by {A = ℕ} (Err (stop_for c.in-Err.stop))))
+    (λ events tried. inputs_stopped m hosts line told told (ended_by (Err (stop_for c.in-Err.stop)))
+    (stopped_by {A = ℕ} (Err (stop_for c.in-Err.stop))) c.in-Err.stop events tried refl)
+    (subst (λ ns. Passes start middle (TriesInputs (names_of ns) line.calls c.in-Err.stop)) c.as_slice.ensures.value
+    c.in-Err.ensures.tried))
+
+pub returns-in-Ok-run_and_record-clause-passed : goal.returns-in-Ok-run_and_record-clause-passed
+returns-in-Ok-run_and_record-clause-passed g c =
+    let files = g.F.Files in
+    let m = g.H.HostModule in
+    let hosts = c.args.hosts.items in
+    let told = g.O.Sink.told c.args.out.now in
+    let told' = g.O.Sink.told c.run_and_record.new.out in
+    let line : RunLine = seen_run c.args.line.now in
+    let start = files.trace c.args.files.now in
+    let middle = files.trace c.read_inputs.new.files in
+    let texts = c.in-Ok.inputs.units.items in
+    let text = c.in-Ok.inputs.calls in
+    let Gives : List Event → Type 0 = GivesInputs line.units line.calls (AllRead texts text) in
+    let gives : Passes start middle Gives =
+    subst (λ ns. Passes start middle (GivesInputs (names_of ns) line.calls (AllRead texts text))) c.as_slice.ensures.value
+    c.in-Ok.ensures.passed in
+    let new = files.trace c.run_and_record.new.files in
+    let ends = ended_by (Ok c.in-Ok-run_and_record.status) in
+    let stopped = stopped_by {A = ℕ} (Ok c.in-Ok-run_and_record.status) in
+    both_passed start middle new Gives (WritesOfTexts m hosts line texts text told told' ends stopped)
+    (PassesRun m hosts line told told' ends stopped)
+    (λ first last gave writes. handed_passed m hosts line told told' ends stopped texts text first gave
+    (ap (λ o. option_map (λ name. name.now) o) c.in-None.is) last writes)
+    gives c.in-Ok-run_and_record.ensures.passed
+
+pub returns-in-None-clause-passed : goal.returns-in-None-clause-passed
+returns-in-None-clause-passed g c =
+    let files = g.F.Files in
+    let m = g.H.HostModule in
+    let hosts = c.args.hosts.items in
+    let told = g.O.Sink.told c.args.out.now in
+    let told' = g.O.Sink.told c.run_and_record.new.out in
+    let line : RunLine = seen_run c.args.line.now in
+    let start = files.trace c.args.files.now in
+    let middle = files.trace c.read_inputs.new.files in
+    let texts = c.in-Ok.inputs.units.items in
+    let text = c.in-Ok.inputs.calls in
+    let Gives : List Event → Type 0 = GivesInputs line.units line.calls (AllRead texts text) in
+    let gives : Passes start middle Gives =
+    subst (λ ns. Passes start middle (GivesInputs (names_of ns) line.calls (AllRead texts text))) c.as_slice.ensures.value
+    c.in-Ok.ensures.passed in
+    let new = files.trace c.run_and_record.new.files in
+    let ends = ended_by (Err c.in-Err-run_and_record.stop) in
+    let stopped = stopped_by {A = ℕ} (Err c.in-Err-run_and_record.stop) in
+    both_passed start middle new Gives (WritesOfTexts m hosts line texts text told told' ends stopped)
+    (PassesRun m hosts line told told' ends stopped)
+    (λ first last gave writes. handed_passed m hosts line told told' ends stopped texts text first gave
+    (ap (λ o. option_map (λ name. name.now) o) c.in-None.is) last writes)
+    gives c.in-Err-run_and_record.ensures.passed
+
+pub returns-in-Err-replayed_hosts-clause-passed : goal.returns-in-Err-replayed_hosts-clause-passed
+returns-in-Err-replayed_hosts-clause-passed g c =
+    let files = g.F.Files in
+    let m = g.H.HostModule in
+    let hosts = c.args.hosts.items in
+    let line : RunLine = seen_run c.args.line.now in
+    let start = files.trace c.args.files.now in
+    let middle = files.trace c.read_inputs.new.files in
+    let texts = c.in-Ok.inputs.units.items in
+    let text = c.in-Ok.inputs.calls in
+    let Gives : List Event → Type 0 = GivesInputs line.units line.calls (AllRead texts text) in
+    let gives : Passes start middle Gives =
+    subst (λ ns. Passes start middle (GivesInputs (names_of ns) line.calls (AllRead texts text))) c.as_slice.ensures.value
+    c.in-Ok.ensures.passed in
+    let new = files.trace c.replayed_hosts.new.files in
+    let name = c.in-Some.name.now in
+    let told = g.O.Sink.told c.args.out.now in
+    let ends = ended_by (Err c.in-Err-replayed_hosts.stop) in
+    let stopped = stopped_by {A = ℕ} (Err c.in-Err-replayed_hosts.stop) in
+    let why = reason_of c.in-Err-replayed_hosts.stop in
+    both_passed start middle new Gives (TriesReplay name why) (PassesRun m hosts line told told ends stopped)
+    (λ first last gave tried. replay_stopped m hosts line told told ends stopped texts text first gave name
+    (ap (λ o. option_map (λ n. n.now) o) c.in-Some.is) last why tried refl)
+    gives c.in-Err-replayed_hosts.ensures.tried
+
+pub returns-in-Ok-run_and_record-2-clause-passed : goal.returns-in-Ok-run_and_record-2-clause-passed
+returns-in-Ok-run_and_record-2-clause-passed g c =
+    let files = g.F.Files in
+    let m = g.H.HostModule in
+    let hosts = c.args.hosts.items in
+    let told = g.O.Sink.told c.args.out.now in
+    let told' = g.O.Sink.told c.run_and_record-in-Some.new.out in
+    let line : RunLine = seen_run c.args.line.now in
+    let start = files.trace c.args.files.now in
+    let middle = files.trace c.read_inputs.new.files in
+    let texts = c.in-Ok.inputs.units.items in
+    let text = c.in-Ok.inputs.calls in
+    let Gives : List Event → Type 0 = GivesInputs line.units line.calls (AllRead texts text) in
+    let gives : Passes start middle Gives =
+    subst (λ ns. Passes start middle (GivesInputs (names_of ns) line.calls (AllRead texts text))) c.as_slice.ensures.value
+    c.in-Ok.ensures.passed in
+    let read = files.trace c.replayed_hosts.new.files in
+    let new = files.trace c.run_and_record-in-Some.new.files in
+    let name = c.in-Some.name.now in
+    let replays = c.in-Ok-replayed_hosts.replays.items in
+    let ends = ended_by (Ok c.in-Ok-run_and_record-2.status) in
+    let stopped = stopped_by {A = ℕ} (Ok c.in-Ok-run_and_record-2.status) in
+    both_passed start read new (ReadsBoth line texts text name replays)
+    (WritesOfTexts replaying replays line texts text told told' ends stopped)
+    (PassesRun m hosts line told told' ends stopped)
+    (λ first last both writes. replayed_both m hosts line told told' ends stopped texts text name
+    (ap (λ o. option_map (λ n. n.now) o) c.in-Some.is) replays first last both writes)
+    (both_passed start middle read Gives (GivesReplays name replays) (ReadsBoth line texts text name replays)
+    (λ first last gave replay. (first, last, refl, gave, replay)) gives c.in-Ok-replayed_hosts.ensures.passed)
+    c.in-Ok-run_and_record-2.ensures.passed
+
+pub returns-clause-passed : goal.returns-clause-passed
+returns-clause-passed g c =
+    let files = g.F.Files in
+    let m = g.H.HostModule in
+    let hosts = c.args.hosts.items in
+    let told = g.O.Sink.told c.args.out.now in
+    let told' = g.O.Sink.told c.run_and_record-in-Some.new.out in
+    let line : RunLine = seen_run c.args.line.now in
+    let start = files.trace c.args.files.now in
+    let middle = files.trace c.read_inputs.new.files in
+    let texts = c.in-Ok.inputs.units.items in
+    let text = c.in-Ok.inputs.calls in
+    let Gives : List Event → Type 0 = GivesInputs line.units line.calls (AllRead texts text) in
+    let gives : Passes start middle Gives =
+    subst (λ ns. Passes start middle (GivesInputs (names_of ns) line.calls (AllRead texts text))) c.as_slice.ensures.value
+    c.in-Ok.ensures.passed in
+    let read = files.trace c.replayed_hosts.new.files in
+    let new = files.trace c.run_and_record-in-Some.new.files in
+    let name = c.in-Some.name.now in
+    let replays = c.in-Ok-replayed_hosts.replays.items in
+    let ends = ended_by (Err c.in-Err-run_and_record-2.stop) in
+    let stopped = stopped_by {A = ℕ} (Err c.in-Err-run_and_record-2.stop) in
+    both_passed start read new (ReadsBoth line texts text name replays)
+    (WritesOfTexts replaying replays line texts text told told' ends stopped)
+    (PassesRun m hosts line told told' ends stopped)
+    (λ first last both writes. replayed_both m hosts line told told' ends stopped texts text name
+    (ap (λ o. option_map (λ n. n.now) o) c.in-Some.is) replays first last both writes)
+    (both_passed start middle read Gives (GivesReplays name replays) (ReadsBoth line texts text name replays)
+    (λ first last gave replay. (first, last, refl, gave, replay)) gives c.in-Ok-replayed_hosts.ensures.passed)
+    c.in-Err-run_and_record-2.ensures.passed

@@ -1,13 +1,18 @@
-use Rattle.std.proofs.Common.{◌≡◌, ◌⊎◌, inl, inr, arith}
+use Rattle.std.proofs.Common.{◌≡◌, ℕ, List, Ok, Err, subst}
+use Rattle.w2c_io.proofs.Passed.{passed_so}
 use Rattle.w2c_files.specs.Words.{texts}
 use Rattle.w2c_io.specs.Telling.{Says}
 use Rattle.crun_job.specs.Lines.{error_line}
 use Rattle.crun_job.specs.Seen.{reason_of}
-use Rattle.crun_cli.specs.Outside.{outside, Outside}
+use Rattle.crun_cli.specs.Outside.{outside}
+use Rattle.crun_cli.specs.Passing.{PassesFor, PassesWords, StopsFor}
+use Rattle.crun_cli.specs.Trying.{ended_by, stopped_by}
+use Rattle.crun_cli.proofs.Passing.{stopped_for, words_so}
 use Rattle.crun_cli.proofs.TopLaws.{
   done_again,
   done_complete,
   done_refused,
+  read_fault,
   refused_line,
   stop_always,
   stop_apart,
@@ -77,3 +82,52 @@ pub returns-in-Err-clause-part : goal.returns-in-Err-clause-part
 returns-in-Err-clause-part g c = λ status.
     stop_part _ c.args.hosts.items (texts c.args.words.now) (outside g.F.Files g.O.Sink c.args.files.now c.args.out.now)
     (outside g.F.Files g.O.Sink c.work.new.files c.work.new.out) (reason_of c.in-Err.stop) c.in-Err.ensures.stop
+
+pub returns-in-Ok-clause-passed : goal.returns-in-Ok-clause-passed
+returns-in-Ok-clause-passed g c =
+    let files = g.F.Files in
+    let err = g.E.Sink in
+    let hosts = c.args.hosts.items in
+    let words = texts c.args.words.now in
+    let told = g.O.Sink.told c.args.out.now in
+    let told' = g.O.Sink.told c.work.new.out in
+    let ends = ended_by (Ok c.in-Ok.status) in
+    let stopped = stopped_by {A = ℕ} (Ok c.in-Ok.status) in
+    let says = λ (line : List ℕ). Says (err.told c.args.err.now) (err.told c.args.err.now) (err.faults c.args.err.now)
+    (err.faults c.args.err.now) line in
+    passed_so (files.trace c.args.files.now) (files.trace c.work.new.files) (PassesWords _ hosts words told told' ends stopped)
+    (PassesFor _ hosts words told told' c.in-Ok.status says)
+    (words_so _ hosts told told' ends (λ s. c.in-Ok.status ≡ s) stopped (StopsFor c.in-Ok.status says)
+    (λ status is. is) (λ why none. absurd none)
+    words)
+    c.in-Ok.ensures.passed
+
+pub returns-in-Err-clause-passed : goal.returns-in-Err-clause-passed
+returns-in-Err-clause-passed g c =
+    let files = g.F.Files in
+    let err = g.E.Sink in
+    let hosts = c.args.hosts.items in
+    let words = texts c.args.words.now in
+    let told = g.O.Sink.told c.args.out.now in
+    let told' = g.O.Sink.told c.work.new.out in
+    let ends = ended_by (Err c.in-Err.stop) in
+    let stopped = stopped_by {A = ℕ} (Err c.in-Err.stop) in
+    let says = λ (line : List ℕ). Says (err.told c.args.err.now) (err.told c.report.new.err) (err.faults c.args.err.now)
+    (err.faults c.report.new.err) line in
+    passed_so (files.trace c.args.files.now) (files.trace c.work.new.files) (PassesWords _ hosts words told told' ends stopped)
+    (PassesFor _ hosts words told told' c.report.result says)
+    (words_so _ hosts told told' ends (λ s. c.report.result ≡ s) stopped (StopsFor c.report.result says)
+    (λ status none. absurd none)
+    (λ why is. subst (StopsFor c.report.result says) is
+    (stopped_for c.report.result says (reason_of c.in-Err.stop) c.report.ensures.status c.report.ensures.says))
+    words)
+    c.in-Err.ensures.passed
+
+pub returns-in-Err-clause-read_fault : goal.returns-in-Err-clause-read_fault
+returns-in-Err-clause-read_fault g c = λ three.
+    let err = g.E.Sink in
+    read_fault _ c.args.hosts.items (texts c.args.words.now) (outside g.F.Files g.O.Sink c.args.files.now c.args.out.now)
+    (outside g.F.Files g.O.Sink c.work.new.files c.work.new.out)
+    (λ why. Says (err.told c.args.err.now) (err.told c.report.new.err) (err.faults c.args.err.now) (err.faults c.report.new.err)
+    (error_line why))
+    (reason_of c.in-Err.stop) c.report.result c.in-Err.ensures.stop c.report.ensures.status c.report.ensures.says three

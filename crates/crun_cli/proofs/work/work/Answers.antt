@@ -1,12 +1,17 @@
-use Rattle.std.proofs.Common.{◌∙◌, ap, subst, Some}
+use Rattle.std.proofs.Common.{◌∙◌, ℕ, [], ◌∷◌, inl, ap, refl, subst, Ok, Err, Some}
+use Rattle.w2c_io.specs.Passed.{Passes}
+use Rattle.w2c_io.proofs.Passed.{none_passed, passed_so}
 use Rattle.w2c_files.specs.Words.{texts}
 use Rattle.c_hosts.specs.Asking.{hosts_of}
-use Rattle.crun_words.specs.CommandLine.{line_of}
-use Rattle.crun_words.specs.Seen.{seen_line, seen_merge, seen_trim}
+use Rattle.crun_words.specs.CommandLine.{merges, runs, trims}
+use Rattle.crun_words.specs.Seen.{seen_line, seen_merge, seen_run, seen_trim}
+use Rattle.crun_job.specs.declared.stop.Stop.TheVariants as stop
 use Rattle.crun_job.specs.Seen.{reason_of}
-use Rattle.crun_cli.specs.Jobs.{symbols_of, IsMergeJob}
+use Rattle.crun_cli.specs.Jobs.{symbols_of, IsMerged, IsTrimmedText}
 use Rattle.crun_cli.specs.Outside.{files_seen, sink_seen}
-use Rattle.crun_cli.specs.Stopping.{StopsWrite}
+use Rattle.crun_cli.specs.Passing.{PassesRun, PassesUnits, PassesWords}
+use Rattle.crun_cli.specs.Trying.{done_by, ended_by, stopped_by}
+use Rattle.crun_cli.proofs.Passing.{line_passed, line_so, usage_passed, words_wanting}
 use Rattle.crun_cli.proofs.WriteForms.{merge_done, merge_stop, trim_stop}
 use Rattle.crun_cli.proofs.work.work.Goals as goal
 
@@ -32,3 +37,151 @@ returns-clause-stop g c =
     trim_stop g.H.HostModule c.args.hosts.items (texts c.args.words.now) (sink_seen g.O.Sink c.args.out.now)
     (files_seen files c.args.files.now) (files_seen files c.trim_unit.new.files) (seen_trim c.in-Trim.line)
     (c.in-Ok.ensures.line ∙ ap (λ l. Some (seen_line l)) c.in-Trim.is) (reason_of c.in-Err-trim_unit.stop) c.in-Err-trim_unit.ensures.stop
+
+pub returns-in-Err-Usage-clause-passed : goal.returns-in-Err-Usage-clause-passed
+returns-in-Err-Usage-clause-passed g c =
+    let files = g.F.Files in
+    let m = g.H.HostModule in
+    let hosts = c.args.hosts.items in
+    let words = texts c.args.words.now in
+    let old = files.trace c.args.files.now in
+    let told = g.O.Sink.told c.args.out.now in
+    let ends = ended_by (Err stop.Usage) in
+    let stopped = stopped_by {A = ℕ} (Err stop.Usage) in
+    none_passed old (PassesWords m hosts words told told ends stopped)
+    (usage_passed m hosts words told told ends stopped (c.in-Err-Usage.ensures.usage (ap Err c.in-Err-Usage.field-0-is)) refl)
+
+pub returns-in-Err-Memory-clause-passed : goal.returns-in-Err-Memory-clause-passed
+returns-in-Err-Memory-clause-passed g c =
+    let files = g.F.Files in
+    let m = g.H.HostModule in
+    let hosts = c.args.hosts.items in
+    let words = texts c.args.words.now in
+    let old = files.trace c.args.files.now in
+    let told = g.O.Sink.told c.args.out.now in
+    let ends = ended_by (Err stop.Memory) in
+    let stopped = stopped_by {A = ℕ} (Err stop.Memory) in
+    none_passed old (PassesWords m hosts words told told ends stopped)
+    (words_wanting m hosts words told told ends stopped refl refl)
+
+pub returns-in-Ok-run-clause-passed : goal.returns-in-Ok-run-clause-passed
+returns-in-Ok-run-clause-passed g c =
+    let files = g.F.Files in
+    let m = g.H.HostModule in
+    let hosts = c.args.hosts.items in
+    let words = texts c.args.words.now in
+    let old = files.trace c.args.files.now in
+    let told = g.O.Sink.told c.args.out.now in
+    let new = files.trace c.run.new.files in
+    let told' = g.O.Sink.told c.run.new.out in
+    let line = seen_run c.in-Run.line in
+    let ends = ended_by (Ok c.in-Ok-run.status) in
+    let stopped = stopped_by {A = ℕ} (Ok c.in-Ok-run.status) in
+    passed_so old new (PassesRun m hosts line told told' ends stopped) (PassesWords m hosts words told told' ends stopped)
+    (line_passed m hosts words told told' ends stopped (runs line) (c.in-Ok.ensures.line ∙ ap (λ l. Some (seen_line l)) c.in-Run.is))
+    c.in-Ok-run.ensures.passed
+
+pub returns-in-Run-clause-passed : goal.returns-in-Run-clause-passed
+returns-in-Run-clause-passed g c =
+    let files = g.F.Files in
+    let m = g.H.HostModule in
+    let hosts = c.args.hosts.items in
+    let words = texts c.args.words.now in
+    let old = files.trace c.args.files.now in
+    let told = g.O.Sink.told c.args.out.now in
+    let new = files.trace c.run.new.files in
+    let told' = g.O.Sink.told c.run.new.out in
+    let line = seen_run c.in-Run.line in
+    let ends = ended_by (Err c.in-Err.stop) in
+    let stopped = stopped_by {A = ℕ} (Err c.in-Err.stop) in
+    passed_so old new (PassesRun m hosts line told told' ends stopped) (PassesWords m hosts words told told' ends stopped)
+    (line_passed m hosts words told told' ends stopped (runs line) (c.in-Ok.ensures.line ∙ ap (λ l. Some (seen_line l)) c.in-Run.is))
+    c.in-Err.ensures.passed
+
+pub returns-in-Ok-merge-clause-passed : goal.returns-in-Ok-merge-clause-passed
+returns-in-Ok-merge-clause-passed g c =
+    let files = g.F.Files in
+    let m = g.H.HostModule in
+    let hosts = c.args.hosts.items in
+    let words = texts c.args.words.now in
+    let old = files.trace c.args.files.now in
+    let told = g.O.Sink.told c.args.out.now in
+    let new = files.trace c.merge.new.files in
+    let line = seen_merge c.in-Merge.line in
+    let ends = ended_by (Ok 0) in
+    let stopped = stopped_by {A = ℕ} (Ok 0) in
+    let done = done_by (Ok tt) in
+    let stopped' = stopped_by {A = Unit {0}} (Ok tt) in
+    let of = IsMerged line (symbols_of (hosts_of m hosts)) in
+    passed_so old new (PassesUnits line.units of done stopped') (PassesWords m hosts words told told ends stopped)
+    (λ events passes. line_passed m hosts words told told ends stopped (merges line)
+    (c.in-Ok.ensures.line ∙ ap (λ l. Some (seen_line l)) c.in-Merge.is) events
+    (line_so m hosts told told done ends stopped' stopped (λ status e. e) (λ why e. e) (merges line) events (refl, passes)))
+    (subst (λ hs. Passes old new (PassesUnits line.units (IsMerged line (symbols_of (hosts_of m hs))) done stopped'))
+    c.as_slice.ensures.value c.in-Ok-merge.ensures.passed)
+
+pub returns-in-Merge-clause-passed : goal.returns-in-Merge-clause-passed
+returns-in-Merge-clause-passed g c =
+    let files = g.F.Files in
+    let m = g.H.HostModule in
+    let hosts = c.args.hosts.items in
+    let words = texts c.args.words.now in
+    let old = files.trace c.args.files.now in
+    let told = g.O.Sink.told c.args.out.now in
+    let new = files.trace c.merge.new.files in
+    let line = seen_merge c.in-Merge.line in
+    let ends = ended_by (Err c.in-Err-merge.stop) in
+    let stopped = stopped_by {A = ℕ} (Err c.in-Err-merge.stop) in
+    let done = done_by (Err c.in-Err-merge.stop) in
+    let stopped' = stopped_by {A = Unit {0}} (Err c.in-Err-merge.stop) in
+    let of = IsMerged line (symbols_of (hosts_of m hosts)) in
+    passed_so old new (PassesUnits line.units of done stopped') (PassesWords m hosts words told told ends stopped)
+    (λ events passes. line_passed m hosts words told told ends stopped (merges line)
+    (c.in-Ok.ensures.line ∙ ap (λ l. Some (seen_line l)) c.in-Merge.is) events
+    (line_so m hosts told told done ends stopped' stopped (λ status e. e) (λ why e. e) (merges line) events (refl, passes)))
+    (subst (λ hs. Passes old new (PassesUnits line.units (IsMerged line (symbols_of (hosts_of m hs))) done stopped'))
+    c.as_slice.ensures.value c.in-Err-merge.ensures.passed)
+
+pub returns-in-Ok-trim_unit-clause-passed : goal.returns-in-Ok-trim_unit-clause-passed
+returns-in-Ok-trim_unit-clause-passed g c =
+    let files = g.F.Files in
+    let m = g.H.HostModule in
+    let hosts = c.args.hosts.items in
+    let words = texts c.args.words.now in
+    let old = files.trace c.args.files.now in
+    let told = g.O.Sink.told c.args.out.now in
+    let new = files.trace c.trim_unit.new.files in
+    let line = seen_trim c.in-Trim.line in
+    let ends = ended_by (Ok 0) in
+    let stopped = stopped_by {A = ℕ} (Ok 0) in
+    let done = done_by (Ok tt) in
+    let stopped' = stopped_by {A = Unit {0}} (Ok tt) in
+    passed_so old new (PassesUnits (line.unit ∷ []) (IsTrimmedText line) done stopped') (PassesWords m hosts words told told ends stopped)
+    (λ events passes. line_passed m hosts words told told ends stopped (trims line)
+    (c.in-Ok.ensures.line ∙ ap (λ l. Some (seen_line l)) c.in-Trim.is) events
+    (line_so m hosts told told done ends stopped' stopped (λ status e. e) (λ why e. e) (trims line) events (refl, passes)))
+    c.in-Ok-trim_unit.ensures.passed
+
+pub returns-clause-passed : goal.returns-clause-passed
+returns-clause-passed g c =
+    let files = g.F.Files in
+    let m = g.H.HostModule in
+    let hosts = c.args.hosts.items in
+    let words = texts c.args.words.now in
+    let old = files.trace c.args.files.now in
+    let told = g.O.Sink.told c.args.out.now in
+    let new = files.trace c.trim_unit.new.files in
+    let line = seen_trim c.in-Trim.line in
+    let ends = ended_by (Err c.in-Err-trim_unit.stop) in
+    let stopped = stopped_by {A = ℕ} (Err c.in-Err-trim_unit.stop) in
+    let done = done_by (Err c.in-Err-trim_unit.stop) in
+    let stopped' = stopped_by {A = Unit {0}} (Err c.in-Err-trim_unit.stop) in
+    passed_so old new (PassesUnits (line.unit ∷ []) (IsTrimmedText line) done stopped') (PassesWords m hosts words told told ends stopped)
+    (λ events passes. line_passed m hosts words told told ends stopped (trims line)
+    (c.in-Ok.ensures.line ∙ ap (λ l. Some (seen_line l)) c.in-Trim.is) events
+    (line_so m hosts told told done ends stopped' stopped (λ status e. e) (λ why e. e) (trims line) events (refl, passes)))
+    c.in-Err-trim_unit.ensures.passed
+
+pub returns-in-Ok-run-clause-finished : goal.returns-in-Ok-run-clause-finished
+returns-in-Ok-run-clause-finished g c = λ m tells.
+    inl (c.in-Ok-run.ensures.ran (texts c.args.words.now) (c.in-Ok.ensures.line ∙ ap (λ l. Some (seen_line l)) c.in-Run.is) m tells)

@@ -1,0 +1,574 @@
+-- What passes through the files in a call, from what its steps say.
+use Rattle.std.proofs.Common.{
+  ◌≡◌,
+  ◌⊎◌,
+  inl,
+  inr,
+  ℕ,
+  Bool,
+  List,
+  [],
+  ◌∷◌,
+  ◌++◌,
+  append_assoc,
+  slice_get,
+  MatchOption,
+  Option,
+  Some,
+  None,
+  refl,
+  sym,
+  ap,
+  subst,
+  string_bytes,
+}
+use Rattle.std.proofs.lemmas.List.{append-nil}
+use Rattle.w2c_io.specs.Contents.{Name, Told}
+use Rattle.w2c_io.specs.Events.{Event}
+use Rattle.w2c_io.specs.Passed.{WritesFile, BreaksOff}
+use Rattle.w2c_io.specs.declared.answers.WriteAnswer.{WriteAnswer}
+use Rattle.w2c_io.specs.declared.answers.WriteAnswer.TheVariants as answer
+use Rattle.c_tree.specs.Tree as tree
+use Rattle.c_meaning.specs.Linking.{SymbolCall}
+use Rattle.c_hosts.specs.declared.host.HostModule.{Ghosts as HostModule}
+use Rattle.c_hosts.specs.declared.journal.Asked.{Asked}
+use Rattle.c_hosts.specs.Asking.{hosts_of}
+use Rattle.host_replay.specs.declared.file.JournalFile.{JournalFile}
+use Rattle.host_replay.specs.declared.replay.ReplayHost.{ReplayHost}
+use Rattle.host_replay.specs.Replayed.{replaying}
+use Rattle.host_replay.specs.Texts.{journal_text, Recorded}
+use Rattle.host_replay.specs.Writable.{AreDistinct}
+use Rattle.host_replay.proofs.Given.{hosts_same}
+use Rattle.crun_words.specs.declared.inputs.InputStop.{InputStop}
+use Rattle.crun_words.specs.declared.inputs.InputStop.TheVariants as input
+use Rattle.crun_words.specs.CommandLine.{Line, RunLine, line_of, runs, merges, trims}
+use Rattle.crun_words.specs.Inputs.{
+  AllRead,
+  Held,
+  JournalReading,
+  LongCalls,
+  LongJournal,
+  LongUnit,
+  most_calls_bytes,
+  most_journal_bytes,
+  most_unit_bytes,
+  NoJournal,
+  NotThere,
+  NoUnit,
+  Reading,
+  UnitsRead,
+  UnitTooLong,
+}
+use Rattle.crun_words.specs.Passing.{
+  GivesInputs,
+  GivesJournal,
+  GivesUnits,
+  limited,
+  ReadsFile,
+  ReadsInOrder,
+  TriesInputs,
+  TriesJournal,
+  TriesUnits,
+}
+use Rattle.crun_words.proofs.Passing.{inputs_in_order, journal_in_order, journal_read, longer, units_in_order}
+use Rattle.crun_job.specs.declared.refusal.UnitsRefusal.{UnitsRefusal}
+use Rattle.crun_job.specs.declared.refusal.UnitsRefusal.TheVariants as refusal
+use Rattle.crun_job.specs.declared.stop.Cause.{Cause}
+use Rattle.crun_job.specs.declared.stop.Cause.TheVariants as cause
+use Rattle.crun_job.specs.Job.{IsTextsJob, Job, Run, Stops, Write}
+use Rattle.crun_job.specs.Lines.{
+  error_line,
+  Reason,
+  status_of,
+  Usage,
+  CallsTooLong,
+  CallsLine,
+  JournalTooLong,
+  JournalLine,
+  Refused,
+  Unread,
+  Unwritten,
+  WantOfMemory,
+}
+use Rattle.crun_job.specs.Seen.{reason_of}
+use Rattle.crun_job.specs.Stopping.{stop_for, StopsTexts, StopsUnit}
+use Rattle.crun_cli.specs.Ends.{journal_of, WithHostsBy}
+use Rattle.crun_cli.specs.Jobs.{symbols_of, IsJobBy, IsMerged, IsReplayJob, IsTrimmedText}
+use Rattle.crun_cli.specs.Passing.{
+  BreaksJournal,
+  IsReadLast,
+  IsRunJobOver,
+  IsUnitsJobOver,
+  journal_to_read,
+  PassesBy,
+  PassesLine,
+  PassesRun,
+  PassesUnits,
+  PassesWords,
+  ReadsMore,
+  reason_for,
+  run_reads,
+  StopsFor,
+  WritesJournal,
+  WritesOfRun,
+  WritesOutput,
+  WritesRun,
+  WritesUnit,
+}
+use Rattle.crun_cli.specs.Recording.{HasRecorded, IsBlankFor, IsFilled, IsText, IsWritten}
+use Rattle.crun_cli.specs.Runs.{HasPart}
+use Rattle.crun_cli.specs.Trying.{GivesReplays, PutsJournal, PutsJournalPart, TriesReplay, TriesUnit, WritesOfTexts, WritesOfTextsJob}
+
+-- ---- a unit that is written
+
+module _ (units : List Name) (IsOf : List (List ℕ) → Job → Type 0) where
+  -- a file of the units is not read
+  pub reading_tried : (stop : InputStop) (events : List Event) → TriesUnits units stop events
+      → TriesUnit units IsOf (reason_of (stop_for stop)) events
+  reading_tried (input.Unread name) events tried =
+      let reading = NoUnit (string_bytes name) in (units_in_order units reading events tried, inr (reading, tried, refl))
+  reading_tried (input.UnitTooLong name) events tried =
+      let reading = UnitTooLong (string_bytes name) in (units_in_order units reading events tried, inr (reading, tried, refl))
+  reading_tried input.CallsTooLong events tried = absurd tried
+  reading_tried input.JournalTooLong events tried = absurd tried
+  reading_tried input.Memory events tried = (tried, inl refl)
+
+  module _ (texts : List (List ℕ)) (events : List Event) (gave : GivesUnits units (UnitsRead texts) events) where
+    pub wanting_tried : TriesUnit units IsOf WantOfMemory events
+    wanting_tried = (units_in_order units (UnitsRead texts) events gave, inl refl)
+
+    -- a unit is refused
+    pub refusal_tried : (r : UnitsRefusal) (reason : Reason)
+        → ((number : ℕ) (why : Cause) (file : Name) → r ≡ refusal.Unit number why → slice_get units number ≡ Some file
+        → IsOf texts (Stops (Refused file why)))
+        → StopsUnit units r reason → TriesUnit units IsOf reason events
+    refusal_tried (refusal.Unit k why) reason of (inl memory) =
+        subst (λ w. TriesUnit units IsOf w events) (sym memory) wanting_tried
+    refusal_tried (refusal.Unit k why) reason of (inr (file, at, is)) =
+        subst (λ w. TriesUnit units IsOf w events) (sym is)
+        (units_in_order units (UnitsRead texts) events gave, inr (UnitsRead texts, gave, of k why file refl at))
+    refusal_tried refusal.Memory reason of memory = subst (λ w. TriesUnit units IsOf w events) (sym memory) wanting_tried
+
+    pub unit_asked : (job : Job) → IsOf texts job → IsUnitsJobOver units IsOf events job
+    unit_asked job of = (UnitsRead texts, gave, of)
+
+  module _ (Ends : ℕ → Type 0) (Stopped : Reason → Type 0) where
+    pub unit_refused : (why : Reason) (events : List Event) → TriesUnit units IsOf why events → Stopped why
+        → PassesUnits units IsOf Ends Stopped events
+    unit_refused why events (reads, by) stopped = record {
+      given = events;
+      written = [];
+      split = sym (append-nil events);
+      reads = reads;
+      follows = go by;
+    }
+      where
+        go : (why ≡ WantOfMemory) ⊎ IsUnitsJobOver units IsOf events (Stops why)
+            → (◌≡◌ {A = List Event} [] [] × Stopped WantOfMemory)
+            ⊎ ((job : Job) × IsUnitsJobOver units IsOf events job × WritesOutput Ends Stopped job [])
+        go (inl memory) = inl (refl, subst Stopped memory stopped)
+        go (inr asked) = inr (Stops why, asked, (refl, stopped))
+
+    -- memory is wanting before anything is read
+    pub units_wanting : Stopped WantOfMemory → PassesUnits units IsOf Ends Stopped []
+    units_wanting stopped = record { given = []; written = []; split = refl; reads = tt; follows = inl (refl, stopped) }
+
+    pub unit_written : (output : Name) (unit : List tree.Item) (first last : List Event)
+        → IsUnitsJobOver units IsOf first (Write output unit) → WritesUnit Ends Stopped output unit last
+        → PassesUnits units IsOf Ends Stopped (first ++ last)
+    unit_written output unit first last (reading, gave, behind) writes = record {
+      given = first;
+      written = last;
+      split = refl;
+      reads = units_in_order units reading first gave;
+      follows = inr (Write output unit, (reading, gave, behind), writes);
+    }
+
+-- ---- the journal that is replayed
+
+pub replay_tried : (journal : Name) (stop : InputStop) (events : List Event) → TriesJournal journal stop events
+    → TriesReplay journal (reason_of (stop_for stop)) events
+replay_tried journal (input.Unread name) events (same, answer, away, is) = (same, (answer, away, is))
+replay_tried journal (input.UnitTooLong name) events tried = absurd tried
+replay_tried journal input.CallsTooLong events tried = absurd tried
+replay_tried journal input.JournalTooLong events tried = tried
+replay_tried journal input.Memory events tried = tried
+
+-- ---- the journal of a run
+
+module _ {H : Type 0} (m : HostModule H) (hosts : List H) where
+  journal_whole : (name : Option Name) (file filled : Option JournalFile) (asks : List Asked) (old new : Told) (written : List Event)
+      → AreDistinct (hosts_of m hosts) → IsBlankFor m hosts name file → IsFilled m hosts asks file filled → IsWritten name filled old new
+      → PutsJournal name filled written → WritesJournal name (journal_of m hosts asks) written
+  journal_whole None file filled asks old new written distinct blank is holds puts = puts
+  journal_whole (Some name) None filled asks old new written distinct blank is holds puts = absurd blank
+  journal_whole (Some name) (Some file) None asks old new written distinct blank is holds puts = absurd is
+  journal_whole (Some name) (Some file) (Some filled) asks old new written distinct blank is holds puts = (
+    subst (λ (j : Recorded). WritesFile name (journal_text j) written) is puts,
+    subst (λ (j : Recorded). IsText j) is holds.1 distinct,
+  )
+
+  journal_broken : (name : Option Name) (file filled : Option JournalFile) (asks : List Asked) (why : WriteAnswer) (written : List Event)
+      → IsBlankFor m hosts name file → IsFilled m hosts asks file filled → PutsJournalPart name filled why written
+      → ((written ≡ []) × (why ≡ answer.Memory)) ⊎ BreaksJournal name (journal_of m hosts asks) why written
+  journal_broken None file filled asks why written blank is part = absurd part
+  journal_broken (Some name) None filled asks why written blank is part = absurd blank
+  journal_broken (Some name) (Some file) None asks why written blank is part = absurd is
+  journal_broken (Some name) (Some file) (Some filled) asks why written blank is (inl memory) = inl memory
+  journal_broken (Some name) (Some file) (Some filled) asks why written blank is (inr broken) =
+      inr (subst (λ (j : Recorded). BreaksOff name (journal_text j) why written) is broken)
+
+  module _ (line : RunLine) (texts : List (List ℕ)) (text : List ℕ) (old new : Option (List ℕ)) (Ends : ℕ → Type 0)
+      (Stopped : Reason → Type 0) where
+    abbrev Writes : List Event → Type 0
+    Writes written = WritesOfTexts m hosts line texts text old new Ends Stopped written
+
+    -- the texts come to no task
+    pub texts_stopped : (why : Reason) → StopsTexts line (symbols_of (hosts_of m hosts)) texts text why → Stopped why → Writes []
+    texts_stopped (Refused file cause) stop stopped = inr (Stops (Refused file cause), stop, (refl, stopped))
+    texts_stopped (CallsLine number) stop stopped = inr (Stops (CallsLine number), stop, (refl, stopped))
+    texts_stopped WantOfMemory stop stopped = inl (refl, stopped)
+    texts_stopped Usage stop stopped = absurd stop
+    texts_stopped CallsTooLong stop stopped = absurd stop
+    texts_stopped JournalTooLong stop stopped = absurd stop
+    texts_stopped (JournalLine number) stop stopped = absurd stop
+    texts_stopped (Unread file) stop stopped = absurd stop
+    texts_stopped Unwritten stop stopped = absurd stop
+
+    module _ (units : List (List tree.Item)) (calls : List SymbolCall) (steps : ℕ) (shown : Bool)
+        (job : IsTextsJob line (symbols_of (hosts_of m hosts)) texts text (Run units calls steps shown)) where
+      -- a line of the run is not written
+      pub line_unwritten : HasPart m hosts units calls steps shown old new → Stopped Unwritten → Writes []
+      line_unwritten part stopped = inr (Run units calls steps shown, job, inr (part, refl, stopped))
+
+      module _ (status : ℕ) (file filled : Option JournalFile)
+          (ran : HasRecorded m hosts units calls steps shown old new status file filled)
+          (blank : IsBlankFor m hosts line.journal file) where
+        pub run_written : (before after : Told) (written : List Event) → AreDistinct (hosts_of m hosts)
+            → IsWritten line.journal filled before after → PutsJournal line.journal filled written → Ends status → Writes written
+        run_written before after written distinct holds puts ends = inr (
+          Run units calls steps shown,
+          job,
+          inl (record {
+            status = status;
+            run = ran.run;
+            ends = inl (
+              journal_whole line.journal file filled ran.run.asks before after written distinct blank ran.filled_is holds puts,
+              ends,
+            );
+          }),
+        )
+
+        pub run_broken : (why : WriteAnswer) (written : List Event) → PutsJournalPart line.journal filled why written
+            → Stopped (reason_for why) → Writes written
+        run_broken why written part stopped =
+            go (journal_broken line.journal file filled ran.run.asks why written blank ran.filled_is part)
+          where
+            go : ((written ≡ []) × (why ≡ answer.Memory)) ⊎ BreaksJournal line.journal (journal_of m hosts ran.run.asks) why written
+                → Writes written
+            go (inl (nothing, memory)) = inl (nothing, subst (λ w. Stopped (reason_for w)) memory stopped)
+            go (inr broken) = inr (
+              Run units calls steps shown,
+              job,
+              inl (record { status = status; run = ran.run; ends = inr (why, broken, stopped) }),
+            )
+
+-- ---- a run
+
+no_more : (replayed : Option Name) (reading : Reading) → ReadsMore replayed reading []
+no_more None (AllRead texts text) = refl
+no_more None (NotThere file) = refl
+no_more None (LongUnit file) = refl
+no_more None LongCalls = refl
+no_more (Some name) (AllRead texts text) = tt
+no_more (Some name) (NotThere file) = refl
+no_more (Some name) (LongUnit file) = refl
+no_more (Some name) LongCalls = refl
+
+module _ {H : Type 0} (m : HostModule H) (hosts : List H) (line : RunLine) (old new : Option (List ℕ)) (Ends : ℕ → Type 0)
+    (Stopped : Reason → Type 0) where
+  abbrev Passes : List Event → Type 0
+  Passes events = PassesRun m hosts line old new Ends Stopped events
+
+  -- a file is not there, or too long
+  refused_input : (reading : Reading) (why : Reason) (events : List Event) → GivesInputs line.units line.calls reading events
+      → IsJobBy line (hosts_of m hosts) (λ name r. GivesJournal name r []) reading (Stops why) → Stopped why → Passes events
+  refused_input reading why events gave job stopped = record {
+    given = events;
+    written = [];
+    split = sym (append-nil events);
+    reads = inputs_in_order line.units line.calls reading (journal_to_read line.replayed) events gave;
+    follows = inr (
+      Stops why,
+      (reading, events, [], sym (append-nil events), gave, no_more line.replayed reading, job),
+      (refl, stopped),
+    );
+  }
+
+  -- the units and the calls file are not all read
+  pub inputs_stopped : (stop : InputStop) (events : List Event) → TriesInputs line.units line.calls stop events
+      → Stopped (reason_of (stop_for stop)) → Passes events
+  inputs_stopped (input.Unread name) events gave stopped =
+      refused_input (NotThere (string_bytes name)) (Unread (string_bytes name)) events gave refl stopped
+  inputs_stopped (input.UnitTooLong name) events gave stopped =
+      refused_input (LongUnit (string_bytes name)) (Refused (string_bytes name) cause.TooLong) events gave refl stopped
+  inputs_stopped input.CallsTooLong events gave stopped = refused_input LongCalls CallsTooLong events gave refl stopped
+  inputs_stopped input.JournalTooLong events gave stopped = absurd gave
+  inputs_stopped input.Memory events reads stopped = record {
+    given = events;
+    written = [];
+    split = sym (append-nil events);
+    reads = subst (λ (files : List (Name × ℕ)). ReadsInOrder files events)
+        (append_assoc (limited most_unit_bytes line.units) ((line.calls, most_calls_bytes) ∷ []) (journal_to_read line.replayed))
+        (longer (limited most_unit_bytes line.units ++ (line.calls, most_calls_bytes) ∷ []) (journal_to_read line.replayed) events reads);
+    follows = inl (refl, stopped);
+  }
+
+  -- all are read
+  module _ (texts : List (List ℕ)) (text : List ℕ) (first : List Event)
+      (gave : GivesInputs line.units line.calls (AllRead texts text) first) where
+    -- the hosts that were handed in
+    pub handed_passed : line.replayed ≡ None → (last : List Event) → WritesOfTexts m hosts line texts text old new Ends Stopped last
+        → Passes (first ++ last)
+    handed_passed none last writes = record {
+      given = first;
+      written = last;
+      split = refl;
+      reads = inputs_in_order line.units line.calls (AllRead texts text) (journal_to_read line.replayed) first gave;
+      follows = go writes;
+    }
+      where
+        behind : (job : Job) → WritesOfTextsJob m hosts line old new Ends Stopped job last
+            → WritesOfRun m hosts line old new Ends Stopped first job last
+        behind (Stops why) of = of
+        behind (Run units calls steps shown) of =
+            subst (λ o. WithHostsBy m hosts o (IsReadLast first)
+            (λ G n gs. WritesRun n gs line.journal units calls steps shown old new Ends Stopped last)) (sym none) of
+        behind (Write output unit) of = of
+
+        go : WritesOfTexts m hosts line texts text old new Ends Stopped last
+            → ((last ≡ []) × Stopped WantOfMemory)
+            ⊎ ((job : Job) × IsRunJobOver line (hosts_of m hosts) first job × WritesOfRun m hosts line old new Ends Stopped first job last)
+        go (inl wanting) = inl wanting
+        go (inr (job, is, of)) = inr (
+          job,
+          (
+            AllRead texts text,
+            first,
+            [],
+            sym (append-nil first),
+            gave,
+            no_more line.replayed (AllRead texts text),
+            subst (λ o. MatchOption o (IsTextsJob line (symbols_of (hosts_of m hosts)) texts text job)
+                (λ name. (r : JournalReading) × GivesJournal name r [] × IsReplayJob line name texts text r job)) (sym none) is,
+          ),
+          behind job of,
+        )
+
+    -- the journal is read behind them
+    module _ (name : Name) (named : line.replayed ≡ Some name) (middle : List Event) where
+      in_order : ReadsFile most_journal_bytes name middle → ReadsInOrder (run_reads line) (first ++ middle)
+      in_order read = subst
+          (λ o. ReadsInOrder (limited most_unit_bytes line.units ++ (line.calls, most_calls_bytes) ∷ journal_to_read o) (first ++ middle))
+          (sym named) (journal_in_order line.units line.calls texts text name first middle gave read)
+
+      asked : (reading : JournalReading) (job : Job) → GivesJournal name reading middle → IsReplayJob line name texts text reading job
+          → IsRunJobOver line (hosts_of m hosts) (first ++ middle) job
+      asked reading job gives of = (
+        AllRead texts text,
+        first,
+        middle,
+        refl,
+        gave,
+        subst (λ o. ReadsMore o (AllRead texts text) middle) (sym named) tt,
+        subst (λ o. MatchOption o (IsTextsJob line (symbols_of (hosts_of m hosts)) texts text job)
+            (λ n. (r : JournalReading) × GivesJournal n r middle × IsReplayJob line n texts text r job)) (sym named) (reading, gives, of),
+      )
+
+      refused : (reading : JournalReading) (why : Reason) → GivesJournal name reading middle
+          → IsReplayJob line name texts text reading (Stops why) → Stopped why → Passes (first ++ middle)
+      refused reading why gives of stopped = record {
+        given = first ++ middle;
+        written = [];
+        split = sym (append-nil (first ++ middle));
+        reads = in_order (journal_read name reading middle gives);
+        follows = inr (Stops why, asked reading (Stops why) gives of, (refl, stopped));
+      }
+
+      -- it is not read, or refused
+      pub replay_stopped : (why : Reason) → TriesReplay name why middle → Stopped why → Passes (first ++ middle)
+      replay_stopped (Unread file) (file_is, gives) stopped =
+          refused NoJournal (Unread file) gives (ap (λ f. Stops (Unread f)) file_is) stopped
+      replay_stopped JournalTooLong gives stopped = refused LongJournal JournalTooLong gives refl stopped
+      replay_stopped (JournalLine number) (journal, gives, line_is) stopped =
+          refused (Held journal) (JournalLine number) gives (inr (number, line_is, refl)) stopped
+      replay_stopped WantOfMemory read stopped = record {
+        given = first ++ middle;
+        written = [];
+        split = sym (append-nil (first ++ middle));
+        reads = in_order read;
+        follows = inl (refl, stopped);
+      }
+      replay_stopped Usage tried stopped = absurd tried
+      replay_stopped CallsTooLong tried stopped = absurd tried
+      replay_stopped (CallsLine number) tried stopped = absurd tried
+      replay_stopped (Refused file why) tried stopped = absurd tried
+      replay_stopped Unwritten tried stopped = absurd tried
+
+      -- hosts that reply again what it says
+      pub replayed_passed : (replays : List ReplayHost) → GivesReplays name replays middle → (last : List Event)
+          → WritesOfTexts replaying replays line texts text old new Ends Stopped last → Passes ((first ++ middle) ++ last)
+      replayed_passed replays (j, (journal, gives, is_journal), are) last writes = record {
+        given = first ++ middle;
+        written = last;
+        split = refl;
+        reads = in_order (journal_read name (Held journal) middle gives);
+        follows = go writes;
+      }
+        where
+          behind : (job : Job) → WritesOfTextsJob replaying replays line old new Ends Stopped job last
+              → WritesOfRun m hosts line old new Ends Stopped (first ++ middle) job last
+          behind (Stops why) of = of
+          behind (Run units calls steps shown) of =
+              subst (λ o. WithHostsBy m hosts o (IsReadLast (first ++ middle))
+              (λ G n gs. WritesRun n gs line.journal units calls steps shown old new Ends Stopped last)) (sym named)
+              (j, replays, (journal, (first, middle, refl, gives), is_journal), are, of)
+          behind (Write output unit) of = of
+
+          go : WritesOfTexts replaying replays line texts text old new Ends Stopped last
+              → ((last ≡ []) × Stopped WantOfMemory)
+              ⊎ ((job : Job) × IsRunJobOver line (hosts_of m hosts) (first ++ middle) job
+              × WritesOfRun m hosts line old new Ends Stopped (first ++ middle) job last)
+          go (inl wanting) = inl wanting
+          go (inr (job, is, of)) = inr (
+            job,
+            asked (Held journal) job gives
+                (inl (j, is_journal, subst (λ hs. IsTextsJob line (symbols_of hs) texts text job) (hosts_same j replays are) is)),
+            behind job of,
+          )
+
+-- the units and the calls file gave their texts, and the journal its hosts
+abbrev pub ReadsBoth : RunLine → List (List ℕ) → List ℕ → Name → List ReplayHost → List Event → Type 0
+ReadsBoth line texts text name replays events = (first : List Event) × (middle : List Event) × (events ≡ first ++ middle)
+    × GivesInputs line.units line.calls (AllRead texts text) first × GivesReplays name replays middle
+
+pub replayed_both : {H : Type 0} (m : HostModule H) (hosts : List H) (line : RunLine) (old new : Option (List ℕ)) (Ends : ℕ → Type 0)
+    (Stopped : Reason → Type 0) (texts : List (List ℕ)) (text : List ℕ) (name : Name) → line.replayed ≡ Some name
+    → (replays : List ReplayHost) (given last : List Event) → ReadsBoth line texts text name replays given
+    → WritesOfTexts replaying replays line texts text old new Ends Stopped last
+    → PassesRun m hosts line old new Ends Stopped (given ++ last)
+replayed_both m hosts line old new Ends Stopped texts text name named replays given last (first, middle, is, gave, replay) writes =
+    subst (λ (e : List Event). PassesRun m hosts line old new Ends Stopped (e ++ last)) (sym is)
+    (replayed_passed m hosts line old new Ends Stopped texts text first gave name named middle replays replay last writes)
+
+-- ---- what words ask for
+
+-- it is enough that a call ends as is asked, and stops as is asked
+module _ {H : Type 0} (m : HostModule H) (hosts : List H) (old new : Option (List ℕ)) (Ends Ends' : ℕ → Type 0)
+    (Stopped Stopped' : Reason → Type 0) (ends : (status : ℕ) → Ends status → Ends' status)
+    (stops : (why : Reason) → Stopped why → Stopped' why) where
+  by_so : (files : List (Name × ℕ)) (Asks : List Event → Job → Type 0) (Writes Writes' : List Event → Job → List Event → Type 0)
+      → ((given : List Event) (job : Job) (written : List Event) → Writes given job written → Writes' given job written)
+      → (events : List Event) → PassesBy files Asks Writes Stopped events → PassesBy files Asks Writes' Stopped' events
+  by_so files Asks Writes Writes' so events p = record {
+    given = p.given;
+    written = p.written;
+    split = p.split;
+    reads = p.reads;
+    follows = go p.follows;
+  }
+    where
+      go : ((p.written ≡ []) × Stopped WantOfMemory) ⊎ ((job : Job) × Asks p.given job × Writes p.given job p.written)
+          → ((p.written ≡ []) × Stopped' WantOfMemory) ⊎ ((job : Job) × Asks p.given job × Writes' p.given job p.written)
+      go (inl (nothing, stopped)) = inl (nothing, stops WantOfMemory stopped)
+      go (inr (job, asks, of)) = inr (job, asks, so p.given job p.written of)
+
+  output_so : (job : Job) (written : List Event) → WritesOutput Ends Stopped job written → WritesOutput Ends' Stopped' job written
+  output_so (Stops why) written (nothing, stopped) = (nothing, stops why stopped)
+  output_so (Write output unit) written (inl (whole, spells, ended)) = inl (whole, spells, ends 0 ended)
+  output_so (Write output unit) written (inr (why, broken, stopped)) = inr (why, broken, stops (reason_for why) stopped)
+  output_so (Run units calls steps shown) written of = absurd of
+
+  run_so : {G : Type 0} (n : HostModule G) (gs : List G) (journal : Option Name) (units : List (List tree.Item)) (calls : List SymbolCall)
+      (steps : ℕ) (shown : Bool) (written : List Event) → WritesRun n gs journal units calls steps shown old new Ends Stopped written
+      → WritesRun n gs journal units calls steps shown old new Ends' Stopped' written
+  run_so n gs journal units calls steps shown written (inl w) = inl (record { status = w.status; run = w.run; ends = go w.ends })
+    where
+      go : (WritesJournal journal (journal_of n gs w.run.asks) written × Ends w.status)
+          ⊎ ((why : WriteAnswer) × BreaksJournal journal (journal_of n gs w.run.asks) why written × Stopped (reason_for why))
+          → (WritesJournal journal (journal_of n gs w.run.asks) written × Ends' w.status)
+          ⊎ ((why : WriteAnswer) × BreaksJournal journal (journal_of n gs w.run.asks) why written × Stopped' (reason_for why))
+      go (inl (whole, ended)) = inl (whole, ends w.status ended)
+      go (inr (why, broken, stopped)) = inr (why, broken, stops (reason_for why) stopped)
+  run_so n gs journal units calls steps shown written (inr (part, nothing, stopped)) = inr (part, nothing, stops Unwritten stopped)
+
+  with_so : (replayed : Option Name) (Reads : Name → JournalReading → Type 0) (P Q : (G : Type 0) → HostModule G → List G → Type 0)
+      → ((G : Type 0) (n : HostModule G) (gs : List G) → P G n gs → Q G n gs) → WithHostsBy m hosts replayed Reads P
+      → WithHostsBy m hosts replayed Reads Q
+  with_so None Reads P Q so of = so _ m hosts of
+  with_so (Some name) Reads P Q so (j, replays, journal, are, of) = (j, replays, journal, are, so _ _ replays of)
+
+  of_run_so : (line : RunLine) (given : List Event) (job : Job) (written : List Event)
+      → WritesOfRun m hosts line old new Ends Stopped given job written → WritesOfRun m hosts line old new Ends' Stopped' given job written
+  of_run_so line given (Stops why) written (nothing, stopped) = (nothing, stops why stopped)
+  of_run_so line given (Run units calls steps shown) written of = with_so line.replayed (IsReadLast given)
+      (λ G n gs. WritesRun n gs line.journal units calls steps shown old new Ends Stopped written)
+      (λ G n gs. WritesRun n gs line.journal units calls steps shown old new Ends' Stopped' written)
+      (λ G n gs. run_so n gs line.journal units calls steps shown written) of
+  of_run_so line given (Write output unit) written of = absurd of
+
+  units_so : (units : List Name) (IsOf : List (List ℕ) → Job → Type 0) (events : List Event) → PassesUnits units IsOf Ends Stopped events
+      → PassesUnits units IsOf Ends' Stopped' events
+  units_so units IsOf events p = by_so (limited most_unit_bytes units) (IsUnitsJobOver units IsOf) (λ given. WritesOutput Ends Stopped)
+      (λ given. WritesOutput Ends' Stopped') (λ given. output_so) events p
+
+  pub line_so : (line : Line) (events : List Event) → PassesLine m hosts line old new Ends Stopped events
+      → PassesLine m hosts line old new Ends' Stopped' events
+  line_so (runs line) events p = by_so (run_reads line) (IsRunJobOver line (hosts_of m hosts))
+      (WritesOfRun m hosts line old new Ends Stopped) (WritesOfRun m hosts line old new Ends' Stopped') (of_run_so line) events p
+  line_so (merges line) events (same, p) = (same, units_so line.units (IsMerged line (symbols_of (hosts_of m hosts))) events p)
+  line_so (trims line) events (same, p) = (same, units_so (line.unit ∷ []) (IsTrimmedText line) events p)
+
+  pub words_so : (words : List Name) (events : List Event) → PassesWords m hosts words old new Ends Stopped events
+      → PassesWords m hosts words old new Ends' Stopped' events
+  words_so words events = go (line_of words)
+    where
+      Of : (ℕ → Type 0) → (Reason → Type 0) → Option Line → Type 0
+      Of E S o = MatchOption o ((events ≡ []) × (S Usage ⊎ S WantOfMemory)) (λ line. PassesLine m hosts line old new E S events)
+
+      go : (o : Option Line) → Of Ends Stopped o → Of Ends' Stopped' o
+      go None (nothing, inl usage) = (nothing, inl (stops Usage usage))
+      go None (nothing, inr memory) = (nothing, inr (stops WantOfMemory memory))
+      go (Some line) p = line_so line events p
+
+module _ {H : Type 0} (m : HostModule H) (hosts : List H) (words : List Name) (old new : Option (List ℕ)) (Ends : ℕ → Type 0)
+    (Stopped : Reason → Type 0) where
+  abbrev Of : List Event → Option Line → Type 0
+  Of events o = MatchOption o ((events ≡ []) × (Stopped Usage ⊎ Stopped WantOfMemory))
+      (λ line. PassesLine m hosts line old new Ends Stopped events)
+
+  pub line_passed : (line : Line) → line_of words ≡ Some line → (events : List Event) → PassesLine m hosts line old new Ends Stopped events
+      → PassesWords m hosts words old new Ends Stopped events
+  line_passed line is events p = subst (Of events) (sym is) p
+
+  pub usage_passed : line_of words ≡ None → Stopped Usage → PassesWords m hosts words old new Ends Stopped []
+  usage_passed none stopped = subst (Of []) (sym none) (refl, inl stopped)
+
+  -- memory is wanting before anything is read
+  pub words_wanting : new ≡ old → Stopped WantOfMemory → PassesWords m hosts words old new Ends Stopped []
+  words_wanting same stopped = go (line_of words)
+    where
+      go : (o : Option Line) → Of [] o
+      go None = (refl, inr stopped)
+      go (Some (runs line)) = record { given = []; written = []; split = refl; reads = tt; follows = inl (refl, stopped) }
+      go (Some (merges line)) =
+          (same, record { given = []; written = []; split = refl; reads = tt; follows = inl (refl, stopped) })
+      go (Some (trims line)) =
+          (same, record { given = []; written = []; split = refl; reads = tt; follows = inl (refl, stopped) })
+
+-- the status and the line of a reason
+pub stopped_for : (status : ℕ) (Said : List ℕ → Type 0) (why : Reason) → (status ≡ status_of why) ⊎ (status ≡ 5)
+    → Said (error_line why) ⊎ (status ≡ 5) → StopsFor status Said why
+stopped_for status Said why (inr five) says = inr five
+stopped_for status Said why (inl is) (inr five) = inr five
+stopped_for status Said why (inl is) (inl said) = inl (is, said)
