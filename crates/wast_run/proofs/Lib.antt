@@ -23,6 +23,8 @@ pub mod StageLaws
 pub mod Comings
 -- The commands of a script
 pub mod ScriptLaws
+-- What passes through the files
+pub mod Passing
 -- Why the work stops
 pub mod WorkLaws
 -- What a stop means for the top call

@@ -1,11 +1,14 @@
 // One command.
 ghost use Rattle.std.specs.Prelude.{◌≡◌, ◌≤◌, ℕ, Option, IfErr, IfOk, OnOk};
+ghost use Rattle.w2c_io.specs.Passed.{Passes};
 ghost use Rattle.w2c_io.specs.Telling.{Tells};
 ghost use Rattle.wasm_valid.specs.FileVerdict.{FileVerdict};
 ghost use Rattle.wast_script.specs.Seen.{reason_of, seen_command};
 ghost use Rattle.wast_run.specs.Report.{Comes, IsFile, IsTimely, holds, is_invalid, is_malformed};
 ghost use Rattle.wast_run.specs.Parts.{file_of};
 ghost use Rattle.wast_run.specs.Stages.{setting_of, HasModuleName, IsSound};
+ghost use Rattle.wast_run.specs.Passing.{ComesOver};
+ghost use Rattle.wast_run.specs.Reading.{JudgesSo, StopsOver, StopsRead};
 ghost use Rattle.wast_run.specs.Stopping.{StopsCommand, StopsFile};
 
 use crate::judging::{Judged, judge_file};
@@ -37,6 +40,10 @@ pub(crate) fn run_command<'a, F: Files>(
     ensures sound { OnOk result (IsSound stage.new) }
     ensures stop { IfErr result (λ stop. StopsCommand (F.told files.old) (file_of (seen_command command.now))
         (F.read_faults files.old) (F.read_faults files.new) (F.fault_name files.new) (reason_of stop)) }
+    ensures passed { IfOk result (λ word. Passes (F.trace files.old) (F.trace files.new)
+        (λ events. ComesOver events steps (setting_of stage.old) (seen_command command.now) word (setting_of stage.new))) }
+    ensures tried { IfErr result (λ stop. Passes (F.trace files.old) (F.trace files.new)
+        (StopsOver (file_of (seen_command command.now)) (reason_of stop))) }
 {
     match command {
         Command::Module(file) => match stage.join_file(alloc, file, files) {
@@ -79,6 +86,9 @@ fn assert_invalid<F: Files>(alloc: Global, file: &str, files: &mut F) -> Result<
         (λ contents. (verdict : Option FileVerdict) × IsFile contents file.now verdict × (word ≡ holds (is_invalid verdict)))) }
     ensures stop { IfErr result (λ stop. StopsFile (F.told files.old) file.now
         (F.read_faults files.old) (F.read_faults files.new) (F.fault_name files.new) (reason_of stop)) }
+    ensures passed { IfOk result (λ word. Passes (F.trace files.old) (F.trace files.new)
+        (JudgesSo (λ verdict. holds (is_invalid verdict)) file.now word)) }
+    ensures tried { IfErr result (λ stop. Passes (F.trace files.old) (F.trace files.new) (StopsRead file.now (reason_of stop))) }
 {
     match judge_file(alloc, file, files) {
         Ok(judged) => Ok(holds(judged.is_invalid())),
@@ -97,6 +107,9 @@ fn assert_malformed<F: Files>(alloc: Global, file: &str, files: &mut F) -> Resul
         (λ contents. (verdict : Option FileVerdict) × IsFile contents file.now verdict × (word ≡ holds (is_malformed verdict)))) }
     ensures stop { IfErr result (λ stop. StopsFile (F.told files.old) file.now
         (F.read_faults files.old) (F.read_faults files.new) (F.fault_name files.new) (reason_of stop)) }
+    ensures passed { IfOk result (λ word. Passes (F.trace files.old) (F.trace files.new)
+        (JudgesSo (λ verdict. holds (is_malformed verdict)) file.now word)) }
+    ensures tried { IfErr result (λ stop. Passes (F.trace files.old) (F.trace files.new) (StopsRead file.now (reason_of stop))) }
 {
     match judge_file(alloc, file, files) {
         Ok(judged) => Ok(holds(judged.is_malformed())),
