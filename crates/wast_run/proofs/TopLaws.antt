@@ -29,7 +29,7 @@ use Rattle.wast_run.proofs.PartLaws.{part_before}
 use Rattle.wast_run.proofs.Written.{none_written, prefix_of_itself}
 
 -- the whole report is a part of it
-whole_part : (m : Contents) (steps : ℕ) (commands : List Command) (all : List Word) (after : Setting)
+pub whole_part : (m : Contents) (steps : ℕ) (commands : List Command) (all : List Word) (after : Setting)
     → LeadInTime m steps at_first commands all after → IsPart m steps commands (report_of all)
 whole_part m steps commands all after lead = record {
   front = commands;

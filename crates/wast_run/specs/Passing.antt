@@ -1,8 +1,10 @@
 -- What passes through the files: the script is read, then the files that its commands name, in their order. The status, the report and
 -- the line on the error stream are those of the bytes that the reads gave.
+use Rattle.std.specs.List.{AllByRecursion}
 use Rattle.std.specs.Prelude.{◌≡◌, ◌⊎◌, ℕ, List, [], ◌∷◌, ◌++◌, Option, Some, None, Result, Ok, Err, MatchOption, ⊤}
-use Rattle.w2c_io.specs.Contents.{Name, IsPrefix, extended}
+use Rattle.w2c_io.specs.Contents.{Name, Contents, Told, IsPrefix, extended}
 use Rattle.w2c_io.specs.Events.{Event, Read}
+use Rattle.w2c_io.specs.Honest.{AreHonest}
 use Rattle.w2c_io.specs.declared.answers.ReadAnswer.{ReadAnswer}
 use Rattle.w2c_io.specs.declared.answers.ReadAnswer.TheVariants as reading
 use Rattle.wasm_spelling.specs.Limits.{most_module_bytes}
@@ -11,10 +13,10 @@ use Rattle.wast_script.specs.declared.fault.ScriptFault.TheVariants as fault
 use Rattle.wast_script.specs.CommandLine.{Line, line_of}
 use Rattle.wast_script.specs.Commands.{Command}
 use Rattle.wast_script.specs.Lines.{Reason, Usage, Unwritten, WantOfMemory, Refused, Unread, error_line, status_of}
-use Rattle.wast_script.specs.Scripts.{most_script_bytes}
+use Rattle.wast_script.specs.Scripts.{IsScript, most_script_bytes}
 use Rattle.wast_run.specs.declared.word.Word.{Word}
 use Rattle.wast_run.specs.Report.{ComesBy, IsJudged, IsTimely, Setting, at_first, lines_of, report_of, report_status}
-use Rattle.wast_run.specs.Parts.{file_of, lines_before}
+use Rattle.wast_run.specs.Parts.{file_of, lines_before, IsNamed}
 use Rattle.wast_run.specs.Jobs.{IsJobBehind, Job, Reports, Stops}
 
 -- ---- reads
@@ -48,6 +50,10 @@ IsGiven (Err reading.Memory) verdict = ⊥
 -- this file was read, once, and this is the verdict on what that gave
 abbrev pub IsReadAs : List Event → Name → Option FileVerdict → Type 0
 IsReadAs events name verdict = (answer : Answer) × (events ≡ module_read name answer) × IsGiven answer verdict
+
+-- the last call was a read of this file, which failed
+abbrev pub FailsLast : Name → List Event → Type 0
+FailsLast file events = (front : List Event) × (limit : ℕ) × (events ≡ front ++ Read file limit (Err reading.Failed) ∷ [])
 
 -- ---- commands
 
@@ -154,3 +160,23 @@ IsStatusOf (Err why) status Says = ((status ≡ status_of why) × Says (error_li
 abbrev pub PassesFor : List Name → Option (List ℕ) → Option (List ℕ) → ℕ → (List ℕ → Type 0) → List Event → Type 0
 PassesFor words old new status Says events =
     (ending : Ending) × EndsSo words old new ending events × IsStatusOf ending status Says
+
+-- the call was a read, within the limit of a module, of a file that a command names
+abbrev pub IsReadOf : List Command → Event → Type 0
+IsReadOf commands event = (file : Name) × (answer : Answer) × IsNamed commands file × (event ≡ Read file most_module_bytes answer)
+
+-- these are such reads, for the script that this answer gave; there are none, where it gave none
+abbrev pub AreReadsFor : Answer → List Event → Type 0
+AreReadsFor (Ok text) events =
+    (events ≡ []) ⊎ ((commands : List Command) × IsScript text commands × AllByRecursion (IsReadOf commands) events)
+AreReadsFor (Err why) events = events ≡ []
+
+-- nothing was begun, put or finished: nothing passed, or the script was read, once, and then files that its commands name
+abbrev pub OnlyReads : List Name → List Event → Type 0
+OnlyReads words events = (events ≡ []) ⊎ ((line : Line) × (answer : Answer) × (given : List Event)
+    × (line_of words ≡ Some line) × AreReadsFor answer given × (events ≡ script_read line.script answer ++ given))
+
+-- P of all that passes for words, where the files held this and behaved as files, and of what they tell then
+abbrev pub Honestly : List Name → Contents → Option (List ℕ) → Option (List ℕ) → ℕ → (List ℕ → Type 0) → (List Event → Told → Type 0) → Type 0
+Honestly words m old new status Says P = (events : List Event) (current : Option Name) (told : Told) (after : Option Name)
+    → PassesFor words old new status Says events → AreHonest events (Some m) current told after → P events told

@@ -20,7 +20,7 @@ use w2c_io::Files;
 use wast_script::{Command, Stop};
 
 /// Does what a command says, and gives its word. An assertion runs at most so many statements.
-#[tactic(auto, using(crate::proofs::Comings::invalid_comes, crate::proofs::Comings::malformed_comes, crate::proofs::Comings::file_stops))]
+#[tactic(auto, using(crate::proofs::Comings::invalid_comes, crate::proofs::Comings::malformed_comes, crate::proofs::Comings::file_stops, crate::proofs::Passing::module_over, crate::proofs::Passing::call_over, crate::proofs::Passing::return_over, crate::proofs::Passing::trap_over, crate::proofs::Passing::invalid_comes_over, crate::proofs::Passing::malformed_comes_over, crate::proofs::Passing::none_without_memory))]
 pub(crate) fn run_command<'a, F: Files>(
     alloc: Global,
     stage: &mut Stage<'a>,
@@ -76,7 +76,7 @@ pub(crate) fn run_command<'a, F: Files>(
 }
 
 // Whether a file is a module that is not valid.
-#[tactic(auto, using(crate::proofs::Comings::invalid_word))]
+#[tactic(auto, using(crate::proofs::Comings::invalid_word, crate::proofs::Passing::invalid_over))]
 fn assert_invalid<F: Files>(alloc: Global, file: &str, files: &mut F) -> Result<Word, Stop>
     ensures told { F.told files.new ≡ F.told files.old }
     ensures current { F.current files.new ≡ F.current files.old }
@@ -97,7 +97,7 @@ fn assert_invalid<F: Files>(alloc: Global, file: &str, files: &mut F) -> Result<
 }
 
 // Whether a file is no module by the binary format.
-#[tactic(auto, using(crate::proofs::Comings::malformed_word))]
+#[tactic(auto, using(crate::proofs::Comings::malformed_word, crate::proofs::Passing::malformed_over))]
 fn assert_malformed<F: Files>(alloc: Global, file: &str, files: &mut F) -> Result<Word, Stop>
     ensures told { F.told files.new ≡ F.told files.old }
     ensures current { F.current files.new ≡ F.current files.old }

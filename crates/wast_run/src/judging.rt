@@ -60,7 +60,7 @@ impl Judged {
 }
 
 /// Reads a file and judges it.
-#[tactic(auto, using(crate::proofs::Comings::judged_file, crate::proofs::Comings::long_file))]
+#[tactic(auto, using(crate::proofs::Comings::judged_file, crate::proofs::Comings::long_file, crate::proofs::Passing::judged_read, crate::proofs::Passing::long_read, crate::proofs::Passing::absent_read, crate::proofs::Passing::failed_read, crate::proofs::Passing::read_without_memory))]
 pub(crate) fn judge_file<F: Files>(alloc: Global, name: &str, files: &mut F) -> Result<Judged, Stop>
     ensures told { F.told files.new ≡ F.told files.old }
     ensures current { F.current files.new ≡ F.current files.old }

@@ -17,7 +17,7 @@ mod work;
 mod writing;
 
 pub use cases::reports_of_words;
-pub use law::one_report;
+pub use law::{honest_files, one_report};
 pub use runs::units_come_to_what_modules_come_to;
 use std::process::ExitCode;
 pub use top::wast_run_top;

@@ -39,7 +39,7 @@ impl<'a> Stage<'a> {
     }
 
     /// The module of a file joins, where it is accepted and there is a linked set with it.
-    #[tactic(auto, using(crate::proofs::Comings::module_refused))]
+    #[tactic(auto, using(crate::proofs::Comings::module_refused, crate::proofs::Passing::refused_over))]
     pub(crate) fn join_file<F: Files>(
         &mut self,
         alloc: Global,

@@ -11,7 +11,7 @@ ghost use Rattle.wast_script.specs.CommandLine.{line_of};
 ghost use Rattle.wast_script.specs.Commands.{Command};
 ghost use Rattle.wast_script.specs.Lines.{error_line, status_of, Reason, Unread, Unwritten};
 ghost use Rattle.wast_run.specs.Parts.{file_of, GainsLinesBefore, HasItsFile, IsNamed};
-ghost use Rattle.wast_run.specs.Passing.{PassesFor};
+ghost use Rattle.wast_run.specs.Passing.{OnlyReads, PassesFor};
 ghost use Rattle.wast_run.specs.Jobs.{GainedPart, GainsPrefix, GivesFirst, IsAnswered, IsJob, IsUnread, Refuses, Reported, ReportedPart, Reports, Stops};
 
 use crate::work::work;
@@ -93,6 +93,7 @@ pub fn wast_run_top<F: Files, O: Sink, E: Sink>(
     ensures passed { Passes (F.trace files.old) (F.trace files.new)
         (PassesFor (texts words.now) (O.told out.old) (O.told out.new) result
         (Says (E.told err.old) (E.told err.new) (E.faults err.old) (E.faults err.new))) }
+    ensures reads_only { Passes (F.trace files.old) (F.trace files.new) (OnlyReads (texts words.now)) }
 {
     one_reading();
     match work(alloc, words, files, out) {

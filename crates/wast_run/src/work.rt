@@ -86,7 +86,7 @@ fn status_for(all_ok: bool) -> u8
 }
 
 // The script in a file.
-#[tactic(auto, using(crate::proofs::ScriptLaws::names_of_script))]
+#[tactic(auto, using(crate::proofs::ScriptLaws::names_of_script, crate::proofs::Passing::script_read_over, crate::proofs::Passing::script_stops_over))]
 fn script_in<F: Files>(alloc: Global, name: &str, files: &mut F) -> Result<Script, Stop>
     ensures told { F.told files.new ≡ F.told files.old }
     ensures current { F.current files.new ≡ F.current files.old }

@@ -1,3 +1,4 @@
+use Rattle.std.proofs.Common.{Ok, Err}
 use Rattle.w2c_files.specs.Words.{texts}
 use Rattle.w2c_io.specs.Telling.{Says}
 use Rattle.wast_script.specs.Lines.{error_line}
@@ -6,6 +7,7 @@ use Rattle.wast_run.specs.Jobs.{GivesFirst}
 use Rattle.wast_run.proofs.TopLaws.{gained_before, no_report, none_reported, not_reported, nothing_gained, report_complete, status_small}
 use Rattle.wast_run.proofs.TopLaws.{stop_always, stop_complete, stop_part, stop_refused, stop_silent, stop_unread, stop_unwritten}
 use Rattle.wast_run.proofs.TopLaws.{missing_always, part_gains, report_gains, reported_always, stop_usage}
+use Rattle.wast_run.proofs.OnlyReads.{ends_with_reads}
 use Rattle.wast_run.proofs.Passing.{status_passes, stop_passes}
 use Rattle.wast_run.proofs.top.wast_run_top.Goals as goal
 
@@ -217,3 +219,13 @@ returns-in-Err-clause-passed g c =
     (g.O.Sink.told c.args.out.now) (g.O.Sink.told c.work.new.out) c.report.result
     (Says (err.told c.args.err.now) (err.told c.report.new.err) (err.faults c.args.err.now) (err.faults c.report.new.err))
     (reason_of c.in-Err.stop) c.report.ensures.status c.report.ensures.says c.in-Err.ensures.tried
+
+pub returns-in-Ok-clause-reads_only : goal.returns-in-Ok-clause-reads_only
+returns-in-Ok-clause-reads_only g c =
+    ends_with_reads (g.F.Files.trace c.args.files.now) (g.F.Files.trace c.work.new.files) (texts c.args.words.now)
+    (g.O.Sink.told c.args.out.now) (g.O.Sink.told c.work.new.out) (Ok c.in-Ok.status) c.in-Ok.ensures.passed
+
+pub returns-in-Err-clause-reads_only : goal.returns-in-Err-clause-reads_only
+returns-in-Err-clause-reads_only g c =
+    ends_with_reads (g.F.Files.trace c.args.files.now) (g.F.Files.trace c.work.new.files) (texts c.args.words.now)
+    (g.O.Sink.told c.args.out.now) (g.O.Sink.told c.work.new.out) (Err (reason_of c.in-Err.stop)) c.in-Err.ensures.tried
