@@ -122,21 +122,51 @@ module _ (m : Contents) where
       (subst (λ (t : Told). AreHonest rest t parts.1 new last) one.1 parts.3) in
       ((w, others, between, (one.0, comes.1), more.0, is), more.1)
 
-  -- ---- a run that stops
+-- ---- a run that stops
 
+next_keeps : (m : Contents) (file : Name) (answer : Answer) (rest : List Command) (events : List Event) (current : Option Name) (new : Told)
+    (last : Option Name) → ReadsNext rest file answer events → AreHonest events (Some m) current new last → new ≡ Some m
+next_keeps m file answer [] events current new last reads honest = absurd reads
+next_keeps m file answer (command ∷ rest) events current new last (names, calls) honest =
+    (one_honest m file most_module_bytes answer events current new last calls honest).3
+
+last_keeps : (m : Contents) (why : Reason) (rest : List Command) (events : List Event) (current : Option Name) (new : Told)
+    (last : Option Name) → LastReads why rest events → AreHonest events (Some m) current new last → new ≡ Some m
+last_keeps m (Unread file) rest events current new last (answer, reads, no_file) honest =
+    next_keeps m file answer rest events current new last reads honest
+last_keeps m Unwritten rest events current new last none honest = none_honest m events current new last none honest
+last_keeps m WantOfMemory rest events current new last (inl none) honest = none_honest m events current new last none honest
+last_keeps m WantOfMemory rest events current new last (inr (file, answer, reads)) honest =
+    next_keeps m file answer rest events current new last reads honest
+last_keeps m Usage rest events current new last reads honest = absurd reads
+last_keeps m (Refused why) rest events current new last reads honest = absurd reads
+
+long_no_memory : fault.TooLong ≢ fault.Memory
+long_no_memory e = absurd cc
+
+prefix_of_lines : (why : Reason) (words : List Word) (rest : List Command) (text : List ℕ) → LastLines why words rest text
+    → IsPrefix text (lines_before words rest)
+prefix_of_lines (Unread file) words rest text lines =
+    let front_is = lines_in_front words rest in (front_is.0, front_is.1 ∙ ap (λ (l : List ℕ). l ++ front_is.0) (sym lines))
+prefix_of_lines Unwritten words rest text lines = lines
+prefix_of_lines WantOfMemory words rest text lines = lines
+prefix_of_lines Usage words rest text lines = absurd lines
+prefix_of_lines (Refused why) words rest text lines = absurd lines
+
+module _ (m : Contents) where
   module _ (steps : ℕ) (commands : List Command) (old out : Option (List ℕ)) (why : Reason) (events : List Event)
       (current : Option Name) (new : Told) (last : Option Name) (stops : StopsIn steps commands old out why events)
-      (honest : Honest events current new last) where
+      (honest : AreHonest events (Some m) current new last) where
     abbrev stop_parts : (told : Told) × (name : Option Name) × AreHonest stops.first (Some m) current told name
         × AreHonest stops.last told name new last
     stop_parts =
         honest_parts stops.first stops.last (Some m) current new last
-        (subst (λ (l : List Event). Honest l current new last) stops.calls honest)
+        (subst (λ (l : List Event). AreHonest l (Some m) current new last) stops.calls honest)
 
     abbrev stop_lead : LeadInTime m steps at_first stops.front stops.words stops.after × (stop_parts.0 ≡ Some m)
-    stop_lead = lead_honest steps at_first stops.front stops.words stops.after stops.first current stop_parts.0 stop_parts.1 stops.lead stop_parts.2
+    stop_lead = lead_honest m steps at_first stops.front stops.words stops.after stops.first current stop_parts.0 stop_parts.1 stops.lead stop_parts.2
 
-    last_honest : Honest stops.last stop_parts.1 new last
+    last_honest : AreHonest stops.last (Some m) stop_parts.1 new last
     last_honest = subst (λ (t : Told). AreHonest stops.last t stop_parts.1 new last) stop_lead.1 stop_parts.3
 
     -- the file that could not be had is not there, or the last call was a read of it that failed
@@ -147,7 +177,7 @@ module _ (m : Contents) where
         by : (answer : Answer) → IsNoFile answer → stops.last ≡ module_read file answer → FailsLast file events ⊎ (get m file ≡ None)
         by (Ok bytes) no_file is = absurd no_file
         by (Err reading.Absent) no_file is =
-            inr (one_honest file most_module_bytes (Err reading.Absent) stops.last stop_parts.1 new last is last_honest).2.0
+            inr (one_honest m file most_module_bytes (Err reading.Absent) stops.last stop_parts.1 new last is last_honest).2.0
         by (Err reading.Failed) no_file is =
             inl (stops.first, most_module_bytes, stops.calls ∙ ap (λ (l : List Event). stops.first ++ l) is)
         by (Err reading.TooLong) no_file is = absurd no_file
@@ -193,35 +223,6 @@ module _ (m : Contents) where
       lead = stop_lead.0;
       prefix = prefix_of_lines why stops.words stops.rest stops.text stops.lines;
     }
-
-last_keeps : (m : Contents) (why : Reason) (rest : List Command) (events : List Event) (current : Option Name) (new : Told)
-    (last : Option Name) → LastReads why rest events → AreHonest events (Some m) current new last → new ≡ Some m
-last_keeps m (Unread file) rest events current new last (answer, reads, no_file) honest =
-    next_keeps m file answer rest events current new last reads honest
-last_keeps m Unwritten rest events current new last none honest = none_honest m events current new last none honest
-last_keeps m WantOfMemory rest events current new last (inl none) honest = none_honest m events current new last none honest
-last_keeps m WantOfMemory rest events current new last (inr (file, answer, reads)) honest =
-    next_keeps m file answer rest events current new last reads honest
-last_keeps m Usage rest events current new last reads honest = absurd reads
-last_keeps m (Refused why) rest events current new last reads honest = absurd reads
-
-next_keeps : (m : Contents) (file : Name) (answer : Answer) (rest : List Command) (events : List Event) (current : Option Name) (new : Told)
-    (last : Option Name) → ReadsNext rest file answer events → AreHonest events (Some m) current new last → new ≡ Some m
-next_keeps m file answer [] events current new last reads honest = absurd reads
-next_keeps m file answer (command ∷ rest) events current new last (names, calls) honest =
-    (one_honest m file most_module_bytes answer events current new last calls honest).3
-
-long_no_memory : fault.TooLong ≢ fault.Memory
-long_no_memory e = absurd cc
-
-prefix_of_lines : (why : Reason) (words : List Word) (rest : List Command) (text : List ℕ) → LastLines why words rest text
-    → IsPrefix text (lines_before words rest)
-prefix_of_lines (Unread file) words rest text lines =
-    let front_is = lines_in_front words rest in (front_is.0, front_is.1 ∙ ap (λ (l : List ℕ). l ++ front_is.0) (sym lines))
-prefix_of_lines Unwritten words rest text lines = lines
-prefix_of_lines WantOfMemory words rest text lines = lines
-prefix_of_lines Usage words rest text lines = absurd lines
-prefix_of_lines (Refused why) words rest text lines = absurd lines
 
 -- ---- the script
 
@@ -363,11 +364,16 @@ module _ (words : List Name) (m : Contents) (old out : Option (List ℕ)) (event
         midst_over why stops = by why refl (subst (λ why. LastReads why stops.rest stops.last) refl stops.stop)
           where
             part : GainedPart words m old out
-            part = inr (steps, commands, job, (
-              stops.text,
-              stop_part m steps commands old out why given behind_script new after stops behind_honest,
-              stops.gained,
-            ))
+            part = inr (
+              steps,
+              commands,
+              job,
+              (
+                stops.text,
+                stop_part m steps commands old out why given behind_script new after stops behind_honest,
+                stops.gained,
+              ),
+            )
 
             missing : (file : Name) → FailsLast file given ⊎ IsFirstMissing m commands file → FailsLast file events ⊎ IsNotThere words m file
             missing file (inl fails) = inl (fails_behind file (script_read line.script answer) given events calls fails)
@@ -420,12 +426,19 @@ module _ (words : List Name) (m : Contents) (old out : Option (List ℕ)) (event
 
 -- ---- what the clauses of the top call say
 
+not_three : (why : ScriptFault) → fault_status why ≢ 3
+not_three fault.TooLong e = omega (arith, e)
+not_three fault.NotJson e = omega (arith, e)
+not_three fault.NoCommands e = omega (arith, e)
+not_three (fault.Command number) e = omega (arith, e)
+not_three fault.Memory e = omega (arith, e)
+
 low_status : (b : Bool) (status : ℕ) → status ≡ (if b then 0 else 1) → status ≤ 1
 low_status true status is = omega (arith, is)
 low_status false status is = omega (arith, is)
 
 report_low : (words : List Name) (m : Contents) (old out : Option (List ℕ)) (status : ℕ) → Reported words m old out status → status ≤ 1
-report_low words m old out status (steps, commands, job, (all, lead, gained, is)) = low_status (ok_count all == length all) status is
+report_low words m old out status (steps, commands, asked, (all, lead, gained, is)) = low_status (ok_count all == length all) status is
 
 module _ (words : List Name) (m : Contents) (old out said said' : Option (List ℕ)) (status faults faults' : ℕ) (events : List Event)
     (current : Option Name) (new : Told) (after : Option Name)
@@ -502,10 +515,3 @@ module _ (words : List Name) (m : Contents) (old out said said' : Option (List �
       by (Err (Unread file)) stopped = stopped.1
       by (Err Unwritten) stopped = stopped
       by (Err WantOfMemory) stopped = stopped
-
-not_three : (why : ScriptFault) → fault_status why ≢ 3
-not_three fault.TooLong e = omega (arith, e)
-not_three fault.NotJson e = omega (arith, e)
-not_three fault.NoCommands e = omega (arith, e)
-not_three (fault.Command number) e = omega (arith, e)
-not_three fault.Memory e = omega (arith, e)

@@ -1,6 +1,7 @@
 -- Through the files pass reads alone: of the script, and of files that its commands name.
 use Rattle.std.specs.Prelude.{MatchOption}
-use Rattle.std.proofs.Common.{◌≡◌, ◌⊎◌, inl, inr, ℕ, List, [], ◌∷◌, ◌++◌, Option, Some, None, Ok, Err, append_assoc, refl, sym, ap, ◌∙◌, subst}
+use Rattle.std.proofs.Common.{◌≡◌, ◌⊎◌, inl, inr, ℕ, List, [], ◌∷◌, ◌++◌, Option, Some, None, Ok, Err}
+use Rattle.std.proofs.Common.{append_assoc, refl, sym, ap, ◌∙◌, subst}
 use Rattle.std.proofs.lemmas.List.{append-nil}
 use Rattle.std.specs.List.{AllByRecursion}
 use Rattle.w2c_io.specs.Contents.{Name}
@@ -19,8 +20,8 @@ use Rattle.wast_run.specs.declared.word.Word.{Word}
 use Rattle.wast_run.specs.Report.{Setting, at_first}
 use Rattle.wast_run.specs.Parts.{file_of, IsNamed}
 use Rattle.wast_run.specs.Jobs.{Job, Reports, Stops}
-use Rattle.wast_run.specs.Passing.{Answer, AreReadsFor, ComesOver, DoesJob, DoesLine, Ending, EndsSo, IsJobBy, IsReadAs, IsReadOf, LastReads}
-use Rattle.wast_run.specs.Passing.{LeadOver, OnlyReads, ReadsNext, ReportsOver, StopsIn, WantsMemory, module_read, script_read}
+use Rattle.wast_run.specs.Passing.{Answer, AreReadsFor, ComesOver, DoesJob, DoesLine, Ending, EndsSo, IsJobBy, IsReadAs, IsReadOf}
+use Rattle.wast_run.specs.Passing.{LastReads, LeadOver, OnlyReads, ReadsNext, ReportsOver, StopsIn, WantsMemory, module_read, script_read}
 
 all_both : {A : Type 0} (P : A → Type 0) (xs ys : List A) → AllByRecursion P xs → AllByRecursion P ys → AllByRecursion P (xs ++ ys)
 all_both P [] ys all others = others
@@ -56,8 +57,8 @@ module _ (all : List Command) where
   command_reads steps at (script.AssertMalformed file) w after events named (comes, none) =
       judged_reads file comes.0 events (named file refl) comes.1
 
-  lead_reads : (steps : ℕ) (at : Setting) (before commands behind : List Command) (words : List Word) (after : Setting) (events : List Event)
-      → all ≡ before ++ (commands ++ behind) → LeadOver steps at commands words after events → AreReads events
+  lead_reads : (steps : ℕ) (at : Setting) (before commands behind : List Command) (words : List Word) (after : Setting)
+      (events : List Event) → all ≡ before ++ (commands ++ behind) → LeadOver steps at commands words after events → AreReads events
   lead_reads steps at before [] behind words after events split lead = none_read events lead.2
   lead_reads steps at before (c ∷ commands) behind words after events split (w, others, between, first, rest, comes, lead, is, calls) =
       subst AreReads (sym calls) (all_both (IsReadOf all) first rest
@@ -104,6 +105,10 @@ job_reads line (Err reading.TooLong) (Reports steps commands) old new ending eve
     absurd (reports_stops steps commands (Refused fault.TooLong) by)
 job_reads line (Err reading.Memory) (Reports steps commands) old new ending events by does = absurd by
 
+no_reads : (answer : Answer) → AreReadsFor answer []
+no_reads (Ok text) = inl refl
+no_reads (Err why) = refl
+
 reads_of_line : (words : List Name) (line : Line) → line_of words ≡ Some line → (old new : Option (List ℕ)) (ending : Ending)
     (events : List Event) → WantsMemory line old new ending events ⊎ DoesLine line old new ending events → OnlyReads words events
 reads_of_line words line is old new ending events (inl (memory, same, inl none)) = inl none
@@ -111,10 +116,6 @@ reads_of_line words line is old new ending events (inl (memory, same, inr (answe
     inr (line, answer, [], is, no_reads answer, calls)
 reads_of_line words line is old new ending events (inr (answer, job, given, by, does, calls)) =
     inr (line, answer, given, is, job_reads line answer job old new ending given by does, calls)
-
-no_reads : (answer : Answer) → AreReadsFor answer []
-no_reads (Ok text) = inl refl
-no_reads (Err why) = refl
 
 only_reads : (words : List Name) (old new : Option (List ℕ)) (ending : Ending) (events : List Event) → EndsSo words old new ending events
     → OnlyReads words events

@@ -152,6 +152,13 @@ none_without_memory old = none_passed old (StopsOver None WantOfMemory) (refl, r
 
 -- ---- lines
 
+of_line : (faults faults' : ℕ) (why : Reason) → StopsLine faults faults' why → IsOfLine why
+of_line faults faults' Unwritten stop = tt
+of_line faults faults' WantOfMemory stop = tt
+of_line faults faults' Usage stop = absurd stop
+of_line faults faults' (Refused why) stop = absurd stop
+of_line faults faults' (Unread file) stop = absurd stop
+
 -- a command has come to its word, and its line is written, or not
 module _ (old new : List Event) (steps index : ℕ) (at : Setting) (command : Command) where
   pub line_over : (w : Word) (after : Setting) (out out' : Option (List ℕ))
@@ -176,13 +183,6 @@ module _ (old new : List Event) (steps index : ℕ) (at : Setting) (command : Co
       passed_so old new (λ events. ComesOver events steps at command w after) (StopsTellingOver steps index at command out out' why)
       (λ events comes. inr (w, after, comes, timely, said, of_line faults faults' why stop)) passes
 
-of_line : (faults faults' : ℕ) (why : Reason) → StopsLine faults faults' why → IsOfLine why
-of_line faults faults' Unwritten stop = tt
-of_line faults faults' WantOfMemory stop = tt
-of_line faults faults' Usage stop = absurd stop
-of_line faults faults' (Refused why) stop = absurd stop
-of_line faults faults' (Unread file) stop = absurd stop
-
 -- ---- commands one behind another
 
 module _ (steps : ℕ) where
@@ -203,16 +203,16 @@ module _ (steps : ℕ) where
   )
   lead_over_more at (c ∷ front) words between after command w first events (v, others, next, one, later, comes', lead, is, calls)
       comes timely = (
-    v,
-    others ++ w ∷ [],
-    next,
-    one,
-    later ++ events,
-    comes',
-    lead_over_more next front others between after command w later events lead comes timely,
-    ap (λ l. l ++ w ∷ []) is,
-    ap (λ (l : List Event). l ++ events) calls ∙ append_assoc one later events,
-  )
+        v,
+        others ++ w ∷ [],
+        next,
+        one,
+        later ++ events,
+        comes',
+        lead_over_more next front others between after command w later events lead comes timely,
+        ap (λ l. l ++ w ∷ []) is,
+        ap (λ (l : List Event). l ++ events) calls ∙ append_assoc one later events,
+      )
 
   lead_over_length : (at : Setting) (front : List Command) (words : List Word) (after : Setting) (events : List Event)
       → LeadOver steps at front words after events → length words ≡ length front
@@ -407,23 +407,22 @@ module _ (old new : List Event) (name : Name) where
 -- ---- the whole work
 
 -- by the reading of the words
-ends_line : (words : List Name) (line : Line) → line_of words ≡ Some line → (old new : Option (List ℕ)) (ending : Ending) (events : List Event)
-    → WantsMemory line old new ending events ⊎ DoesLine line old new ending events → EndsSo words old new ending events
-ends_line words line is old new ending events does =
-    subst (λ o. MatchOption o ((events ≡ []) × (new ≡ old) × ((ending ≡ Err Usage) ⊎ (ending ≡ Err WantOfMemory)))
-    (λ line. WantsMemory line old new ending events ⊎ DoesLine line old new ending events)) (sym is) does
+abbrev EndsBy : Option (List ℕ) → Option (List ℕ) → Ending → List Event → Option Line → Type 0
+EndsBy old new ending events o = MatchOption o ((events ≡ []) × (new ≡ old) × ((ending ≡ Err Usage) ⊎ (ending ≡ Err WantOfMemory)))
+    (λ line. WantsMemory line old new ending events ⊎ DoesLine line old new ending events)
+
+ends_line : (words : List Name) (line : Line) → line_of words ≡ Some line → (old new : Option (List ℕ)) (ending : Ending)
+    (events : List Event) → WantsMemory line old new ending events ⊎ DoesLine line old new ending events
+    → EndsSo words old new ending events
+ends_line words line is old new ending events does = subst (EndsBy old new ending events) (sym is) does
 
 ends_none : (words : List Name) → line_of words ≡ None → (out : Option (List ℕ)) → EndsSo words out out (Err Usage) []
-ends_none words is out =
-    subst (λ o. MatchOption o (([] ≡ []) × (out ≡ out) × ((Err Usage ≡ Err Usage) ⊎ (Err Usage ≡ Err WantOfMemory)))
-    (λ line. WantsMemory line out out (Err Usage) [] ⊎ DoesLine line out out (Err Usage) [])) (sym is) (refl, refl, inl refl)
+ends_none words is out = subst (EndsBy out out (Err Usage) []) (sym is) (refl, refl, inl refl)
 
 ends_early : (words : List Name) (out : Option (List ℕ)) → EndsSo words out out (Err WantOfMemory) []
 ends_early words out = by (line_of words)
   where
-    by : (o : Option Line)
-        → MatchOption o (([] ≡ []) × (out ≡ out) × ((Err WantOfMemory ≡ Err Usage) ⊎ (Err WantOfMemory ≡ Err WantOfMemory)))
-        (λ line. WantsMemory line out out (Err WantOfMemory) [] ⊎ DoesLine line out out (Err WantOfMemory) [])
+    by : (o : Option Line) → EndsBy out out (Err WantOfMemory) [] o
     by None = (refl, refl, inr refl)
     by (Some line) = inl (refl, refl, inl refl)
 
@@ -490,12 +489,15 @@ module _ (words : List Name) (line : Line) (is : line_of words ≡ Some line) wh
 pub first_gives : (start old new : List Event) (told : Told) (name : Name) (commands : List Command) (P : List Event → Type 0)
     → Passes start old (ReadsScript told name commands) → Passes old new P
     → (text : List ℕ) × GivesFirst told start new name text × IsScript text commands
-first_gives start old new told name commands P (first, is, (text, calls, has, script)) (last, then, p) = (
+first_gives start old new told name commands P (first, is, (text, calls, has, script)) (last, behind, p) = (
   text,
   (
     has,
-    (first ++ last, then ∙ ap (λ (l : List Event). l ++ last) is ∙ append_assoc start first last,
-        (last, ap (λ (l : List Event). l ++ last) calls)),
+    (
+      first ++ last,
+      behind ∙ ap (λ (l : List Event). l ++ last) is ∙ append_assoc start first last,
+      (last, ap (λ (l : List Event). l ++ last) calls),
+    ),
   ),
   script,
 )

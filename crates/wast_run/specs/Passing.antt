@@ -177,6 +177,7 @@ OnlyReads words events = (events ≡ []) ⊎ ((line : Line) × (answer : Answer)
     × (line_of words ≡ Some line) × AreReadsFor answer given × (events ≡ script_read line.script answer ++ given))
 
 -- P of all that passes for words, where the files held this and behaved as files, and of what they tell then
-abbrev pub Honestly : List Name → Contents → Option (List ℕ) → Option (List ℕ) → ℕ → (List ℕ → Type 0) → (List Event → Told → Type 0) → Type 0
+abbrev pub Honestly : List Name → Contents → Option (List ℕ) → Option (List ℕ) → ℕ → (List ℕ → Type 0) → (List Event → Told → Type 0)
+    → Type 0
 Honestly words m old new status Says P = (events : List Event) (current : Option Name) (told : Told) (after : Option Name)
     → PassesFor words old new status Says events → AreHonest events (Some m) current told after → P events told

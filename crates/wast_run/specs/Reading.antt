@@ -86,7 +86,8 @@ HasReportedOver steps commands old new all_ok events = (words : List Word) × (a
 
 -- it was read, and said these commands
 abbrev pub ReadsScript : Told → Name → List Command → List Event → Type 0
-ReadsScript told name commands events = (text : List ℕ) × (events ≡ script_read name (Ok text)) × HasFile told name text × IsScript text commands
+ReadsScript told name commands events =
+    (text : List ℕ) × (events ≡ script_read name (Ok text)) × HasFile told name text × IsScript text commands
 
 -- what was read says no script
 abbrev pub IsFaultBy : Answer → ScriptFault → Type 0

@@ -74,8 +74,8 @@ StopsScript told file before after named Usage = ⊥
 StopsScript told file before after named Unwritten = ⊥
 
 -- the whole work
-abbrev pub StopsWork : List Name → Told → (Name → List ℕ → Type 0) → ℕ → ℕ → Option Name → Option (List ℕ) → Option (List ℕ) → ℕ → ℕ → Reason
-    → Type 0
+abbrev pub StopsWork : List Name → Told → (Name → List ℕ → Type 0) → ℕ → ℕ → Option Name → Option (List ℕ) → Option (List ℕ) → ℕ → ℕ
+    → Reason → Type 0
 StopsWork words told Gives reads reads' named old new faults faults' Usage = Refuses words told Usage × (new ≡ old)
 StopsWork words told Gives reads reads' named old new faults faults' (Refused why) = Refuses words told (Refused why) × (new ≡ old)
 StopsWork words told Gives reads reads' named old new faults faults' (Unread file) =
