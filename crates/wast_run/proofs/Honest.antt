@@ -426,6 +426,10 @@ module _ (words : List Name) (m : Contents) (old out : Option (List ℕ)) (event
 
 -- ---- what the clauses of the top call say
 
+job_of_usage : (words : List Name) (m : Contents) → line_of words ≡ None → IsJob words m (Stops Usage)
+job_of_usage words m none =
+    subst (λ o. MatchOption o (Stops Usage ≡ Stops Usage) (λ line. IsJobBehind line (get m line.script) (Stops Usage))) (sym none) refl
+
 not_three : (why : ScriptFault) → fault_status why ≢ 3
 not_three fault.TooLong e = omega (arith, e)
 not_three fault.NotJson e = omega (arith, e)
@@ -515,3 +519,25 @@ module _ (words : List Name) (m : Contents) (old out said said' : Option (List �
       by (Err (Unread file)) stopped = stopped.1
       by (Err Unwritten) stopped = stopped
       by (Err WantOfMemory) stopped = stopped
+
+  abbrev Answered : Type 0
+  Answered = (status ≡ 4) ⊎ (status ≡ 5) ⊎ ((file : Name) × FailsLast file events) ⊎ IsAnswered words m status
+
+  pub honest_answer : (status ≡ 4) ⊎ (status ≡ 5) ⊎ ((file : Name) × FailsLast file events) ⊎ IsAnswered words m status
+  honest_answer = by passes.0 over passes.2
+    where
+      for_reason : (why : Reason) → Over words m old out events (Err why) → status ≡ status_of why → Answered
+      for_reason Usage stopped is = inr (inr (inr (Stops Usage, job_of_usage words m stopped.0, is)))
+      for_reason (Refused why) stopped is = inr (inr (inr (Stops (Refused why), stopped.0.1 m refl, is)))
+      for_reason (Unread file) (inl fails, part) is = inr (inr (inl (file, fails)))
+      for_reason (Unread file) (inr (inl job), part) is = inr (inr (inr (Stops (Unread file), job, is)))
+      for_reason (Unread file) (inr (inr (steps, commands, job, missing)), part) is =
+          inr (inr (inr (Reports steps commands, job, inl (file, missing, is))))
+      for_reason Unwritten stopped is = inl is
+      for_reason WantOfMemory stopped is = inr (inl is)
+
+      by : (ending : Ending) → Over words m old out events ending → IsStatusOf ending status (Says said said' faults faults') → Answered
+      by (Ok done) (steps, commands, job, (all, (at, lead), gained, same)) is =
+          inr (inr (inr (Reports steps commands, job, inr (all, (at, lead_plain m steps at_first commands all at lead), is ∙ same))))
+      by (Err why) stopped (inl (is, says)) = for_reason why stopped is
+      by (Err why) stopped (inr five) = inr (inl five)

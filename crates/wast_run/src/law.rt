@@ -7,7 +7,7 @@ ghost use Rattle.wast_script.specs.Lines.{error_line, status_of, Reason, Unread}
 ghost use Rattle.wast_run.specs.declared.word.Word.{Word as AnyWord};
 ghost use Rattle.wast_run.specs.Report.{AreWords, report_of};
 ghost use Rattle.wast_run.specs.Parts.{IsPart};
-ghost use Rattle.wast_run.specs.Jobs.{GainedPart, IsNotThere, Refuses, Reported};
+ghost use Rattle.wast_run.specs.Jobs.{GainedPart, IsAnswered, IsNotThere, Refuses, Reported};
 ghost use Rattle.wast_run.specs.Passing.{FailsLast, Honestly};
 
 /// The law that commands have one list of words at most, and that a part of their report is a prefix of it.
@@ -19,8 +19,8 @@ pub fn one_report()
 {}
 
 /// The law that where the files behave as files, what passes through them says of their contents what the clauses of the top call
-/// say: the report of status 0 and 1, why words or a script are refused, which file is not there, what was gained, and that the files
-/// stand as before.
+/// say: the report of status 0 and 1, why words or a script are refused, which file is not there, what was gained, that the status is
+/// that of the job where no line and no read failed and memory was not wanting, and that the files stand as before.
 pub fn honest_files()
     ensures reported { (words : List Name) (m : Contents) (old new said said' : Option (List ℕ)) (status faults faults' : ℕ)
         → Honestly words m old new status (Says said said' faults faults')
@@ -35,6 +35,9 @@ pub fn honest_files()
         × Says said said' faults faults' (error_line (Unread file))) }
     ensures part { (words : List Name) (m : Contents) (old new said said' : Option (List ℕ)) (status faults faults' : ℕ)
         → Honestly words m old new status (Says said said' faults faults') (λ events told. GainedPart words m old new) }
+    ensures answered { (words : List Name) (m : Contents) (old new said said' : Option (List ℕ)) (status faults faults' : ℕ)
+        → Honestly words m old new status (Says said said' faults faults')
+        (λ events told. (status ≡ 4) ⊎ (status ≡ 5) ⊎ ((file : Name) × FailsLast file events) ⊎ IsAnswered words m status) }
     ensures stands { (words : List Name) (m : Contents) (old new said said' : Option (List ℕ)) (status faults faults' : ℕ)
         → Honestly words m old new status (Says said said' faults faults') (λ events told. told ≡ Some m) }
 {}
