@@ -1,6 +1,7 @@
 -- Where the files behave as files, what passes through them says what they hold.
 use Rattle.std.specs.Prelude.{if◌then◌else◌, MatchOption}
-use Rattle.std.proofs.Common.{◌≡◌, ◌≢◌, ◌⊎◌, inl, inr, ℕ, ◌≤◌, ◌==◌, Bool, true, false, List, [], ◌∷◌, ◌++◌, length, Option, Some, None, Ok, Err}
+use Rattle.std.proofs.Common.{◌≡◌, ◌≢◌, ◌⊎◌, inl, inr, ℕ, ◌≤◌, ◌==◌, Bool, true, false, List, [], ◌∷◌, ◌++◌, length}
+use Rattle.std.proofs.Common.{Option, Some, None, Ok, Err}
 use Rattle.std.proofs.Common.{append_assoc, refl, sym, ap, ◌∙◌, subst, arith}
 use Rattle.std.proofs.lemmas.List.{append-nil}
 use Rattle.std.proofs.lemmas.Option.{same_Some, none-some}
@@ -26,7 +27,8 @@ use Rattle.wast_run.specs.Report.{Comes, IsFile, IsTimely, LeadInTime, Setting, 
 use Rattle.wast_run.specs.Parts.{file_of, lines_before, HasItsFile, IsFirstMissing, IsPart}
 use Rattle.wast_run.specs.Jobs.{GainedPart, HasReading, IsAnswered, IsNotThere, IsJob, IsJobBehind, Job, Refuses, Reported, Reports, Stops}
 use Rattle.wast_run.specs.Passing.{Answer, ComesOver, DoesJob, DoesLine, Ending, EndsSo, FailsLast, IsGiven, IsJobBy, IsNoFile, IsReadAs}
-use Rattle.wast_run.specs.Passing.{IsStatusOf, LastLines, LastReads, LeadOver, PassesFor, ReadsNext, ReportsOver, StopsIn, WantsMemory, module_read, script_read}
+use Rattle.wast_run.specs.Passing.{IsStatusOf, LastLines, LastReads, LeadOver, PassesFor, ReadsNext, ReportsOver, StopsIn, WantsMemory}
+use Rattle.wast_run.specs.Passing.{module_read, script_read}
 use Rattle.wast_run.proofs.Leads.{lead_plain, lead_there}
 use Rattle.wast_run.proofs.TopLaws.{no_report, whole_part}
 use Rattle.wast_run.proofs.WordLines.{lines_in_front}
@@ -82,8 +84,8 @@ module _ (m : Contents) where
   given_file name (Err reading.Failed) verdict current told after given does = absurd given
   given_file name (Err reading.Memory) verdict current told after given does = absurd given
 
-  file_honest : (name : Name) (verdict : Option FileVerdict) (events : List Event) (current : Option Name) (new : Told) (after : Option Name)
-      → IsReadAs events name verdict → Honest events current new after → IsFile m name verdict × (new ≡ Some m)
+  file_honest : (name : Name) (verdict : Option FileVerdict) (events : List Event) (current : Option Name) (new : Told)
+      (after : Option Name) → IsReadAs events name verdict → Honest events current new after → IsFile m name verdict × (new ≡ Some m)
   file_honest name verdict events current new after (answer, is, given) honest =
       let h = one_honest name most_module_bytes answer events current new after is honest in
       (given_file name answer verdict current h.0 h.1 given h.2, h.3)
@@ -115,7 +117,8 @@ module _ (m : Contents) where
       → LeadInTime m steps at commands words after × (new ≡ Some m)
   lead_honest steps at [] words after events current new last lead honest =
       ((lead.0, lead.1), none_honest events current new last lead.2 honest)
-  lead_honest steps at (c ∷ commands) words after events current new last (w, others, between, first, rest, comes, lead, is, calls) honest =
+  lead_honest steps at (c ∷ commands) words after events current new last (w, others, between, first, rest, comes, lead, is, calls)
+      honest =
       let parts = honest_parts first rest (Some m) current new last (subst (λ (l : List Event). Honest l current new last) calls honest) in
       let one = comes_honest steps at c w between first current parts.0 parts.1 comes.0 parts.2 in
       let more = lead_honest steps between commands others after rest parts.1 new last lead
@@ -124,8 +127,8 @@ module _ (m : Contents) where
 
 -- ---- a run that stops
 
-next_keeps : (m : Contents) (file : Name) (answer : Answer) (rest : List Command) (events : List Event) (current : Option Name) (new : Told)
-    (last : Option Name) → ReadsNext rest file answer events → AreHonest events (Some m) current new last → new ≡ Some m
+next_keeps : (m : Contents) (file : Name) (answer : Answer) (rest : List Command) (events : List Event) (current : Option Name)
+    (new : Told) (last : Option Name) → ReadsNext rest file answer events → AreHonest events (Some m) current new last → new ≡ Some m
 next_keeps m file answer [] events current new last reads honest = absurd reads
 next_keeps m file answer (command ∷ rest) events current new last (names, calls) honest =
     (one_honest m file most_module_bytes answer events current new last calls honest).3
@@ -164,7 +167,9 @@ module _ (m : Contents) where
         (subst (λ (l : List Event). AreHonest l (Some m) current new last) stops.calls honest)
 
     abbrev stop_lead : LeadInTime m steps at_first stops.front stops.words stops.after × (stop_parts.0 ≡ Some m)
-    stop_lead = lead_honest m steps at_first stops.front stops.words stops.after stops.first current stop_parts.0 stop_parts.1 stops.lead stop_parts.2
+    stop_lead =
+        lead_honest m steps at_first stops.front stops.words stops.after stops.first current stop_parts.0 stop_parts.1 stops.lead
+        stop_parts.2
 
     last_honest : AreHonest stops.last (Some m) stop_parts.1 new last
     last_honest = subst (λ (t : Told). AreHonest stops.last t stop_parts.1 new last) stop_lead.1 stop_parts.3
@@ -207,7 +212,8 @@ module _ (m : Contents) where
       where
         by : LastReads (Unread file) stops.rest stops.last → FailsLast file events ⊎ IsFirstMissing m commands file
         by (answer, reads, no_file) =
-            elim (not_had file answer (calls_of file answer stops.rest reads) no_file) as (λ s. FailsLast file events ⊎ IsFirstMissing m commands file)
+            elim (not_had file answer (calls_of file answer stops.rest reads) no_file) as
+            (λ s. FailsLast file events ⊎ IsFirstMissing m commands file)
             [ inl fails ↦ inl fails | inr missing ↦ inr (first_missing file answer stops.rest refl reads missing) ]
 
     stop_keeps : new ≡ Some m
@@ -236,10 +242,11 @@ module _ (m : Contents) (words : List Name) (line : Line) (is : line_of words �
         honest_parts (script_read line.script answer) given (Some m) current new after
         (subst (λ (l : List Event). AreHonest l (Some m) current new after) calls honest)
 
-    abbrev script_does : (told : Told) × (other : Option Name) × Does (Read line.script most_script_bytes answer) (Some m) current told other
-        × (script_parts.0 ≡ Some m)
+    abbrev script_does : (told : Told) × (other : Option Name)
+        × Does (Read line.script most_script_bytes answer) (Some m) current told other × (script_parts.0 ≡ Some m)
     script_does =
-        one_honest m line.script most_script_bytes answer (script_read line.script answer) current script_parts.0 script_parts.1 refl script_parts.2
+        one_honest m line.script most_script_bytes answer (script_read line.script answer) current script_parts.0 script_parts.1 refl
+        script_parts.2
 
     given_honest : AreHonest given (Some m) script_parts.1 new after
     given_honest = subst (λ (t : Told). AreHonest given t script_parts.1 new after) script_does.3 script_parts.3
@@ -375,7 +382,8 @@ module _ (words : List Name) (m : Contents) (old out : Option (List ℕ)) (event
               ),
             )
 
-            missing : (file : Name) → FailsLast file given ⊎ IsFirstMissing m commands file → FailsLast file events ⊎ IsNotThere words m file
+            missing : (file : Name) → FailsLast file given ⊎ IsFirstMissing m commands file
+                → FailsLast file events ⊎ IsNotThere words m file
             missing file (inl fails) = inl (fails_behind file (script_read line.script answer) given events calls fails)
             missing file (inr first) = inr (inr (steps, commands, job, first))
 
@@ -383,7 +391,8 @@ module _ (words : List Name) (m : Contents) (old out : Option (List ℕ)) (event
             by Usage same reads = absurd reads
             by (Refused fault) same reads = absurd reads
             by (Unread file) same reads =
-                (missing file (stop_missing m steps commands old out why given behind_script new after stops behind_honest file same), part)
+                let had = stop_missing m steps commands old out why given behind_script new after stops behind_honest file same in
+                (missing file had, part)
             by Unwritten same reads = part
             by WantOfMemory same reads = part
 
@@ -404,7 +413,8 @@ module _ (words : List Name) (m : Contents) (old out : Option (List ℕ)) (event
         subst (Over words m old out events) (sym ends) (stops_over why by same none),
         none_honest m given behind_script new after none behind_honest,
       )
-      job_over ending (Reports steps commands) by does = (reports_over steps commands by ending does, reports_keep steps commands by ending does)
+      job_over ending (Reports steps commands) by does =
+          (reports_over steps commands by ending does, reports_keep steps commands by ending does)
 
     line_over : (ending : Ending) → WantsMemory line old out ending events ⊎ DoesLine line old out ending events
         → Over words m old out events ending × (new ≡ Some m)
@@ -478,7 +488,8 @@ module _ (words : List Name) (m : Contents) (old out said said' : Option (List �
     where
       for_reason : (why : Reason) → Over words m old out events (Err why) → status_of why ≡ 2
           → Says said said' faults faults' (error_line why)
-          → (why : Reason) × (status_of why ≡ 2) × Refuses words (Some m) why × (out ≡ old) × Says said said' faults faults' (error_line why)
+          → (why : Reason) × (status_of why ≡ 2) × Refuses words (Some m) why × (out ≡ old)
+          × Says said said' faults faults' (error_line why)
       for_reason Usage stopped is says = (Usage, is, stopped.0, stopped.1, says)
       for_reason (Refused why) stopped is says = (Refused why, is, stopped.0, stopped.1, says)
       for_reason (Unread file) stopped is says = absurd (omega (arith, is))
@@ -486,7 +497,8 @@ module _ (words : List Name) (m : Contents) (old out said said' : Option (List �
       for_reason WantOfMemory stopped is says = absurd (omega (arith, is))
 
       by : (ending : Ending) → Over words m old out events ending → IsStatusOf ending status (Says said said' faults faults')
-          → (why : Reason) × (status_of why ≡ 2) × Refuses words (Some m) why × (out ≡ old) × Says said said' faults faults' (error_line why)
+          → (why : Reason) × (status_of why ≡ 2) × Refuses words (Some m) why × (out ≡ old)
+          × Says said said' faults faults' (error_line why)
       by (Ok done) reported is = absurd (omega (arith, report_low words m old out done reported, is, two))
       by (Err why) stopped is = let r = reason_is why 2 is two (omega arith) in for_reason why stopped r.0 r.1
 

@@ -26,15 +26,16 @@ use Rattle.wast_run.specs.declared.judging.Judged.TheVariants as judged
 use Rattle.wast_run.specs.declared.word.Word.{Word}
 use Rattle.wast_run.specs.declared.word.Word.TheVariants as word
 use Rattle.wast_run.specs.Report.{accepted_tree, command_line, holds, is_invalid, is_malformed, is_ok, lines_of, ok_count, report_of}
-use Rattle.wast_run.specs.Report.{report_status, total_line, ComesBy, IsTimely, Joins, Keeps, Asserts, EndsWith, TrapsIn, Setting, at_first}
+use Rattle.wast_run.specs.Report.{report_status, total_line, ComesBy, IsTimely, Joins, Keeps, Asserts, EndsWith, TrapsIn, Setting}
+use Rattle.wast_run.specs.Report.{at_first}
 use Rattle.wast_run.specs.Parts.{file_of, lines_before}
 use Rattle.wast_run.specs.Judging.{says_invalid, says_malformed, tree_of, Agrees}
 use Rattle.wast_run.specs.Jobs.{GivesFirst, IsJobBehind, Job, Reports, Stops}
 use Rattle.wast_run.specs.Stopping.{StopsLine, StopsWords}
-use Rattle.wast_run.specs.Passing.{Answer, ComesOver, DoesJob, DoesLine, Ending, EndsSo, IsJobBy, IsNoFile, IsReadAs, IsStatusOf, LastLines}
-use Rattle.wast_run.specs.Passing.{LastReads, LeadOver, PassesFor, ReportsOver, StopsIn, WantsMemory, module_read, script_read}
-use Rattle.wast_run.specs.Reading.{HasReportedOver, IsBehindOver, IsFaultBy, IsOfLine, IsStopBy, JudgesFile, JudgesSo, ReadsScript, StopsOver}
-use Rattle.wast_run.specs.Reading.{StopsRead, StopsScriptOver, StopsTellingOver, TellsOver}
+use Rattle.wast_run.specs.Passing.{Answer, ComesOver, DoesJob, DoesLine, Ending, EndsSo, IsJobBy, IsNoFile, IsReadAs, IsStatusOf}
+use Rattle.wast_run.specs.Passing.{LastLines, LastReads, LeadOver, PassesFor, ReportsOver, StopsIn, WantsMemory, module_read, script_read}
+use Rattle.wast_run.specs.Reading.{HasReportedOver, IsBehindOver, IsFaultBy, IsOfLine, IsStopBy, JudgesFile, JudgesSo}
+use Rattle.wast_run.specs.Reading.{ReadsScript, StopsOver, StopsRead, StopsScriptOver, StopsTellingOver, TellsOver}
 use Rattle.wast_run.proofs.Comings.{IsSaid}
 use Rattle.wast_run.proofs.Written.{none_written, extended_twice, prefix_behind, prefix_in_front, prefix_of_itself, whole_behind}
 use Rattle.wast_run.proofs.WordLines.{count_more, line_more, lines_in_front}
@@ -45,7 +46,8 @@ module _ (old new : List Event) (name : Name) where
   -- bytes that were read are judged
   pub judged_read : (bytes : List ℕ) (j : Judged) → new ≡ old ++ Read name most_module_bytes (Ok bytes) ∷ []
       → length bytes ≤ most_module_bytes → IsSaid bytes j → Passes old new (JudgesFile name j)
-  judged_read bytes j is short (verdict, said, agrees) = (module_read name (Ok bytes), is, (Some verdict, (Ok bytes, refl, (short, said)), agrees))
+  judged_read bytes j is short (verdict, said, agrees) =
+      (module_read name (Ok bytes), is, (Some verdict, (Ok bytes, refl, (short, said)), agrees))
 
   pub long_read : (why : ReadAnswer) → why ≡ reading.TooLong → new ≡ old ++ Read name most_module_bytes (Err why) ∷ []
       → Passes old new (JudgesFile name judged.Beyond)
@@ -344,8 +346,8 @@ stops_in start old new steps index commands front rest command at out now now' o
 module _ (old new : List Event) (steps : ℕ) (commands : List Command) (out now now' : Option (List ℕ)) (ok total : ℕ)
     (many : total ≡ length commands)
     (passes : Passes old new (λ events. (at : Setting) × IsBehindOver steps commands at out now ok events)) where
-  total_is : (words : List Word) (at : Setting) (events : List Event) → LeadOver steps at_first commands words at events → ok ≡ ok_count words
-      → total_line total ok ≡ total_line (length words) (ok_count words)
+  total_is : (words : List Word) (at : Setting) (events : List Event) → LeadOver steps at_first commands words at events
+      → ok ≡ ok_count words → total_line total ok ≡ total_line (length words) (ok_count words)
   total_is words at events lead counted =
       ap (λ n. total_line n ok) (many ∙ sym (lead_over_length steps at_first commands words at events lead))
       ∙ ap (total_line (length words)) counted
@@ -509,11 +511,12 @@ pub status_passes : (old new : List Event) (words : List Name) (out out' : Optio
 status_passes old new words out out' status Says =
     passed_so old new (EndsSo words out out' (Ok status)) (PassesFor words out out' status Says) (λ events ends. (Ok status, ends, refl))
 
-pub stop_passes : (old new : List Event) (words : List Name) (out out' : Option (List ℕ)) (status : ℕ) (Says : List ℕ → Type 0) (why : Reason)
-    → (status ≡ status_of why) ⊎ (status ≡ 5) → Says (error_line why) ⊎ (status ≡ 5)
+pub stop_passes : (old new : List Event) (words : List Name) (out out' : Option (List ℕ)) (status : ℕ) (Says : List ℕ → Type 0)
+    (why : Reason) → (status ≡ status_of why) ⊎ (status ≡ 5) → Says (error_line why) ⊎ (status ≡ 5)
     → Passes old new (EndsSo words out out' (Err why)) → Passes old new (PassesFor words out out' status Says)
 stop_passes old new words out out' status Says why is says =
-    passed_so old new (EndsSo words out out' (Err why)) (PassesFor words out out' status Says) (λ events ends. (Err why, ends, both is says))
+    passed_so old new (EndsSo words out out' (Err why)) (PassesFor words out out' status Says)
+    (λ events ends. (Err why, ends, both is says))
   where
     both : (status ≡ status_of why) ⊎ (status ≡ 5) → Says (error_line why) ⊎ (status ≡ 5)
         → ((status ≡ status_of why) × Says (error_line why)) ⊎ (status ≡ 5)

@@ -114,6 +114,7 @@ returns-clause-passed g c =
     let k = c.loop-index.index in
     let past : length (seen_commands commands) ≤ k = omega (arith, c.loop-index-test.false, length-map commands seen_command) in
     let passed = subst (λ front. Passes (files.trace c.args.files.now) (files.trace c.loop-index.files)
-    (IsBehindOver c.args.steps front (setting_of c.loop-index.stage) (out.told c.args.out.now) (out.told c.loop-index.out) c.loop-index.ok))
+    (IsBehindOver c.args.steps front (setting_of c.loop-index.stage) (out.told c.args.out.now) (out.told c.loop-index.out)
+    c.loop-index.ok))
     (take_all k (seen_commands commands) past) c.loop-index.invariant.passed in
     (passed.0, passed.1, (setting_of c.loop-index.stage, passed.2))

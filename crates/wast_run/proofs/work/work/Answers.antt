@@ -17,8 +17,9 @@ pub returns-in-Err-clause-stop : goal.returns-in-Err-clause-stop
 returns-in-Err-clause-stop g c =
     let files = g.F.Files in
     words_stop (texts c.args.words.now) (files.told c.args.files.now)
-    (GivesFirst (files.told c.args.files.now) (files.trace c.args.files.now) (files.trace c.args.files.now)) (files.read_faults c.args.files.now)
-    (files.read_faults c.args.files.now) (files.fault_name c.args.files.now) (g.O.Sink.told c.args.out.now) (g.O.Sink.faults c.args.out.now)
+    (GivesFirst (files.told c.args.files.now) (files.trace c.args.files.now) (files.trace c.args.files.now))
+    (files.read_faults c.args.files.now) (files.read_faults c.args.files.now) (files.fault_name c.args.files.now)
+    (g.O.Sink.told c.args.out.now) (g.O.Sink.faults c.args.out.now)
     (reason_of c.in-Err.stop) c.in-Err.ensures.stop
 
 pub returns-in-Err-script_in-clause-stop : goal.returns-in-Err-script_in-clause-stop
@@ -71,8 +72,8 @@ returns-in-Ok-report_commands-clause-reported g c = λ m tells.
     let job : Tells told (λ m. IsJob words m (Reports line.steps commands)) =
     λ m tells. let s = c.in-Ok-script_in.ensures.script m tells in
     job_of_text words line c.in-Ok.ensures.line told Gives m s.0 (Reports line.steps commands) s.1 (s.2, refl) in
-    let gave = first_gives (files.trace c.args.files.now) (files.trace c.script_in.new.files) (files.trace c.report_commands.new.files) told
-    line.script commands _ c.in-Ok-script_in.ensures.passed c.in-Ok-report_commands.ensures.passed in
+    let gave = first_gives (files.trace c.args.files.now) (files.trace c.script_in.new.files) (files.trace c.report_commands.new.files)
+    told line.script commands _ c.in-Ok-script_in.ensures.passed c.in-Ok-report_commands.ensures.passed in
     reports words line c.in-Ok.ensures.line told Gives commands job gave m tells (g.O.Sink.told c.args.out.now)
     (g.O.Sink.told c.report_commands.new.out)
     c.in-Ok-report_commands.all_ok c.status_for.result
