@@ -3,15 +3,12 @@ use Rattle.std.specs.Prelude.{if◌then◌else◌, MatchOption}
 use Rattle.std.proofs.Common.{◌≡◌, ◌≢◌, ◌⊎◌, inl, inr, ℕ, ◌≤◌, ◌==◌, Bool, true, false, List, [], ◌∷◌, ◌++◌, length}
 use Rattle.std.proofs.Common.{Option, Some, None, Ok, Err}
 use Rattle.std.proofs.Common.{append_assoc, refl, sym, ap, ◌∙◌, subst, arith}
-use Rattle.std.proofs.lemmas.List.{append-nil}
 use Rattle.std.proofs.lemmas.Option.{same_Some, none-some}
 use Rattle.std.specs.FinMap.{get}
-use Rattle.std.specs.List.{AllByRecursion}
 use Rattle.w2c_io.specs.Contents.{Name, Contents, Told, IsPrefix}
 use Rattle.w2c_io.specs.Events.{Event, Read}
 use Rattle.w2c_io.specs.Honest.{AreHonest, Does}
-use Rattle.w2c_io.specs.Telling.{Says, Tells}
-use Rattle.w2c_io.specs.declared.answers.ReadAnswer.{ReadAnswer}
+use Rattle.w2c_io.specs.Telling.{Says}
 use Rattle.w2c_io.specs.declared.answers.ReadAnswer.TheVariants as reading
 use Rattle.wasm_spelling.specs.Limits.{most_module_bytes}
 use Rattle.wasm_valid.specs.FileVerdict.{FileVerdict}
@@ -21,10 +18,10 @@ use Rattle.wast_script.specs.CommandLine.{Line, line_of}
 use Rattle.wast_script.specs.Commands as script
 use Rattle.wast_script.specs.Commands.{Command}
 use Rattle.wast_script.specs.Lines.{Reason, Usage, Unwritten, WantOfMemory, Refused, Unread, error_line, fault_status, status_of}
-use Rattle.wast_script.specs.Scripts.{IsScript, most_script_bytes}
+use Rattle.wast_script.specs.Scripts.{most_script_bytes}
 use Rattle.wast_run.specs.declared.word.Word.{Word}
-use Rattle.wast_run.specs.Report.{Comes, IsFile, IsTimely, LeadInTime, Setting, at_first, lines_of, ok_count, report_of}
-use Rattle.wast_run.specs.Parts.{file_of, lines_before, HasItsFile, IsFirstMissing, IsPart}
+use Rattle.wast_run.specs.Report.{Comes, IsFile, LeadInTime, Setting, at_first, ok_count, report_of}
+use Rattle.wast_run.specs.Parts.{lines_before, IsFirstMissing, IsPart}
 use Rattle.wast_run.specs.Jobs.{GainedPart, HasReading, IsAnswered, IsNotThere, IsJob, IsJobBehind, Job, Refuses, Reported, Reports, Stops}
 use Rattle.wast_run.specs.Passing.{Answer, ComesOver, DoesJob, DoesLine, Ending, EndsSo, FailsLast, IsGiven, IsJobBy, IsNoFile, IsReadAs}
 use Rattle.wast_run.specs.Passing.{IsStatusOf, LastLines, LastReads, LeadOver, PassesFor, ReadsNext, ReportsOver, StopsIn, WantsMemory}

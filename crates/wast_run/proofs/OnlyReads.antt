@@ -1,15 +1,14 @@
 -- Through the files pass reads alone: of the script, and of files that its commands name.
 use Rattle.std.specs.Prelude.{MatchOption}
 use Rattle.std.proofs.Common.{◌≡◌, ◌⊎◌, inl, inr, ℕ, List, [], ◌∷◌, ◌++◌, Option, Some, None, Ok, Err}
-use Rattle.std.proofs.Common.{append_assoc, refl, sym, ap, ◌∙◌, subst}
+use Rattle.std.proofs.Common.{append_assoc, refl, sym, ◌∙◌, subst}
 use Rattle.std.proofs.lemmas.List.{append-nil}
 use Rattle.std.specs.List.{AllByRecursion}
 use Rattle.w2c_io.specs.Contents.{Name}
-use Rattle.w2c_io.specs.Events.{Event, Read}
+use Rattle.w2c_io.specs.Events.{Event}
 use Rattle.w2c_io.specs.Passed.{Passes}
 use Rattle.w2c_io.specs.declared.answers.ReadAnswer.TheVariants as reading
 use Rattle.w2c_io.proofs.Passed.{passed_so}
-use Rattle.wasm_spelling.specs.Limits.{most_module_bytes}
 use Rattle.wasm_valid.specs.FileVerdict.{FileVerdict}
 use Rattle.wast_script.specs.declared.fault.ScriptFault.TheVariants as fault
 use Rattle.wast_script.specs.CommandLine.{Line, line_of}
@@ -21,7 +20,7 @@ use Rattle.wast_run.specs.Report.{Setting, at_first}
 use Rattle.wast_run.specs.Parts.{file_of, IsNamed}
 use Rattle.wast_run.specs.Jobs.{Job, Reports, Stops}
 use Rattle.wast_run.specs.Passing.{Answer, AreReadsFor, ComesOver, DoesJob, DoesLine, Ending, EndsSo, IsJobBy, IsReadAs, IsReadOf}
-use Rattle.wast_run.specs.Passing.{LastReads, LeadOver, OnlyReads, ReadsNext, ReportsOver, StopsIn, WantsMemory, module_read, script_read}
+use Rattle.wast_run.specs.Passing.{LastReads, LeadOver, OnlyReads, ReadsNext, ReportsOver, WantsMemory, module_read}
 
 all_both : {A : Type 0} (P : A → Type 0) (xs ys : List A) → AllByRecursion P xs → AllByRecursion P ys → AllByRecursion P (xs ++ ys)
 all_both P [] ys all others = others

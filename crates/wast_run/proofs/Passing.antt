@@ -3,7 +3,6 @@ use Rattle.std.specs.Prelude.{if◌then◌else◌, MatchOption}
 use Rattle.std.proofs.Common.{◌≡◌, ◌⊎◌, inl, inr, ℕ, suc, ◌+◌, ◌≤◌, ◌==◌, Bool, List, [], ◌∷◌, ◌++◌, length, Option, Some, None, Ok, Err}
 use Rattle.std.proofs.Common.{append_assoc, refl, sym, ap, ◌∙◌, subst}
 use Rattle.std.proofs.lemmas.List.{append-nil}
-use Rattle.std.proofs.lemmas.Option.{none-some}
 use Rattle.w2c_io.specs.Contents.{Name, Told, HasFile, IsPrefix, extended}
 use Rattle.w2c_io.specs.Events.{Event, Read}
 use Rattle.w2c_io.specs.Passed.{Passes}
@@ -13,9 +12,7 @@ use Rattle.w2c_io.specs.declared.answers.ReadAnswer.TheVariants as reading
 use Rattle.w2c_io.proofs.Passed.{both_passed, none_passed, passed_so}
 use Rattle.wasm_tree.specs.declared.tree.Module.{Module}
 use Rattle.wasm_spelling.specs.Limits.{most_module_bytes}
-use Rattle.wasm_valid.specs.FileVerdict.{FileVerdict}
 use Rattle.wast_script.specs.declared.fault.ScriptFault.{ScriptFault}
-use Rattle.wast_script.specs.declared.fault.ScriptFault.TheVariants as fault
 use Rattle.wast_script.specs.CommandLine.{Line, line_of}
 use Rattle.wast_script.specs.Commands as script
 use Rattle.wast_script.specs.Commands.{Command, ModuleFile}
@@ -25,14 +22,14 @@ use Rattle.wast_run.specs.declared.judging.Judged.{Judged}
 use Rattle.wast_run.specs.declared.judging.Judged.TheVariants as judged
 use Rattle.wast_run.specs.declared.word.Word.{Word}
 use Rattle.wast_run.specs.declared.word.Word.TheVariants as word
-use Rattle.wast_run.specs.Report.{accepted_tree, command_line, holds, is_invalid, is_malformed, is_ok, lines_of, ok_count, report_of}
-use Rattle.wast_run.specs.Report.{report_status, total_line, ComesBy, IsTimely, Joins, Keeps, Asserts, EndsWith, TrapsIn, Setting}
+use Rattle.wast_run.specs.Report.{accepted_tree, command_line, holds, is_invalid, is_malformed, is_ok, lines_of, ok_count}
+use Rattle.wast_run.specs.Report.{total_line, ComesBy, IsTimely, Joins, Keeps, Asserts, EndsWith, TrapsIn, Setting}
 use Rattle.wast_run.specs.Report.{at_first}
 use Rattle.wast_run.specs.Parts.{file_of, lines_before}
-use Rattle.wast_run.specs.Judging.{says_invalid, says_malformed, tree_of, Agrees}
-use Rattle.wast_run.specs.Jobs.{GivesFirst, IsJobBehind, Job, Reports, Stops}
+use Rattle.wast_run.specs.Judging.{says_invalid, says_malformed, tree_of}
+use Rattle.wast_run.specs.Jobs.{GivesFirst, Reports, Stops}
 use Rattle.wast_run.specs.Stopping.{StopsLine, StopsWords}
-use Rattle.wast_run.specs.Passing.{Answer, ComesOver, DoesJob, DoesLine, Ending, EndsSo, IsJobBy, IsNoFile, IsReadAs, IsStatusOf}
+use Rattle.wast_run.specs.Passing.{Answer, ComesOver, DoesLine, Ending, EndsSo, IsJobBy, IsNoFile, IsReadAs}
 use Rattle.wast_run.specs.Passing.{LastLines, LastReads, LeadOver, PassesFor, ReportsOver, StopsIn, WantsMemory, module_read, script_read}
 use Rattle.wast_run.specs.Reading.{HasReportedOver, IsBehindOver, IsFaultBy, IsOfLine, IsStopBy, JudgesFile, JudgesSo}
 use Rattle.wast_run.specs.Reading.{ReadsScript, StopsOver, StopsRead, StopsScriptOver, StopsTellingOver, TellsOver}
