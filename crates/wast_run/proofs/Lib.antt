@@ -23,8 +23,13 @@ pub mod StageLaws
 pub mod Comings
 -- The commands of a script
 pub mod ScriptLaws
+-- What passes through the files
+pub mod Passing
+pub mod OnlyReads
 -- Why the work stops
 pub mod WorkLaws
 -- What a stop means for the top call
 pub mod JobLaws
 pub mod TopLaws
+-- Where files behave as files
+pub mod Honest

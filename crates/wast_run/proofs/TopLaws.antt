@@ -18,7 +18,8 @@ use Rattle.wast_script.specs.Lines.{Reason, Usage, Unwritten, WantOfMemory, Refu
 use Rattle.wast_run.specs.declared.word.Word.{Word}
 use Rattle.wast_run.specs.Report.{at_first, ok_count, report_of, LeadInTime, Setting}
 use Rattle.wast_run.specs.Parts.{file_of, GainsLinesBefore, HasItsFile, IsFirstMissing, IsNamed, IsPart}
-use Rattle.wast_run.specs.Jobs.{Answers, AsksFor, GainedPart, GainsPrefix, IsAnswered, IsJob, IsJobBehind, IsUnread, Refuses}
+use Rattle.wast_script.specs.Scripts.{IsScript}
+use Rattle.wast_run.specs.Jobs.{Answers, GainedPart, GainsPrefix, IsAnswered, IsJob, IsJobBehind, IsUnread, Refuses}
 use Rattle.wast_run.specs.Jobs.{Reported, ReportedPart, Reports, Stops}
 use Rattle.wast_run.specs.Stopping.{StopsWork}
 use Rattle.wast_run.proofs.JobLaws.{AreApart, IsOneScript, job_apart, one_list, one_status}
@@ -28,7 +29,7 @@ use Rattle.wast_run.proofs.PartLaws.{part_before}
 use Rattle.wast_run.proofs.Written.{none_written, prefix_of_itself}
 
 -- the whole report is a part of it
-whole_part : (m : Contents) (steps : ℕ) (commands : List Command) (all : List Word) (after : Setting)
+pub whole_part : (m : Contents) (steps : ℕ) (commands : List Command) (all : List Word) (after : Setting)
     → LeadInTime m steps at_first commands all after → IsPart m steps commands (report_of all)
 whole_part m steps commands all after lead = record {
   front = commands;
@@ -105,9 +106,10 @@ said S status wanted (inr is) e not = absurd (not (sym e ∙ is))
 not_5 : (n : ℕ) → n ≤ 4 → n ≢ 5
 not_5 n le e = omega (arith, le, e)
 
-module _ (words : List Name) (told : Told) (reads reads' : ℕ) (named : Option Name) (old new : Option (List ℕ)) (faults faults' : ℕ) where
+module _ (words : List Name) (told : Told) (Gives : Name → List ℕ → Type 0) (reads reads' : ℕ) (named : Option Name)
+    (old new : Option (List ℕ)) (faults faults' : ℕ) where
   abbrev pub Stopped : Reason → Type 0
-  Stopped why = StopsWork words told reads reads' named old new faults faults' why
+  Stopped why = StopsWork words told Gives reads reads' named old new faults faults' why
 
   -- words without a reading
   usage_job : (m : Contents) → line_of words ≡ None → IsJob words m (Stops Usage)
@@ -137,12 +139,12 @@ module _ (words : List Name) (told : Told) (reads reads' : ℕ) (named : Option 
         by WantOfMemory stop is says = absurd (below 2 5 (omega arith) is)
 
     pub stop_unread : (S : Reason → Type 0) → S why ⊎ (status ≡ 5) → status ≡ 3
-        → (file : Name) × IsUnread words told reads reads' named file × S (Unread file)
+        → (file : Name) × IsUnread words told Gives reads reads' named file × S (Unread file)
     stop_unread S says three =
         by why stop (ends_so why status 3 ends three (not_5 3 (omega arith))) (said (S why) status 3 says three (not_5 3 (omega arith)))
       where
         by : (why : Reason) → Stopped why → status_of why ≡ 3 → S why
-            → (file : Name) × IsUnread words told reads reads' named file × S (Unread file)
+            → (file : Name) × IsUnread words told Gives reads reads' named file × S (Unread file)
         by Usage stop is says = absurd (below 2 3 (omega arith) (sym is))
         by (Refused why) stop is says = absurd (fault_not_3 why is)
         by (Unread file) stop is says = (file, stop.0, says)
@@ -181,7 +183,8 @@ module _ (words : List Name) (told : Told) (reads reads' : ℕ) (named : Option 
         by (Refused why) stop ends = absurd (stop.0.0 none)
         by (Unread file) stop ends =
             absurd (subst (λ o. MatchOption o ⊥ (λ line. (file ≡ line.script)
-            ⊎ Tells told (λ m. AsksFor words m (λ steps commands. IsNamed commands file)))) none stop.0.0)
+            ⊎ ((text : List ℕ) × Gives line.script text × (commands : List Command) × IsScript text commands × IsNamed commands file)))
+            none stop.0.0)
         by Unwritten stop ends = absurd (stop.1 none)
         by WantOfMemory stop ends = elim ends [ inl is ↦ inr is | inr is ↦ inr is ]
 

@@ -11,7 +11,8 @@ use Rattle.w2c_io.proofs.Telling.{rose_from}
 use Rattle.wast_script.specs.CommandLine.{Line, line_of}
 use Rattle.wast_script.specs.Commands.{Command}
 use Rattle.wast_script.specs.Lines.{Reason, Usage, Unwritten, WantOfMemory, Refused, Unread}
-use Rattle.wast_run.specs.Jobs.{AsksFor, HasReading, IsJob, IsJobBehind, IsToRead, Job, Reported, ReportedPart, Reports, Stops}
+use Rattle.wast_script.specs.Scripts.{IsScript}
+use Rattle.wast_run.specs.Jobs.{HasReading, IsJob, IsJobBehind, IsToRead, Job, Reported, ReportedPart, Reports, Stops}
 use Rattle.wast_run.specs.Telling.{HasReported}
 use Rattle.wast_run.specs.Parts.{IsNamed}
 use Rattle.wast_run.specs.Stopping.{HasGained, IsUnreadFile, StopsCommand, StopsFile, StopsReport, StopsScript, StopsWords, StopsWork}
@@ -25,16 +26,16 @@ file_stops told file before after named Usage stop = absurd stop
 file_stops told file before after named (Refused why) stop = absurd stop
 file_stops told file before after named Unwritten stop = absurd stop
 
-pub words_stop : (words : List Name) (told : Told) (reads reads' : ℕ) (named : Option Name) (old : Option (List ℕ)) (faults : ℕ)
-    (why : Reason)
-    → StopsWords words why → StopsWork words told reads reads' named old old faults faults why
-words_stop words told reads reads' named old faults Usage stop = (stop, refl)
-words_stop words told reads reads' named old faults WantOfMemory stop = λ m tells. inl refl
-words_stop words told reads reads' named old faults (Refused why) stop = absurd stop
-words_stop words told reads reads' named old faults (Unread file) stop = absurd stop
-words_stop words told reads reads' named old faults Unwritten stop = absurd stop
+pub words_stop : (words : List Name) (told : Told) (Gives : Name → List ℕ → Type 0) (reads reads' : ℕ) (named : Option Name)
+    (old : Option (List ℕ)) (faults : ℕ) (why : Reason)
+    → StopsWords words why → StopsWork words told Gives reads reads' named old old faults faults why
+words_stop words told Gives reads reads' named old faults Usage stop = (stop, refl)
+words_stop words told Gives reads reads' named old faults WantOfMemory stop = λ m tells. inl refl
+words_stop words told Gives reads reads' named old faults (Refused why) stop = absurd stop
+words_stop words told Gives reads reads' named old faults (Unread file) stop = absurd stop
+words_stop words told Gives reads reads' named old faults Unwritten stop = absurd stop
 
-module _ (words : List Name) (line : Line) (is : line_of words ≡ Some line) (told : Told) where
+module _ (words : List Name) (line : Line) (is : line_of words ≡ Some line) (told : Told) (Gives : Name → List ℕ → Type 0) where
   has_reading : HasReading words
   has_reading none = none-some line (sym none ∙ is)
 
@@ -50,14 +51,17 @@ module _ (words : List Name) (line : Line) (is : line_of words ≡ Some line) (t
   job_of_none : (m : Contents) → get m line.script ≡ None → IsJob words m (Stops (Unread line.script))
   job_of_none m none = job_by_line m _ (subst (λ o. IsJobBehind line o (Stops (Unread line.script))) (sym none) refl)
 
-  to_read : (file : Name) → (file ≡ line.script) ⊎ Tells told (λ m. AsksFor words m (λ steps commands. IsNamed commands file))
-      → IsToRead words told file
+  to_read : (file : Name)
+      → (file ≡ line.script)
+      ⊎ ((text : List ℕ) × Gives line.script text × (commands : List Command) × IsScript text commands × IsNamed commands file)
+      → IsToRead words Gives file
   to_read file which = subst (λ o. MatchOption o ⊥ (λ line. (file ≡ line.script)
-      ⊎ Tells told (λ m. AsksFor words m (λ steps commands. IsNamed commands file)))) (sym is) which
+      ⊎ ((text : List ℕ) × Gives line.script text × (commands : List Command) × IsScript text commands × IsNamed commands file)))
+      (sym is) which
 
   pub script_stops : (reads reads' : ℕ) (named : Option Name) (old : Option (List ℕ)) (faults : ℕ) (why : Reason)
       → StopsScript told line.script reads reads' named why
-      → StopsWork words told reads reads' named old old faults faults why
+      → StopsWork words told Gives reads reads' named old old faults faults why
   script_stops reads reads' named old faults (Unread name) (same, inl faulted) =
       ((to_read name (inl same), inl (subst (λ f. Faulted f reads reads' named) (sym same) faulted)), λ m tells. inl refl)
   script_stops reads reads' named old faults (Unread name) (same, inr (m, tells, none)) = (
@@ -79,7 +83,8 @@ module _ (words : List Name) (line : Line) (is : line_of words ≡ Some line) (t
   script_stops reads reads' named old faults Unwritten stop = absurd stop
 
   module _ (commands : List Command)
-      (job : Tells told (λ m. IsJob words m (Reports line.steps commands))) where
+      (job : Tells told (λ m. IsJob words m (Reports line.steps commands)))
+      (gave : (text : List ℕ) × Gives line.script text × IsScript text commands) where
     gained : (old new : Option (List ℕ)) → Tells told (λ m. HasGained m line.steps commands old new)
         → Tells told (λ m. ReportedPart words m old new)
     gained old new gains m tells = (line.steps, commands, job m tells, gains m tells)
@@ -92,17 +97,17 @@ module _ (words : List Name) (line : Line) (is : line_of words ≡ Some line) (t
     pub report_stops : (start reads reads' : ℕ) (named : Option Name) (old new : Option (List ℕ)) (faults faults' : ℕ) (why : Reason)
         → start ≤ reads
         → StopsReport told line.steps commands reads reads' named old new faults faults' why
-        → StopsWork words told start reads' named old new faults faults' why
+        → StopsWork words told Gives start reads' named old new faults faults' why
     report_stops start reads reads' named old new faults faults' (Unread file) later (is_named, inl faulted, gains) = (
       (
-        to_read file (inr (λ m tells. (line.steps, commands, job m tells, is_named))),
+        to_read file (inr (gave.0, gave.1, commands, gave.2, is_named)),
         inl (record { rose = rose_from start reads reads' later faulted.rose; named = faulted.named }),
       ),
       λ m tells. inr (gained old new gains m tells),
     )
     report_stops start reads reads' named old new faults faults' (Unread file) later (is_named, inr (m, tells, missing), gains) = (
       (
-        to_read file (inr (λ m tells. (line.steps, commands, job m tells, is_named))),
+        to_read file (inr (gave.0, gave.1, commands, gave.2, is_named)),
         inr (m, tells, inr (line.steps, commands, job m tells, missing)),
       ),
       λ m tells. inr (gained old new gains m tells),

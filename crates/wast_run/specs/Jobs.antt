@@ -1,14 +1,16 @@
 -- What a command line asks for over what the files hold, and what the clauses of the top call say of it.
-use Rattle.std.specs.Prelude.{◌≡◌, ◌≢◌, ◌⊎◌, ℕ, List, Option, Some, None, MatchOption}
+use Rattle.std.specs.Prelude.{◌≡◌, ◌≢◌, ◌⊎◌, ℕ, List, ◌∷◌, Option, Some, None, MatchOption, Ok}
 use Rattle.std.specs.FinMap.{get}
-use Rattle.w2c_io.specs.Contents.{Name, Contents, Told, extended}
+use Rattle.w2c_io.specs.Contents.{Name, Contents, Told, HasFile, extended}
 use Rattle.w2c_io.specs.Causes.{Faulted}
+use Rattle.w2c_io.specs.Events.{Event, Read}
+use Rattle.w2c_io.specs.Passed.{Passes}
 use Rattle.w2c_io.specs.Telling.{Tells, SaysPart}
 use Rattle.wast_script.specs.declared.fault.ScriptFault.TheVariants.{Memory as memory_wanted}
 use Rattle.wast_script.specs.CommandLine.{Line, line_of}
 use Rattle.wast_script.specs.Commands.{Command}
 use Rattle.wast_script.specs.Lines.{Reason, Usage, Unwritten, WantOfMemory, Refused, Unread, status_of}
-use Rattle.wast_script.specs.Scripts.{IsScript, IsFault}
+use Rattle.wast_script.specs.Scripts.{IsScript, IsFault, most_script_bytes}
 use Rattle.wast_run.specs.declared.word.Word.{Word}
 use Rattle.wast_run.specs.Report.{AreWords, AreWordsInTime, report_of, report_status}
 use Rattle.wast_run.specs.Parts.{IsFirstMissing, IsNamed, IsPart}
@@ -77,10 +79,15 @@ Refuses words told (Unread file) = ⊥
 Refuses words told Unwritten = ⊥
 Refuses words told WantOfMemory = ⊥
 
--- one of the files that are to be read: the script, or one that its commands name
-abbrev pub IsToRead : List Name → Told → Name → Type 0
-IsToRead words told file = MatchOption (line_of words) ⊥ (λ line. (file ≡ line.script)
-    ⊎ Tells told (λ contents. AsksFor words contents (λ steps commands. IsNamed commands file)))
+-- the first call was the read of this file, and gave these bytes, which the file holds as far as is told
+abbrev pub GivesFirst : Told → List Event → List Event → Name → List ℕ → Type 0
+GivesFirst told old new name text = HasFile told name text
+    × Passes old new (λ events. (rest : List Event) × (events ≡ Read name most_script_bytes (Ok text) ∷ rest))
+
+-- one of the files that are to be read: the script, or one that a command of it names, in the bytes that its read gave
+abbrev pub IsToRead : List Name → (Name → List ℕ → Type 0) → Name → Type 0
+IsToRead words Gives file = MatchOption (line_of words) ⊥ (λ line. (file ≡ line.script)
+    ⊎ ((text : List ℕ) × Gives line.script text × (commands : List Command) × IsScript text commands × IsNamed commands file))
 
 -- the first of these that is not there: the script, or of those that its commands name
 abbrev pub IsNotThere : List Name → Contents → Name → Type 0
@@ -88,6 +95,6 @@ IsNotThere words contents file = IsJob words contents (Stops (Unread file))
     ⊎ AsksFor words contents (λ steps commands. IsFirstMissing contents commands file)
 
 -- why a file is not read: a read of it failed, or it is the first that is told not to be there
-abbrev pub IsUnread : List Name → Told → ℕ → ℕ → Option Name → Name → Type 0
-IsUnread words told before after named file = IsToRead words told file
+abbrev pub IsUnread : List Name → Told → (Name → List ℕ → Type 0) → ℕ → ℕ → Option Name → Name → Type 0
+IsUnread words told Gives before after named file = IsToRead words Gives file
     × (Faulted file before after named ⊎ ((contents : Contents) × (told ≡ Some contents) × IsNotThere words contents file))

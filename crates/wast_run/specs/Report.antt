@@ -135,17 +135,21 @@ abbrev pub holds : Bool → Word
 holds true = word.Ok
 holds false = word.Failed
 
--- a command with this before it comes to this word, and this stands behind it
+-- a command with this before it comes to this word, and this stands behind it, where the verdicts on files are these
+abbrev pub ComesBy : (Name → Option FileVerdict → Type 0) → ℕ → Setting → Command → Word → Setting → Type 0
+ComesBy IsOnFile steps at (script.Module file) w after =
+    (verdict : Option FileVerdict) × IsOnFile file.filename verdict × Joins at file.name (accepted_tree verdict) w after
+ComesBy IsOnFile steps at (script.Invoke call) w after = Keeps at call w after
+ComesBy IsOnFile steps at (script.AssertReturn call expected) w after = Asserts at call steps (EndsWith expected) w after
+ComesBy IsOnFile steps at (script.AssertTrap call cause) w after = Asserts at call steps (TrapsIn (length at.kept) cause) w after
+ComesBy IsOnFile steps at (script.AssertInvalid file) w after =
+    (verdict : Option FileVerdict) × IsOnFile file verdict × (w ≡ holds (is_invalid verdict)) × (after ≡ at)
+ComesBy IsOnFile steps at (script.AssertMalformed file) w after =
+    (verdict : Option FileVerdict) × IsOnFile file verdict × (w ≡ holds (is_malformed verdict)) × (after ≡ at)
+
+-- the same over what the files hold
 abbrev pub Comes : Contents → ℕ → Setting → Command → Word → Setting → Type 0
-Comes contents steps at (script.Module file) w after =
-    (verdict : Option FileVerdict) × IsFile contents file.filename verdict × Joins at file.name (accepted_tree verdict) w after
-Comes contents steps at (script.Invoke call) w after = Keeps at call w after
-Comes contents steps at (script.AssertReturn call expected) w after = Asserts at call steps (EndsWith expected) w after
-Comes contents steps at (script.AssertTrap call cause) w after = Asserts at call steps (TrapsIn (length at.kept) cause) w after
-Comes contents steps at (script.AssertInvalid file) w after =
-    (verdict : Option FileVerdict) × IsFile contents file verdict × (w ≡ holds (is_invalid verdict)) × (after ≡ at)
-Comes contents steps at (script.AssertMalformed file) w after =
-    (verdict : Option FileVerdict) × IsFile contents file verdict × (w ≡ holds (is_malformed verdict)) × (after ≡ at)
+Comes contents steps at command w after = ComesBy (IsFile contents) steps at command w after
 
 -- the words of commands in order, and what stands behind them
 abbrev pub Lead : Contents → ℕ → Setting → List Command → List Word → Setting → Type 0

@@ -74,12 +74,13 @@ StopsScript told file before after named Usage = ⊥
 StopsScript told file before after named Unwritten = ⊥
 
 -- the whole work
-abbrev pub StopsWork : List Name → Told → ℕ → ℕ → Option Name → Option (List ℕ) → Option (List ℕ) → ℕ → ℕ → Reason → Type 0
-StopsWork words told reads reads' named old new faults faults' Usage = Refuses words told Usage × (new ≡ old)
-StopsWork words told reads reads' named old new faults faults' (Refused why) = Refuses words told (Refused why) × (new ≡ old)
-StopsWork words told reads reads' named old new faults faults' (Unread file) =
-    IsUnread words told reads reads' named file × Tells told (λ contents. GainedPart words contents old new)
-StopsWork words told reads reads' named old new faults faults' Unwritten =
+abbrev pub StopsWork : List Name → Told → (Name → List ℕ → Type 0) → ℕ → ℕ → Option Name → Option (List ℕ) → Option (List ℕ) → ℕ → ℕ
+    → Reason → Type 0
+StopsWork words told Gives reads reads' named old new faults faults' Usage = Refuses words told Usage × (new ≡ old)
+StopsWork words told Gives reads reads' named old new faults faults' (Refused why) = Refuses words told (Refused why) × (new ≡ old)
+StopsWork words told Gives reads reads' named old new faults faults' (Unread file) =
+    IsUnread words told Gives reads reads' named file × Tells told (λ contents. GainedPart words contents old new)
+StopsWork words told Gives reads reads' named old new faults faults' Unwritten =
     Rose faults faults' × HasReading words × Tells told (λ contents. ReportedPart words contents old new)
-StopsWork words told reads reads' named old new faults faults' WantOfMemory =
+StopsWork words told Gives reads reads' named old new faults faults' WantOfMemory =
     Tells told (λ contents. GainedPart words contents old new)

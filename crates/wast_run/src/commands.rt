@@ -1,11 +1,14 @@
 // One command.
 ghost use Rattle.std.specs.Prelude.{◌≡◌, ◌≤◌, ℕ, Option, IfErr, IfOk, OnOk};
+ghost use Rattle.w2c_io.specs.Passed.{Passes};
 ghost use Rattle.w2c_io.specs.Telling.{Tells};
 ghost use Rattle.wasm_valid.specs.FileVerdict.{FileVerdict};
 ghost use Rattle.wast_script.specs.Seen.{reason_of, seen_command};
 ghost use Rattle.wast_run.specs.Report.{Comes, IsFile, IsTimely, holds, is_invalid, is_malformed};
 ghost use Rattle.wast_run.specs.Parts.{file_of};
 ghost use Rattle.wast_run.specs.Stages.{setting_of, HasModuleName, IsSound};
+ghost use Rattle.wast_run.specs.Passing.{ComesOver};
+ghost use Rattle.wast_run.specs.Reading.{JudgesSo, StopsOver, StopsRead};
 ghost use Rattle.wast_run.specs.Stopping.{StopsCommand, StopsFile};
 
 use crate::judging::{Judged, judge_file};
@@ -17,7 +20,7 @@ use w2c_io::Files;
 use wast_script::{Command, Stop};
 
 /// Does what a command says, and gives its word. An assertion runs at most so many statements.
-#[tactic(auto, using(crate::proofs::Comings::invalid_comes, crate::proofs::Comings::malformed_comes, crate::proofs::Comings::file_stops))]
+#[tactic(auto, using(crate::proofs::Comings::invalid_comes, crate::proofs::Comings::malformed_comes, crate::proofs::Comings::file_stops, crate::proofs::Passing::module_over, crate::proofs::Passing::call_over, crate::proofs::Passing::return_over, crate::proofs::Passing::trap_over, crate::proofs::Passing::invalid_comes_over, crate::proofs::Passing::malformed_comes_over, crate::proofs::Passing::none_without_memory))]
 pub(crate) fn run_command<'a, F: Files>(
     alloc: Global,
     stage: &mut Stage<'a>,
@@ -37,6 +40,10 @@ pub(crate) fn run_command<'a, F: Files>(
     ensures sound { OnOk result (IsSound stage.new) }
     ensures stop { IfErr result (λ stop. StopsCommand (F.told files.old) (file_of (seen_command command.now))
         (F.read_faults files.old) (F.read_faults files.new) (F.fault_name files.new) (reason_of stop)) }
+    ensures passed { IfOk result (λ word. Passes (F.trace files.old) (F.trace files.new)
+        (λ events. ComesOver events steps (setting_of stage.old) (seen_command command.now) word (setting_of stage.new))) }
+    ensures tried { IfErr result (λ stop. Passes (F.trace files.old) (F.trace files.new)
+        (StopsOver (file_of (seen_command command.now)) (reason_of stop))) }
 {
     match command {
         Command::Module(file) => match stage.join_file(alloc, file, files) {
@@ -69,7 +76,7 @@ pub(crate) fn run_command<'a, F: Files>(
 }
 
 // Whether a file is a module that is not valid.
-#[tactic(auto, using(crate::proofs::Comings::invalid_word))]
+#[tactic(auto, using(crate::proofs::Comings::invalid_word, crate::proofs::Passing::invalid_over))]
 fn assert_invalid<F: Files>(alloc: Global, file: &str, files: &mut F) -> Result<Word, Stop>
     ensures told { F.told files.new ≡ F.told files.old }
     ensures current { F.current files.new ≡ F.current files.old }
@@ -79,6 +86,9 @@ fn assert_invalid<F: Files>(alloc: Global, file: &str, files: &mut F) -> Result<
         (λ contents. (verdict : Option FileVerdict) × IsFile contents file.now verdict × (word ≡ holds (is_invalid verdict)))) }
     ensures stop { IfErr result (λ stop. StopsFile (F.told files.old) file.now
         (F.read_faults files.old) (F.read_faults files.new) (F.fault_name files.new) (reason_of stop)) }
+    ensures passed { IfOk result (λ word. Passes (F.trace files.old) (F.trace files.new)
+        (JudgesSo (λ verdict. holds (is_invalid verdict)) file.now word)) }
+    ensures tried { IfErr result (λ stop. Passes (F.trace files.old) (F.trace files.new) (StopsRead file.now (reason_of stop))) }
 {
     match judge_file(alloc, file, files) {
         Ok(judged) => Ok(holds(judged.is_invalid())),
@@ -87,7 +97,7 @@ fn assert_invalid<F: Files>(alloc: Global, file: &str, files: &mut F) -> Result<
 }
 
 // Whether a file is no module by the binary format.
-#[tactic(auto, using(crate::proofs::Comings::malformed_word))]
+#[tactic(auto, using(crate::proofs::Comings::malformed_word, crate::proofs::Passing::malformed_over))]
 fn assert_malformed<F: Files>(alloc: Global, file: &str, files: &mut F) -> Result<Word, Stop>
     ensures told { F.told files.new ≡ F.told files.old }
     ensures current { F.current files.new ≡ F.current files.old }
@@ -97,6 +107,9 @@ fn assert_malformed<F: Files>(alloc: Global, file: &str, files: &mut F) -> Resul
         (λ contents. (verdict : Option FileVerdict) × IsFile contents file.now verdict × (word ≡ holds (is_malformed verdict)))) }
     ensures stop { IfErr result (λ stop. StopsFile (F.told files.old) file.now
         (F.read_faults files.old) (F.read_faults files.new) (F.fault_name files.new) (reason_of stop)) }
+    ensures passed { IfOk result (λ word. Passes (F.trace files.old) (F.trace files.new)
+        (JudgesSo (λ verdict. holds (is_malformed verdict)) file.now word)) }
+    ensures tried { IfErr result (λ stop. Passes (F.trace files.old) (F.trace files.new) (StopsRead file.now (reason_of stop))) }
 {
     match judge_file(alloc, file, files) {
         Ok(judged) => Ok(holds(judged.is_malformed())),

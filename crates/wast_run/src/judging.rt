@@ -1,10 +1,12 @@
 // The verdict on a file that a command names.
 ghost use Rattle.std.specs.Prelude.{◌≡◌, ◌≤◌, length, Option, Some, IfErr, IfOk, OnOk};
+ghost use Rattle.w2c_io.specs.Passed.{Passes};
 ghost use Rattle.w2c_io.specs.Telling.{Tells};
 ghost use Rattle.wasm_valid.specs.FileVerdict.{FileVerdict, IsVerdictOn};
 ghost use Rattle.wast_script.specs.Seen.{reason_of};
 ghost use Rattle.wast_run.specs.Report.{IsFile};
 ghost use Rattle.wast_run.specs.Judging.{says_invalid, says_malformed, Agrees};
+ghost use Rattle.wast_run.specs.Reading.{JudgesFile, StopsRead};
 ghost use Rattle.wast_run.specs.Stopping.{StopsFile};
 
 use std::alloc::Global;
@@ -58,7 +60,7 @@ impl Judged {
 }
 
 /// Reads a file and judges it.
-#[tactic(auto, using(crate::proofs::Comings::judged_file, crate::proofs::Comings::long_file))]
+#[tactic(auto, using(crate::proofs::Comings::judged_file, crate::proofs::Comings::long_file, crate::proofs::Passing::judged_read, crate::proofs::Passing::long_read, crate::proofs::Passing::absent_read, crate::proofs::Passing::failed_read, crate::proofs::Passing::read_without_memory))]
 pub(crate) fn judge_file<F: Files>(alloc: Global, name: &str, files: &mut F) -> Result<Judged, Stop>
     ensures told { F.told files.new ≡ F.told files.old }
     ensures current { F.current files.new ≡ F.current files.old }
@@ -68,6 +70,8 @@ pub(crate) fn judge_file<F: Files>(alloc: Global, name: &str, files: &mut F) -> 
         (λ contents. (verdict : Option FileVerdict) × IsFile contents name.now verdict × Agrees judged verdict)) }
     ensures stop { IfErr result (λ stop. StopsFile (F.told files.old) name.now
         (F.read_faults files.old) (F.read_faults files.new) (F.fault_name files.new) (reason_of stop)) }
+    ensures passed { IfOk result (λ judged. Passes (F.trace files.old) (F.trace files.new) (JudgesFile name.now judged)) }
+    ensures tried { IfErr result (λ stop. Passes (F.trace files.old) (F.trace files.new) (StopsRead name.now (reason_of stop))) }
 {
     match files.read(alloc, name, MODULE_BYTES) {
         Ok(bytes) => match judge(alloc, bytes.as_slice()) {

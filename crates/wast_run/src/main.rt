@@ -17,11 +17,11 @@ mod work;
 mod writing;
 
 pub use cases::reports_of_words;
-pub use law::one_report;
+pub use law::{honest_files, one_report};
 pub use runs::units_come_to_what_modules_come_to;
 use std::process::ExitCode;
 pub use top::wast_run_top;
-use w2c_io::{StdFiles, StdSink, std_words};
+use w2c_io::{StdFiles, StdSink, ToldSink, std_words};
 
 fn main(rt: HostRuntime) -> ExitCode {
     ExitCode::from(status(&rt))
@@ -34,7 +34,7 @@ fn status(rt: &HostRuntime) -> u8 {
     };
     let alloc = rt.alloc();
     let mut files = StdFiles::new(rt, alloc);
-    let mut out = StdSink::out(rt);
-    let mut err = StdSink::err(rt);
+    let mut out = ToldSink::new(StdSink::out(rt));
+    let mut err = ToldSink::new(StdSink::err(rt));
     wast_run_top(alloc, words.as_slice(), &mut files, &mut out, &mut err)
 }

@@ -1,10 +1,13 @@
 // The commands of a script, in order, and the lines of the report.
 ghost use Rattle.std.specs.Prelude.{◌≡◌, ◌<◌, ◌≤◌, ◌^◌, suc, if◌then◌else◌, IfErr, IfOk, OnOk};
 ghost use Rattle.std.specs.List.{AllByRecursion};
+ghost use Rattle.w2c_io.specs.Passed.{Passes};
 ghost use Rattle.w2c_io.specs.Telling.{Tells};
 ghost use Rattle.wast_script.specs.Seen.{reason_of, seen_command, seen_commands};
 ghost use Rattle.wast_run.specs.Report.{is_ok, Setting};
 ghost use Rattle.wast_run.specs.Stages.{setting_of, HasModuleName, IsSound};
+ghost use Rattle.wast_run.specs.Passing.{StopsIn};
+ghost use Rattle.wast_run.specs.Reading.{HasReportedOver, IsBehindOver, StopsTellingOver, TellsOver};
 ghost use Rattle.wast_run.specs.Telling.{HasReported, IsBehind, StopsTelling, TellsCommand};
 ghost use Rattle.wast_run.specs.Stopping.{StopsReport};
 
@@ -37,6 +40,10 @@ pub(crate) fn report_commands<F: Files, O: Sink>(
     ensures stop { IfErr result (λ stop. StopsReport (F.told files.old) steps (seen_commands commands.now)
         (F.read_faults files.old) (F.read_faults files.new) (F.fault_name files.new)
         (O.told out.old) (O.told out.new) (O.faults out.old) (O.faults out.new) (reason_of stop)) }
+    ensures passed { IfOk result (λ all_ok. Passes (F.trace files.old) (F.trace files.new)
+        (HasReportedOver steps (seen_commands commands.now) (O.told out.old) (O.told out.new) all_ok)) }
+    ensures tried { IfErr result (λ stop. Passes (F.trace files.old) (F.trace files.new)
+        (StopsIn steps (seen_commands commands.now) (O.told out.old) (O.told out.new) (reason_of stop))) }
 {
     let ok = match tell_commands(alloc, commands, steps, files, out) {
         Ok(ok) => ok,
@@ -68,6 +75,10 @@ fn tell_commands<F: Files, O: Sink>(
     ensures stop { IfErr result (λ stop. StopsReport (F.told files.old) steps (seen_commands commands.now)
         (F.read_faults files.old) (F.read_faults files.new) (F.fault_name files.new)
         (O.told out.old) (O.told out.new) (O.faults out.old) (O.faults out.new) (reason_of stop)) }
+    ensures passed { IfOk result (λ ok. Passes (F.trace files.old) (F.trace files.new) (λ events. (at : Setting)
+        × IsBehindOver steps (seen_commands commands.now) at (O.told out.old) (O.told out.new) ok events)) }
+    ensures tried { IfErr result (λ stop. Passes (F.trace files.old) (F.trace files.new)
+        (StopsIn steps (seen_commands commands.now) (O.told out.old) (O.told out.new) (reason_of stop))) }
 {
     let mut stage = Stage::new(alloc);
     let mut ok = 0;
@@ -106,6 +117,12 @@ fn tell_command<'a, F: Files, O: Sink>(
     ensures stop { IfErr result (λ stop. StopsTelling (F.told files.old) steps index (setting_of stage.old) (seen_command command.now)
         (F.read_faults files.old) (F.read_faults files.new) (F.fault_name files.new)
         (O.told out.old) (O.told out.new) (O.faults out.old) (O.faults out.new) (reason_of stop)) }
+    ensures passed { IfOk result (λ word. Passes (F.trace files.old) (F.trace files.new)
+        (TellsOver steps index (setting_of stage.old) (seen_command command.now) word (setting_of stage.new)
+        (O.told out.old) (O.told out.new))) }
+    ensures tried { IfErr result (λ stop. Passes (F.trace files.old) (F.trace files.new)
+        (StopsTellingOver steps index (setting_of stage.old) (seen_command command.now)
+        (O.told out.old) (O.told out.new) (reason_of stop))) }
 {
     let word = match run_command(alloc, stage, command, steps, files) {
         Ok(word) => word,

@@ -1,11 +1,13 @@
 // What stands before a command: the modules that joined, and the calls that are kept; and what a command makes of it.
 ghost use Rattle.std.specs.Prelude.{◌≡◌, ◌≤◌, length, string_bytes, Some, true, false, IfErr, IfOk, OnOk};
+ghost use Rattle.w2c_io.specs.Passed.{Passes};
 ghost use Rattle.w2c_io.specs.Telling.{Tells};
 ghost use Rattle.wasm_meaning.specs.Run.{Fits};
 ghost use Rattle.wast_script.specs.Seen.{reason_of, seen_call, seen_module};
 ghost use Rattle.wast_run.specs.Report.{at_first, holds, listed, set_at, Asserts, EndsWith, IsTimely, Joins, Keeps, TrapsIn};
 ghost use Rattle.wast_script.specs.Commands.{AssertReturn, AssertTrap};
 ghost use Rattle.wast_run.specs.Stages.{setting_of, ComesToModule, HasRun, IsEndWord, IsSound, IsTrapWord};
+ghost use Rattle.wast_run.specs.Reading.{ModuleComesOver, StopsRead};
 ghost use Rattle.wast_run.specs.Stopping.{StopsFile};
 
 use crate::judging::{Judged, judge_file};
@@ -37,7 +39,7 @@ impl<'a> Stage<'a> {
     }
 
     /// The module of a file joins, where it is accepted and there is a linked set with it.
-    #[tactic(auto, using(crate::proofs::Comings::module_refused))]
+    #[tactic(auto, using(crate::proofs::Comings::module_refused, crate::proofs::Passing::refused_over))]
     pub(crate) fn join_file<F: Files>(
         &mut self,
         alloc: Global,
@@ -55,6 +57,10 @@ impl<'a> Stage<'a> {
         ensures sound { OnOk result (IsSound self.new) }
         ensures stop { IfErr result (λ stop. StopsFile (F.told files.old) (string_bytes file.now.filename)
             (F.read_faults files.old) (F.read_faults files.new) (F.fault_name files.new) (reason_of stop)) }
+        ensures passed { IfOk result (λ word. Passes (F.trace files.old) (F.trace files.new)
+            (ModuleComesOver self.old (seen_module file.now) word self.new)) }
+        ensures tried { IfErr result (λ stop. Passes (F.trace files.old) (F.trace files.new)
+            (StopsRead (string_bytes file.now.filename) (reason_of stop))) }
     {
         match judge_file(alloc, file.filename.as_str(), files) {
             Ok(Judged::Accepted(module)) => match self.join(alloc, file.name.as_bytes(), module) {

@@ -5,12 +5,14 @@ ghost use Rattle.std.specs.List.{AllByRecursion};
 ghost use Rattle.w2c_files.specs.Words.{texts};
 ghost use Rattle.w2c_io.specs.Contents.{Name};
 ghost use Rattle.w2c_io.specs.Causes.{Rose};
+ghost use Rattle.w2c_io.specs.Passed.{Passes};
 ghost use Rattle.w2c_io.specs.Telling.{Tells, Says, SaysPart};
 ghost use Rattle.wast_script.specs.CommandLine.{line_of};
 ghost use Rattle.wast_script.specs.Commands.{Command};
 ghost use Rattle.wast_script.specs.Lines.{error_line, status_of, Reason, Unread, Unwritten};
 ghost use Rattle.wast_run.specs.Parts.{file_of, GainsLinesBefore, HasItsFile, IsNamed};
-ghost use Rattle.wast_run.specs.Jobs.{GainedPart, GainsPrefix, IsAnswered, IsJob, IsUnread, Refuses, Reported, ReportedPart, Reports, Stops};
+ghost use Rattle.wast_run.specs.Passing.{OnlyReads, PassesFor};
+ghost use Rattle.wast_run.specs.Jobs.{GainedPart, GainsPrefix, GivesFirst, IsAnswered, IsJob, IsUnread, Refuses, Reported, ReportedPart, Reports, Stops};
 
 use crate::work::work;
 use std::alloc::Global;
@@ -61,7 +63,8 @@ pub fn wast_run_top<F: Files, O: Sink, E: Sink>(
         × Refuses (texts words.now) (F.told files.old) why
         × Says (E.told err.old) (E.told err.new) (E.faults err.old) (E.faults err.new) (error_line why) }
     ensures read_fault { result ≡ 3 → (file : Name)
-        × IsUnread (texts words.now) (F.told files.old) (F.read_faults files.old) (F.read_faults files.new) (F.fault_name files.new) file
+        × IsUnread (texts words.now) (F.told files.old) (GivesFirst (F.told files.old) (F.trace files.old) (F.trace files.new))
+        (F.read_faults files.old) (F.read_faults files.new) (F.fault_name files.new) file
         × Says (E.told err.old) (E.told err.new) (E.faults err.old) (E.faults err.new) (error_line (Unread file)) }
     ensures write_fault { result ≡ 4 → Rose (O.faults out.old) (O.faults out.new)
         × Tells (F.told files.old) (λ m. ReportedPart (texts words.now) m (O.told out.old) (O.told out.new))
@@ -85,6 +88,12 @@ pub fn wast_run_top<F: Files, O: Sink, E: Sink>(
         → GainsLinesBefore m steps before (O.told out.old) (O.told out.new)) }
     ensures part_of_a_line { result ≡ 5 → (why : Reason) × SaysPart (E.told err.old) (E.told err.new) (error_line why) }
     ensures status { result ≤ 5 }
+    // What passed through the files, those of the system too: the script was read, then the files that its commands name, in order.
+    // The status, what `out` gained and the line on `err` are those of the bytes that the reads gave.
+    ensures passed { Passes (F.trace files.old) (F.trace files.new)
+        (PassesFor (texts words.now) (O.told out.old) (O.told out.new) result
+        (Says (E.told err.old) (E.told err.new) (E.faults err.old) (E.faults err.new))) }
+    ensures reads_only { Passes (F.trace files.old) (F.trace files.new) (OnlyReads (texts words.now)) }
 {
     one_reading();
     match work(alloc, words, files, out) {

@@ -1,13 +1,16 @@
 // The work that a command line asks for.
-ghost use Rattle.std.specs.Prelude.{◌≡◌, ◌≤◌, ℕ, List, if◌then◌else◌, Some, None, OnOk, IfOk, IfErr};
+ghost use Rattle.std.specs.Prelude.{◌≡◌, ◌≤◌, ℕ, List, if◌then◌else◌, Some, None, Ok, Err, OnOk, IfOk, IfErr};
 ghost use Rattle.std.specs.FinMap.{get};
 ghost use Rattle.std.specs.List.{AllByRecursion};
 ghost use Rattle.w2c_files.specs.Words.{texts};
+ghost use Rattle.w2c_io.specs.Passed.{Passes};
 ghost use Rattle.w2c_io.specs.Telling.{Tells};
 ghost use Rattle.wast_script.specs.CommandLine.{line_of};
 ghost use Rattle.wast_script.specs.Scripts.{IsScript};
 ghost use Rattle.wast_script.specs.Seen.{reason_of, seen_line, seen_script};
-ghost use Rattle.wast_run.specs.Jobs.{HasReading, Reported};
+ghost use Rattle.wast_run.specs.Jobs.{GivesFirst, HasReading, Reported};
+ghost use Rattle.wast_run.specs.Passing.{EndsSo};
+ghost use Rattle.wast_run.specs.Reading.{ReadsScript, StopsScriptOver};
 ghost use Rattle.wast_run.specs.Stages.{HasModuleName};
 ghost use Rattle.wast_run.specs.Stopping.{StopsScript, StopsWords, StopsWork};
 
@@ -39,8 +42,13 @@ pub(crate) fn work<F: Files, O: Sink>(
     ensures line { OnOk result (HasReading (texts words.now)) }
     ensures quiet { line_of (texts words.now) ≡ None → O.told out.new ≡ O.told out.old }
     ensures stop { IfErr result (λ stop. StopsWork (texts words.now) (F.told files.old)
+        (GivesFirst (F.told files.old) (F.trace files.old) (F.trace files.new))
         (F.read_faults files.old) (F.read_faults files.new) (F.fault_name files.new)
         (O.told out.old) (O.told out.new) (O.faults out.old) (O.faults out.new) (reason_of stop)) }
+    ensures passed { IfOk result (λ status. Passes (F.trace files.old) (F.trace files.new)
+        (EndsSo (texts words.now) (O.told out.old) (O.told out.new) (Ok status))) }
+    ensures tried { IfErr result (λ stop. Passes (F.trace files.old) (F.trace files.new)
+        (EndsSo (texts words.now) (O.told out.old) (O.told out.new) (Err (reason_of stop)))) }
 {
     let line = match line_in(alloc, words) {
         Ok(line) => line,
@@ -78,7 +86,7 @@ fn status_for(all_ok: bool) -> u8
 }
 
 // The script in a file.
-#[tactic(auto, using(crate::proofs::ScriptLaws::names_of_script))]
+#[tactic(auto, using(crate::proofs::ScriptLaws::names_of_script, crate::proofs::Passing::script_read_over, crate::proofs::Passing::script_stops_over))]
 fn script_in<F: Files>(alloc: Global, name: &str, files: &mut F) -> Result<Script, Stop>
     ensures told { F.told files.new ≡ F.told files.old }
     ensures current { F.current files.new ≡ F.current files.old }
@@ -89,6 +97,9 @@ fn script_in<F: Files>(alloc: Global, name: &str, files: &mut F) -> Result<Scrip
     ensures named { IfOk result (λ script. AllByRecursion HasModuleName (seen_script script)) }
     ensures stop { IfErr result (λ stop. StopsScript (F.told files.old) name.now
         (F.read_faults files.old) (F.read_faults files.new) (F.fault_name files.new) (reason_of stop)) }
+    ensures passed { IfOk result (λ script. Passes (F.trace files.old) (F.trace files.new)
+        (ReadsScript (F.told files.old) name.now (seen_script script))) }
+    ensures tried { IfErr result (λ stop. Passes (F.trace files.old) (F.trace files.new) (StopsScriptOver name.now (reason_of stop))) }
 {
     let text = match files.read(alloc, name, SCRIPT_BYTES) {
         Ok(text) => text,

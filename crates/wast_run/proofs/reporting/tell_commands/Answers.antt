@@ -9,6 +9,9 @@ use Rattle.wast_run.proofs.WordLines.{counted_few}
 use Rattle.wast_run.proofs.Lists.{all_mapped_at, mapped_front, mapped_next, mapped_split}
 use Rattle.wast_run.proofs.PartLaws.{behind_more}
 use Rattle.wast_run.proofs.ReportStops.{telling_stops}
+use Rattle.w2c_io.specs.Passed.{Passes}
+use Rattle.wast_run.specs.Reading.{IsBehindOver}
+use Rattle.wast_run.proofs.Passing.{behind_more_over, stops_in}
 use Rattle.wast_run.proofs.reporting.tell_commands.Goals as goal
 
 pub tell_command-requires-clause-named : goal.tell_command-requires-clause-named
@@ -65,6 +68,16 @@ loop-index-preserved g c =
           (out.told c.args.out.now) (out.told c.loop-index.out) (out.told c.tell_command.new.out) c.loop-index.ok c.counted-ok.result
           (mapped_front seen_command commands k lt) c.counted-ok.ensures
           (c.loop-index.invariant.behind m tells) (c.in-Ok.ensures.tells m (c.loop-index.invariant.told ∙ tells)));
+      passed =
+          subst (λ front. Passes (files.trace c.args.files.now) (files.trace c.tell_command.new.files)
+          (IsBehindOver c.args.steps front (setting_of c.tell_command.new.stage) (out.told c.args.out.now)
+          (out.told c.tell_command.new.out) c.counted-ok.result))
+          (sym (mapped_next seen_command commands k item lt c.index-commands-index.is))
+          (behind_more_over (files.trace c.args.files.now) (files.trace c.loop-index.files) (files.trace c.tell_command.new.files)
+          c.args.steps k (take k (seen_commands commands)) (seen_command item) c.in-Ok.word
+          (setting_of c.loop-index.stage) (setting_of c.tell_command.new.stage)
+          (out.told c.args.out.now) (out.told c.loop-index.out) (out.told c.tell_command.new.out) c.loop-index.ok c.counted-ok.result
+          (mapped_front seen_command commands k lt) c.counted-ok.ensures c.loop-index.invariant.passed c.in-Ok.ensures.passed);
     }
 
 pub returns-clause-behind : goal.returns-clause-behind
@@ -77,3 +90,31 @@ returns-clause-behind g c = λ m tells.
           (g.O.Sink.told c.loop-index.out) c.loop-index.ok) (take_all k (seen_commands commands) past)
           (c.loop-index.invariant.behind m tells),
     )
+
+pub returns-in-Err-clause-tried : goal.returns-in-Err-clause-tried
+returns-in-Err-clause-tried g c =
+    let files = g.F.Files in
+    let out = g.O.Sink in
+    let commands = c.args.commands.now in
+    let seen = seen_commands commands in
+    let k = c.loop-index.index in
+    let item = c.index-commands-index.result in
+    let lt = c.loop-index-test.true in
+    stops_in (files.trace c.args.files.now) (files.trace c.loop-index.files) (files.trace c.tell_command.new.files)
+    c.args.steps k seen (take k seen) (drop (k + 1) seen) (seen_command item) (setting_of c.loop-index.stage)
+    (out.told c.args.out.now) (out.told c.loop-index.out) (out.told c.tell_command.new.out) c.loop-index.ok (reason_of c.in-Err.stop)
+    (mapped_split seen_command commands k item lt c.index-commands-index.is) (mapped_front seen_command commands k lt)
+    c.loop-index.invariant.passed c.in-Err.ensures.tried
+
+pub returns-clause-passed : goal.returns-clause-passed
+returns-clause-passed g c =
+    let files = g.F.Files in
+    let out = g.O.Sink in
+    let commands = c.args.commands.now in
+    let k = c.loop-index.index in
+    let past : length (seen_commands commands) ≤ k = omega (arith, c.loop-index-test.false, length-map commands seen_command) in
+    let passed = subst (λ front. Passes (files.trace c.args.files.now) (files.trace c.loop-index.files)
+    (IsBehindOver c.args.steps front (setting_of c.loop-index.stage) (out.told c.args.out.now) (out.told c.loop-index.out)
+    c.loop-index.ok))
+    (take_all k (seen_commands commands) past) c.loop-index.invariant.passed in
+    (passed.0, passed.1, (setting_of c.loop-index.stage, passed.2))

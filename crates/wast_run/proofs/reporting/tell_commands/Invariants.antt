@@ -1,7 +1,9 @@
 use Rattle.std.proofs.Common.{◌≡◌, ◌≤◌, take}
+use Rattle.w2c_io.specs.Passed.{Passes}
 use Rattle.w2c_io.specs.Telling.{Tells}
 use Rattle.wast_script.specs.Seen.{seen_commands}
 use Rattle.wast_run.specs.Stages.{setting_of, IsSound}
+use Rattle.wast_run.specs.Reading.{IsBehindOver}
 use Rattle.wast_run.specs.Telling.{IsBehind}
 use Rattle.wast_run.proofs.reporting.tell_commands.Given as goal
 
@@ -21,4 +23,6 @@ invariant-loop-index g l =
       few : l.ok ≤ l.index;
       behind : Tells (files.told l.fn.files) (λ m. IsBehind m l.steps (take l.index (seen_commands l.commands)) (setting_of l.stage)
           (out.told l.fn.out) (out.told l.out) l.ok);
+      passed : Passes (files.trace l.fn.files) (files.trace l.files) (IsBehindOver l.steps (take l.index (seen_commands l.commands))
+          (setting_of l.stage) (out.told l.fn.out) (out.told l.out) l.ok);
     }

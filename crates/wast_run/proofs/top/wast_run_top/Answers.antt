@@ -1,10 +1,14 @@
+use Rattle.std.proofs.Common.{Ok, Err}
 use Rattle.w2c_files.specs.Words.{texts}
 use Rattle.w2c_io.specs.Telling.{Says}
 use Rattle.wast_script.specs.Lines.{error_line}
 use Rattle.wast_script.specs.Seen.{reason_of}
+use Rattle.wast_run.specs.Jobs.{GivesFirst}
 use Rattle.wast_run.proofs.TopLaws.{gained_before, no_report, none_reported, not_reported, nothing_gained, report_complete, status_small}
 use Rattle.wast_run.proofs.TopLaws.{stop_always, stop_complete, stop_part, stop_refused, stop_silent, stop_unread, stop_unwritten}
 use Rattle.wast_run.proofs.TopLaws.{missing_always, part_gains, report_gains, reported_always, stop_usage}
+use Rattle.wast_run.proofs.OnlyReads.{ends_with_reads}
+use Rattle.wast_run.proofs.Passing.{status_passes, stop_passes}
 use Rattle.wast_run.proofs.top.wast_run_top.Goals as goal
 
 -- ---- a report
@@ -54,6 +58,7 @@ pub returns-in-Err-clause-complete : goal.returns-in-Err-clause-complete
 returns-in-Err-clause-complete g c =
     let files = g.F.Files in
     stop_complete (texts c.args.words.now) (files.told c.args.files.now)
+    (GivesFirst (files.told c.args.files.now) (files.trace c.args.files.now) (files.trace c.work.new.files))
     (files.read_faults c.args.files.now) (files.read_faults c.work.new.files) (files.fault_name c.work.new.files)
     (g.O.Sink.told c.args.out.now) (g.O.Sink.told c.work.new.out) (g.O.Sink.faults c.args.out.now) (g.O.Sink.faults c.work.new.out)
     (reason_of c.in-Err.stop) c.report.result c.in-Err.ensures.stop c.report.ensures.status
@@ -62,6 +67,7 @@ pub returns-in-Err-clause-refused_always : goal.returns-in-Err-clause-refused_al
 returns-in-Err-clause-refused_always g c =
     let files = g.F.Files in
     stop_always (texts c.args.words.now) (files.told c.args.files.now)
+    (GivesFirst (files.told c.args.files.now) (files.trace c.args.files.now) (files.trace c.work.new.files))
     (files.read_faults c.args.files.now) (files.read_faults c.work.new.files) (files.fault_name c.work.new.files)
     (g.O.Sink.told c.args.out.now) (g.O.Sink.told c.work.new.out) (g.O.Sink.faults c.args.out.now) (g.O.Sink.faults c.work.new.out)
     (reason_of c.in-Err.stop) c.report.result c.in-Err.ensures.stop c.report.ensures.status c.one_reading.ensures.apart
@@ -72,6 +78,7 @@ returns-in-Err-clause-reported_always g c = λ m tells read write steps commands
     reported_always c.one_reading.ensures.apart c.one_reading.ensures.script (texts c.args.words.now) m steps commands job
     c.report.result there
     (stop_complete (texts c.args.words.now) (files.told c.args.files.now)
+    (GivesFirst (files.told c.args.files.now) (files.trace c.args.files.now) (files.trace c.work.new.files))
     (files.read_faults c.args.files.now) (files.read_faults c.work.new.files) (files.fault_name c.work.new.files)
     (g.O.Sink.told c.args.out.now) (g.O.Sink.told c.work.new.out) (g.O.Sink.faults c.args.out.now) (g.O.Sink.faults c.work.new.out)
     (reason_of c.in-Err.stop) c.report.result c.in-Err.ensures.stop c.report.ensures.status m tells read write)
@@ -82,6 +89,7 @@ returns-in-Err-clause-missing_always g c = λ m tells read write steps commands 
     missing_always c.one_reading.ensures.apart c.one_reading.ensures.script (texts c.args.words.now) m steps commands job
     c.report.result file named missing
     (stop_complete (texts c.args.words.now) (files.told c.args.files.now)
+    (GivesFirst (files.told c.args.files.now) (files.trace c.args.files.now) (files.trace c.work.new.files))
     (files.read_faults c.args.files.now) (files.read_faults c.work.new.files) (files.fault_name c.work.new.files)
     (g.O.Sink.told c.args.out.now) (g.O.Sink.told c.work.new.out) (g.O.Sink.faults c.args.out.now) (g.O.Sink.faults c.work.new.out)
     (reason_of c.in-Err.stop) c.report.result c.in-Err.ensures.stop c.report.ensures.status m tells read write)
@@ -91,6 +99,7 @@ returns-in-Err-clause-prefix g c = λ m tells.
     let files = g.F.Files in
     part_gains c.one_reading.ensures.script (texts c.args.words.now) m (g.O.Sink.told c.args.out.now) (g.O.Sink.told c.work.new.out)
     (stop_part (texts c.args.words.now) (files.told c.args.files.now)
+    (GivesFirst (files.told c.args.files.now) (files.trace c.args.files.now) (files.trace c.work.new.files))
     (files.read_faults c.args.files.now) (files.read_faults c.work.new.files) (files.fault_name c.work.new.files)
     (g.O.Sink.told c.args.out.now) (g.O.Sink.told c.work.new.out) (g.O.Sink.faults c.args.out.now) (g.O.Sink.faults c.work.new.out)
     (reason_of c.in-Err.stop) c.in-Err.ensures.stop m tells)
@@ -99,6 +108,7 @@ pub returns-in-Err-clause-usage_always : goal.returns-in-Err-clause-usage_always
 returns-in-Err-clause-usage_always g c =
     let files = g.F.Files in
     stop_usage (texts c.args.words.now) (files.told c.args.files.now)
+    (GivesFirst (files.told c.args.files.now) (files.trace c.args.files.now) (files.trace c.work.new.files))
     (files.read_faults c.args.files.now) (files.read_faults c.work.new.files) (files.fault_name c.work.new.files)
     (g.O.Sink.told c.args.out.now) (g.O.Sink.told c.work.new.out) (g.O.Sink.faults c.args.out.now) (g.O.Sink.faults c.work.new.out)
     (reason_of c.in-Err.stop) c.report.result c.in-Err.ensures.stop c.report.ensures.status
@@ -116,6 +126,7 @@ returns-in-Err-clause-refused g c = λ two.
     let files = g.F.Files in
     let err = g.E.Sink in
     stop_refused (texts c.args.words.now) (files.told c.args.files.now)
+    (GivesFirst (files.told c.args.files.now) (files.trace c.args.files.now) (files.trace c.work.new.files))
     (files.read_faults c.args.files.now) (files.read_faults c.work.new.files) (files.fault_name c.work.new.files)
     (g.O.Sink.told c.args.out.now) (g.O.Sink.told c.work.new.out) (g.O.Sink.faults c.args.out.now) (g.O.Sink.faults c.work.new.out)
     (reason_of c.in-Err.stop) c.report.result c.in-Err.ensures.stop c.report.ensures.status
@@ -127,6 +138,7 @@ returns-in-Err-clause-read_fault g c = λ three.
     let files = g.F.Files in
     let err = g.E.Sink in
     stop_unread (texts c.args.words.now) (files.told c.args.files.now)
+    (GivesFirst (files.told c.args.files.now) (files.trace c.args.files.now) (files.trace c.work.new.files))
     (files.read_faults c.args.files.now) (files.read_faults c.work.new.files) (files.fault_name c.work.new.files)
     (g.O.Sink.told c.args.out.now) (g.O.Sink.told c.work.new.out) (g.O.Sink.faults c.args.out.now) (g.O.Sink.faults c.work.new.out)
     (reason_of c.in-Err.stop) c.report.result c.in-Err.ensures.stop c.report.ensures.status
@@ -138,6 +150,7 @@ returns-in-Err-clause-write_fault g c = λ four.
     let files = g.F.Files in
     let err = g.E.Sink in
     stop_unwritten (texts c.args.words.now) (files.told c.args.files.now)
+    (GivesFirst (files.told c.args.files.now) (files.trace c.args.files.now) (files.trace c.work.new.files))
     (files.read_faults c.args.files.now) (files.read_faults c.work.new.files) (files.fault_name c.work.new.files)
     (g.O.Sink.told c.args.out.now) (g.O.Sink.told c.work.new.out) (g.O.Sink.faults c.args.out.now) (g.O.Sink.faults c.work.new.out)
     (reason_of c.in-Err.stop) c.report.result c.in-Err.ensures.stop c.report.ensures.status
@@ -148,6 +161,7 @@ pub returns-in-Err-clause-nothing_written : goal.returns-in-Err-clause-nothing_w
 returns-in-Err-clause-nothing_written g c =
     let files = g.F.Files in
     stop_silent (texts c.args.words.now) (files.told c.args.files.now)
+    (GivesFirst (files.told c.args.files.now) (files.trace c.args.files.now) (files.trace c.work.new.files))
     (files.read_faults c.args.files.now) (files.read_faults c.work.new.files) (files.fault_name c.work.new.files)
     (g.O.Sink.told c.args.out.now) (g.O.Sink.told c.work.new.out) (g.O.Sink.faults c.args.out.now) (g.O.Sink.faults c.work.new.out)
     (reason_of c.in-Err.stop) c.report.result c.in-Err.ensures.stop c.report.ensures.status
@@ -158,6 +172,7 @@ returns-in-Err-clause-nothing_without_script g c = λ m tells why job.
     nothing_gained (texts c.args.words.now) m (g.O.Sink.told c.args.out.now) (g.O.Sink.told c.work.new.out)
     c.one_reading.ensures.apart why job
     (stop_part (texts c.args.words.now) (files.told c.args.files.now)
+    (GivesFirst (files.told c.args.files.now) (files.trace c.args.files.now) (files.trace c.work.new.files))
     (files.read_faults c.args.files.now) (files.read_faults c.work.new.files) (files.fault_name c.work.new.files)
     (g.O.Sink.told c.args.out.now) (g.O.Sink.told c.work.new.out) (g.O.Sink.faults c.args.out.now) (g.O.Sink.faults c.work.new.out)
     (reason_of c.in-Err.stop) c.in-Err.ensures.stop m tells)
@@ -166,6 +181,7 @@ pub returns-in-Err-clause-part : goal.returns-in-Err-clause-part
 returns-in-Err-clause-part g c = λ came.
     let files = g.F.Files in
     stop_part (texts c.args.words.now) (files.told c.args.files.now)
+    (GivesFirst (files.told c.args.files.now) (files.trace c.args.files.now) (files.trace c.work.new.files))
     (files.read_faults c.args.files.now) (files.read_faults c.work.new.files) (files.fault_name c.work.new.files)
     (g.O.Sink.told c.args.out.now) (g.O.Sink.told c.work.new.out) (g.O.Sink.faults c.args.out.now) (g.O.Sink.faults c.work.new.out)
     (reason_of c.in-Err.stop) c.in-Err.ensures.stop
@@ -176,9 +192,40 @@ returns-in-Err-clause-part_before g c = λ m tells steps before behind command f
     gained_before (texts c.args.words.now) m (g.O.Sink.told c.args.out.now) (g.O.Sink.told c.work.new.out)
     c.one_reading.ensures.script steps before behind command file job names missing
     (stop_part (texts c.args.words.now) (files.told c.args.files.now)
+    (GivesFirst (files.told c.args.files.now) (files.trace c.args.files.now) (files.trace c.work.new.files))
     (files.read_faults c.args.files.now) (files.read_faults c.work.new.files) (files.fault_name c.work.new.files)
     (g.O.Sink.told c.args.out.now) (g.O.Sink.told c.work.new.out) (g.O.Sink.faults c.args.out.now) (g.O.Sink.faults c.work.new.out)
     (reason_of c.in-Err.stop) c.in-Err.ensures.stop m tells)
 
 pub returns-in-Err-clause-status : goal.returns-in-Err-clause-status
 returns-in-Err-clause-status g c = status_small (reason_of c.in-Err.stop) c.report.result c.report.ensures.status
+
+-- ---- what passed through the files
+
+pub returns-in-Ok-clause-passed : goal.returns-in-Ok-clause-passed
+returns-in-Ok-clause-passed g c =
+    let files = g.F.Files in
+    let err = g.E.Sink in
+    status_passes (files.trace c.args.files.now) (files.trace c.work.new.files) (texts c.args.words.now)
+    (g.O.Sink.told c.args.out.now) (g.O.Sink.told c.work.new.out) c.in-Ok.status
+    (Says (err.told c.args.err.now) (err.told c.args.err.now) (err.faults c.args.err.now) (err.faults c.args.err.now))
+    c.in-Ok.ensures.passed
+
+pub returns-in-Err-clause-passed : goal.returns-in-Err-clause-passed
+returns-in-Err-clause-passed g c =
+    let files = g.F.Files in
+    let err = g.E.Sink in
+    stop_passes (files.trace c.args.files.now) (files.trace c.work.new.files) (texts c.args.words.now)
+    (g.O.Sink.told c.args.out.now) (g.O.Sink.told c.work.new.out) c.report.result
+    (Says (err.told c.args.err.now) (err.told c.report.new.err) (err.faults c.args.err.now) (err.faults c.report.new.err))
+    (reason_of c.in-Err.stop) c.report.ensures.status c.report.ensures.says c.in-Err.ensures.tried
+
+pub returns-in-Ok-clause-reads_only : goal.returns-in-Ok-clause-reads_only
+returns-in-Ok-clause-reads_only g c =
+    ends_with_reads (g.F.Files.trace c.args.files.now) (g.F.Files.trace c.work.new.files) (texts c.args.words.now)
+    (g.O.Sink.told c.args.out.now) (g.O.Sink.told c.work.new.out) (Ok c.in-Ok.status) c.in-Ok.ensures.passed
+
+pub returns-in-Err-clause-reads_only : goal.returns-in-Err-clause-reads_only
+returns-in-Err-clause-reads_only g c =
+    ends_with_reads (g.F.Files.trace c.args.files.now) (g.F.Files.trace c.work.new.files) (texts c.args.words.now)
+    (g.O.Sink.told c.args.out.now) (g.O.Sink.told c.work.new.out) (Err (reason_of c.in-Err.stop)) c.in-Err.ensures.tried

@@ -1,0 +1,522 @@
+-- What passes through the files, part by part.
+use Rattle.std.specs.Prelude.{if◌then◌else◌, MatchOption}
+use Rattle.std.proofs.Common.{◌≡◌, ◌⊎◌, inl, inr, ℕ, suc, ◌+◌, ◌≤◌, ◌==◌, Bool, List, [], ◌∷◌, ◌++◌, length, Option, Some, None, Ok, Err}
+use Rattle.std.proofs.Common.{append_assoc, refl, sym, ap, ◌∙◌, subst}
+use Rattle.std.proofs.lemmas.List.{append-nil}
+use Rattle.w2c_io.specs.Contents.{Name, Told, HasFile, IsPrefix, extended}
+use Rattle.w2c_io.specs.Events.{Event, Read}
+use Rattle.w2c_io.specs.Passed.{Passes}
+use Rattle.w2c_io.specs.Telling.{SaysPart}
+use Rattle.w2c_io.specs.declared.answers.ReadAnswer.{ReadAnswer}
+use Rattle.w2c_io.specs.declared.answers.ReadAnswer.TheVariants as reading
+use Rattle.w2c_io.proofs.Passed.{both_passed, none_passed, passed_so}
+use Rattle.wasm_tree.specs.declared.tree.Module.{Module}
+use Rattle.wasm_spelling.specs.Limits.{most_module_bytes}
+use Rattle.wast_script.specs.declared.fault.ScriptFault.{ScriptFault}
+use Rattle.wast_script.specs.CommandLine.{Line, line_of}
+use Rattle.wast_script.specs.Commands as script
+use Rattle.wast_script.specs.Commands.{Command, ModuleFile}
+use Rattle.wast_script.specs.Lines.{Reason, Usage, Unwritten, WantOfMemory, Refused, Unread, error_line, status_of}
+use Rattle.wast_script.specs.Scripts.{IsScript, most_script_bytes}
+use Rattle.wast_run.specs.declared.judging.Judged.{Judged}
+use Rattle.wast_run.specs.declared.judging.Judged.TheVariants as judged
+use Rattle.wast_run.specs.declared.word.Word.{Word}
+use Rattle.wast_run.specs.declared.word.Word.TheVariants as word
+use Rattle.wast_run.specs.Report.{accepted_tree, command_line, holds, is_invalid, is_malformed, is_ok, lines_of, ok_count}
+use Rattle.wast_run.specs.Report.{total_line, ComesBy, IsTimely, Joins, Keeps, Asserts, EndsWith, TrapsIn, Setting}
+use Rattle.wast_run.specs.Report.{at_first}
+use Rattle.wast_run.specs.Parts.{file_of, lines_before}
+use Rattle.wast_run.specs.Judging.{says_invalid, says_malformed, tree_of}
+use Rattle.wast_run.specs.Jobs.{GivesFirst, Reports, Stops}
+use Rattle.wast_run.specs.Stopping.{StopsLine, StopsWords}
+use Rattle.wast_run.specs.Passing.{Answer, ComesOver, DoesLine, Ending, EndsSo, IsJobBy, IsNoFile, IsReadAs}
+use Rattle.wast_run.specs.Passing.{LastLines, LastReads, LeadOver, PassesFor, ReportsOver, StopsIn, WantsMemory, module_read, script_read}
+use Rattle.wast_run.specs.Reading.{HasReportedOver, IsBehindOver, IsFaultBy, IsOfLine, IsStopBy, JudgesFile, JudgesSo}
+use Rattle.wast_run.specs.Reading.{ReadsScript, StopsOver, StopsRead, StopsScriptOver, StopsTellingOver, TellsOver}
+use Rattle.wast_run.proofs.Comings.{IsSaid}
+use Rattle.wast_run.proofs.Written.{none_written, extended_twice, prefix_behind, prefix_in_front, prefix_of_itself, whole_behind}
+use Rattle.wast_run.proofs.WordLines.{count_more, line_more, lines_in_front}
+
+-- ---- the file of a module
+
+module _ (old new : List Event) (name : Name) where
+  -- bytes that were read are judged
+  pub judged_read : (bytes : List ℕ) (j : Judged) → new ≡ old ++ Read name most_module_bytes (Ok bytes) ∷ []
+      → length bytes ≤ most_module_bytes → IsSaid bytes j → Passes old new (JudgesFile name j)
+  judged_read bytes j is short (verdict, said, agrees) =
+      (module_read name (Ok bytes), is, (Some verdict, (Ok bytes, refl, (short, said)), agrees))
+
+  pub long_read : (why : ReadAnswer) → why ≡ reading.TooLong → new ≡ old ++ Read name most_module_bytes (Err why) ∷ []
+      → Passes old new (JudgesFile name judged.Beyond)
+  long_read why long is = (
+    module_read name (Err why),
+    is,
+    (None, (Err reading.TooLong, ap (λ w. module_read name (Err w)) long, refl), record { tree = refl; invalid = refl; malformed = refl }),
+  )
+
+  pub absent_read : (file : Name) (why : ReadAnswer) → why ≡ reading.Absent → file ≡ name
+      → new ≡ old ++ Read name most_module_bytes (Err why) ∷ [] → Passes old new (StopsRead name (Unread file))
+  absent_read file why absent same is =
+      (module_read name (Err why), is, (same, Err reading.Absent, tt, ap (λ w. module_read name (Err w)) absent))
+
+  pub failed_read : (file : Name) (why : ReadAnswer) → why ≡ reading.Failed → file ≡ name
+      → new ≡ old ++ Read name most_module_bytes (Err why) ∷ [] → Passes old new (StopsRead name (Unread file))
+  failed_read file why failed same is =
+      (module_read name (Err why), is, (same, Err reading.Failed, tt, ap (λ w. module_read name (Err w)) failed))
+
+  -- memory was wanting in the read or behind it
+  pub read_without_memory : (answer : Answer) → new ≡ old ++ Read name most_module_bytes answer ∷ []
+      → Passes old new (StopsRead name WantOfMemory)
+  read_without_memory answer is = (module_read name answer, is, (answer, refl))
+
+  pub invalid_over : (j : Judged) → Passes old new (JudgesFile name j)
+      → Passes old new (JudgesSo (λ verdict. holds (is_invalid verdict)) name (holds (says_invalid j)))
+  invalid_over j = passed_so old new (JudgesFile name j) (JudgesSo (λ verdict. holds (is_invalid verdict)) name (holds (says_invalid j)))
+      (λ events said. (said.0, said.1, ap holds (sym said.2.invalid)))
+
+  pub malformed_over : (j : Judged) → Passes old new (JudgesFile name j)
+      → Passes old new (JudgesSo (λ verdict. holds (is_malformed verdict)) name (holds (says_malformed j)))
+  malformed_over j =
+      passed_so old new (JudgesFile name j) (JudgesSo (λ verdict. holds (is_malformed verdict)) name (holds (says_malformed j)))
+      (λ events said. (said.0, said.1, ap holds (sym said.2.malformed)))
+
+-- ---- commands
+
+no_none : {A : Type 0} (a : A) → Some a ≡ None → ⊥
+no_none a e = absurd cc
+
+module _ (old new : List Event) (at after : Setting) where
+  -- a module command whose file is not accepted, and one whose file is
+  pub refused_over : (file : ModuleFile) (j : Judged) → tree_of j ≡ None → after ≡ at → Passes old new (JudgesFile file.filename j)
+      → Passes old new (λ events. ComesBy (IsReadAs events) 0 at (script.Module file) word.Refused after)
+  refused_over file j none same =
+      passed_so old new (JudgesFile file.filename j) (λ events. ComesBy (IsReadAs events) 0 at (script.Module file) word.Refused after)
+      (λ events said.
+      (said.0, said.1, subst (λ t. Joins at file.name t word.Refused after) (sym (said.2.tree ∙ none)) (refl, same)))
+
+  pub accepted_over : (file : ModuleFile) (filename name : Name) (j : Judged) (tree : Module) (w : Word)
+      → filename ≡ file.filename → name ≡ file.name → j ≡ judged.Accepted tree
+      → Passes old new (JudgesFile filename j) → Joins at name (Some tree) w after
+      → Passes old new (λ events. ComesBy (IsReadAs events) 0 at (script.Module file) w after)
+  accepted_over file filename name j tree w filename_is name_is is said joins =
+      passed_so old new (JudgesFile filename j) (λ events. ComesBy (IsReadAs events) 0 at (script.Module file) w after)
+      (λ events s.
+      let tree_is = s.2.tree ∙ ap tree_of is in (
+        s.0,
+        subst (λ n. IsReadAs events n s.0) filename_is s.1,
+        subst (λ n. Joins at n (accepted_tree s.0) w after) name_is (subst (λ t. Joins at name t w after) (sym tree_is) joins),
+      )) said
+
+  pub module_over : (steps : ℕ) (file : ModuleFile) (w : Word)
+      → Passes old new (λ events. ComesBy (IsReadAs events) 0 at (script.Module file) w after)
+      → Passes old new (λ events. ComesOver events steps at (script.Module file) w after)
+  module_over steps file w =
+      passed_so old new (λ events. ComesBy (IsReadAs events) 0 at (script.Module file) w after)
+      (λ events. ComesOver events steps at (script.Module file) w after)
+      (λ events comes. (comes, λ none. absurd (no_none file.filename none)))
+
+  pub invalid_comes_over : (steps : ℕ) (file : Name) (w : Word) → after ≡ at
+      → Passes old new (JudgesSo (λ verdict. holds (is_invalid verdict)) file w)
+      → Passes old new (λ events. ComesOver events steps at (script.AssertInvalid file) w after)
+  invalid_comes_over steps file w same =
+      passed_so old new (JudgesSo (λ verdict. holds (is_invalid verdict)) file w)
+      (λ events. ComesOver events steps at (script.AssertInvalid file) w after)
+      (λ events said. ((said.0, said.1, said.2, same), λ none. absurd (no_none file none)))
+
+  pub malformed_comes_over : (steps : ℕ) (file : Name) (w : Word) → after ≡ at
+      → Passes old new (JudgesSo (λ verdict. holds (is_malformed verdict)) file w)
+      → Passes old new (λ events. ComesOver events steps at (script.AssertMalformed file) w after)
+  malformed_comes_over steps file w same =
+      passed_so old new (JudgesSo (λ verdict. holds (is_malformed verdict)) file w)
+      (λ events. ComesOver events steps at (script.AssertMalformed file) w after)
+      (λ events said. ((said.0, said.1, said.2, same), λ none. absurd (no_none file none)))
+
+-- a command that names no file
+module _ (old : List Event) (at after : Setting) (steps : ℕ) (call : script.Call) (w : Word) where
+  pub call_over : Keeps at call w after → Passes old old (λ events. ComesOver events steps at (script.Invoke call) w after)
+  call_over keeps = none_passed old (λ events. ComesOver events steps at (script.Invoke call) w after) (keeps, λ none. refl)
+
+  pub return_over : (expected : Option _) → Asserts at call steps (EndsWith expected) w after
+      → Passes old old (λ events. ComesOver events steps at (script.AssertReturn call expected) w after)
+  return_over expected asserts =
+      none_passed old (λ events. ComesOver events steps at (script.AssertReturn call expected) w after) (asserts, λ none. refl)
+
+  pub trap_over : (cause : _) → Asserts at call steps (TrapsIn (length at.kept) cause) w after
+      → Passes old old (λ events. ComesOver events steps at (script.AssertTrap call cause) w after)
+  trap_over cause asserts =
+      none_passed old (λ events. ComesOver events steps at (script.AssertTrap call cause) w after) (asserts, λ none. refl)
+
+pub none_without_memory : (old : List Event) → Passes old old (StopsOver None WantOfMemory)
+none_without_memory old = none_passed old (StopsOver None WantOfMemory) (refl, refl)
+
+-- ---- lines
+
+of_line : (faults faults' : ℕ) (why : Reason) → StopsLine faults faults' why → IsOfLine why
+of_line faults faults' Unwritten stop = tt
+of_line faults faults' WantOfMemory stop = tt
+of_line faults faults' Usage stop = absurd stop
+of_line faults faults' (Refused why) stop = absurd stop
+of_line faults faults' (Unread file) stop = absurd stop
+
+-- a command has come to its word, and its line is written, or not
+module _ (old new : List Event) (steps index : ℕ) (at : Setting) (command : Command) where
+  pub line_over : (w : Word) (after : Setting) (out out' : Option (List ℕ))
+      → Passes old new (λ events. ComesOver events steps at command w after) → IsTimely steps at command w
+      → out' ≡ extended out (command_line (index + 1) w)
+      → Passes old new (TellsOver steps index at command w after out out')
+  line_over w after out out' passes timely gained =
+      passed_so old new (λ events. ComesOver events steps at command w after) (TellsOver steps index at command w after out out')
+      (λ events comes. (comes, timely, gained)) passes
+
+  pub no_word_over : (out : Option (List ℕ)) (why : Reason) → Passes old new (StopsOver (file_of command) why)
+      → Passes old new (StopsTellingOver steps index at command out out why)
+  no_word_over out why =
+      passed_so old new (StopsOver (file_of command) why) (StopsTellingOver steps index at command out out why)
+      (λ events stops. inl (stops, refl))
+
+  pub no_line_over : (w : Word) (after : Setting) (out out' : Option (List ℕ)) (faults faults' : ℕ) (why : Reason)
+      → Passes old new (λ events. ComesOver events steps at command w after) → IsTimely steps at command w
+      → SaysPart out out' (command_line (index + 1) w) → StopsLine faults faults' why
+      → Passes old new (StopsTellingOver steps index at command out out' why)
+  no_line_over w after out out' faults faults' why passes timely said stop =
+      passed_so old new (λ events. ComesOver events steps at command w after) (StopsTellingOver steps index at command out out' why)
+      (λ events comes. inr (w, after, comes, timely, said, of_line faults faults' why stop)) passes
+
+-- ---- commands one behind another
+
+module _ (steps : ℕ) where
+  lead_over_more : (at : Setting) (front : List Command) (words : List Word) (between after : Setting) (command : Command) (w : Word)
+      (first events : List Event) → LeadOver steps at front words between first
+      → ComesOver events steps between command w after → IsTimely steps between command w
+      → LeadOver steps at (front ++ command ∷ []) (words ++ w ∷ []) after (first ++ events)
+  lead_over_more at [] words between after command w first events lead comes timely = (
+    w,
+    [],
+    after,
+    events,
+    [],
+    subst (λ s. ComesOver events steps s command w after × IsTimely steps s command w) lead.1 (comes, timely),
+    (refl, refl, refl),
+    ap (λ l. l ++ w ∷ []) lead.0,
+    ap (λ (l : List Event). l ++ events) lead.2 ∙ sym (append-nil events),
+  )
+  lead_over_more at (c ∷ front) words between after command w first events (v, others, next, one, later, comes', lead, is, calls)
+      comes timely = (
+        v,
+        others ++ w ∷ [],
+        next,
+        one,
+        later ++ events,
+        comes',
+        lead_over_more next front others between after command w later events lead comes timely,
+        ap (λ l. l ++ w ∷ []) is,
+        ap (λ (l : List Event). l ++ events) calls ∙ append_assoc one later events,
+      )
+
+  lead_over_length : (at : Setting) (front : List Command) (words : List Word) (after : Setting) (events : List Event)
+      → LeadOver steps at front words after events → length words ≡ length front
+  lead_over_length at [] words after events lead = ap length lead.0
+  lead_over_length at (c ∷ front) words after events (v, others, next, one, later, comes, lead, is, calls) =
+      ap length is ∙ ap suc (lead_over_length next front others after later lead)
+
+pub behind_none_over : (trace : List Event) (steps : ℕ) (at : Setting) (out : Option (List ℕ)) → at ≡ at_first
+    → Passes trace trace (IsBehindOver steps [] at out out 0)
+behind_none_over trace steps at out is = none_passed trace (IsBehindOver steps [] at out out 0)
+    (record { words = []; lead = (refl, is, refl); written = none_written out; counted = refl })
+
+pub behind_more_over : (start old new : List Event) (steps index : ℕ) (front : List Command) (command : Command) (w : Word)
+    (at after : Setting) (out now now' : Option (List ℕ)) (ok count : ℕ) → length front ≡ index
+    → count ≡ (if is_ok w then suc ok else ok)
+    → Passes start old (IsBehindOver steps front at out now ok)
+    → Passes old new (TellsOver steps index at command w after now now')
+    → Passes start new (IsBehindOver steps (front ++ command ∷ []) after out now' count)
+behind_more_over start old new steps index front command w at after out now now' ok count many counted =
+    both_passed start old new (IsBehindOver steps front at out now ok) (TellsOver steps index at command w after now now')
+    (IsBehindOver steps (front ++ command ∷ []) after out now' count)
+    (λ first last behind tells.
+    let words = behind.words in
+    let line_is = line_more words w index (lead_over_length steps at_first front words at first behind.lead ∙ many) in
+    record {
+      words = words ++ w ∷ [];
+      lead = lead_over_more steps at_first front words at after command w first last behind.lead tells.0 tells.1;
+      written = whole_behind out now now' (lines_of words) (command_line (index + 1) w) behind.written tells.2
+          ∙ ap (extended out) (sym line_is);
+      counted = counted ∙ ap (λ n. if is_ok w then suc n else n) behind.counted ∙ sym (count_more words w);
+    })
+
+-- ---- a run that stops
+
+last_read : (command : Command) (rest : List Command) (o : Option Name) → file_of command ≡ o → (why : Reason) (events : List Event)
+    → StopsOver o why events → LastReads why (command ∷ rest) events
+last_read command rest None is why events (memory, none) =
+    subst (λ why. LastReads why (command ∷ rest) events) (sym memory) (inl none)
+last_read command rest (Some name) is (Unread file) events (same, answer, no_file, calls) =
+    (answer, (is ∙ ap Some (sym same), calls ∙ ap (λ f. module_read f answer) (sym same)), no_file)
+last_read command rest (Some name) is WantOfMemory events (answer, calls) = inr (name, answer, (is, calls))
+last_read command rest (Some name) is Usage events stop = absurd stop
+last_read command rest (Some name) is (Refused why) events stop = absurd stop
+last_read command rest (Some name) is Unwritten events stop = absurd stop
+
+-- the lines so far
+lines_here : (command : Command) (rest : List Command) (words : List Word) (why : Reason) (events : List Event)
+    → LastReads why (command ∷ rest) events → LastLines why words (command ∷ rest) (lines_of words)
+lines_here command rest words (Unread file) events reads = refl
+lines_here command rest words Unwritten events reads = prefix_of_itself (lines_of words)
+lines_here command rest words WantOfMemory events reads = prefix_of_itself (lines_of words)
+lines_here command rest words Usage events reads = absurd reads
+lines_here command rest words (Refused why) events reads = absurd reads
+
+-- a line that is not written: behind it nothing is read
+no_more : (rest : List Command) (why : Reason) → IsOfLine why → LastReads why rest []
+no_more rest Unwritten line = refl
+no_more rest WantOfMemory line = inl refl
+no_more rest Usage line = absurd line
+no_more rest (Refused why) line = absurd line
+no_more rest (Unread file) line = absurd line
+
+part_lines : (rest : List Command) (words : List Word) (text : List ℕ) (why : Reason) → IsOfLine why
+    → IsPrefix text (lines_before words rest) → LastLines why words rest text
+part_lines rest words text Unwritten line prefix = prefix
+part_lines rest words text WantOfMemory line prefix = prefix
+part_lines rest words text Usage line prefix = absurd line
+part_lines rest words text (Refused why) line prefix = absurd line
+part_lines rest words text (Unread file) line prefix = absurd line
+
+prefix_before : (words : List Word) (rest : List Command) (text : List ℕ) → IsPrefix text (lines_of words)
+    → IsPrefix text (lines_before words rest)
+prefix_before words rest text prefix =
+    let front_is = lines_in_front words rest in
+    subst (IsPrefix text) (sym front_is.1) (prefix_in_front text (lines_of words) front_is.0 prefix)
+
+pub stops_in : (start old new : List Event) (steps index : ℕ) (commands front rest : List Command) (command : Command) (at : Setting)
+    (out now now' : Option (List ℕ)) (ok : ℕ) (why : Reason) → commands ≡ front ++ command ∷ rest → length front ≡ index
+    → Passes start old (IsBehindOver steps front at out now ok)
+    → Passes old new (StopsTellingOver steps index at command now now' why)
+    → Passes start new (StopsIn steps commands out now' why)
+stops_in start old new steps index commands front rest command at out now now' ok why split many =
+    both_passed start old new (IsBehindOver steps front at out now ok) (StopsTellingOver steps index at command now now' why)
+    (StopsIn steps commands out now' why) by
+  where
+    by : (first last : List Event) → IsBehindOver steps front at out now ok first
+        → StopsTellingOver steps index at command now now' why last → StopsIn steps commands out now' why (first ++ last)
+    by first last behind (inl (stops, same)) =
+        let words = behind.words in
+        let reads = last_read command rest (file_of command) refl why last stops in
+        record {
+          front = front;
+          rest = command ∷ rest;
+          split = split;
+          words = words;
+          after = at;
+          first = first;
+          last = last;
+          calls = refl;
+          lead = behind.lead;
+          stop = reads;
+          text = lines_of words;
+          lines = lines_here command rest words why last reads;
+          gained = same ∙ behind.written;
+        }
+    by first last behind (inr (w, after, comes, timely, (part, prefix, gained), of_line)) =
+        let words = behind.words in
+        let line_is = line_more words w index (lead_over_length steps at_first front words at first behind.lead ∙ many) in
+        let text_prefix = subst (IsPrefix (lines_of words ++ part)) (sym line_is)
+        (prefix_behind (lines_of words) part (command_line (index + 1) w) prefix) in
+        record {
+          front = front ++ command ∷ [];
+          rest = rest;
+          split = split ∙ sym (append_assoc front (command ∷ []) rest);
+          words = words ++ w ∷ [];
+          after = after;
+          first = first ++ last;
+          last = [];
+          calls = sym (append-nil (first ++ last));
+          lead = lead_over_more steps at_first front words at after command w first last behind.lead comes timely;
+          stop = no_more rest why of_line;
+          text = lines_of words ++ part;
+          lines = part_lines rest (words ++ w ∷ []) (lines_of words ++ part) why of_line
+              (prefix_before (words ++ w ∷ []) rest (lines_of words ++ part) text_prefix);
+          gained = gained ∙ ap (λ o. extended o part) behind.written ∙ extended_twice out (lines_of words) part;
+        }
+
+-- all commands have come to their words, and the last line is written, or not
+module _ (old new : List Event) (steps : ℕ) (commands : List Command) (out now now' : Option (List ℕ)) (ok total : ℕ)
+    (many : total ≡ length commands)
+    (passes : Passes old new (λ events. (at : Setting) × IsBehindOver steps commands at out now ok events)) where
+  total_is : (words : List Word) (at : Setting) (events : List Event) → LeadOver steps at_first commands words at events
+      → ok ≡ ok_count words → total_line total ok ≡ total_line (length words) (ok_count words)
+  total_is words at events lead counted =
+      ap (λ n. total_line n ok) (many ∙ sym (lead_over_length steps at_first commands words at events lead))
+      ∙ ap (total_line (length words)) counted
+
+  pub reported_over : now' ≡ extended now (total_line total ok)
+      → Passes old new (HasReportedOver steps commands out now' (ok == total))
+  reported_over gained =
+      passed_so old new (λ events. (at : Setting) × IsBehindOver steps commands at out now ok events)
+      (HasReportedOver steps commands out now' (ok == total))
+      (λ events b.
+      let words = b.1.words in (
+        words,
+        b.0,
+        b.1.lead,
+        whole_behind out now now' (lines_of words) (total_line total ok) b.1.written gained
+            ∙ ap (λ line. extended out (lines_of words ++ line)) (total_is words b.0 events b.1.lead b.1.counted),
+        ap (λ n. n == total) b.1.counted
+            ∙ ap (λ n. ok_count words == n) (many ∙ sym (lead_over_length steps at_first commands words b.0 events b.1.lead)),
+      )) passes
+
+  pub no_total_over : (faults faults' : ℕ) (why : Reason) → SaysPart now now' (total_line total ok) → StopsLine faults faults' why
+      → Passes old new (StopsIn steps commands out now' why)
+  no_total_over faults faults' why (part, prefix, gained) stop =
+      passed_so old new (λ events. (at : Setting) × IsBehindOver steps commands at out now ok events)
+      (StopsIn steps commands out now' why)
+      (λ events b.
+      let words = b.1.words in
+      let line = of_line faults faults' why stop in
+      record {
+        front = commands;
+        rest = [];
+        split = sym (append-nil commands);
+        words = words;
+        after = b.0;
+        first = events;
+        last = [];
+        calls = sym (append-nil events);
+        lead = b.1.lead;
+        stop = no_more [] why line;
+        text = lines_of words ++ part;
+        lines = part_lines [] words (lines_of words ++ part) why line
+            (subst (λ line. IsPrefix (lines_of words ++ part) (lines_of words ++ line)) (total_is words b.0 events b.1.lead b.1.counted)
+            (prefix_behind (lines_of words) part (total_line total ok) prefix));
+        gained = gained ∙ ap (λ o. extended o part) b.1.written ∙ extended_twice out (lines_of words) part;
+      }) passes
+
+-- ---- the script
+
+module _ (old new : List Event) (name : Name) where
+  pub script_read_over : (told : Told) (bytes : List ℕ) (commands : List Command)
+      → new ≡ old ++ Read name most_script_bytes (Ok bytes) ∷ [] → HasFile told name bytes → IsScript bytes commands
+      → Passes old new (ReadsScript told name commands)
+  script_read_over told bytes commands is has script = (script_read name (Ok bytes), is, (bytes, refl, has, script))
+
+  pub script_stops_over : (answer : Answer) (why : Reason) → new ≡ old ++ Read name most_script_bytes answer ∷ []
+      → IsStopBy name answer why → Passes old new (StopsScriptOver name why)
+  script_stops_over answer why is stop = (script_read name answer, is, (answer, refl, stop))
+
+-- ---- the whole work
+
+-- by the reading of the words
+abbrev EndsBy : Option (List ℕ) → Option (List ℕ) → Ending → List Event → Option Line → Type 0
+EndsBy old new ending events o = MatchOption o ((events ≡ []) × (new ≡ old) × ((ending ≡ Err Usage) ⊎ (ending ≡ Err WantOfMemory)))
+    (λ line. WantsMemory line old new ending events ⊎ DoesLine line old new ending events)
+
+ends_line : (words : List Name) (line : Line) → line_of words ≡ Some line → (old new : Option (List ℕ)) (ending : Ending)
+    (events : List Event) → WantsMemory line old new ending events ⊎ DoesLine line old new ending events
+    → EndsSo words old new ending events
+ends_line words line is old new ending events does = subst (EndsBy old new ending events) (sym is) does
+
+ends_none : (words : List Name) → line_of words ≡ None → (out : Option (List ℕ)) → EndsSo words out out (Err Usage) []
+ends_none words is out = subst (EndsBy out out (Err Usage) []) (sym is) (refl, refl, inl refl)
+
+ends_early : (words : List Name) (out : Option (List ℕ)) → EndsSo words out out (Err WantOfMemory) []
+ends_early words out = by (line_of words)
+  where
+    by : (o : Option Line) → EndsBy out out (Err WantOfMemory) [] o
+    by None = (refl, refl, inr refl)
+    by (Some line) = inl (refl, refl, inl refl)
+
+pub words_end : (trace : List Event) (words : List Name) (out : Option (List ℕ)) (why : Reason) → StopsWords words why
+    → Passes trace trace (EndsSo words out out (Err why))
+words_end trace words out Usage stop = none_passed trace (EndsSo words out out (Err Usage)) (ends_none words stop out)
+words_end trace words out WantOfMemory stop = none_passed trace (EndsSo words out out (Err WantOfMemory)) (ends_early words out)
+words_end trace words out (Refused why) stop = absurd stop
+words_end trace words out (Unread file) stop = absurd stop
+words_end trace words out Unwritten stop = absurd stop
+
+module _ (words : List Name) (line : Line) (is : line_of words ≡ Some line) where
+  fault_job : (answer : Answer) (why : ScriptFault) → IsFaultBy answer why → IsJobBy line answer (Stops (Refused why))
+  fault_job (Ok text) why by = by
+  fault_job (Err reading.TooLong) why by = ap (λ w. Stops (Refused w)) by
+  fault_job (Err reading.Absent) why by = absurd by
+  fault_job (Err reading.Failed) why by = absurd by
+  fault_job (Err reading.Memory) why by = absurd by
+
+  unread_job : (answer : Answer) → IsNoFile answer → IsJobBy line answer (Stops (Unread line.script))
+  unread_job (Ok text) no_file = absurd no_file
+  unread_job (Err reading.TooLong) no_file = absurd no_file
+  unread_job (Err reading.Absent) no_file = refl
+  unread_job (Err reading.Failed) no_file = refl
+  unread_job (Err reading.Memory) no_file = absurd no_file
+
+  script_ends_so : (out : Option (List ℕ)) (why : Reason) (events : List Event) → StopsScriptOver line.script why events
+      → WantsMemory line out out (Err why) events ⊎ DoesLine line out out (Err why) events
+  script_ends_so out (Unread file) events (answer, calls, (same, no_file)) =
+      inr (answer, Stops (Unread line.script), [], unread_job answer no_file, (ap (λ f. Err (Unread f)) same, refl, refl), calls)
+  script_ends_so out (Refused why) events (answer, calls, by) =
+      inr (answer, Stops (Refused why), [], fault_job answer why by, (refl, refl, refl), calls)
+  script_ends_so out WantOfMemory events (answer, calls, by) = inl (refl, refl, inr (answer, calls))
+  script_ends_so out Usage events (answer, calls, by) = absurd by
+  script_ends_so out Unwritten events (answer, calls, by) = absurd by
+
+  pub script_ends : (old new : List Event) (out : Option (List ℕ)) (why : Reason) → Passes old new (StopsScriptOver line.script why)
+      → Passes old new (EndsSo words out out (Err why))
+  script_ends old new out why =
+      passed_so old new (StopsScriptOver line.script why) (EndsSo words out out (Err why))
+      (λ events stops. ends_line words line is out out (Err why) events (script_ends_so out why events stops))
+
+  pub commands_end : (start old new : List Event) (told : Told) (commands : List Command) (out out' : Option (List ℕ)) (ending : Ending)
+      → Passes start old (ReadsScript told line.script commands)
+      → Passes old new (ReportsOver line.steps commands out out' ending)
+      → Passes start new (EndsSo words out out' ending)
+  commands_end start old new told commands out out' ending =
+      both_passed start old new (ReadsScript told line.script commands) (ReportsOver line.steps commands out out' ending)
+      (EndsSo words out out' ending)
+      (λ first last reads reports. ends_line words line is out out' ending (first ++ last)
+      (inr (Ok reads.0, Reports line.steps commands, last, (reads.3, refl), reports, ap (λ (l : List Event). l ++ last) reads.1)))
+
+  pub report_ends : (start old new : List Event) (told : Told) (commands : List Command) (out out' : Option (List ℕ)) (all_ok : Bool)
+      (status : ℕ) → status ≡ (if all_ok then 0 else 1)
+      → Passes start old (ReadsScript told line.script commands)
+      → Passes old new (HasReportedOver line.steps commands out out' all_ok)
+      → Passes start new (EndsSo words out out' (Ok status))
+  report_ends start old new told commands out out' all_ok status status_is reads reports =
+      commands_end start old new told commands out out' (Ok status) reads
+      (passed_so old new (HasReportedOver line.steps commands out out' all_ok) (ReportsOver line.steps commands out out' (Ok status))
+      (λ events r. (r.0, r.1, r.2, r.3, status_is ∙ ap (λ b. if b then 0 else 1) r.4)) reports)
+
+-- the script that the first read gave
+pub first_gives : (start old new : List Event) (told : Told) (name : Name) (commands : List Command) (P : List Event → Type 0)
+    → Passes start old (ReadsScript told name commands) → Passes old new P
+    → (text : List ℕ) × GivesFirst told start new name text × IsScript text commands
+first_gives start old new told name commands P (first, is, (text, calls, has, script)) (last, behind, p) = (
+  text,
+  (
+    has,
+    (
+      first ++ last,
+      behind ∙ ap (λ (l : List Event). l ++ last) is ∙ append_assoc start first last,
+      (last, ap (λ (l : List Event). l ++ last) calls),
+    ),
+  ),
+  script,
+)
+
+-- ---- the status
+
+pub status_passes : (old new : List Event) (words : List Name) (out out' : Option (List ℕ)) (status : ℕ) (Says : List ℕ → Type 0)
+    → Passes old new (EndsSo words out out' (Ok status)) → Passes old new (PassesFor words out out' status Says)
+status_passes old new words out out' status Says =
+    passed_so old new (EndsSo words out out' (Ok status)) (PassesFor words out out' status Says) (λ events ends. (Ok status, ends, refl))
+
+pub stop_passes : (old new : List Event) (words : List Name) (out out' : Option (List ℕ)) (status : ℕ) (Says : List ℕ → Type 0)
+    (why : Reason) → (status ≡ status_of why) ⊎ (status ≡ 5) → Says (error_line why) ⊎ (status ≡ 5)
+    → Passes old new (EndsSo words out out' (Err why)) → Passes old new (PassesFor words out out' status Says)
+stop_passes old new words out out' status Says why is says =
+    passed_so old new (EndsSo words out out' (Err why)) (PassesFor words out out' status Says)
+    (λ events ends. (Err why, ends, both is says))
+  where
+    both : (status ≡ status_of why) ⊎ (status ≡ 5) → Says (error_line why) ⊎ (status ≡ 5)
+        → ((status ≡ status_of why) × Says (error_line why)) ⊎ (status ≡ 5)
+    both (inr five) says = inr five
+    both (inl is) (inr five) = inr five
+    both (inl is) (inl said) = inl (is, said)
