@@ -81,7 +81,8 @@ use Rattle.crun_words.specs.Inputs.{
   Reading,
 }
 use Rattle.crun_words.specs.Passing.{limited, AllAnswer, GivesJournal, ReadsInOrder}
-use Rattle.crun_words.proofs.Honest.{answer_both, honest_both, inputs_honest, journal_honest, units_honest}
+use Rattle.w2c_files.proofs.Honest.{file_holds, honest_both, read_keeps}
+use Rattle.crun_words.proofs.Honest.{answer_both, inputs_honest, journal_honest, units_honest}
 use Rattle.crun_job.specs.Job.{IsTextsJob, Job, Run, Stops, Write}
 use Rattle.crun_job.specs.Lines.{error_line, Reason, status_of, Unwritten, Usage, WantOfMemory}
 use Rattle.crun_cli.specs.Ends.{Finished, HasPlayed, IsJobWith, IsJournaled, IsRunStatus, journal_of, WithHosts, WithHostsBy}
@@ -171,24 +172,16 @@ few_of (Some v) line is = few_by v.merged v.trimmed v line is
 
 -- ---- files that are read stay as they are
 
-read_keeps : (name : Name) (limit : ℕ) (answer : Result (List ℕ) ReadAnswer) (old : Told) (current : Option Name) (new : Told)
-    (after : Option Name) → Does (Read name limit answer) old current new after → new ≡ old
-read_keeps name limit (Ok bytes) old current new after does = does.1
-read_keeps name limit (Err reading.Absent) old current new after does = does.1
-read_keeps name limit (Err reading.TooLong) old current new after does = does.1
-read_keeps name limit (Err reading.Failed) old current new after does = does.0
-read_keeps name limit (Err reading.Memory) old current new after does = does.0
-
 reads_keep : (files : List (Name × ℕ)) (events : List Event) (old : Told) (current : Option Name) (new : Told) (after : Option Name)
     → ReadsInOrder files events → AreHonest events old current new after → new ≡ old
 reads_keep files [] old current new after reads honest = honest.0
 reads_keep [] (e ∷ events) old current new after reads honest = absurd reads
 reads_keep (f ∷ files) (e ∷ events) old current new after (inl (bytes, is, rest)) (told, name, does, behind) =
     reads_keep files events told name new after rest behind
-    ∙ read_keeps f.0 f.1 (Ok bytes) old current told name (subst (λ (x : Event). Does x old current told name) is does)
+    ∙ (read_keeps f.0 f.1 (Ok bytes) old told current name (subst (λ (x : Event). Does x old current told name) is does)).0
 reads_keep (f ∷ files) (e ∷ events) old current new after (inr (answer, is, none)) (told, name, does, behind) =
     (subst (λ (l : List Event). AreHonest l told name new after) none behind).0
-    ∙ read_keeps f.0 f.1 answer old current told name (subst (λ (x : Event). Does x old current told name) is does)
+    ∙ (read_keeps f.0 f.1 answer old told current name (subst (λ (x : Event). Does x old current told name) is does)).0
 
 none_first : (first last : List Event) → first ++ last ≡ [] → first ≡ []
 none_first [] last is = refl
@@ -202,42 +195,7 @@ first_reads (f ∷ files) (e ∷ first) last (inr (answer, is, none)) = inr (ans
 
 -- ---- a file that is written holds its text
 
-put_more : (told : Told) (name : Name) (bytes piece : List ℕ)
-    → appending (holding told name bytes) (Some name) piece ≡ holding told name (bytes ++ piece)
-put_more None name bytes piece = refl
-put_more (Some files) name bytes piece = λ i. Some (here i)
-  where
-    here : insert (insert files name bytes) name (bytes_or_none (get (insert files name bytes) name) ++ piece)
-        ≡ insert files name (bytes ++ piece)
-    here = ap (λ (o : Option (List ℕ)). insert (insert files name bytes) name (bytes_or_none o ++ piece)) (get_here files name bytes)
-        ∙ insert_again files name bytes (bytes ++ piece)
-
-pieces_put : (told : Told) (name : Name) (pieces : List (List ℕ)) (bytes : List ℕ) (new : Told) (after : Option Name)
-    → AreHonest (puts pieces) (holding told name bytes) (Some name) new after → new ≡ holding told name (bytes ++ joined pieces)
-pieces_put told name [] bytes new after honest = honest.0 ∙ ap (holding told name) (sym (append-nil bytes))
-pieces_put told name (piece ∷ pieces) bytes new after (t, n, does, rest) =
-    pieces_put told name pieces (bytes ++ piece) new after
-    (subst (λ (x : Option Name). AreHonest (puts pieces) (holding told name (bytes ++ piece)) x new after) does.1
-    (subst (λ (x : Told). AreHonest (puts pieces) x n new after) (does.0 ∙ put_more told name bytes piece) rest))
-    ∙ ap (holding told name) (append_assoc bytes piece (joined pieces))
-
-pub file_holds : (name : Name) (text : List ℕ) (events : List Event) (old : Told) (current : Option Name) (new : Told)
-    (after : Option Name) → WritesFile name text events → AreHonest events old current new after → new ≡ holding old name text
-file_holds name text events old current new after (middle, (pieces, is, calls), all) honest =
-    go (subst (λ (l : List Event). AreHonest l old current new after) all honest)
-  where
-    go : AreHonest (Begin name (Ok tt) ∷ middle ++ Finish (Ok tt) ∷ []) old current new after → new ≡ holding old name text
-    go (t, n, does, rest) =
-        let both = honest_both middle (Finish (Ok tt) ∷ []) t n new after rest in
-        let end : new ≡ both.0 = both.3.3.0 ∙ both.3.2.0 in
-        end ∙ pieces_put old name pieces [] both.0 both.1
-        (subst (λ (l : List Event). AreHonest l (holding old name []) (Some name) both.0 both.1) calls
-        (subst (λ (x : Option Name). AreHonest middle (holding old name []) x both.0 both.1) does.1
-        (subst (λ (x : Told). AreHonest middle x n both.0 both.1) does.0 both.2)))
-        ∙ ap (holding old name) is
-
 -- ---- the job over what the reads gave is the job over what the files hold
-
 none_more : (replayed : Option Name) (file : Name) (last : List Event) → ReadsMore replayed (NotThere file) last → last ≡ []
 none_more None file last more = more
 none_more (Some name) file last more = more
@@ -273,7 +231,7 @@ module _ (m : Contents) (line : RunLine) (handed : List Host) where
   run_job_honest : length line.units ≤ 16 → (given : List Event) (job : Job) (current : Option Name) (new : Told) (after : Option Name)
       → AreHonest given (Some m) current new after → AllAnswer given → IsRunJobOver line handed given job → IsRunJob line handed m job
   run_job_honest few given job current new after honest answers (r, first, last, split, gives, more, of) =
-      let both = honest_both first last (Some m) current new after
+      let both = honest_both first last (Some m) new current after
       (subst (λ (l : List Event). AreHonest l (Some m) current new after) split honest) in
       let answer = answer_both first last (subst AllAnswer split answers) in
       let found = inputs_honest m line.units few current both.0 both.1 line.calls r first gives both.2 answer.0 in (
@@ -364,7 +322,7 @@ module _ {H : Type 0} (hm : HostModule H) (hosts : List H) (words : List Name) (
 
     file_written : (name : Name) (text : List ℕ) → WritesFile name text written → new.files.told ≡ holding old.files.told name text
     file_written name text writes =
-        file_holds name text written middle current new.files.told after writes honest ∙ ap (λ (t : Told). holding t name text) same
+        file_holds name text written middle new.files.told current after writes honest ∙ ap (λ (t : Told). holding t name text) same
 
     unit_comes : (form : Line) → line_of words ≡ Some form → new.out.told ≡ old.out.told → (job : Job)
         → IsLineJob (hosts_of hm hosts) m form job
@@ -437,7 +395,7 @@ module _ {H : Type 0} (hm : HostModule H) (hosts : List H) (words : List Name) (
   with_honest None files given current middle after reads honest answers P Q so of = so _ hm hosts of
   with_honest (Some name) files given current middle after reads honest answers P Q so
       (j, replays, (text, (first, last, split, gives), is_journal), are, of) =
-      let both = honest_both first last (Some m) current middle after
+      let both = honest_both first last (Some m) middle current after
       (subst (λ (l : List Event). AreHonest l (Some m) current middle after) split honest) in
       let kept : both.0 ≡ Some m = reads_keep files first (Some m) current both.0 both.1
       (first_reads files first last (subst (ReadsInOrder files) split reads)) both.2 in
@@ -498,7 +456,7 @@ module _ {H : Type 0} (hm : HostModule H) (hosts : List H) (words : List Name) (
           → new.out.told ≡ old.out.told
           → PassesUnits units IsOf (λ s. status ≡ s) (StopsFor status Said) events → Comes
       units_come form is units IsOf few jobs quiet p =
-          let both = honest_both p.given p.written old.files.told old.files.current new.files.told new.files.current
+          let both = honest_both p.given p.written old.files.told new.files.told old.files.current new.files.current
           (subst (λ (l : List Event). AreHonest l old.files.told old.files.current new.files.told new.files.current) p.split honest) in
           let answer = answer_both p.given p.written (subst AllAnswer p.split answers) in
           let kept = reads_keep (limited most_unit_bytes units) p.given old.files.told old.files.current both.0 both.1 p.reads both.2 in
@@ -518,7 +476,7 @@ module _ {H : Type 0} (hm : HostModule H) (hosts : List H) (words : List Name) (
       run_line : (line : RunLine) → line_of words ≡ Some (runs line)
           → PassesRun hm hosts line old.out.told new.out.told (λ s. status ≡ s) (StopsFor status Said) events → Comes
       run_line line is p =
-          let both = honest_both p.given p.written old.files.told old.files.current new.files.told new.files.current
+          let both = honest_both p.given p.written old.files.told new.files.told old.files.current new.files.current
           (subst (λ (l : List Event). AreHonest l old.files.told old.files.current new.files.told new.files.current) p.split honest) in
           let answer = answer_both p.given p.written (subst AllAnswer p.split answers) in
           let kept = reads_keep (run_reads line) p.given old.files.told old.files.current both.0 both.1 p.reads both.2 in

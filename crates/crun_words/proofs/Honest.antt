@@ -31,6 +31,7 @@ use Rattle.w2c_io.specs.Events.{Event, Read}
 use Rattle.w2c_io.specs.Honest.{AreHonest, Does}
 use Rattle.w2c_io.specs.declared.answers.ReadAnswer.{ReadAnswer}
 use Rattle.w2c_io.specs.declared.answers.ReadAnswer.TheVariants as reading
+use Rattle.w2c_files.proofs.Honest.{honest_both}
 use Rattle.w2c_files.specs.Passing.{ReadsAll}
 use Rattle.w2c_files.specs.Reading.{total, AreHeld, AreRead}
 use Rattle.crun_words.specs.Inputs.{
@@ -57,15 +58,6 @@ use Rattle.crun_words.specs.Inputs.{
 }
 use Rattle.crun_words.specs.Passing.{AllAnswer, Answers, GivesInputs, GivesJournal, GivesUnits, IsAway, IsOver, ReadsUnto}
 use Rattle.crun_words.proofs.InputStops.{as_many, units_bytes}
-
--- ---- one part behind the other
-
-pub honest_both : (first last : List Event) (old : Told) (current : Option Name) (new : Told) (after : Option Name)
-    → AreHonest (first ++ last) old current new after
-    → (told : Told) × (name : Option Name) × AreHonest first old current told name × AreHonest last told name new after
-honest_both [] last old current new after honest = (old, current, (refl, refl), honest)
-honest_both (e ∷ first) last old current new after (told, name, does, rest) =
-    let back = honest_both first last told name new after rest in (back.0, back.1, (told, name, does, back.2), back.3)
 
 pub answer_both : (first last : List Event) → AllAnswer (first ++ last) → AllAnswer first × AllAnswer last
 answer_both [] last answers = (tt, answers)
@@ -121,7 +113,7 @@ module _ (m : Contents) where
       → AreRead most_unit_bytes most_units_bytes m names all × Finds name most answer new after
   then_one names all first events name most answer current new after few gave is honest answers =
       let last : List Event = Read name most answer ∷ [] in
-      let both = honest_both first last (Some m) current new after
+      let both = honest_both first last (Some m) new current after
       (subst (λ (e : List Event). AreHonest e (Some m) current new after) is honest) in
       let answer' = answer_both first last (subst AllAnswer is answers) in
       let held = all_held most_unit_bytes names all first current both.0 both.1 gave both.2 answer'.0 in (

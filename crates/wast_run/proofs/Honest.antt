@@ -10,6 +10,8 @@ use Rattle.w2c_io.specs.Events.{Event, Read}
 use Rattle.w2c_io.specs.Honest.{AreHonest, Does}
 use Rattle.w2c_io.specs.Telling.{Says}
 use Rattle.w2c_io.specs.declared.answers.ReadAnswer.TheVariants as reading
+use Rattle.w2c_files.specs.Passing.{FailsLast}
+use Rattle.w2c_files.proofs.Honest.{honest_both, read_keeps}
 use Rattle.wasm_spelling.specs.Limits.{most_module_bytes}
 use Rattle.wasm_valid.specs.FileVerdict.{FileVerdict}
 use Rattle.wast_script.specs.declared.fault.ScriptFault.{ScriptFault}
@@ -23,7 +25,7 @@ use Rattle.wast_run.specs.declared.word.Word.{Word}
 use Rattle.wast_run.specs.Report.{Comes, IsFile, LeadInTime, Setting, at_first, ok_count, report_of}
 use Rattle.wast_run.specs.Parts.{lines_before, IsFirstMissing, IsPart}
 use Rattle.wast_run.specs.Jobs.{GainedPart, HasReading, IsAnswered, IsNotThere, IsJob, IsJobBehind, Job, Refuses, Reported, Reports, Stops}
-use Rattle.wast_run.specs.Passing.{Answer, ComesOver, DoesJob, DoesLine, Ending, EndsSo, FailsLast, IsGiven, IsJobBy, IsNoFile, IsReadAs}
+use Rattle.wast_run.specs.Passing.{Answer, ComesOver, DoesJob, DoesLine, Ending, EndsSo, IsGiven, IsJobBy, IsNoFile, IsReadAs}
 use Rattle.wast_run.specs.Passing.{IsStatusOf, LastLines, LastReads, LeadOver, PassesFor, ReadsNext, ReportsOver, StopsIn, WantsMemory}
 use Rattle.wast_run.specs.Passing.{module_read, script_read}
 use Rattle.wast_run.proofs.Leads.{lead_plain, lead_there}
@@ -35,24 +37,6 @@ use Rattle.wast_run.proofs.WorkLaws.{job_by_line, job_of_text}
 
 same_told : {a b c : Told} → b ≡ a → c ≡ b → c ≡ a
 same_told e f = f ∙ e
-
--- the first calls, then the others
-honest_parts : (first rest : List Event) (old : Told) (current : Option Name) (new : Told) (after : Option Name)
-    → AreHonest (first ++ rest) old current new after
-    → (told : Told) × (name : Option Name) × AreHonest first old current told name × AreHonest rest told name new after
-honest_parts [] rest old current new after honest = (old, current, (refl, refl), honest)
-honest_parts (e ∷ first) rest old current new after (told, name, does, honest) =
-    let more = honest_parts first rest told name new after honest in
-    (more.0, more.1, (told, name, does, more.2), more.3)
-
--- a read leaves what is told
-read_keeps : (name : Name) (limit : ℕ) (answer : Answer) (old : Told) (current : Option Name) (new : Told) (after : Option Name)
-    → Does (Read name limit answer) old current new after → new ≡ old
-read_keeps name limit (Ok bytes) old current new after does = does.1
-read_keeps name limit (Err reading.Absent) old current new after does = does.1
-read_keeps name limit (Err reading.TooLong) old current new after does = does.1
-read_keeps name limit (Err reading.Failed) old current new after does = does.0
-read_keeps name limit (Err reading.Memory) old current new after does = does.0
 
 module _ (m : Contents) where
   -- the files are these, before and behind
@@ -69,7 +53,7 @@ module _ (m : Contents) where
       → (told : Told) × (other : Option Name) × Does (Read name limit answer) (Some m) current told other × (new ≡ Some m)
   one_honest name limit answer events current new after is honest =
       let h = subst (λ (l : List Event). Honest l current new after) is honest in
-      (h.0, h.1, h.2, h.3.0 ∙ read_keeps name limit answer (Some m) current h.0 h.1 h.2)
+      (h.0, h.1, h.2, h.3.0 ∙ (read_keeps name limit answer (Some m) h.0 current h.1 h.2).0)
 
   -- the verdict on what a read gave is that on the file
   given_file : (name : Name) (answer : Answer) (verdict : Option FileVerdict) (current : Option Name) (told : Told) (after : Option Name)
@@ -116,7 +100,7 @@ module _ (m : Contents) where
       ((lead.0, lead.1), none_honest events current new last lead.2 honest)
   lead_honest steps at (c ∷ commands) words after events current new last (w, others, between, first, rest, comes, lead, is, calls)
       honest =
-      let parts = honest_parts first rest (Some m) current new last (subst (λ (l : List Event). Honest l current new last) calls honest) in
+      let parts = honest_both first rest (Some m) new current last (subst (λ (l : List Event). Honest l current new last) calls honest) in
       let one = comes_honest steps at c w between first current parts.0 parts.1 comes.0 parts.2 in
       let more = lead_honest steps between commands others after rest parts.1 new last lead
       (subst (λ (t : Told). AreHonest rest t parts.1 new last) one.1 parts.3) in
@@ -160,7 +144,7 @@ module _ (m : Contents) where
     abbrev stop_parts : (told : Told) × (name : Option Name) × AreHonest stops.first (Some m) current told name
         × AreHonest stops.last told name new last
     stop_parts =
-        honest_parts stops.first stops.last (Some m) current new last
+        honest_both stops.first stops.last (Some m) new current last
         (subst (λ (l : List Event). AreHonest l (Some m) current new last) stops.calls honest)
 
     abbrev stop_lead : LeadInTime m steps at_first stops.front stops.words stops.after × (stop_parts.0 ≡ Some m)
@@ -236,7 +220,7 @@ module _ (m : Contents) (words : List Name) (line : Line) (is : line_of words �
     abbrev script_parts : (told : Told) × (name : Option Name) × AreHonest (script_read line.script answer) (Some m) current told name
         × AreHonest given told name new after
     script_parts =
-        honest_parts (script_read line.script answer) given (Some m) current new after
+        honest_both (script_read line.script answer) given (Some m) new current after
         (subst (λ (l : List Event). AreHonest l (Some m) current new after) calls honest)
 
     abbrev script_does : (told : Told) × (other : Option Name)

@@ -51,10 +51,6 @@ IsGiven (Err reading.Memory) verdict = ⊥
 abbrev pub IsReadAs : List Event → Name → Option FileVerdict → Type 0
 IsReadAs events name verdict = (answer : Answer) × (events ≡ module_read name answer) × IsGiven answer verdict
 
--- the last call was a read of this file, which failed
-abbrev pub FailsLast : Name → List Event → Type 0
-FailsLast file events = (front : List Event) × (limit : ℕ) × (events ≡ front ++ Read file limit (Err reading.Failed) ∷ [])
-
 -- ---- commands
 
 -- a command came to this word, over what the read of its file gave; where it names no file, nothing was read

@@ -2,13 +2,14 @@
 ghost use Rattle.std.specs.Prelude.{◌≡◌, ◌⊎◌, List, ℕ, Option, Some};
 ghost use Rattle.w2c_io.specs.Contents.{Contents, IsPrefix, Name};
 ghost use Rattle.w2c_io.specs.Telling.{Says};
+ghost use Rattle.w2c_files.specs.Passing.{FailsLast};
 ghost use Rattle.wast_script.specs.Commands.{Command};
 ghost use Rattle.wast_script.specs.Lines.{error_line, status_of, Reason, Unread};
 ghost use Rattle.wast_run.specs.declared.word.Word.{Word as AnyWord};
 ghost use Rattle.wast_run.specs.Report.{AreWords, report_of};
 ghost use Rattle.wast_run.specs.Parts.{IsPart};
 ghost use Rattle.wast_run.specs.Jobs.{GainedPart, IsAnswered, IsNotThere, Refuses, Reported};
-ghost use Rattle.wast_run.specs.Passing.{FailsLast, Honestly};
+ghost use Rattle.wast_run.specs.Passing.{Honestly};
 
 /// The law that commands have one list of words at most, and that a part of their report is a prefix of it.
 pub fn one_report()
