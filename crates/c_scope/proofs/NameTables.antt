@@ -23,20 +23,20 @@ module _ {V T : Type 0} (bytes_of : V → List ℕ) where
   pub found : (name : List ℕ) (entries : List (V × T)) → lookup (λ k. bytes_eq name (bytes_of k)) entries ≡ named name (view entries)
   found name [] = refl
   found name (e ∷ entries) =
-    ap (λ b. cond b (Some e.1) (lookup (λ k. bytes_eq name (bytes_of k)) entries)) (either_way name (bytes_of e.0))
+      ap (λ b. cond b (Some e.1) (lookup (λ k. bytes_eq name (bytes_of k)) entries)) (either_way name (bytes_of e.0))
       ∙ ap (cond (bytes_eq (bytes_of e.0) name) (Some e.1)) (found name entries)
 
   -- an entry at the end
   pub named-push : (name : List ℕ) (entries : List (V × T)) (new : V) (of : T)
       → named name (view (entries ++ (new, of) ∷ []))
-        ≡ option_or (named name (view entries)) (if bytes_eq (bytes_of new) name then Some of else None)
+      ≡ option_or (named name (view entries)) (if bytes_eq (bytes_of new) name then Some of else None)
   named-push name [] new of = refl
   named-push name (e ∷ entries) new of = go (bytes_eq (bytes_of e.0) name) (named-push name entries new of)
     where
       go : (b : Bool) → named name (view (entries ++ (new, of) ∷ []))
-            ≡ option_or (named name (view entries)) (if bytes_eq (bytes_of new) name then Some of else None)
+          ≡ option_or (named name (view entries)) (if bytes_eq (bytes_of new) name then Some of else None)
           → (if b then Some e.1 else named name (view (entries ++ (new, of) ∷ [])))
-            ≡ option_or (if b then Some e.1 else named name (view entries)) (if bytes_eq (bytes_of new) name then Some of else None)
+          ≡ option_or (if b then Some e.1 else named name (view entries)) (if bytes_eq (bytes_of new) name then Some of else None)
       go true behind = refl
       go false behind = behind
 

@@ -13,7 +13,7 @@ returns g c q =
     let none = ap (λ n. named n (view (λ k. k.items) entries)) items ∙ ap (named c.args.name.now) c.self.view_is ∙ absent in
     let absent = found (λ k. k.items) c.in_ok-from_slice.field-0.items entries ∙ none in
     let new = c.in_ok-insert.ensures.entries
-      ∙ insert_entry-new (λ a b. bytes_eq a.items b.items) c.self.inside.entries c.in_ok-from_slice.field-0 c.args.of absent in
+    ∙ insert_entry-new (λ a b. bytes_eq a.items b.items) c.self.inside.entries c.in_ok-from_slice.field-0 c.args.of absent in
     ap (λ es. named q (view (λ k. k.items) es)) new
     ∙ named-push (λ k. k.items) q entries c.in_ok-from_slice.field-0 c.args.of
     ∙ ap (λ n. option_or (named q (view (λ k. k.items) entries)) (if bytes_eq n q then Some c.args.of else None)) items
