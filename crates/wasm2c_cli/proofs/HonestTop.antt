@@ -41,7 +41,7 @@ reads_keep (n ∷ names) (e ∷ given) old new current after (inr (answer, is, n
 -- ---- jobs over bytes of which less is said
 
 module _ (P Q : List (List ℕ) → Type 0) (so : (all : List (List ℕ)) → P all → Q all) where
-  sources_so : (line : Line) (sources : List (List ℕ)) → AreSourcesBy P line sources → AreSourcesBy Q line sources
+  pub sources_so : (line : Line) (sources : List (List ℕ)) → AreSourcesBy P line sources → AreSourcesBy Q line sources
   sources_so (translate t) sources read = so sources read
   sources_so (set s) sources read = so sources read
   sources_so (generate g) sources read = read
@@ -73,7 +73,7 @@ module _ (line : Line) (m : Contents) (given put : List Event) (new : Told) (cur
       (subst (λ (es : List Event). AreHonest es told at new after) none last).0
       ∙ reads_keep (inputs_of line) given (Some m) told current at reads first
 
-  whole_put : (files : List (Name × List ℕ)) → WritesFiles files put → new ≡ written (Some m) files
+  pub whole_put : (files : List (Name × List ℕ)) → WritesFiles files put → new ≡ written (Some m) files
   whole_put files wrote =
       let (told, at, first, last) = honest_both given put (Some m) new current after honest in
       files_hold files put told new at after wrote last
@@ -92,7 +92,7 @@ module _ (line : Line) (m : Contents) (given put : List Event) (new : Told) (cur
       subst (λ (t : Told). Stands t new files) (reads_keep (inputs_of line) given (Some m) told current at reads first)
       (some_stand files put told new at after some last)
 
-  all_held : (all : List (List ℕ)) → ReadsWhole (inputs_of line) given all → AreReadOf line m all
+  pub all_held : (all : List (List ℕ)) → ReadsWhole (inputs_of line) given all → AreReadOf line m all
   all_held all read =
       let (told, at, first, last) = honest_both given put (Some m) new current after honest in
       let held : AreHeld m (inputs_of line) all =

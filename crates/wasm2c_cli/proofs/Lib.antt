@@ -1,5 +1,6 @@
 pub mod FileStops
 pub mod HonestTop
+pub mod HonestUnits
 pub mod JobLaws
 pub mod LineStops
 pub mod ModuleFiles

@@ -215,7 +215,7 @@ names_made (t ∷ targets) (m ∷ modules) many =
     ap (λ (l : List Name). t.c_file ∷ t.header ∷ l) (names_made targets modules (omega (arith, many)))
 
 -- files of distinct names that are written stand
-all_there : (old : Contents) (new : Told) (files : List (Name × List ℕ)) → AreDistinct (file_names files) → new ≡ written (Some old) files
+pub all_there : (old : Contents) (new : Told) (files : List (Name × List ℕ)) → AreDistinct (file_names files) → new ≡ written (Some old) files
     → (name : Name) (text : List ℕ) → HasText name text files → HasFile new name text
 all_there old None files distinct whole name text has = tt
 all_there old (Some after) files distinct whole name text has = stand_whole files old after distinct (sym whole) name text has

@@ -1,6 +1,8 @@
 // Laws of the job.
 ghost use Rattle.std.specs.Prelude.{◌≡◌, ◌⊎◌, List, ℕ, Option, Some};
 ghost use Rattle.w2c_io.specs.Contents.{Name, Contents, Told};
+ghost use Rattle.w2c_io.specs.Events.{Event};
+ghost use Rattle.w2c_io.specs.Honest.{AreHonest};
 ghost use Rattle.w2c_io.specs.Telling.{Says};
 ghost use Rattle.w2c_files.specs.Passing.{FailsLast};
 ghost use Rattle.w2c_files.specs.Standing.{file_names, AreDistinct, StandsAt};
@@ -8,7 +10,9 @@ ghost use Rattle.wasm2c_cli.specs.declared.stop.Reason.{Reason};
 ghost use Rattle.wasm2c_cli.specs.HonestPassing.{PassesHonestly};
 ghost use Rattle.wasm2c_cli.specs.Job.{IsJob, Job, Missing, Refused, Write};
 ghost use Rattle.wasm2c_cli.specs.Lines.{read_line, refused_line, write_line};
+ghost use Rattle.wasm2c_cli.specs.Passing.{PutsLinkedUnits};
 ghost use Rattle.wasm2c_cli.specs.Stops.{Done, StandsOfJob};
+ghost use Rattle.wasm2c_cli.specs.Units.{WritesLinkedUnits, WritesUnits};
 
 /// The law that words ask for at most one job over what the files hold.
 pub fn one_job()
@@ -34,6 +38,10 @@ pub fn honest_files()
         → PassesHonestly words 1 (Says said new_said faults new_faults) m new
         → (file : Name) × (reason : Reason) × Says said new_said faults new_faults (refused_line file reason)
         × IsJob words m (Refused file reason) }
+    ensures units { (words : List Name) (events : List Event) (m : Contents) (new : Told) (current after : Option Name)
+        → PutsLinkedUnits words events → AreHonest events (Some m) current new after → WritesUnits words (Some m) new }
+    ensures linked { (words : List Name) (events : List Event) (m : Contents) (new : Told) (current after : Option Name)
+        → PutsLinkedUnits words events → AreHonest events (Some m) current new after → WritesLinkedUnits words (Some m) new }
     ensures missing { (words : List Name) (said new_said : Option (List ℕ)) (faults new_faults : ℕ) (m : Contents) (new : Told)
         → (call : PassesHonestly words 3 (Says said new_said faults new_faults) m new)
         → (file : Name) × Says said new_said faults new_faults (read_line file) × (IsJob words m (Missing file) ⊎ FailsLast file call.events) }

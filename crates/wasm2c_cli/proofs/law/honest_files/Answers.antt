@@ -1,6 +1,7 @@
 use Rattle.std.proofs.Common.{refl}
 use Rattle.w2c_io.specs.Telling.{Says}
 use Rattle.wasm2c_cli.proofs.HonestTop.{honest_done, honest_missing, honest_refused, honest_stands, honest_untouched, honest_write_fault}
+use Rattle.wasm2c_cli.proofs.HonestUnits.{honest_linked, honest_units}
 use Rattle.wasm2c_cli.proofs.law.honest_files.Goals as goal
 
 pub returns-clause-untouched : goal.returns-clause-untouched
@@ -14,6 +15,12 @@ returns-clause-done c = λ words said said' faults faults' m new call.
 pub returns-clause-refused : goal.returns-clause-refused
 returns-clause-refused c = λ words said said' faults faults' m new call.
     honest_refused words 1 (Says said said' faults faults') m new call refl
+
+pub returns-clause-units : goal.returns-clause-units
+returns-clause-units c = honest_units
+
+pub returns-clause-linked : goal.returns-clause-linked
+returns-clause-linked c = honest_linked
 
 pub returns-clause-missing : goal.returns-clause-missing
 returns-clause-missing c = λ words said said' faults faults' m new call.

@@ -1,0 +1,85 @@
+-- The units that were put stand, where the files behave as files.
+use Rattle.std.proofs.Common.{◌≡◌, ℕ, ◌+◌, List, [], ◌∷◌, ◌++◌, length, refl, sym, ap, subst, Option, Some, None, inl, inr}
+use Rattle.w2c_io.specs.Contents.{Name, Contents, Told, HasFile}
+use Rattle.w2c_io.specs.Events.{Event}
+use Rattle.w2c_io.specs.Honest.{AreHonest}
+use Rattle.w2c_files.specs.Standing.{AreDistinct, HasText, file_names}
+use Rattle.wasm_tree.specs.declared.tree.Module.{Module}
+use Rattle.w2c_sim.specs.Translation.{text_of, header_text_of}
+use Rattle.wasm2c_words.specs.CommandLine.{Line, translate, set, generate, runtime, line_of}
+use Rattle.wasm2c_cli.specs.Job.{AreReadOf, AreSources, files_of}
+use Rattle.wasm2c_cli.specs.Passing.{IsUnitOf, PutsLinked, PutsLinkedUnits, ReadsWhole}
+use Rattle.wasm2c_cli.specs.Plan.{Target, inputs_of, names_of_targets, targets_of}
+use Rattle.wasm2c_cli.specs.Units.{DoTheSameWithOthers, HoldAll, HoldsText, HoldsUnit, StandAll, WritesLinkedUnits, WritesUnits, texts_made}
+use Rattle.wasm2c_cli.proofs.HonestTop.{all_held, sources_so, whole_put}
+use Rattle.wasm2c_cli.proofs.JobLaws.{files_distinct}
+use Rattle.wasm2c_cli.proofs.Passed.{distinct_outputs, passed}
+use Rattle.wasm2c_cli.proofs.TopLaws.{all_there, hold_weaker}
+
+-- the files of modules whose units were put
+units_hold : (new : Told) (targets : List Target) (sources : List (List ℕ)) (modules : List Module) → HoldAll IsUnitOf targets sources modules
+    → ((name : Name) (text : List ℕ) → HasText name text (files_of targets modules) → HasFile new name text)
+    → HoldAll (HoldsUnit new) targets sources modules
+units_hold new [] [] [] held there = tt
+units_hold new [] [] (m ∷ modules) held there = absurd held
+units_hold new [] (bytes ∷ sources) [] held there = absurd held
+units_hold new [] (bytes ∷ sources) (m ∷ modules) held there = absurd held
+units_hold new (t ∷ targets) [] [] held there = absurd held
+units_hold new (t ∷ targets) [] (m ∷ modules) held there = absurd held
+units_hold new (t ∷ targets) (bytes ∷ sources) [] held there = absurd held
+units_hold new (t ∷ targets) (bytes ∷ sources) (m ∷ modules) (unit, held) there = (
+  record {
+    text = record { is_module = unit.is_module; stands = there t.c_file (text_of m t.module_name) (inl (refl, refl)) };
+    header_stands = there t.header (header_text_of m t.module_name) (inr (inl (refl, refl)));
+    unit = unit.unit;
+  },
+  units_hold new targets sources modules held (λ name text one. there name text (inr (inr one))),
+)
+
+distinct_targets : (words : List Name) (line : Line) → line_of words ≡ Some line → AreDistinct (names_of_targets (targets_of line))
+distinct_targets words (translate t) is = distinct_outputs (translate t) (passed words (translate t) is)
+distinct_targets words (set s) is = distinct_outputs (set s) (passed words (set s) is)
+distinct_targets words (generate g) is = distinct_outputs (generate g) (passed words (generate g) is)
+distinct_targets words (runtime dir) is = tt
+
+module _ (words : List Name) (line : Line) (is : line_of words ≡ Some line) (m : Contents) (new : Told) (current after : Option Name)
+    (events : List Event) (puts : PutsLinked line events) (honest : AreHonest events (Some m) current new after) where
+  here : AreHonest (puts.given ++ puts.put) (Some m) current new after
+  here = subst (λ (es : List Event). AreHonest es (Some m) current new after) puts.split honest
+
+  abbrev units_stand : StandAll (HoldsUnit new) line m
+  units_stand = record {
+    sources = puts.stand.sources;
+    modules = puts.stand.modules;
+    read = sources_so (ReadsWhole (inputs_of line) puts.given) (AreReadOf line m)
+        (all_held line m puts.given puts.put new current after puts.reads here) line puts.stand.sources puts.stand.read;
+    all = units_hold new (targets_of line) puts.stand.sources puts.stand.modules puts.stand.all
+        (all_there m new (files_of (targets_of line) puts.stand.modules)
+        (files_distinct (targets_of line) puts.stand.modules (distinct_targets words line is))
+        (whole_put line m puts.given puts.put new current after puts.reads here (files_of (targets_of line) puts.stand.modules) puts.files));
+  }
+
+  abbrev texts_stand : StandAll (HoldsText new) line m
+  texts_stand = record {
+    sources = puts.stand.sources;
+    modules = puts.stand.modules;
+    read = units_stand.read;
+    all = hold_weaker (HoldsUnit new) (HoldsText new) (λ t bytes tree held. held.text) (targets_of line) puts.stand.sources
+        puts.stand.modules units_stand.all;
+  }
+
+same_contents : (a b : Contents) → ◌≡◌ {A = Told} (Some a) (Some b) → a ≡ b
+same_contents a b e = cc
+
+pub honest_units : (words : List Name) (events : List Event) (m : Contents) (new : Told) (current after : Option Name)
+    → PutsLinkedUnits words events → AreHonest events (Some m) current new after → WritesUnits words (Some m) new
+honest_units words events m new current after (line, is, puts) honest = λ contents told.
+    subst (λ (c : Contents). (line : Line) × (line_of words ≡ Some line) × StandAll (HoldsUnit new) line c) (same_contents m contents told)
+    (line, is, units_stand words line is m new current after events puts honest)
+
+pub honest_linked : (words : List Name) (events : List Event) (m : Contents) (new : Told) (current after : Option Name)
+    → PutsLinkedUnits words events → AreHonest events (Some m) current new after → WritesLinkedUnits words (Some m) new
+honest_linked words events m new current after (line, is, puts) honest = λ contents told.
+    subst (λ (c : Contents). (line : Line) × (line_of words ≡ Some line) × (stand : StandAll (HoldsText new) line c)
+    × DoTheSameWithOthers (texts_made (targets_of line) stand.sources stand.modules)) (same_contents m contents told)
+    (line, is, texts_stand words line is m new current after events puts honest, puts.same)
