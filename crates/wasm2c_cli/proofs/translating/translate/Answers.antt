@@ -106,7 +106,8 @@ returns-clause-passed g c =
     let seen-2 : c.as_slice-2.result.now ≡ modules = search rules in
     let taken : AreTaken c.in-Ok.sources.items modules = subst (λ l. AreTaken l modules) seen c.in-Ok-accept_modules.ensures.taken in
     all_passed names targets (files.trace c.args.files.now) (files.trace c.write_modules.new.files) c.in-Ok.sources.items
-    c.in-Ok.ensures.fit c.in-Ok.ensures.together modules taken (files.trace c.read_modules.new.files) c.in-Ok.ensures.passed c.write_modules.result c.write_modules.ensures.names
+    c.in-Ok.ensures.fit c.in-Ok.ensures.together modules taken (files.trace c.read_modules.new.files)
+    c.in-Ok.ensures.passed c.write_modules.result c.write_modules.ensures.names
     (subst (λ l. OnOk c.write_modules.result (Passes (files.trace c.read_modules.new.files) (files.trace c.write_modules.new.files)
     (WritesFiles (files_of targets l)))) seen-2 c.write_modules.ensures.passed)
 
