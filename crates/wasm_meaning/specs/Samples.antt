@@ -1,9 +1,10 @@
 -- Small modules, written by hand, that closed cases run. Every place is 0.
 use Rattle.std.specs.Prelude.{ℕ, ℤ, pos, Bool, true, false, List, [], ◌∷◌, map, codes, Option, Some, None}
+use Rattle.std.specs.List.{range_with_len}
 use Rattle.w2c_base.specs.declared.value.ValType.{ValType}
 use Rattle.w2c_base.specs.declared.value.ValType.TheVariants as type
 use Rattle.w2c_base.specs.declared.value.Value.{Value}
-use Rattle.w2c_base.specs.Run.{Host, Reply, Ask}
+use Rattle.w2c_base.specs.Run.{Host, HostFunction, Reply, Ask}
 use Rattle.wasm_tree.specs.Instructions.{Code, end_code, then_code, Kind, Block, BrTable, Call, CallIndirect, MemoryGrow, LocalGet, GlobalGet, GlobalSet, I32Const, I64Const, Binary}
 use Rattle.wasm_tree.specs.declared.operators.BinaryOp.TheVariants.{Add}
 use Rattle.wasm_tree.specs.declared.tree.Module.{Module}
@@ -16,6 +17,7 @@ use Rattle.wasm_tree.specs.declared.entries.LimitsEntry.{LimitsEntry}
 use Rattle.wasm_tree.specs.declared.entries.SegmentEntry.{SegmentEntry}
 use Rattle.wasm_tree.specs.declared.entries.Start.{Start}
 use Rattle.wasm_tree.specs.declared.entries.Import.{Import}
+use Rattle.wasm_tree.specs.declared.entries.ImportKind.{ImportKind}
 use Rattle.wasm_tree.specs.declared.entries.ImportKind.TheVariants.{Func as ImportFunc, Table as ImportTable, Memory as ImportMemory, Global as ImportGlobal}
 use Rattle.wasm_tree.specs.declared.entries.ExportKind.TheVariants.{Func as ExportFunc, Table as ExportTable, Memory as ExportMemory, Global as ExportGlobal}
 use Rattle.wasm_meaning.specs.LinkedSet.{LinkedSet}
@@ -200,6 +202,48 @@ env = record {
 abbrev pub tick : Ask
 tick = record { host = 0; function = 0; args = [] }
 
+-- types, one import by the names of a module and of its export, exports, and nothing else
+abbrev pub importing : List TypeEntry → List ℕ → List ℕ → ImportKind → List Export → Module
+importing types module_name name kind exports = record {
+  types = types;
+  imports = record { «module» = module_name; field = name; kind = kind; place = 0 } ∷ [];
+  funcs = [];
+  tables = [];
+  memories = [];
+  globals = [];
+  exports = exports;
+  start = None;
+  elements = [];
+  data_count = None;
+  segments = [];
+  bodies = [];
+}
+
+-- a function of this type is imported
+abbrev pub imports_func : List ℕ → List ℕ → TypeEntry → Module
+imports_func module_name name ty = importing (ty ∷ []) module_name name (ImportFunc 0) []
+
+-- the module `m` imports the function that it defines and exports itself
+abbrev pub imports_its_own : Module
+imports_its_own = with_funcs
+    (func_type [] (Some type.I32) ∷ [])
+    (0 ∷ [])
+    (body (I32Const (pos 4) ∷ []) ∷ [])
+    (export_func (codes "f") 1 ∷ [])
+    (imports_func (codes "m") (codes "f") (func_type [] (Some type.I32)))
+
+-- of `a` a memory of at least so many pages, and a global
+abbrev pub imports_memory : List ℕ → ℕ → Module
+imports_memory name min = importing [] (codes "a") name (ImportMemory (record { min = min; max = None; place = 0 })) []
+
+abbrev pub imports_one_global : List ℕ → ValType → Bool → Module
+imports_one_global name ty mutable = importing [] (codes "a") name (ImportGlobal ty mutable) []
+
+-- the host's `tick` is imported, and exported again as `t`
+abbrev pub hands_on_tick : Module
+hands_on_tick =
+    importing (func_type [] (Some type.I64) ∷ []) (codes "env") (codes "tick") (ImportFunc 0) (export_func (codes "t") 0 ∷ [])
+
 abbrev only_tables : List LimitsEntry → List Import → List ElementEntry → Option Start → Module
 only_tables tables imports elements start = record {
   types = [];
@@ -250,16 +294,16 @@ second_segment_past_the_end = with_funcs
     (func_type [] None ∷ []) (0 ∷ []) (body [] ∷ []) []
     (only_tables (table_of 2 None ∷ []) [] (element (pos 0) 0 ∷ element (pos 2) 0 ∷ []) None)
 
--- two modules, of which the first exports a memory and the second imports it
-abbrev only_memory : List LimitsEntry → List Import → List Export → Module
-only_memory memories imports exports = record {
+-- a memory of no pages, exported as `m`
+abbrev pub exports_memory : Module
+exports_memory = record {
   types = [];
-  imports = imports;
+  imports = [];
   funcs = [];
   tables = [];
-  memories = memories;
+  memories = table_of 0 None ∷ [];
   globals = [];
-  exports = exports;
+  exports = record { name = codes "m"; kind = ExportMemory; index = 0; name_place = 0; index_place = 0 } ∷ [];
   start = None;
   elements = [];
   data_count = None;
@@ -267,19 +311,11 @@ only_memory memories imports exports = record {
   bodies = [];
 }
 
+-- two modules, of which the first exports this memory and the second imports it
 abbrev pub shared_memory : LinkedSet
 shared_memory = record {
-  modules = record {
-    name = codes "a";
-    tree = only_memory (table_of 0 None ∷ []) []
-        (record { name = codes "m"; kind = ExportMemory; index = 0; name_place = 0; index_place = 0 } ∷ []);
-  }
-      ∷ record {
-        name = codes "b";
-        tree = only_memory []
-            (record { «module» = codes "a"; field = codes "m"; kind = ImportMemory (table_of 0 None).limits; place = 0 } ∷ [])
-            [];
-      } ∷ [];
+  modules = record { name = codes "a"; tree = exports_memory }
+      ∷ record { name = codes "b"; tree = imports_memory (codes "m") 0 } ∷ [];
   hosts = [];
 }
 
@@ -384,6 +420,28 @@ run_both a b names budget =
     (map (λ name. record { module_name = codes "b"; export_name = name; args = [] }) names)
     budget
     []
+
+-- empty modules of these names, and hosts
+abbrev pub empty_modules : List (List ℕ) → List Host → LinkedSet
+empty_modules names hosts = record { modules = map (λ name. record { name = name; tree = no_module }) names; hosts = hosts }
+
+-- so many names, each of one byte
+abbrev pub names_up_to : ℕ → List (List ℕ)
+names_up_to count = map (λ k. k ∷ []) (range_with_len 0 count)
+
+-- a host that offers two functions of one name
+abbrev ticks : Option ValType → HostFunction
+ticks result = record { name = codes "tick"; ty = record { params = []; result = result } }
+
+abbrev pub ticks_twice : Host
+ticks_twice = record { name = codes "env"; functions = ticks None ∷ ticks (Some type.I64) ∷ [] }
+
+-- the module alone behind a host that offers nothing
+abbrev pub behind_another_host : Module → LinkedSet
+behind_another_host m = record {
+  modules = record { name = codes "m"; tree = m } ∷ [];
+  hosts = record { name = codes "quiet"; functions = [] } ∷ env ∷ [];
+}
 
 -- the module alone, named `m`, and one call of it
 abbrev pub alone : Module → LinkedSet

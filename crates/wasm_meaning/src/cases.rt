@@ -147,9 +147,70 @@ pub fn bulk_cases()
     ensures extend { sample.run_code (I32Const (pos 384) ∷ Extend I32Extend8S ∷ []) (I32 0) 9 ≡ Normal 7 (I32 4294967168 ∷ []) (sample.state_of (I32 0)) }
 {}
 
-/// Calls that fit, and functions that an index stands for.
+/// Sets that are linked: what their imports stand for, and how many modules there may be.
+pub fn linking_cases()
+    ensures host_function { IsLinked (sample.alone sample.host_ticks) }
+    ensures function_of_the_second_host { IsLinked (sample.behind_another_host sample.host_ticks) }
+    ensures host_function_handed_on { IsLinked (sample.both sample.hands_on_tick
+        (sample.imports_func (codes "a") (codes "t") (sample.func_type [] (Some type.I64)))) }
+    ensures functions_and_a_global { IsLinked (sample.both sample.exports_global (sample.imports_global None)) }
+    // limits are no part of it
+    ensures table { IsLinked (sample.both (sample.exports_table None) (sample.imports_table 3 (Some 3))) }
+    ensures memory { IsLinked (sample.both sample.exports_memory (sample.imports_memory (codes "m") 1)) }
+    ensures sixteen_modules { IsLinked (sample.empty_modules (sample.names_up_to 16) (sample.env ∷ [])) }
+{}
+
+/// Imports that keep a set from being linked.
+pub fn unlinked_import_cases()
+    ensures another_result { IsLinked (sample.both sample.two_constants
+        (sample.imports_func (codes "a") (codes "f") (sample.func_type [] (Some type.I64)))) → ⊥ }
+    ensures a_parameter_more { IsLinked (sample.both sample.two_constants
+        (sample.imports_func (codes "a") (codes "f") (sample.func_type (type.I32 ∷ []) (Some type.I32)))) → ⊥ }
+    ensures no_such_export { IsLinked (sample.both sample.two_constants
+        (sample.imports_func (codes "a") (codes "g") (sample.func_type [] (Some type.I32)))) → ⊥ }
+    ensures no_such_module { IsLinked (sample.both sample.two_constants
+        (sample.imports_func (codes "c") (codes "f") (sample.func_type [] (Some type.I32)))) → ⊥ }
+    ensures later_module { IsLinked (sample.both
+        (sample.imports_func (codes "b") (codes "f") (sample.func_type [] (Some type.I32))) sample.two_constants) → ⊥ }
+    ensures own_export { IsLinked (sample.alone sample.imports_its_own) → ⊥ }
+    ensures host_function_of_another_type { IsLinked (sample.alone
+        (sample.imports_func (codes "env") (codes "tick") (sample.func_type [] (Some type.I32)))) → ⊥ }
+    ensures no_such_function_of_the_host { IsLinked (sample.alone
+        (sample.imports_func (codes "env") (codes "tock") (sample.func_type [] (Some type.I64)))) → ⊥ }
+    ensures global_of_another_type { IsLinked (sample.both sample.exports_global
+        (sample.imports_one_global (codes "g") type.I64 true)) → ⊥ }
+    ensures global_that_changes { IsLinked (sample.both sample.exports_global
+        (sample.imports_one_global (codes "g") type.I32 false)) → ⊥ }
+    ensures function_for_a_global { IsLinked (sample.both sample.exports_global
+        (sample.imports_one_global (codes "inc") type.I32 true)) → ⊥ }
+    ensures global_for_a_function { IsLinked (sample.both sample.exports_global
+        (sample.imports_func (codes "a") (codes "g") (sample.func_type [] (Some type.I32)))) → ⊥ }
+    ensures table_for_a_memory { IsLinked (sample.both (sample.exports_table None) (sample.imports_memory (codes "t") 0)) → ⊥ }
+    ensures no_such_table { IsLinked (sample.both sample.exports_memory (sample.imports_table 0 None)) → ⊥ }
+{}
+
+/// Names that keep a set from being linked, and modules that are too many.
+pub fn unlinked_name_cases()
+    ensures a_module_twice { IsLinked (sample.empty_modules (codes "a" ∷ codes "b" ∷ codes "a" ∷ []) []) → ⊥ }
+    ensures a_module_named_as_a_host { IsLinked (sample.empty_modules (codes "a" ∷ codes "env" ∷ []) (sample.env ∷ [])) → ⊥ }
+    ensures a_host_twice { IsLinked (sample.empty_modules [] (sample.env ∷ sample.env ∷ [])) → ⊥ }
+    ensures a_function_of_a_host_twice { IsLinked (sample.empty_modules [] (sample.ticks_twice ∷ [])) → ⊥ }
+    ensures seventeen_modules { IsLinked (sample.empty_modules (sample.names_up_to 17) []) → ⊥ }
+{}
+
+/// Calls that fit and calls that do not, and functions that an index stands for.
 pub fn call_cases()
     ensures fits { Fits (sample.alone sample.indirect_calls) (sample.call_of (codes "c") (I32 4294967295 ∷ [])) }
+    ensures host_function_handed_on { Fits (sample.alone sample.hands_on_tick) (sample.call_of (codes "t") []) }
+    ensures no_such_module { Fits (sample.alone sample.indirect_calls)
+        (record { module_name = codes "n"; export_name = codes "c"; args = I32 0 ∷ [] }) → ⊥ }
+    ensures host_is_no_module { Fits (sample.alone sample.host_ticks)
+        (record { module_name = codes "env"; export_name = codes "tick"; args = [] }) → ⊥ }
+    ensures no_such_export { Fits (sample.alone sample.indirect_calls) (sample.call_of (codes "d") (I32 0 ∷ [])) → ⊥ }
+    ensures export_is_no_function { Fits (sample.alone (sample.exports_table None)) (sample.call_of (codes "t") []) → ⊥ }
+    ensures argument_missing { Fits (sample.alone sample.indirect_calls) (sample.call_of (codes "c") []) → ⊥ }
+    ensures argument_too_many { Fits (sample.alone sample.indirect_calls) (sample.call_of (codes "c") (I32 0 ∷ I32 0 ∷ [])) → ⊥ }
+    ensures argument_of_another_type { Fits (sample.alone sample.indirect_calls) (sample.call_of (codes "c") (I64 0 ∷ [])) → ⊥ }
     ensures argument_past_the_width { Fits (sample.alone sample.indirect_calls) (sample.call_of (codes "c") (I32 4294967296 ∷ [])) → ⊥ }
     ensures own_function { body_of (sample.alone sample.host_ticks) 0 1 ≡ Some (sample.body (Call 0 ∷ Call 0 ∷ Binary type.I64 Add ∷ [])) }
     ensures imported_function_has_no_body { body_of (sample.alone sample.host_ticks) 0 0 ≡ None }
@@ -158,7 +219,6 @@ pub fn call_cases()
 
 /// Instantiation: imports, limits, segments and the start function.
 pub fn instantiation_cases()
-    ensures linked { IsLinked (sample.both sample.exports_global (sample.imports_global None)) }
     ensures values_of_linked_modules { values_in (sample.run_both sample.exports_global (sample.imports_global None) (codes "run" ∷ codes "again" ∷ []) 30).events ≡ Some (I32 12) ∷ Some (I32 7) ∷ [] }
     ensures start_function_runs_first { values_in (sample.run_both sample.exports_global (sample.imports_global (sample.start_at 1)) (codes "again" ∷ []) 30).events ≡ Some (I32 7) ∷ [] }
     ensures start_call_is_free { (sample.run_both sample.exports_global (sample.imports_global (sample.start_at 1)) [] 8).outcome ≡ Ended }
