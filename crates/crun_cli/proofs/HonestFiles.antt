@@ -1,4 +1,4 @@
--- Over files that behave as files, and whose reads answer, what passed says what a call comes to over what they hold.
+-- Over files that behave as files what passed says what a call comes to over what they hold.
 use Rattle.std.proofs.Common.{
   ◌≡◌,
   ◌⊎◌,
@@ -31,18 +31,17 @@ use Rattle.std.proofs.Common.{
 }
 use Rattle.std.proofs.lemmas.List.{append-nil}
 use Rattle.std.specs.Prelude.{◌&&◌, if◌then◌else◌, option_and_then}
-use Rattle.std.specs.FinMap.{get, insert}
 use Rattle.w2c_base.specs.Run.{Host}
-use Rattle.w2c_io.specs.Contents.{Name, Contents, Told, appending, bytes_or_none, holding}
-use Rattle.w2c_io.specs.Events.{Event, Read, Begin, Finish}
-use Rattle.w2c_io.specs.Honest.{AreHonest, Does}
-use Rattle.w2c_io.specs.Passed.{joined, puts, WritesFile}
-use Rattle.w2c_io.specs.declared.answers.ReadAnswer.{ReadAnswer}
+use Rattle.w2c_io.specs.Contents.{Name, Contents, Told, holding}
+use Rattle.w2c_io.specs.Events.{Event, Read}
+use Rattle.w2c_io.specs.Honest.{AreHonest}
+use Rattle.w2c_io.specs.Passed.{BreaksOff, WritesFile}
 use Rattle.w2c_io.specs.declared.answers.ReadAnswer.TheVariants as reading
 use Rattle.w2c_io.specs.declared.answers.WriteAnswer.{WriteAnswer}
 use Rattle.w2c_io.specs.declared.answers.WriteAnswer.TheVariants as answer
-use Rattle.w2c_io.proofs.Names.{get_here, insert_again}
 use Rattle.w2c_files.specs.CFile.{is_c_file}
+use Rattle.w2c_files.specs.Passing.{FailsLast, limited, ReadsInOrder}
+use Rattle.w2c_files.specs.Standing.{IsBegun}
 use Rattle.c_tree.specs.Tree as tree
 use Rattle.c_meaning.specs.Linking.{SymbolCall}
 use Rattle.c_print.specs.Print.{print_of}
@@ -60,17 +59,21 @@ use Rattle.crun_words.specs.CommandLine.{
   line_of_trim,
   line_of_values,
   merge_of,
+  MergeLine,
   merges,
   run_with,
   RunLine,
   runs,
   trim_of,
+  TrimLine,
   trims,
 }
 use Rattle.crun_words.specs.Inputs.{
   AllRead,
   Held,
   IsJournalReading,
+  IsReading,
+  IsUnitsReading,
   JournalReading,
   LongCalls,
   LongJournal,
@@ -78,16 +81,44 @@ use Rattle.crun_words.specs.Inputs.{
   most_unit_bytes,
   NoJournal,
   NotThere,
+  NoUnit,
   Reading,
+  UnitsRead,
+  UnitsReading,
+  UnitTooLong,
 }
-use Rattle.crun_words.specs.Passing.{limited, AllAnswer, GivesJournal, ReadsInOrder}
-use Rattle.w2c_files.proofs.Honest.{file_holds, honest_both, read_keeps}
-use Rattle.crun_words.proofs.Honest.{answer_both, inputs_honest, journal_honest, units_honest}
+use Rattle.crun_words.specs.Passing.{GivesJournal}
+use Rattle.w2c_files.proofs.Honest.{file_begun, file_holds, honest_both, in_order_keep}
+use Rattle.w2c_files.proofs.InOrder.{first_in_order}
+use Rattle.crun_words.proofs.Honest.{FailsInputs, FailsJournal, FailsUnits, inputs_honest, journal_held, journal_honest, units_honest}
 use Rattle.crun_job.specs.Job.{IsTextsJob, Job, Run, Stops, Write}
-use Rattle.crun_job.specs.Lines.{error_line, Reason, status_of, Unwritten, Usage, WantOfMemory}
-use Rattle.crun_cli.specs.Ends.{Finished, HasPlayed, IsJobWith, IsJournaled, IsRunStatus, journal_of, WithHosts, WithHostsBy}
+use Rattle.crun_job.specs.Lines.{
+  error_line,
+  Reason,
+  status_of,
+  Usage,
+  Unread,
+  Unwritten,
+  WantOfMemory,
+}
+use Rattle.crun_cli.specs.Ends.{
+  Begun,
+  BegunIfAny,
+  Finished,
+  HasPlayed,
+  HasPlayedPart,
+  IsJobWith,
+  IsJournaled,
+  IsRunStatus,
+  journal_of,
+  WithHosts,
+  WithHostsBy,
+}
+use Rattle.crun_cli.specs.HonestPassing.{PassesHonestly}
 use Rattle.crun_cli.specs.Jobs.{
   symbols_of,
+  IsBehindUnits,
+  IsJob,
   IsJobBy,
   IsLineJob,
   IsMerged,
@@ -96,7 +127,7 @@ use Rattle.crun_cli.specs.Jobs.{
   IsTrimmedText,
   IsUnitsJob,
 }
-use Rattle.crun_cli.specs.Outside.{Outside}
+use Rattle.crun_cli.specs.Outside.{IsUntouched, Outside}
 use Rattle.crun_cli.specs.Passing.{
   BreaksJournal,
   IsReadLast,
@@ -110,14 +141,15 @@ use Rattle.crun_cli.specs.Passing.{
   reason_for,
   run_reads,
   StopsFor,
+  StopsQuietly,
   WritesJournal,
   WritesOfRun,
   WritesOutput,
   WritesRun,
 }
-use Rattle.crun_cli.specs.Runs.{HasRun}
+use Rattle.crun_cli.specs.Runs.{HasPart, HasRun}
 use Rattle.crun_cli.proofs.RecordLaws.{ran_status}
-use Rattle.crun_cli.proofs.TopLaws.{stop_apart}
+use Rattle.crun_cli.proofs.TopLaws.{of_status_3, of_status_4, stop_apart}
 
 -- ---- a line names no more than 16 units
 
@@ -170,81 +202,93 @@ few_of : (v : Option Values) (line : Line) → option_and_then line_of_values v 
 few_of None line is = absurd cc
 few_of (Some v) line is = few_by v.merged v.trimmed v line is
 
--- ---- files that are read stay as they are
+-- ---- the job over what the reads gave is the job over what the files hold, but where the last read failed
 
-reads_keep : (files : List (Name × ℕ)) (events : List Event) (old : Told) (current : Option Name) (new : Told) (after : Option Name)
-    → ReadsInOrder files events → AreHonest events old current new after → new ≡ old
-reads_keep files [] old current new after reads honest = honest.0
-reads_keep [] (e ∷ events) old current new after reads honest = absurd reads
-reads_keep (f ∷ files) (e ∷ events) old current new after (inl (bytes, is, rest)) (told, name, does, behind) =
-    reads_keep files events told name new after rest behind
-    ∙ (read_keeps f.0 f.1 (Ok bytes) old told current name (subst (λ (x : Event). Does x old current told name) is does)).0
-reads_keep (f ∷ files) (e ∷ events) old current new after (inr (answer, is, none)) (told, name, does, behind) =
-    (subst (λ (l : List Event). AreHonest l told name new after) none behind).0
-    ∙ (read_keeps f.0 f.1 answer old told current name (subst (λ (x : Event). Does x old current told name) is does)).0
+-- a file could not be read
+abbrev Unreads : Job → List Event → Type 0
+Unreads job given = (file : Name) × (job ≡ Stops (Unread file)) × FailsLast file given
 
-none_first : (first last : List Event) → first ++ last ≡ [] → first ≡ []
-none_first [] last is = refl
-none_first (e ∷ first) last is = absurd cc
+fails_first : (file : Name) (first last given : List Event) → given ≡ first ++ last → last ≡ [] → FailsLast file first
+    → FailsLast file given
+fails_first file first last given split none (front, limit, is) =
+    (front, limit, split ∙ ap (λ (l : List Event). first ++ l) none ∙ append-nil first ∙ is)
 
-first_reads : (files : List (Name × ℕ)) (first last : List Event) → ReadsInOrder files (first ++ last) → ReadsInOrder files first
-first_reads files [] last reads = tt
-first_reads [] (e ∷ first) last reads = absurd reads
-first_reads (f ∷ files) (e ∷ first) last (inl (bytes, is, rest)) = inl (bytes, is, first_reads files first last rest)
-first_reads (f ∷ files) (e ∷ first) last (inr (answer, is, none)) = inr (answer, is, none_first first last none)
+fails_behind : (file : Name) (first last given : List Event) → given ≡ first ++ last → FailsLast file last → FailsLast file given
+fails_behind file first last given split (front, limit, is) = (
+  first ++ front,
+  limit,
+  split ∙ ap (λ (l : List Event). first ++ l) is
+      ∙ sym (append_assoc first front (Read file limit (Err reading.Failed) ∷ [])),
+)
 
--- ---- a file that is written holds its text
-
--- ---- the job over what the reads gave is the job over what the files hold
 none_more : (replayed : Option Name) (file : Name) (last : List Event) → ReadsMore replayed (NotThere file) last → last ≡ []
 none_more None file last more = more
 none_more (Some name) file last more = more
 
-none_behind_long : (replayed : Option Name) (file : Name) (last : List Event) → ReadsMore replayed (LongUnit file) last → last ≡ []
-none_behind_long None file last more = more
-none_behind_long (Some name) file last more = more
-
-none_behind_calls : (replayed : Option Name) (last : List Event) → ReadsMore replayed LongCalls last → last ≡ []
-none_behind_calls None last more = more
-none_behind_calls (Some name) last more = more
-
 module _ (m : Contents) (line : RunLine) (handed : List Host) where
+  -- behind the journal's file
   texts_behind : (o : Option Name) (texts : List (List ℕ)) (text : List ℕ) (last : List Event) (job : Job) (current : Option Name)
-      (new : Told) (after : Option Name) → AreHonest last (Some m) current new after → AllAnswer last
+      (new : Told) (after : Option Name) → AreHonest last (Some m) current new after
       → MatchOption o (IsTextsJob line (symbols_of handed) texts text job)
       (λ name. (r : JournalReading) × GivesJournal name r last × IsReplayJob line name texts text r job)
       → MatchOption o (IsTextsJob line (symbols_of handed) texts text job)
-      (λ name. (r : JournalReading) × IsJournalReading m name r × IsReplayJob line name texts text r job)
-  texts_behind None texts text last job current new after honest answers of = of
-  texts_behind (Some name) texts text last job current new after honest answers (r, gives, of) =
-      (r, (journal_honest m name r last current new after gives honest answers).0, of)
+      (λ name. (r : JournalReading) × IsJournalReading m name r × IsReplayJob line name texts text r job) ⊎ Unreads job last
+  texts_behind None texts text last job current new after honest of = inl of
+  texts_behind (Some name) texts text last job current new after honest (r, gives, of) =
+      by r of (journal_honest m name r last current new after gives honest)
+    where
+      by : (r : JournalReading) → IsReplayJob line name texts text r job → IsJournalReading m name r ⊎ FailsJournal name r last
+          → ((r : JournalReading) × IsJournalReading m name r × IsReplayJob line name texts text r job) ⊎ Unreads job last
+      by r of (inl reads) = inl (r, reads, of)
+      by NoJournal of (inr fails) = inr (name, of, fails)
+      by (Held journal) of (inr fails) = absurd fails
+      by LongJournal of (inr fails) = absurd fails
 
   by_behind : (r : Reading) (last : List Event) (job : Job) (current : Option Name) (new : Told) (after : Option Name)
-      → AreHonest last (Some m) current new after → AllAnswer last → IsJobBy line handed (λ name j. GivesJournal name j last) r job
-      → IsJobBy line handed (IsJournalReading m) r job
-  by_behind (AllRead texts text) last job current new after honest answers of =
-      texts_behind line.replayed texts text last job current new after honest answers of
-  by_behind (NotThere file) last job current new after honest answers of = of
-  by_behind (LongUnit file) last job current new after honest answers of = of
-  by_behind LongCalls last job current new after honest answers of = of
+      → AreHonest last (Some m) current new after → IsJobBy line handed (λ name j. GivesJournal name j last) r job
+      → IsJobBy line handed (IsJournalReading m) r job ⊎ Unreads job last
+  by_behind (AllRead texts text) last job current new after honest of =
+      texts_behind line.replayed texts text last job current new after honest of
+  by_behind (NotThere file) last job current new after honest of = inl of
+  by_behind (LongUnit file) last job current new after honest of = inl of
+  by_behind LongCalls last job current new after honest of = inl of
 
   run_job_honest : length line.units ≤ 16 → (given : List Event) (job : Job) (current : Option Name) (new : Told) (after : Option Name)
-      → AreHonest given (Some m) current new after → AllAnswer given → IsRunJobOver line handed given job → IsRunJob line handed m job
-  run_job_honest few given job current new after honest answers (r, first, last, split, gives, more, of) =
+      → AreHonest given (Some m) current new after → IsRunJobOver line handed given job → IsRunJob line handed m job ⊎ Unreads job given
+  run_job_honest few given job current new after honest (r, first, last, split, gives, more, of) =
       let both = honest_both first last (Some m) new current after
       (subst (λ (l : List Event). AreHonest l (Some m) current new after) split honest) in
-      let answer = answer_both first last (subst AllAnswer split answers) in
-      let found = inputs_honest m line.units few current both.0 both.1 line.calls r first gives both.2 answer.0 in (
-        r,
-        found.0,
-        by_behind r last job both.1 new after (subst (λ (t : Told). AreHonest last t both.1 new after) found.1 both.3) answer.1 of,
-      )
+      let found = inputs_honest m line.units few current both.0 both.1 line.calls r first gives both.2 in
+      go r more of found.0
+      (by_behind r last job both.1 new after (subst (λ (t : Told). AreHonest last t both.1 new after) found.1 both.3) of)
+    where
+      unread : (r : Reading) → ReadsMore line.replayed r last → IsJobBy line handed (λ name j. GivesJournal name j last) r job
+          → FailsInputs r first → Unreads job given
+      unread (NotThere file) more of fails =
+          (file, of, fails_first file first last given split (none_more line.replayed file last more) fails)
+      unread (AllRead texts text) more of fails = absurd fails
+      unread (LongUnit file) more of fails = absurd fails
+      unread LongCalls more of fails = absurd fails
+
+      go : (r : Reading) → ReadsMore line.replayed r last → IsJobBy line handed (λ name j. GivesJournal name j last) r job
+          → IsReading m line.units line.calls r ⊎ FailsInputs r first
+          → IsJobBy line handed (IsJournalReading m) r job ⊎ Unreads job last → IsRunJob line handed m job ⊎ Unreads job given
+      go r more of (inl is) (inl behind) = inl (r, is, behind)
+      go r more of (inl is) (inr (file, job_is, fails)) = inr (file, job_is, fails_behind file first last given split fails)
+      go r more of (inr fails) behind = inr (unread r more of fails)
 
 units_job_honest : (m : Contents) (units : List Name) (IsOf : List (List ℕ) → Job → Type 0) → length units ≤ 16 → (given : List Event)
-    (job : Job) (current : Option Name) (new : Told) (after : Option Name) → AreHonest given (Some m) current new after → AllAnswer given
-    → IsUnitsJobOver units IsOf given job → IsUnitsJob m units IsOf job
-units_job_honest m units IsOf few given job current new after honest answers (r, gives, of) =
-    (r, (units_honest m units few current new after r given gives honest answers).0, of)
+    (job : Job) (current : Option Name) (new : Told) (after : Option Name) → AreHonest given (Some m) current new after
+    → IsUnitsJobOver units IsOf given job → IsUnitsJob m units IsOf job ⊎ Unreads job given
+units_job_honest m units IsOf few given job current new after honest (r, gives, of) =
+    by r of (units_honest m units few current new after r given gives honest).0
+  where
+    by : (r : UnitsReading) → IsBehindUnits IsOf r job → IsUnitsReading m units r ⊎ FailsUnits r given
+        → IsUnitsJob m units IsOf job ⊎ Unreads job given
+    by r of (inl reads) = inl (r, reads, of)
+    by (NoUnit file) of (inr fails) = inr (file, of, fails)
+    by (UnitsRead texts) of (inr fails) = absurd fails
+    by (UnitTooLong file) of (inr fails) = absurd fails
 
 -- a run has the line's number of statements, and shows the state where the line does
 run_steps : (m : Contents) (line : RunLine) (handed : List Host) (units : List (List tree.Item)) (calls : List SymbolCall) (steps : ℕ)
@@ -263,92 +307,168 @@ run_steps m line handed units calls steps shown (NotThere file, is, of) = absurd
 run_steps m line handed units calls steps shown (LongUnit file, is, of) = absurd cc
 run_steps m line handed units calls steps shown (LongCalls, is, of) = absurd cc
 
+-- ---- no words ask for a line that is not written
+
+module _ (handed : List Host) (m : Contents) where
+  run_is_no_fault : (line : RunLine) → IsRunJob line handed m (Stops Unwritten) → ⊥
+  run_is_no_fault line (AllRead texts text, is, of) = by line.replayed of
+    where
+      by : (o : Option Name) → MatchOption o (IsTextsJob line (symbols_of handed) texts text (Stops Unwritten))
+          (λ name. (r : JournalReading) × IsJournalReading m name r × IsReplayJob line name texts text r (Stops Unwritten)) → ⊥
+      by None of = of
+      by (Some name) (Held journal, is, inl (j, is_journal, of)) = of
+      by (Some name) (Held journal, is, inr (k, refused, of)) = absurd cc
+      by (Some name) (NoJournal, is, of) = absurd cc
+      by (Some name) (LongJournal, is, of) = absurd cc
+  run_is_no_fault line (NotThere file, is, of) = absurd cc
+  run_is_no_fault line (LongUnit file, is, of) = absurd cc
+  run_is_no_fault line (LongCalls, is, of) = absurd cc
+
+  units_are_no_fault : (units : List Name) (IsOf : List (List ℕ) → Job → Type 0)
+      → ((texts : List (List ℕ)) → IsOf texts (Stops Unwritten) → ⊥) → IsUnitsJob m units IsOf (Stops Unwritten) → ⊥
+  units_are_no_fault units IsOf none (UnitsRead texts, is, of) = none texts of
+  units_are_no_fault units IsOf none (NoUnit file, is, of) = absurd cc
+  units_are_no_fault units IsOf none (UnitTooLong file, is, of) = absurd cc
+
+  merge_is_no_fault : (line : MergeLine) (texts : List (List ℕ)) → IsMerged line (symbols_of handed) texts (Stops Unwritten) → ⊥
+  merge_is_no_fault line texts (inl (units, linked, is)) = absurd cc
+  merge_is_no_fault line texts (inr (number, file, why, at, refused, is)) = absurd cc
+
+  trim_is_no_fault : (line : TrimLine) (texts : List (List ℕ)) → IsTrimmedText line texts (Stops Unwritten) → ⊥
+  trim_is_no_fault line texts (inl (unit, trimmed, are, is_trimmed, is)) = absurd cc
+  trim_is_no_fault line texts (inr (number, why, refused, is)) = absurd cc
+
+  line_is_no_fault : (form : Line) → IsLineJob handed m form (Stops Unwritten) → ⊥
+  line_is_no_fault (runs line) of = run_is_no_fault line of
+  line_is_no_fault (merges line) of = units_are_no_fault line.units (IsMerged line (symbols_of handed)) (merge_is_no_fault line) of
+  line_is_no_fault (trims line) of = units_are_no_fault (line.unit ∷ []) (IsTrimmedText line) (trim_is_no_fault line) of
+
+no_fault_asked : (words : List Name) (handed : List Host) (m : Contents) → IsJob words handed m (Stops Unwritten) → ⊥
+no_fault_asked words handed m = by (line_of words)
+  where
+    by : (o : Option Line) → MatchOption o (Stops Unwritten ≡ Stops Usage) (λ line. IsLineJob handed m line (Stops Unwritten)) → ⊥
+    by None is = absurd cc
+    by (Some form) of = line_is_no_fault handed m form of
+
 -- ---- what the call comes to
 
+-- by its status: a run or a unit, a refusal, a file that could not be read, a line or a file that is not written, want of memory
+data Came {H : Type 0} (hm : HostModule H) (hosts : List H) (words : List Name) (m : Contents) (old new : Outside) (status : ℕ)
+    (Said : List ℕ → Type 0) (events : List Event) : Type 0 where
+  Done : IsRunStatus status → Finished hm hosts words m old new status → Came hm hosts words m old new status Said events
+  Refuses : (why : Reason) → status ≡ status_of why → Said (error_line why) → IsJobWith hm hosts words m (Stops why)
+      → IsUntouched old new → Came hm hosts words m old new status Said events
+  Fails : (file : Name) → status ≡ 3 → Said (error_line (Unread file)) → FailsLast file events → IsUntouched old new
+      → Came hm hosts words m old new status Said events
+  Breaks : status ≡ 4 → Said (error_line Unwritten) → Begun hm hosts words m old new → Came hm hosts words m old new status Said events
+  Wants : status ≡ 5 → BegunIfAny hm hosts words m old new → Came hm hosts words m old new status Said events
+
+-- this holds of hosts, one or the other
+split_with : {H : Type 0} (hm : HostModule H) (hosts : List H) (m : Contents) (o : Option Name)
+    (A B : (G : Type 0) → HostModule G → List G → Type 0) (C D : Type 0)
+    → WithHosts hm hosts o m (λ G n gs. (A G n gs × C) ⊎ (B G n gs × D)) → (WithHosts hm hosts o m A × C) ⊎ (WithHosts hm hosts o m B × D)
+split_with hm hosts m None A B C D of = of
+split_with hm hosts m (Some name) A B C D (j, replays, held, are, inl (a, c)) = inl ((j, replays, held, are, a), c)
+split_with hm hosts m (Some name) A B C D (j, replays, held, are, inr (b, d)) = inr ((j, replays, held, are, b), d)
+
 module _ {H : Type 0} (hm : HostModule H) (hosts : List H) (words : List Name) (m : Contents) (old new : Outside)
-    (told : old.files.told ≡ Some m) (status : ℕ) (Said : List ℕ → Type 0) where
-  -- a job that is refused, and the line that says so
-  abbrev Refuses : Type 0
-  Refuses = (why : Reason) × (status_of why ≡ status) × IsJobWith hm hosts words m (Stops why) × (new.files.told ≡ old.files.told)
-      × Said (error_line why)
+    (told : old.files.told ≡ Some m) (status : ℕ) (Said : List ℕ → Type 0) (events : List Event) where
+  abbrev Comes : Type 0
+  Comes = Came hm hosts words m old new status Said events
 
   there : (form : Line) → line_of words ≡ Some form → (job : Job) → IsLineJob (hosts_of hm hosts) m form job
       → IsJobWith hm hosts words m job
   there form is job of = subst (λ o. MatchOption o (job ≡ Stops Usage) (λ l. IsLineJob (hosts_of hm hosts) m l job)) (sym is) of
 
-  -- what the call comes to, by its status
-  abbrev Comes : Type 0
-  Comes = (IsRunStatus status → Finished hm hosts words m old new status)
-      × ((status ≡ 2) ⊎ (status ≡ 3) ⊎ (status ≡ 6) → Refuses)
+  stops : (why : Reason) → IsJobWith hm hosts words m (Stops why) → IsUntouched old new → StopsFor status Said why → Comes
+  stops why job same (inl (is, said)) = Refuses why is said job same
+  stops why job same (inr five) = Wants five (inl same)
 
-  abbrev Refusing : Type 0
-  Refusing = (status ≡ 2) ⊎ (status ≡ 3) ⊎ (status ≡ 6)
+  fails : (file : Name) → FailsLast file events → IsUntouched old new → StopsFor status Said (Unread file) → Comes
+  fails file last same (inl (is, said)) = Fails file is said last same
+  fails file last same (inr five) = Wants five (inl same)
 
-  no_run : (why : Reason) → StopsFor status Said why → IsRunStatus status → ⊥
-  no_run why (inl (is, said)) run = stop_apart status why (inl is) run
-  no_run why (inr five) run = stop_apart status why (inr five) run
+  wants : IsUntouched old new → StopsFor status Said WantOfMemory → Comes
+  wants same (inl (is, said)) = Wants is (inl same)
+  wants same (inr five) = Wants five (inl same)
 
-  refuses : (why : Reason) → IsJobWith hm hosts words m (Stops why) → new.files.told ≡ old.files.told → StopsFor status Said why → Refusing
-      → Refuses
-  refuses why job same (inl (is, said)) came = (why, sym is, job, same, said)
-  refuses why job same (inr five) came = absurd (omega (arith, five, came))
+  unwritten : Begun hm hosts words m old new → StopsFor status Said Unwritten → Comes
+  unwritten begun (inl (is, said)) = Breaks is said begun
+  unwritten begun (inr five) = Wants five (inr begun)
 
-  no_refusal : IsRunStatus status → Refusing → ⊥
-  no_refusal run came = omega (arith, run, came)
+  wanting : Begun hm hosts words m old new → StopsFor status Said WantOfMemory → Comes
+  wanting begun (inl (is, said)) = Wants is (inr begun)
+  wanting begun (inr five) = Wants five (inr begun)
 
-  unwritten_apart : (why : WriteAnswer) → StopsFor status Said (reason_for why) → Refusing → ⊥
-  unwritten_apart answer.Failed (inl (is, said)) came = omega (arith, is, came)
-  unwritten_apart answer.Memory (inl (is, said)) came = omega (arith, is, came)
-  unwritten_apart why (inr five) came = omega (arith, five, came)
+  breaks : (why : WriteAnswer) → Begun hm hosts words m old new → StopsFor status Said (reason_for why) → Comes
+  breaks answer.Failed begun stopped = unwritten begun stopped
+  breaks answer.Memory begun stopped = wanting begun stopped
 
-  memory_apart : StopsFor status Said WantOfMemory → Refusing → ⊥
-  memory_apart (inl (is, said)) came = omega (arith, is, came)
-  memory_apart (inr five) came = omega (arith, five, came)
+  -- behind the reads, which changed nothing
+  module _ (middle : Told) (current : Option Name) (same : (middle ≡ old.files.told) × (current ≡ old.files.current))
+      (written : List Event) (honest : AreHonest written middle current new.files.told new.files.current) where
+    untouched : written ≡ [] → new.out.told ≡ old.out.told → IsUntouched old new
+    untouched none quiet =
+        let kept = subst (λ (l : List Event). AreHonest l middle current new.files.told new.files.current) none honest in
+        record { files = record { told = kept.0 ∙ same.0; current = kept.1 ∙ same.1 }; lines = quiet }
 
-  stops : (why : Reason) → IsJobWith hm hosts words m (Stops why) → new.files.told ≡ old.files.told → StopsFor status Said why → Comes
-  stops why job same stopped = ((λ run. absurd (no_run why stopped run)), λ came. refuses why job same stopped came)
-
-  wants : StopsFor status Said WantOfMemory → Comes
-  wants stopped = ((λ run. absurd (no_run WantOfMemory stopped run)), λ came. absurd (memory_apart stopped came))
-
-  breaks : (why : WriteAnswer) → StopsFor status Said (reason_for why) → Comes
-  breaks why stopped = ((λ run. absurd (no_run (reason_for why) stopped run)), λ came. absurd (unwritten_apart why stopped came))
-
-  -- behind the reads, of which nothing has changed
-  module _ (middle : Told) (current after : Option Name) (same : middle ≡ old.files.told) (written : List Event)
-      (honest : AreHonest written middle current new.files.told after) where
-    nothing_written : written ≡ [] → new.files.told ≡ old.files.told
-    nothing_written none = (subst (λ (l : List Event). AreHonest l middle current new.files.told after) none honest).0 ∙ same
+    none_written : written ≡ [] → new.files.told ≡ old.files.told
+    none_written none =
+        (subst (λ (l : List Event). AreHonest l middle current new.files.told new.files.current) none honest).0 ∙ same.0
 
     file_written : (name : Name) (text : List ℕ) → WritesFile name text written → new.files.told ≡ holding old.files.told name text
     file_written name text writes =
-        file_holds name text written middle new.files.told current after writes honest ∙ ap (λ (t : Told). holding t name text) same
+        file_holds name text written middle new.files.told current new.files.current writes honest
+        ∙ ap (λ (t : Told). holding t name text) same.0
+
+    file_part : (name : Name) (text : List ℕ) (why : WriteAnswer) → BreaksOff name text why written
+        → IsBegun old.files.told new.files.told name text
+    file_part name text why broken = subst (λ (t : Told). IsBegun t new.files.told name text) same.0
+        (file_begun name text why written middle new.files.told current new.files.current broken honest)
 
     unit_comes : (form : Line) → line_of words ≡ Some form → new.out.told ≡ old.out.told → (job : Job)
-        → IsLineJob (hosts_of hm hosts) m form job
-        → WritesOutput (λ s. status ≡ s) (StopsFor status Said) job written → Comes
-    unit_comes form is quiet (Stops why) job (none, stopped) = stops why (there form is (Stops why) job) (nothing_written none) stopped
-    unit_comes form is quiet (Write output unit) job (inl (writes, spells, ended)) = (
-      (λ run. inr (
-        ended,
-        record {
-          output = output;
-          unit = unit;
-          job = there form is (Write output unit) job;
-          spells = spells;
-          written = file_written output (print_of unit) writes;
-          nothing = quiet;
-        },
-      )),
-      λ came. absurd (omega (arith, ended, came)),
-    )
-    unit_comes form is quiet (Write output unit) job (inr (why, broken, stopped)) = breaks why stopped
+        → IsLineJob (hosts_of hm hosts) m form job → WritesOutput (λ s. status ≡ s) (StopsFor status Said) job written → Comes
+    unit_comes form is quiet (Stops why) job (none, stopped) = stops why (there form is (Stops why) job) (untouched none quiet) stopped
+    unit_comes form is quiet (Write output unit) job (inl (writes, spells, ended)) = Done (inl ended) (inr (
+      ended,
+      record {
+        output = output;
+        unit = unit;
+        job = there form is (Write output unit) job;
+        spells = spells;
+        written = file_written output (print_of unit) writes;
+        nothing = quiet;
+      },
+    ))
+    unit_comes form is quiet (Write output unit) job (inr (why, broken, stopped)) = breaks why (inr (record {
+      output = output;
+      unit = unit;
+      job = there form is (Write output unit) job;
+      begun = file_part output (print_of unit) why broken;
+      nothing = quiet;
+    })) stopped
     unit_comes form is quiet (Run units calls steps shown) job of = absurd of
+
+    -- a file of the units could not be read
+    unit_fails : (given : List Event) → events ≡ given ++ written → new.out.told ≡ old.out.told → (job : Job) → Unreads job given
+        → WritesOutput (λ s. status ≡ s) (StopsFor status Said) job written → Comes
+    unit_fails given split quiet job (file, is, last) writes =
+        let of = subst (λ (j : Job). WritesOutput (λ s. status ≡ s) (StopsFor status Said) j written) is writes in
+        fails file (fails_first file given written events split of.0 last) (untouched of.0 quiet) of.1
 
     journaled : (journal : Option Name) (j : Recorded) → WritesJournal journal j written
         → IsJournaled journal j old.files.told new.files.told
-    journaled None j writes = nothing_written writes
+    journaled None j writes = none_written writes
     journaled (Some name) j (writes, is) = (file_written name (journal_text j) writes, is)
+
+    -- a part of it, or nothing
+    abbrev PartOf : Option Name → Recorded → Type 0
+    PartOf journal j = (name : Name) × (journal ≡ Some name) × IsBegun old.files.told new.files.told name (journal_text j)
+
+    journal_begun : (journal : Option Name) (j : Recorded) (why : WriteAnswer) → BreaksJournal journal j why written → PartOf journal j
+    journal_begun None j why broken = absurd broken
+    journal_begun (Some name) j why (inl (none, memory)) = (name, refl, inl (none_written none))
+    journal_begun (Some name) j why (inr broken) = (name, refl, file_part name (journal_text j) why broken)
 
     module _ (line : RunLine) {G : Type 0} (n : HostModule G) (gs : List G) (units : List (List tree.Item)) (calls : List SymbolCall)
         (steps : ℕ) (shown : Bool) (steps_are : steps ≡ line.steps) (shown_is : shown ≡ line.shows_state) where
@@ -356,100 +476,130 @@ module _ {H : Type 0} (hm : HostModule H) (hosts : List H) (words : List Name) (
       Writes = WritesRun n gs line.journal units calls steps shown old.out.told new.out.told (λ s. status ≡ s) (StopsFor status Said)
           written
 
-      abbrev RunWith : ℕ → Bool → ℕ → Type 0
-      RunWith k b s = (run : HasRun n gs units calls k b old.out.told new.out.told s)
-          × IsJournaled line.journal (journal_of n gs run.asks) old.files.told new.files.told
+      abbrev RunWith : (Recorded → Type 0) → ℕ → Bool → ℕ → Type 0
+      RunWith Leaves k b s = (run : HasRun n gs units calls k b old.out.told new.out.told s) × Leaves (journal_of n gs run.asks)
 
-      played : IsRunStatus status → Writes → HasPlayed n gs line units calls old new status
-      played run (inl w) = by w.ends
+      -- with the line's number of statements
+      of_line : (Leaves : Recorded → Type 0) (s : ℕ) → RunWith Leaves steps shown s → RunWith Leaves line.steps line.shows_state s
+      of_line Leaves s of = subst (λ b. RunWith Leaves line.steps b s) shown_is (subst (λ k. RunWith Leaves k shown s) steps_are of)
+
+      abbrev Plays : Type 0
+      Plays = HasPlayed n gs line units calls old new status × IsRunStatus status
+
+      abbrev PlaysPart : Type 0
+      PlaysPart = HasPlayedPart n gs line units calls old new × (StopsFor status Said Unwritten ⊎ StopsFor status Said WantOfMemory)
+
+      whole : (s : ℕ) → RunWith (λ j. IsJournaled line.journal j old.files.told new.files.told) steps shown s → status ≡ s → Plays
+      whole s of is =
+          let Leaves : Recorded → Type 0 = λ j. IsJournaled line.journal j old.files.told new.files.told in
+          let done = subst (RunWith Leaves line.steps line.shows_state) (sym is) (of_line Leaves s of) in (
+            record { run = done.0; written = done.1 },
+            ran_status n gs units calls line.steps line.shows_state old.out.told new.out.told status done.0,
+          )
+
+      half : (s : ℕ) → RunWith (PartOf line.journal) steps shown s → HasPlayedPart n gs line units calls old new
+      half s of =
+          let done = of_line (PartOf line.journal) s of in
+          inr (record { status = s; run = done.0; name = done.1.0; named = done.1.1; begun = done.1.2 })
+
+      stopped_for_it : (why : WriteAnswer) → StopsFor status Said (reason_for why)
+          → StopsFor status Said Unwritten ⊎ StopsFor status Said WantOfMemory
+      stopped_for_it answer.Failed stopped = inl stopped
+      stopped_for_it answer.Memory stopped = inr stopped
+
+      plays : Writes → Plays ⊎ PlaysPart
+      plays (inl w) = by w.ends
         where
-          whole : RunWith steps shown w.status → status ≡ w.status → HasPlayed n gs line units calls old new status
-          whole of is =
-              let done : RunWith line.steps line.shows_state status = subst (RunWith line.steps line.shows_state) (sym is)
-              (subst (λ b. RunWith line.steps b w.status) shown_is (subst (λ k. RunWith k shown w.status) steps_are of)) in
-              record { run = done.0; written = done.1 }
-
           by : (WritesJournal line.journal (journal_of n gs w.run.asks) written × (status ≡ w.status))
               ⊎ ((why : WriteAnswer) × BreaksJournal line.journal (journal_of n gs w.run.asks) why written
-              × StopsFor status Said (reason_for why)) → HasPlayed n gs line units calls old new status
-          by (inl (writes, is)) = whole (w.run, journaled line.journal (journal_of n gs w.run.asks) writes) is
-          by (inr (why, broken, stopped)) = absurd (no_run (reason_for why) stopped run)
-      played run (inr (part, none, stopped)) = absurd (no_run Unwritten stopped run)
-
-      not_refused : Refusing → Writes → ⊥
-      not_refused came (inl w) = by w.ends
-        where
-          by : (WritesJournal line.journal (journal_of n gs w.run.asks) written × (status ≡ w.status))
-              ⊎ ((why : WriteAnswer) × BreaksJournal line.journal (journal_of n gs w.run.asks) why written
-              × StopsFor status Said (reason_for why)) → ⊥
-          by (inl (writes, is)) = no_refusal (subst IsRunStatus (sym is)
-              (ran_status n gs units calls steps shown old.out.told new.out.told w.status w.run)) came
-          by (inr (why, broken, stopped)) = unwritten_apart why stopped came
-      not_refused came (inr (part, none, stopped)) = unwritten_apart answer.Failed stopped came
+              × StopsFor status Said (reason_for why)) → Plays ⊎ PlaysPart
+          by (inl (writes, is)) = inl (whole w.status (w.run, journaled line.journal (journal_of n gs w.run.asks) writes) is)
+          by (inr (why, broken, stopped)) = inr (
+            half w.status (w.run, journal_begun line.journal (journal_of n gs w.run.asks) why broken),
+            stopped_for_it why stopped,
+          )
+      plays (inr (part, none, stopped)) = inr (
+        inl (
+          subst (λ b. HasPart n gs units calls line.steps b old.out.told new.out.told) shown_is
+              (subst (λ k. HasPart n gs units calls k shown old.out.told new.out.told) steps_are part),
+          none_written none,
+        ),
+        stopped,
+      )
 
   -- hosts of a journal that was read last are those of the journal that the file holds
   with_honest : (o : Option Name) (files : List (Name × ℕ)) (given : List Event) (current : Option Name) (middle : Told)
-      (after : Option Name) → ReadsInOrder files given → AreHonest given (Some m) current middle after → AllAnswer given
+      (after : Option Name) → ReadsInOrder files given → AreHonest given (Some m) current middle after
       → (P Q : (G : Type 0) → HostModule G → List G → Type 0) → ((G : Type 0) (n : HostModule G) (gs : List G) → P G n gs → Q G n gs)
       → WithHostsBy hm hosts o (IsReadLast given) P → WithHosts hm hosts o m Q
-  with_honest None files given current middle after reads honest answers P Q so of = so _ hm hosts of
-  with_honest (Some name) files given current middle after reads honest answers P Q so
+  with_honest None files given current middle after reads honest P Q so of = so _ hm hosts of
+  with_honest (Some name) files given current middle after reads honest P Q so
       (j, replays, (text, (first, last, split, gives), is_journal), are, of) =
       let both = honest_both first last (Some m) middle current after
       (subst (λ (l : List Event). AreHonest l (Some m) current middle after) split honest) in
-      let kept : both.0 ≡ Some m = reads_keep files first (Some m) current both.0 both.1
-      (first_reads files first last (subst (ReadsInOrder files) split reads)) both.2 in
-      let held = journal_honest m name (Held text) last both.1 middle after gives
-      (subst (λ (t : Told). AreHonest last t both.1 middle after) kept both.3)
-      (answer_both first last (subst AllAnswer split answers)).1 in
-      (j, replays, (text, held.0, is_journal), are, so _ _ replays of)
+      let kept = in_order_keep files first (Some m) both.0 current both.1
+      (first_in_order files first last (subst (ReadsInOrder files) split reads)) both.2 in
+      let held = journal_held m name text last both.1 middle after gives
+      (subst (λ (t : Told). AreHonest last t both.1 middle after) kept.0 both.3) in
+      (j, replays, (text, held, is_journal), are, so _ _ replays of)
 
-  none_with : (o : Option Name) (Reads : Name → JournalReading → Type 0) (P : (G : Type 0) → HostModule G → List G → Type 0)
-      → ((G : Type 0) (n : HostModule G) (gs : List G) → P G n gs → ⊥) → WithHostsBy hm hosts o Reads P → ⊥
-  none_with None Reads P none of = none _ hm hosts of
-  none_with (Some name) Reads P none (j, replays, journal, are, of) = none _ _ replays of
-
-  run_comes : (line : RunLine) → line_of words ≡ Some (runs line) → (given written : List Event) (current name after : Option Name)
-      (middle : Told) → ReadsInOrder (run_reads line) given → AreHonest given (Some m) current middle name → AllAnswer given
-      → middle ≡ old.files.told → AreHonest written middle name new.files.told after → (job : Job)
-      → IsRunJob line (hosts_of hm hosts) m job
+  run_comes : (line : RunLine) → line_of words ≡ Some (runs line) → (given written : List Event) (current name : Option Name)
+      (middle : Told) → ReadsInOrder (run_reads line) given → AreHonest given (Some m) current middle name
+      → (middle ≡ old.files.told) × (name ≡ old.files.current)
+      → AreHonest written middle name new.files.told new.files.current → (job : Job) → IsRunJob line (hosts_of hm hosts) m job
       → WritesOfRun hm hosts line old.out.told new.out.told (λ s. status ≡ s) (StopsFor status Said) given job written → Comes
-  run_comes line is given written current name after middle reads honest answers same behind (Stops why) job (none, stopped) =
-      stops why (there (runs line) is (Stops why) job) (nothing_written middle name after same written behind none) stopped
-  run_comes line is given written current name after middle reads honest answers same behind (Run units calls steps shown) job of =
+  run_comes line is given written current name middle reads honest same behind (Stops why) job (none, quiet, stopped) =
+      stops why (there (runs line) is (Stops why) job) (untouched middle name same written behind none quiet) stopped
+  run_comes line is given written current name middle reads honest same behind (Run units calls steps shown) job of =
       let are = run_steps m line (hosts_of hm hosts) units calls steps shown job in
       let P : (G : Type 0) → HostModule G → List G → Type 0 = λ G n gs. WritesRun n gs line.journal units calls steps shown
       old.out.told new.out.told (λ s. status ≡ s) (StopsFor status Said) written in
+      let A : (G : Type 0) → HostModule G → List G → Type 0 = λ G n gs. HasPlayed n gs line units calls old new status in
+      let B : (G : Type 0) → HostModule G → List G → Type 0 = λ G n gs. HasPlayedPart n gs line units calls old new in
       let asks : IsJobWith hm hosts words m (Run units calls line.steps line.shows_state) =
       there (runs line) is (Run units calls line.steps line.shows_state)
       (subst (λ b. IsRunJob line (hosts_of hm hosts) m (Run units calls line.steps b)) are.1
-      (subst (λ k. IsRunJob line (hosts_of hm hosts) m (Run units calls k shown)) are.0 job)) in (
-        (λ run. inl (
-          line,
-          units,
-          calls,
-          is,
-          asks,
-          with_honest line.replayed (run_reads line) given current middle name reads honest answers P
-              (λ G n gs. HasPlayed n gs line units calls old new status)
-              (λ G n gs. played middle name after same written behind line n gs units calls steps shown are.0 are.1 run) of,
-        )),
-        λ came. absurd (none_with line.replayed (IsReadLast given) P
-            (λ G n gs. not_refused middle name after same written behind line n gs units calls steps shown are.0 are.1 came) of),
-      )
-  run_comes line is given written current name after middle reads honest answers same behind (Write output unit) job of = absurd of
+      (subst (λ k. IsRunJob line (hosts_of hm hosts) m (Run units calls k shown)) are.0 job)) in
+      by asks (split_with hm hosts m line.replayed A B (IsRunStatus status)
+      (StopsFor status Said Unwritten ⊎ StopsFor status Said WantOfMemory)
+      (with_honest line.replayed (run_reads line) given current middle name reads honest P
+      (λ G n gs. (A G n gs × IsRunStatus status) ⊎ (B G n gs × (StopsFor status Said Unwritten ⊎ StopsFor status Said WantOfMemory)))
+      (λ G n gs. plays middle name same written behind line n gs units calls steps shown are.0 are.1) of))
+    where
+      by : IsJobWith hm hosts words m (Run units calls line.steps line.shows_state)
+          → (WithHosts hm hosts line.replayed m (λ G n gs. HasPlayed n gs line units calls old new status) × IsRunStatus status)
+          ⊎ (WithHosts hm hosts line.replayed m (λ G n gs. HasPlayedPart n gs line units calls old new)
+          × (StopsFor status Said Unwritten ⊎ StopsFor status Said WantOfMemory)) → Comes
+      by asks (inl (held, run)) = Done run (inl (line, units, calls, is, asks, held))
+      by asks (inr (held, inl stopped)) = unwritten (inl (line, units, calls, is, asks, held)) stopped
+      by asks (inr (held, inr stopped)) = wanting (inl (line, units, calls, is, asks, held)) stopped
+  run_comes line is given written current name middle reads honest same behind (Write output unit) job of = absurd of
 
-  pub comes : (events : List Event) → AreHonest events old.files.told old.files.current new.files.told new.files.current
-      → AllAnswer events → PassesFor hm hosts words old.out.told new.out.told status Said events → Comes
-  comes events honest answers = go (line_of words) refl
+  -- one of its files could not be read
+  run_fails : (line : RunLine) (given written : List Event) (name : Option Name) (middle : Told)
+      → (middle ≡ old.files.told) × (name ≡ old.files.current) → AreHonest written middle name new.files.told new.files.current
+      → events ≡ given ++ written → (job : Job) → Unreads job given
+      → WritesOfRun hm hosts line old.out.told new.out.told (λ s. status ≡ s) (StopsFor status Said) given job written → Comes
+  run_fails line given written name middle same behind split job (file, is, last) writes =
+      let of = subst (λ (j : Job). WritesOfRun hm hosts line old.out.told new.out.told (λ s. status ≡ s) (StopsFor status Said) given j
+      written) is writes in
+      fails file (fails_first file given written events split of.0 last) (untouched middle name same written behind of.0 of.1) of.2
+
+  pub comes : AreHonest events old.files.told old.files.current new.files.told new.files.current
+      → PassesFor hm hosts words old.out.told new.out.told status Said events → Comes
+  comes honest = go (line_of words) refl
     where
       Of : Option Line → Type 0
-      Of o = MatchOption o ((events ≡ []) × (StopsFor status Said Usage ⊎ StopsFor status Said WantOfMemory))
+      Of o = MatchOption o ((events ≡ []) × (new.out.told ≡ old.out.told)
+          × (StopsFor status Said Usage ⊎ StopsFor status Said WantOfMemory))
           (λ line. PassesLine hm hosts line old.out.told new.out.told (λ s. status ≡ s) (StopsFor status Said) events)
 
       usage : line_of words ≡ None → IsJobWith hm hosts words m (Stops Usage)
       usage none =
           subst (λ o. MatchOption o (Stops Usage ≡ Stops Usage) (λ l. IsLineJob (hosts_of hm hosts) m l (Stops Usage))) (sym none) refl
+
+      no_calls : events ≡ [] → new.out.told ≡ old.out.told → IsUntouched old new
+      no_calls none quiet = untouched old.files.told old.files.current (refl, refl) events honest none quiet
 
       units_come : (form : Line) → line_of words ≡ Some form → (units : List Name) (IsOf : List (List ℕ) → Job → Type 0)
           → length units ≤ 16 → ((job : Job) → IsUnitsJob m units IsOf job → IsLineJob (hosts_of hm hosts) m form job)
@@ -458,48 +608,142 @@ module _ {H : Type 0} (hm : HostModule H) (hosts : List H) (words : List Name) (
       units_come form is units IsOf few jobs quiet p =
           let both = honest_both p.given p.written old.files.told new.files.told old.files.current new.files.current
           (subst (λ (l : List Event). AreHonest l old.files.told old.files.current new.files.told new.files.current) p.split honest) in
-          let answer = answer_both p.given p.written (subst AllAnswer p.split answers) in
-          let kept = reads_keep (limited most_unit_bytes units) p.given old.files.told old.files.current both.0 both.1 p.reads both.2 in
-          by p.given p.written both.0 both.1 kept
-          (subst (λ (t : Told). AreHonest p.given t old.files.current both.0 both.1) told both.2) answer.0 both.3 p.follows
+          by p.given p.written both.0 both.1 p.split
+          (in_order_keep (limited most_unit_bytes units) p.given old.files.told both.0 old.files.current both.1 p.reads both.2)
+          (subst (λ (t : Told). AreHonest p.given t old.files.current both.0 both.1) told both.2) both.3 p.follows
         where
-          by : (given written : List Event) (middle : Told) (name : Option Name) → middle ≡ old.files.told
-              → AreHonest given (Some m) old.files.current middle name → AllAnswer given
+          by : (given written : List Event) (middle : Told) (name : Option Name) → events ≡ given ++ written
+              → (middle ≡ old.files.told) × (name ≡ old.files.current) → AreHonest given (Some m) old.files.current middle name
               → AreHonest written middle name new.files.told new.files.current
               → ((written ≡ []) × StopsFor status Said WantOfMemory) ⊎ ((job : Job) × IsUnitsJobOver units IsOf given job
               × WritesOutput (λ s. status ≡ s) (StopsFor status Said) job written) → Comes
-          by given written middle name kept found answers behind (inl (none, memory)) = wants memory
-          by given written middle name kept found answers behind (inr (job, asks, writes)) =
-              unit_comes middle name new.files.current kept written behind form is quiet job
-              (jobs job (units_job_honest m units IsOf few given job old.files.current middle name found answers asks)) writes
+          by given written middle name split same found behind (inl (none, memory)) =
+              wants (untouched middle name same written behind none quiet) memory
+          by given written middle name split same found behind (inr (job, asks, writes)) =
+              on_job (units_job_honest m units IsOf few given job old.files.current middle name found asks)
+            where
+              on_job : IsUnitsJob m units IsOf job ⊎ Unreads job given → Comes
+              on_job (inl of) = unit_comes middle name same written behind form is quiet job (jobs job of) writes
+              on_job (inr unread) = unit_fails middle name same written behind given split quiet job unread writes
 
       run_line : (line : RunLine) → line_of words ≡ Some (runs line)
           → PassesRun hm hosts line old.out.told new.out.told (λ s. status ≡ s) (StopsFor status Said) events → Comes
       run_line line is p =
           let both = honest_both p.given p.written old.files.told new.files.told old.files.current new.files.current
           (subst (λ (l : List Event). AreHonest l old.files.told old.files.current new.files.told new.files.current) p.split honest) in
-          let answer = answer_both p.given p.written (subst AllAnswer p.split answers) in
-          let kept = reads_keep (run_reads line) p.given old.files.told old.files.current both.0 both.1 p.reads both.2 in
-          by p.given p.written both.0 both.1 kept p.reads
-          (subst (λ (t : Told). AreHonest p.given t old.files.current both.0 both.1) told both.2) answer.0 both.3 p.follows
+          by p.given p.written both.0 both.1 p.split
+          (in_order_keep (run_reads line) p.given old.files.told both.0 old.files.current both.1 p.reads both.2) p.reads
+          (subst (λ (t : Told). AreHonest p.given t old.files.current both.0 both.1) told both.2) both.3 p.follows
         where
-          by : (given written : List Event) (middle : Told) (name : Option Name) → middle ≡ old.files.told
-              → ReadsInOrder (run_reads line) given → AreHonest given (Some m) old.files.current middle name → AllAnswer given
+          by : (given written : List Event) (middle : Told) (name : Option Name) → events ≡ given ++ written
+              → (middle ≡ old.files.told) × (name ≡ old.files.current)
+              → ReadsInOrder (run_reads line) given → AreHonest given (Some m) old.files.current middle name
               → AreHonest written middle name new.files.told new.files.current
-              → ((written ≡ []) × StopsFor status Said WantOfMemory) ⊎ ((job : Job) × IsRunJobOver line (hosts_of hm hosts) given job
+              → ((written ≡ []) × StopsQuietly old.out.told new.out.told (StopsFor status Said) WantOfMemory)
+              ⊎ ((job : Job) × IsRunJobOver line (hosts_of hm hosts) given job
               × WritesOfRun hm hosts line old.out.told new.out.told (λ s. status ≡ s) (StopsFor status Said) given job written) → Comes
-          by given written middle name kept reads found answers behind (inl (none, memory)) = wants memory
-          by given written middle name kept reads found answers behind (inr (job, asks, writes)) =
-              run_comes line is given written old.files.current name new.files.current middle reads found answers kept behind job
-              (run_job_honest m line (hosts_of hm hosts) (few_of (values_of words) (runs line) is) given job old.files.current middle name
-              found answers asks) writes
+          by given written middle name split same reads found behind (inl (none, quiet, memory)) =
+              wants (untouched middle name same written behind none quiet) memory
+          by given written middle name split same reads found behind (inr (job, asks, writes)) =
+              on_job (run_job_honest m line (hosts_of hm hosts) (few_of (values_of words) (runs line) is) given job old.files.current
+              middle name found asks)
+            where
+              on_job : IsRunJob line (hosts_of hm hosts) m job ⊎ Unreads job given → Comes
+              on_job (inl of) =
+                  run_comes line is given written old.files.current name middle reads found same behind job of writes
+              on_job (inr unread) = run_fails line given written name middle same behind split job unread writes
 
       go : (o : Option Line) → line_of words ≡ o → Of o → Comes
-      go None is (none, inl stopped) = stops Usage (usage is)
-          (subst (λ (l : List Event). AreHonest l old.files.told old.files.current new.files.told new.files.current) none honest).0 stopped
-      go None is (none, inr memory) = wants memory
+      go None is (none, quiet, inl stopped) = stops Usage (usage is) (no_calls none quiet) stopped
+      go None is (none, quiet, inr memory) = wants (no_calls none quiet) memory
       go (Some (runs line)) is p = run_line line is p
       go (Some (merges line)) is (quiet, p) = units_come (merges line) is line.units
           (IsMerged line (symbols_of (hosts_of hm hosts))) (few_of (values_of words) (merges line) is) (λ job of. of) quiet p
       go (Some (trims line)) is (quiet, p) = units_come (trims line) is (line.unit ∷ []) (IsTrimmedText line) (omega arith)
           (λ job of. of) quiet p
+
+-- ---- the clauses
+
+module _ {H : Type 0} (hm : HostModule H) (hosts : List H) (words : List Name) (m : Contents) (old new : Outside) (status : ℕ)
+    (Said : List ℕ → Type 0) (call : PassesHonestly hm hosts words m old new status Said) where
+  came : Came hm hosts words m old new status Said call.events
+  came = comes hm hosts words m old new call.told status Said call.events call.honest call.passes
+
+  pub honest_untouched : (status ≡ 2) ⊎ (status ≡ 3) ⊎ (status ≡ 6) → IsUntouched old new
+  honest_untouched ends = by came
+    where
+      by : Came hm hosts words m old new status Said call.events → IsUntouched old new
+      by (Done run finished) = absurd (omega (arith, run, ends))
+      by (Refuses why is said job same) = same
+      by (Fails file is said last same) = same
+      by (Breaks is said begun) = absurd (omega (arith, is, ends))
+      by (Wants is begun) = absurd (omega (arith, is, ends))
+
+  pub honest_finished : IsRunStatus status → Finished hm hosts words m old new status
+  honest_finished run = by came
+    where
+      by : Came hm hosts words m old new status Said call.events → Finished hm hosts words m old new status
+      by (Done run finished) = finished
+      by (Refuses why is said job same) = absurd (stop_apart status why (inl is) run)
+      by (Fails file is said last same) = absurd (omega (arith, is, run))
+      by (Breaks is said begun) = absurd (omega (arith, is, run))
+      by (Wants is begun) = absurd (omega (arith, is, run))
+
+  pub honest_refused : (status ≡ 2) ⊎ (status ≡ 6)
+      → (why : Reason) × (status_of why ≡ status) × IsJobWith hm hosts words m (Stops why) × Said (error_line why)
+  honest_refused ends = by came
+    where
+      by : Came hm hosts words m old new status Said call.events
+          → (why : Reason) × (status_of why ≡ status) × IsJobWith hm hosts words m (Stops why) × Said (error_line why)
+      by (Done run finished) = absurd (omega (arith, run, ends))
+      by (Refuses why is said job same) = (why, sym is, job, said)
+      by (Fails file is said last same) = absurd (omega (arith, is, ends))
+      by (Breaks is said begun) = absurd (omega (arith, is, ends))
+      by (Wants is begun) = absurd (omega (arith, is, ends))
+
+  pub honest_missing : status ≡ 3 → (file : Name)
+      × (IsJobWith hm hosts words m (Stops (Unread file)) ⊎ FailsLast file call.events) × Said (error_line (Unread file))
+  honest_missing three = by came
+    where
+      Missing : Type 0
+      Missing = (file : Name) × (IsJobWith hm hosts words m (Stops (Unread file)) ⊎ FailsLast file call.events)
+          × Said (error_line (Unread file))
+
+      refused : (why : Reason) → status ≡ status_of why → Said (error_line why) → IsJobWith hm hosts words m (Stops why) → Missing
+      refused why is said job =
+          let (file, is_unread) = of_status_3 why (sym is ∙ three) in (
+            file,
+            inl (subst (λ (w : Reason). IsJobWith hm hosts words m (Stops w)) is_unread job),
+            subst (λ (w : Reason). Said (error_line w)) is_unread said,
+          )
+
+      by : Came hm hosts words m old new status Said call.events → Missing
+      by (Done run finished) = absurd (omega (arith, run, three))
+      by (Refuses why is said job same) = refused why is said job
+      by (Fails file is said last same) = (file, inr last, said)
+      by (Breaks is said begun) = absurd (omega (arith, is, three))
+      by (Wants is begun) = absurd (omega (arith, is, three))
+
+  pub honest_write_fault : status ≡ 4 → Begun hm hosts words m old new × Said (error_line Unwritten)
+  honest_write_fault four = by came
+    where
+      refused : (why : Reason) → status ≡ status_of why → IsJobWith hm hosts words m (Stops why) → ⊥
+      refused why is job = no_fault_asked words (hosts_of hm hosts) m
+          (subst (λ (w : Reason). IsJobWith hm hosts words m (Stops w)) (of_status_4 why (sym is ∙ four)) job)
+
+      by : Came hm hosts words m old new status Said call.events → Begun hm hosts words m old new × Said (error_line Unwritten)
+      by (Done run finished) = absurd (omega (arith, run, four))
+      by (Refuses why is said job same) = absurd (refused why is job)
+      by (Fails file is said last same) = absurd (omega (arith, is, four))
+      by (Breaks is said begun) = (begun, said)
+      by (Wants is begun) = absurd (omega (arith, is, four))
+
+  pub honest_part : status ≡ 5 → BegunIfAny hm hosts words m old new
+  honest_part five = by came
+    where
+      by : Came hm hosts words m old new status Said call.events → BegunIfAny hm hosts words m old new
+      by (Done run finished) = absurd (omega (arith, run, five))
+      by (Refuses why is said job same) = inl same
+      by (Fails file is said last same) = inl same
+      by (Breaks is said begun) = absurd (omega (arith, is, five))
+      by (Wants is begun) = begun

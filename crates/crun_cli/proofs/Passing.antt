@@ -63,14 +63,14 @@ use Rattle.crun_words.specs.Passing.{
   GivesInputs,
   GivesJournal,
   GivesUnits,
-  limited,
   ReadsFile,
-  ReadsInOrder,
   TriesInputs,
   TriesJournal,
   TriesUnits,
 }
-use Rattle.crun_words.proofs.Passing.{inputs_in_order, journal_in_order, journal_read, longer, units_in_order}
+use Rattle.w2c_files.specs.Passing.{limited, ReadsInOrder}
+use Rattle.w2c_files.proofs.InOrder.{longer}
+use Rattle.crun_words.proofs.Passing.{inputs_in_order, journal_in_order, journal_read, units_in_order}
 use Rattle.crun_job.specs.declared.refusal.UnitsRefusal.{UnitsRefusal}
 use Rattle.crun_job.specs.declared.refusal.UnitsRefusal.TheVariants as refusal
 use Rattle.crun_job.specs.declared.stop.Cause.{Cause}
@@ -109,6 +109,7 @@ use Rattle.crun_cli.specs.Passing.{
   reason_for,
   run_reads,
   StopsFor,
+  StopsQuietly,
   WritesJournal,
   WritesOfRun,
   WritesOutput,
@@ -210,7 +211,7 @@ module _ {H : Type 0} (m : HostModule H) (hosts : List H) where
 
   journal_broken : (name : Option Name) (file filled : Option JournalFile) (asks : List Asked) (why : WriteAnswer) (written : List Event)
       → IsBlankFor m hosts name file → IsFilled m hosts asks file filled → PutsJournalPart name filled why written
-      → ((written ≡ []) × (why ≡ answer.Memory)) ⊎ BreaksJournal name (journal_of m hosts asks) why written
+      → BreaksJournal name (journal_of m hosts asks) why written
   journal_broken None file filled asks why written blank is part = absurd part
   journal_broken (Some name) None filled asks why written blank is part = absurd blank
   journal_broken (Some name) (Some file) None asks why written blank is part = absurd is
@@ -224,7 +225,8 @@ module _ {H : Type 0} (m : HostModule H) (hosts : List H) where
     Writes written = WritesOfTexts m hosts line texts text old new Ends Stopped written
 
     -- the texts come to no task
-    pub texts_stopped : (why : Reason) → StopsTexts line (symbols_of (hosts_of m hosts)) texts text why → Stopped why → Writes []
+    pub texts_stopped : (why : Reason) → StopsTexts line (symbols_of (hosts_of m hosts)) texts text why → StopsQuietly old new Stopped why
+        → Writes []
     texts_stopped (Refused file cause) stop stopped = inr (Stops (Refused file cause), stop, (refl, stopped))
     texts_stopped (CallsLine number) stop stopped = inr (Stops (CallsLine number), stop, (refl, stopped))
     texts_stopped WantOfMemory stop stopped = inl (refl, stopped)
@@ -237,9 +239,9 @@ module _ {H : Type 0} (m : HostModule H) (hosts : List H) where
 
     module _ (units : List (List tree.Item)) (calls : List SymbolCall) (steps : ℕ) (shown : Bool)
         (job : IsTextsJob line (symbols_of (hosts_of m hosts)) texts text (Run units calls steps shown)) where
-      -- a line of the run is not written
-      pub line_unwritten : HasPart m hosts units calls steps shown old new → Stopped Unwritten → Writes []
-      line_unwritten part stopped = inr (Run units calls steps shown, job, inr (part, refl, stopped))
+      -- a part of its lines is written
+      pub run_left : HasPart m hosts units calls steps shown old new → Stopped Unwritten ⊎ Stopped WantOfMemory → Writes []
+      run_left part stopped = inr (Run units calls steps shown, job, inr (part, refl, stopped))
 
       module _ (status : ℕ) (file filled : Option JournalFile)
           (ran : HasRecorded m hosts units calls steps shown old new status file filled)
@@ -261,17 +263,15 @@ module _ {H : Type 0} (m : HostModule H) (hosts : List H) where
 
         pub run_broken : (why : WriteAnswer) (written : List Event) → PutsJournalPart line.journal filled why written
             → Stopped (reason_for why) → Writes written
-        run_broken why written part stopped =
-            go (journal_broken line.journal file filled ran.run.asks why written blank ran.filled_is part)
-          where
-            go : ((written ≡ []) × (why ≡ answer.Memory)) ⊎ BreaksJournal line.journal (journal_of m hosts ran.run.asks) why written
-                → Writes written
-            go (inl (nothing, memory)) = inl (nothing, subst (λ w. Stopped (reason_for w)) memory stopped)
-            go (inr broken) = inr (
-              Run units calls steps shown,
-              job,
-              inl (record { status = status; run = ran.run; ends = inr (why, broken, stopped) }),
-            )
+        run_broken why written part stopped = inr (
+          Run units calls steps shown,
+          job,
+          inl (record {
+            status = status;
+            run = ran.run;
+            ends = inr (why, journal_broken line.journal file filled ran.run.asks why written blank ran.filled_is part, stopped);
+          }),
+        )
 
 -- ---- a run
 
@@ -292,7 +292,8 @@ module _ {H : Type 0} (m : HostModule H) (hosts : List H) (line : RunLine) (old 
 
   -- a file is not there, or too long
   refused_input : (reading : Reading) (why : Reason) (events : List Event) → GivesInputs line.units line.calls reading events
-      → IsJobBy line (hosts_of m hosts) (λ name r. GivesJournal name r []) reading (Stops why) → Stopped why → Passes events
+      → IsJobBy line (hosts_of m hosts) (λ name r. GivesJournal name r []) reading (Stops why) → StopsQuietly old new Stopped why
+      → Passes events
   refused_input reading why events gave job stopped = record {
     given = events;
     written = [];
@@ -307,7 +308,7 @@ module _ {H : Type 0} (m : HostModule H) (hosts : List H) (line : RunLine) (old 
 
   -- the units and the calls file are not all read
   pub inputs_stopped : (stop : InputStop) (events : List Event) → TriesInputs line.units line.calls stop events
-      → Stopped (reason_of (stop_for stop)) → Passes events
+      → StopsQuietly old new Stopped (reason_of (stop_for stop)) → Passes events
   inputs_stopped (input.Unread name) events gave stopped =
       refused_input (NotThere (string_bytes name)) (Unread (string_bytes name)) events gave refl stopped
   inputs_stopped (input.UnitTooLong name) events gave stopped =
@@ -347,7 +348,7 @@ module _ {H : Type 0} (m : HostModule H) (hosts : List H) (line : RunLine) (old 
         behind (Write output unit) of = of
 
         go : WritesOfTexts m hosts line texts text old new Ends Stopped last
-            → ((last ≡ []) × Stopped WantOfMemory)
+            → ((last ≡ []) × StopsQuietly old new Stopped WantOfMemory)
             ⊎ ((job : Job) × IsRunJobOver line (hosts_of m hosts) first job × WritesOfRun m hosts line old new Ends Stopped first job last)
         go (inl wanting) = inl wanting
         go (inr (job, is, of)) = inr (
@@ -386,7 +387,7 @@ module _ {H : Type 0} (m : HostModule H) (hosts : List H) (line : RunLine) (old 
       )
 
       refused : (reading : JournalReading) (why : Reason) → GivesJournal name reading middle
-          → IsReplayJob line name texts text reading (Stops why) → Stopped why → Passes (first ++ middle)
+          → IsReplayJob line name texts text reading (Stops why) → StopsQuietly old new Stopped why → Passes (first ++ middle)
       refused reading why gives of stopped = record {
         given = first ++ middle;
         written = [];
@@ -396,7 +397,7 @@ module _ {H : Type 0} (m : HostModule H) (hosts : List H) (line : RunLine) (old 
       }
 
       -- it is not read, or refused
-      pub replay_stopped : (why : Reason) → TriesReplay name why middle → Stopped why → Passes (first ++ middle)
+      pub replay_stopped : (why : Reason) → TriesReplay name why middle → StopsQuietly old new Stopped why → Passes (first ++ middle)
       replay_stopped (Unread file) (file_is, gives) stopped =
           refused NoJournal (Unread file) gives (ap (λ f. Stops (Unread f)) file_is) stopped
       replay_stopped JournalTooLong gives stopped = refused LongJournal JournalTooLong gives refl stopped
@@ -436,7 +437,7 @@ module _ {H : Type 0} (m : HostModule H) (hosts : List H) (line : RunLine) (old 
           behind (Write output unit) of = of
 
           go : WritesOfTexts replaying replays line texts text old new Ends Stopped last
-              → ((last ≡ []) × Stopped WantOfMemory)
+              → ((last ≡ []) × StopsQuietly old new Stopped WantOfMemory)
               ⊎ ((job : Job) × IsRunJobOver line (hosts_of m hosts) (first ++ middle) job
               × WritesOfRun m hosts line old new Ends Stopped (first ++ middle) job last)
           go (inl wanting) = inl wanting
@@ -468,9 +469,10 @@ module _ {H : Type 0} (m : HostModule H) (hosts : List H) (old new : Option (Lis
     (Stopped Stopped' : Reason → Type 0) (ends : (status : ℕ) → Ends status → Ends' status)
     (stops : (why : Reason) → Stopped why → Stopped' why) where
   by_so : (files : List (Name × ℕ)) (Asks : List Event → Job → Type 0) (Writes Writes' : List Event → Job → List Event → Type 0)
-      → ((given : List Event) (job : Job) (written : List Event) → Writes given job written → Writes' given job written)
-      → (events : List Event) → PassesBy files Asks Writes Stopped events → PassesBy files Asks Writes' Stopped' events
-  by_so files Asks Writes Writes' so events p = record {
+      (Wants Wants' : Reason → Type 0) → ((given : List Event) (job : Job) (written : List Event) → Writes given job written
+      → Writes' given job written) → (Wants WantOfMemory → Wants' WantOfMemory)
+      → (events : List Event) → PassesBy files Asks Writes Wants events → PassesBy files Asks Writes' Wants' events
+  by_so files Asks Writes Writes' Wants Wants' so wants events p = record {
     given = p.given;
     written = p.written;
     split = p.split;
@@ -478,9 +480,9 @@ module _ {H : Type 0} (m : HostModule H) (hosts : List H) (old new : Option (Lis
     follows = go p.follows;
   }
     where
-      go : ((p.written ≡ []) × Stopped WantOfMemory) ⊎ ((job : Job) × Asks p.given job × Writes p.given job p.written)
-          → ((p.written ≡ []) × Stopped' WantOfMemory) ⊎ ((job : Job) × Asks p.given job × Writes' p.given job p.written)
-      go (inl (nothing, stopped)) = inl (nothing, stops WantOfMemory stopped)
+      go : ((p.written ≡ []) × Wants WantOfMemory) ⊎ ((job : Job) × Asks p.given job × Writes p.given job p.written)
+          → ((p.written ≡ []) × Wants' WantOfMemory) ⊎ ((job : Job) × Asks p.given job × Writes' p.given job p.written)
+      go (inl (nothing, wanting)) = inl (nothing, wants wanting)
       go (inr (job, asks, of)) = inr (job, asks, so p.given job p.written of)
 
   output_so : (job : Job) (written : List Event) → WritesOutput Ends Stopped job written → WritesOutput Ends' Stopped' job written
@@ -500,7 +502,9 @@ module _ {H : Type 0} (m : HostModule H) (hosts : List H) (old new : Option (Lis
           ⊎ ((why : WriteAnswer) × BreaksJournal journal (journal_of n gs w.run.asks) why written × Stopped' (reason_for why))
       go (inl (whole, ended)) = inl (whole, ends w.status ended)
       go (inr (why, broken, stopped)) = inr (why, broken, stops (reason_for why) stopped)
-  run_so n gs journal units calls steps shown written (inr (part, nothing, stopped)) = inr (part, nothing, stops Unwritten stopped)
+  run_so n gs journal units calls steps shown written (inr (part, nothing, inl stopped)) = inr (part, nothing, inl (stops Unwritten stopped))
+  run_so n gs journal units calls steps shown written (inr (part, nothing, inr stopped)) =
+      inr (part, nothing, inr (stops WantOfMemory stopped))
 
   with_so : (replayed : Option Name) (Reads : Name → JournalReading → Type 0) (P Q : (G : Type 0) → HostModule G → List G → Type 0)
       → ((G : Type 0) (n : HostModule G) (gs : List G) → P G n gs → Q G n gs) → WithHostsBy m hosts replayed Reads P
@@ -510,7 +514,7 @@ module _ {H : Type 0} (m : HostModule H) (hosts : List H) (old new : Option (Lis
 
   of_run_so : (line : RunLine) (given : List Event) (job : Job) (written : List Event)
       → WritesOfRun m hosts line old new Ends Stopped given job written → WritesOfRun m hosts line old new Ends' Stopped' given job written
-  of_run_so line given (Stops why) written (nothing, stopped) = (nothing, stops why stopped)
+  of_run_so line given (Stops why) written (nothing, quiet, stopped) = (nothing, quiet, stops why stopped)
   of_run_so line given (Run units calls steps shown) written of = with_so line.replayed (IsReadLast given)
       (λ G n gs. WritesRun n gs line.journal units calls steps shown old new Ends Stopped written)
       (λ G n gs. WritesRun n gs line.journal units calls steps shown old new Ends' Stopped' written)
@@ -520,12 +524,14 @@ module _ {H : Type 0} (m : HostModule H) (hosts : List H) (old new : Option (Lis
   units_so : (units : List Name) (IsOf : List (List ℕ) → Job → Type 0) (events : List Event) → PassesUnits units IsOf Ends Stopped events
       → PassesUnits units IsOf Ends' Stopped' events
   units_so units IsOf events p = by_so (limited most_unit_bytes units) (IsUnitsJobOver units IsOf) (λ given. WritesOutput Ends Stopped)
-      (λ given. WritesOutput Ends' Stopped') (λ given. output_so) events p
+      (λ given. WritesOutput Ends' Stopped') Stopped Stopped' (λ given. output_so) (stops WantOfMemory) events p
 
   pub line_so : (line : Line) (events : List Event) → PassesLine m hosts line old new Ends Stopped events
       → PassesLine m hosts line old new Ends' Stopped' events
   line_so (runs line) events p = by_so (run_reads line) (IsRunJobOver line (hosts_of m hosts))
-      (WritesOfRun m hosts line old new Ends Stopped) (WritesOfRun m hosts line old new Ends' Stopped') (of_run_so line) events p
+      (WritesOfRun m hosts line old new Ends Stopped) (WritesOfRun m hosts line old new Ends' Stopped')
+      (StopsQuietly old new Stopped) (StopsQuietly old new Stopped') (of_run_so line)
+      (λ w. (w.0, stops WantOfMemory w.1)) events p
   line_so (merges line) events (same, p) = (same, units_so line.units (IsMerged line (symbols_of (hosts_of m hosts))) events p)
   line_so (trims line) events (same, p) = (same, units_so (line.unit ∷ []) (IsTrimmedText line) events p)
 
@@ -534,33 +540,35 @@ module _ {H : Type 0} (m : HostModule H) (hosts : List H) (old new : Option (Lis
   words_so words events = go (line_of words)
     where
       Of : (ℕ → Type 0) → (Reason → Type 0) → Option Line → Type 0
-      Of E S o = MatchOption o ((events ≡ []) × (S Usage ⊎ S WantOfMemory)) (λ line. PassesLine m hosts line old new E S events)
+      Of E S o = MatchOption o ((events ≡ []) × (new ≡ old) × (S Usage ⊎ S WantOfMemory))
+          (λ line. PassesLine m hosts line old new E S events)
 
       go : (o : Option Line) → Of Ends Stopped o → Of Ends' Stopped' o
-      go None (nothing, inl usage) = (nothing, inl (stops Usage usage))
-      go None (nothing, inr memory) = (nothing, inr (stops WantOfMemory memory))
+      go None (nothing, quiet, inl usage) = (nothing, quiet, inl (stops Usage usage))
+      go None (nothing, quiet, inr memory) = (nothing, quiet, inr (stops WantOfMemory memory))
       go (Some line) p = line_so line events p
 
 module _ {H : Type 0} (m : HostModule H) (hosts : List H) (words : List Name) (old new : Option (List ℕ)) (Ends : ℕ → Type 0)
     (Stopped : Reason → Type 0) where
   abbrev Of : List Event → Option Line → Type 0
-  Of events o = MatchOption o ((events ≡ []) × (Stopped Usage ⊎ Stopped WantOfMemory))
+  Of events o = MatchOption o ((events ≡ []) × (new ≡ old) × (Stopped Usage ⊎ Stopped WantOfMemory))
       (λ line. PassesLine m hosts line old new Ends Stopped events)
 
   pub line_passed : (line : Line) → line_of words ≡ Some line → (events : List Event) → PassesLine m hosts line old new Ends Stopped events
       → PassesWords m hosts words old new Ends Stopped events
   line_passed line is events p = subst (Of events) (sym is) p
 
-  pub usage_passed : line_of words ≡ None → Stopped Usage → PassesWords m hosts words old new Ends Stopped []
-  usage_passed none stopped = subst (Of []) (sym none) (refl, inl stopped)
+  pub usage_passed : line_of words ≡ None → new ≡ old → Stopped Usage → PassesWords m hosts words old new Ends Stopped []
+  usage_passed none same stopped = subst (Of []) (sym none) (refl, same, inl stopped)
 
   -- memory is wanting before anything is read
   pub words_wanting : new ≡ old → Stopped WantOfMemory → PassesWords m hosts words old new Ends Stopped []
   words_wanting same stopped = go (line_of words)
     where
       go : (o : Option Line) → Of [] o
-      go None = (refl, inr stopped)
-      go (Some (runs line)) = record { given = []; written = []; split = refl; reads = tt; follows = inl (refl, stopped) }
+      go None = (refl, same, inr stopped)
+      go (Some (runs line)) =
+          record { given = []; written = []; split = refl; reads = tt; follows = inl (refl, (same, stopped)) }
       go (Some (merges line)) =
           (same, record { given = []; written = []; split = refl; reads = tt; follows = inl (refl, stopped) })
       go (Some (trims line)) =

@@ -84,6 +84,29 @@ stop_apart status (Unread file) is run = omega (arith, is, run)
 stop_apart status Unwritten is run = omega (arith, is, run)
 stop_apart status WantOfMemory is run = omega (arith, is, run)
 
+-- the reason of a status that has one
+pub of_status_3 : (why : Reason) → status_of why ≡ 3 → (file : Name) × (why ≡ Unread file)
+of_status_3 (Unread file) is = (file, refl)
+of_status_3 Usage is = absurd (omega (arith, is))
+of_status_3 CallsTooLong is = absurd (omega (arith, is))
+of_status_3 (CallsLine number) is = absurd (omega (arith, is))
+of_status_3 JournalTooLong is = absurd (omega (arith, is))
+of_status_3 (JournalLine number) is = absurd (omega (arith, is))
+of_status_3 (Refused file why) is = absurd (omega (arith, is))
+of_status_3 Unwritten is = absurd (omega (arith, is))
+of_status_3 WantOfMemory is = absurd (omega (arith, is))
+
+pub of_status_4 : (why : Reason) → status_of why ≡ 4 → why ≡ Unwritten
+of_status_4 Unwritten is = refl
+of_status_4 Usage is = absurd (omega (arith, is))
+of_status_4 CallsTooLong is = absurd (omega (arith, is))
+of_status_4 (CallsLine number) is = absurd (omega (arith, is))
+of_status_4 JournalTooLong is = absurd (omega (arith, is))
+of_status_4 (JournalLine number) is = absurd (omega (arith, is))
+of_status_4 (Refused file why) is = absurd (omega (arith, is))
+of_status_4 (Unread file) is = absurd (omega (arith, is))
+of_status_4 WantOfMemory is = absurd (omega (arith, is))
+
 pub stop_small : (status : ℕ) (why : Reason) → IsStatus status why → status ≤ 8
 stop_small status Usage is = omega (arith, is)
 stop_small status CallsTooLong is = omega (arith, is)

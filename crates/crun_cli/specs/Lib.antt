@@ -6,6 +6,7 @@ pub mod Outside
 pub mod Jobs
 pub mod Ends
 pub mod Passing
+pub mod HonestPassing
 pub mod Again
 pub mod EnvHost
 -- of the code alone

@@ -8,6 +8,7 @@ use Rattle.w2c_io.specs.Events.{Event}
 use Rattle.w2c_io.specs.Passed.{WritesFile, BreaksOff}
 use Rattle.w2c_io.specs.declared.answers.WriteAnswer.{WriteAnswer}
 use Rattle.w2c_io.specs.declared.answers.WriteAnswer.TheVariants as answer
+use Rattle.w2c_files.specs.Passing.{limited, ReadsInOrder}
 use Rattle.c_tree.specs.Spelled.{CSpells}
 use Rattle.c_tree.specs.Tree as tree
 use Rattle.c_meaning.specs.Linking.{SymbolCall}
@@ -28,7 +29,7 @@ use Rattle.crun_words.specs.Inputs.{
   NotThere,
   Reading,
 }
-use Rattle.crun_words.specs.Passing.{GivesInputs, GivesJournal, GivesUnits, limited, ReadsInOrder}
+use Rattle.crun_words.specs.Passing.{GivesInputs, GivesJournal, GivesUnits}
 use Rattle.crun_job.specs.Job.{Job, Run, Stops, Write}
 use Rattle.crun_job.specs.Lines.{error_line, status_of, Reason, Unwritten, Usage, WantOfMemory}
 use Rattle.crun_cli.specs.Ends.{journal_of, WithHostsBy}
@@ -74,6 +75,10 @@ reason_for answer.Memory = WantOfMemory
 -- Below, `Ends status` says that the call ends with a status of a run, and `Stopped why` that it stops for a reason. The stream
 -- was told `old`, and behind the call it was told `new`.
 
+-- it stops, and the stream has gained nothing
+abbrev pub StopsQuietly : Option (List ℕ) → Option (List ℕ) → (Reason → Type 0) → Reason → Type 0
+StopsQuietly old new Stopped why = (new ≡ old) × Stopped why
+
 -- a unit's text, which spells the unit, is written whole, or breaks off
 abbrev pub WritesUnit : (ℕ → Type 0) → (Reason → Type 0) → Name → List tree.Item → List Event → Type 0
 WritesUnit Ends Stopped output unit written =
@@ -91,10 +96,10 @@ abbrev pub WritesJournal : Option Name → Recorded → List Event → Type 0
 WritesJournal None j written = written ≡ []
 WritesJournal (Some name) j written = WritesFile name (journal_text j) written × IsJournal (journal_text j) j
 
--- it breaks off
+-- it breaks off, or memory is wanting before its file is begun
 abbrev pub BreaksJournal : Option Name → Recorded → WriteAnswer → List Event → Type 0
 BreaksJournal None j why written = ⊥
-BreaksJournal (Some name) j why written = BreaksOff name (journal_text j) why written
+BreaksJournal (Some name) j why written = ((written ≡ []) × (why ≡ answer.Memory)) ⊎ BreaksOff name (journal_text j) why written
 
 -- the run is over, and then its journal is written whole, or breaks off
 pub record WritesBehind {H : Type 0} (m : HostModule H) (hosts : List H) (journal : Option Name) (units : List (List tree.Item))
@@ -105,12 +110,12 @@ pub record WritesBehind {H : Type 0} (m : HostModule H) (hosts : List H) (journa
   pub ends : (WritesJournal journal (journal_of m hosts run.asks) written × Ends status)
       ⊎ ((why : WriteAnswer) × BreaksJournal journal (journal_of m hosts run.asks) why written × Stopped (reason_for why))
 
--- or a line of it is not written, and then no file is begun
+-- or a part of its lines is written, and then no file is begun: the next line is not written, or memory is wanting
 abbrev pub WritesRun : {H : Type 0} → HostModule H → List H → Option Name → List (List tree.Item) → List SymbolCall → ℕ → Bool
     → Option (List ℕ) → Option (List ℕ) → (ℕ → Type 0) → (Reason → Type 0) → List Event → Type 0
 WritesRun m hosts journal units calls steps shown old new Ends Stopped written =
     WritesBehind m hosts journal units calls steps shown old new Ends Stopped written
-    ⊎ (HasPart m hosts units calls steps shown old new × (written ≡ []) × Stopped Unwritten)
+    ⊎ (HasPart m hosts units calls steps shown old new × (written ≡ []) × (Stopped Unwritten ⊎ Stopped WantOfMemory))
 
 -- the journal that is replayed was read last
 abbrev pub IsReadLast : List Event → Name → JournalReading → Type 0
@@ -119,7 +124,7 @@ IsReadLast given name reading = (first : List Event) × (last : List Event) × (
 -- nothing is written where the job is refused; a run is with the hosts that were handed in, or with those of the journal
 abbrev pub WritesOfRun : {H : Type 0} → HostModule H → List H → RunLine → Option (List ℕ) → Option (List ℕ) → (ℕ → Type 0)
     → (Reason → Type 0) → List Event → Job → List Event → Type 0
-WritesOfRun m hosts line old new Ends Stopped given (Stops why) written = (written ≡ []) × Stopped why
+WritesOfRun m hosts line old new Ends Stopped given (Stops why) written = (written ≡ []) × StopsQuietly old new Stopped why
 WritesOfRun m hosts line old new Ends Stopped given (Run units calls steps shown) written =
     WithHostsBy m hosts line.replayed (IsReadLast given)
     (λ G n gs. WritesRun n gs line.journal units calls steps shown old new Ends Stopped written)
@@ -139,7 +144,7 @@ pub record PassesBy (files : List (Name × ℕ)) (Asks : List Event → Job → 
 abbrev pub PassesRun : {H : Type 0} → HostModule H → List H → RunLine → Option (List ℕ) → Option (List ℕ) → (ℕ → Type 0)
     → (Reason → Type 0) → List Event → Type 0
 PassesRun m hosts line old new Ends Stopped events = PassesBy (run_reads line) (IsRunJobOver line (hosts_of m hosts))
-    (WritesOfRun m hosts line old new Ends Stopped) Stopped events
+    (WritesOfRun m hosts line old new Ends Stopped) (StopsQuietly old new Stopped) events
 
 abbrev pub PassesUnits : List Name → (List (List ℕ) → Job → Type 0) → (ℕ → Type 0) → (Reason → Type 0) → List Event → Type 0
 PassesUnits units IsOf Ends Stopped events = PassesBy (limited most_unit_bytes units) (IsUnitsJobOver units IsOf)
@@ -158,7 +163,7 @@ PassesLine m hosts (trims line) old new Ends Stopped events =
 abbrev pub PassesWords : {H : Type 0} → HostModule H → List H → List Name → Option (List ℕ) → Option (List ℕ) → (ℕ → Type 0)
     → (Reason → Type 0) → List Event → Type 0
 PassesWords m hosts words old new Ends Stopped events =
-    MatchOption (line_of words) ((events ≡ []) × (Stopped Usage ⊎ Stopped WantOfMemory))
+    MatchOption (line_of words) ((events ≡ []) × (new ≡ old) × (Stopped Usage ⊎ Stopped WantOfMemory))
     (λ line. PassesLine m hosts line old new Ends Stopped events)
 
 -- the status is that of this reason, and its line was said; or memory was wanting for that

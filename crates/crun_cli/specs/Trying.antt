@@ -5,6 +5,7 @@ use Rattle.w2c_io.specs.Events.{Event}
 use Rattle.w2c_io.specs.Passed.{WritesFile, BreaksOff}
 use Rattle.w2c_io.specs.declared.answers.WriteAnswer.{WriteAnswer}
 use Rattle.w2c_io.specs.declared.answers.WriteAnswer.TheVariants as answer
+use Rattle.w2c_files.specs.Passing.{limited, ReadsInOrder}
 use Rattle.c_hosts.specs.declared.host.HostModule.{Ghosts as HostModule}
 use Rattle.c_hosts.specs.Asking.{hosts_of}
 use Rattle.host_replay.specs.declared.file.JournalFile.{JournalFile}
@@ -15,7 +16,7 @@ use Rattle.host_replay.specs.Replayed.{AreReplays}
 use Rattle.host_replay.specs.Texts.{journal_text, Recorded}
 use Rattle.crun_words.specs.CommandLine.{RunLine}
 use Rattle.crun_words.specs.Inputs.{most_journal_bytes, most_unit_bytes, Held, LongJournal, NoJournal}
-use Rattle.crun_words.specs.Passing.{limited, GivesJournal, ReadsFile, ReadsInOrder}
+use Rattle.crun_words.specs.Passing.{GivesJournal, ReadsFile}
 use Rattle.crun_job.specs.declared.stop.Stop.{Stop}
 use Rattle.crun_job.specs.Job.{IsTextsJob, Job, Run, Stops, Write}
 use Rattle.crun_job.specs.Lines.{
@@ -32,7 +33,7 @@ use Rattle.crun_job.specs.Lines.{
 }
 use Rattle.crun_job.specs.Seen.{reason_of}
 use Rattle.crun_cli.specs.Jobs.{symbols_of, IsJournalBy}
-use Rattle.crun_cli.specs.Passing.{IsUnitsJobOver, WritesRun}
+use Rattle.crun_cli.specs.Passing.{IsUnitsJobOver, StopsQuietly, WritesRun}
 
 -- ---- how a call ends
 
@@ -92,13 +93,13 @@ PutsJournalPart (Some name) (Some file) why events =
 
 abbrev pub WritesOfTextsJob : {H : Type 0} → HostModule H → List H → RunLine → Option (List ℕ) → Option (List ℕ) → (ℕ → Type 0)
     → (Reason → Type 0) → Job → List Event → Type 0
-WritesOfTextsJob m hosts line old new Ends Stopped (Stops why) written = (written ≡ []) × Stopped why
+WritesOfTextsJob m hosts line old new Ends Stopped (Stops why) written = (written ≡ []) × StopsQuietly old new Stopped why
 WritesOfTextsJob m hosts line old new Ends Stopped (Run units calls steps shown) written =
     WritesRun m hosts line.journal units calls steps shown old new Ends Stopped written
 WritesOfTextsJob m hosts line old new Ends Stopped (Write output unit) written = ⊥
 
 abbrev pub WritesOfTexts : {H : Type 0} → HostModule H → List H → RunLine → List (List ℕ) → List ℕ → Option (List ℕ) → Option (List ℕ)
     → (ℕ → Type 0) → (Reason → Type 0) → List Event → Type 0
-WritesOfTexts m hosts line texts text old new Ends Stopped written = ((written ≡ []) × Stopped WantOfMemory)
+WritesOfTexts m hosts line texts text old new Ends Stopped written = ((written ≡ []) × StopsQuietly old new Stopped WantOfMemory)
     ⊎ ((job : Job) × IsTextsJob line (symbols_of (hosts_of m hosts)) texts text job
     × WritesOfTextsJob m hosts line old new Ends Stopped job written)

@@ -1,17 +1,15 @@
 // Laws of the job, and of what passes through files.
-ghost use Rattle.std.specs.Prelude.{◌≡◌, ◌⊎◌, ℕ, List, Option, Some};
+ghost use Rattle.std.specs.Prelude.{◌≡◌, ◌⊎◌, ℕ, List, Option};
 ghost use Rattle.w2c_base.specs.Run.{Host};
 ghost use Rattle.w2c_io.specs.Contents.{Name, Contents};
-ghost use Rattle.w2c_io.specs.Events.{Event};
-ghost use Rattle.w2c_io.specs.Honest.{AreHonest};
 ghost use Rattle.w2c_io.specs.Telling.{Says};
-ghost use Rattle.crun_words.specs.Passing.{AllAnswer};
+ghost use Rattle.w2c_files.specs.Passing.{FailsLast};
 ghost use Rattle.crun_job.specs.Job.{Job, Stops};
-ghost use Rattle.crun_job.specs.Lines.{error_line, status_of, Reason};
-ghost use Rattle.crun_cli.specs.Ends.{Finished, IsJobWith, IsRunStatus};
+ghost use Rattle.crun_job.specs.Lines.{error_line, status_of, Reason, Unread, Unwritten};
+ghost use Rattle.crun_cli.specs.Ends.{Begun, BegunIfAny, Finished, IsJobWith, IsRunStatus};
+ghost use Rattle.crun_cli.specs.HonestPassing.{PassesHonestly};
 ghost use Rattle.crun_cli.specs.Jobs.{IsJob};
-ghost use Rattle.crun_cli.specs.Outside.{Outside};
-ghost use Rattle.crun_cli.specs.Passing.{PassesFor};
+ghost use Rattle.crun_cli.specs.Outside.{IsUntouched, Outside};
 
 use c_hosts::HostModule;
 
@@ -21,16 +19,34 @@ pub fn one_job()
         → IsJob words handed contents job → IsJob words handed contents other → job ≡ other }
 {}
 
-/// The law that over files that behave as files, and whose reads answer, what passed in a call says what the call comes to over
-/// what they hold: with a status of a run the run, or the unit, that is asked for, and with that of a refusal the first one.
+/// The law of files that behave as files: what passed in a call then says of what they hold what the clauses of the top call on
+/// contents say. With a status of a run it is the run, or the unit, that is asked for; with that of a refusal the first one, or the
+/// file whose read failed; with 4 and 5 what was begun of it.
 pub fn honest_files<H: HostModule>()
-    ensures { (hosts : List H) (words : List Name) (contents : Contents) (old new : Outside) (status : ℕ)
-        (said said' : Option (List ℕ)) (faults faults' : ℕ) (events : List Event)
-        → old.files.told ≡ Some contents
-        → AreHonest events old.files.told old.files.current new.files.told new.files.current → AllAnswer events
-        → PassesFor H.HostModule hosts words old.out.told new.out.told status (λ line. Says said said' faults faults' line) events
-        → (IsRunStatus status → Finished H.HostModule hosts words contents old new status)
-        × ((status ≡ 2) ⊎ (status ≡ 3) ⊎ (status ≡ 6) → (why : Reason) × (status_of why ≡ status)
-        × IsJobWith H.HostModule hosts words contents (Stops why) × (new.files.told ≡ old.files.told)
-        × Says said said' faults faults' (error_line why)) }
+    ensures untouched { (hosts : List H) (words : List Name) (m : Contents) (old new : Outside) (status : ℕ)
+        (said said' : Option (List ℕ)) (faults faults' : ℕ)
+        → PassesHonestly H.HostModule hosts words m old new status (λ line. Says said said' faults faults' line)
+        → (status ≡ 2) ⊎ (status ≡ 3) ⊎ (status ≡ 6) → IsUntouched old new }
+    ensures finished { (hosts : List H) (words : List Name) (m : Contents) (old new : Outside) (status : ℕ)
+        (said said' : Option (List ℕ)) (faults faults' : ℕ)
+        → PassesHonestly H.HostModule hosts words m old new status (λ line. Says said said' faults faults' line)
+        → IsRunStatus status → Finished H.HostModule hosts words m old new status }
+    ensures refused { (hosts : List H) (words : List Name) (m : Contents) (old new : Outside) (status : ℕ)
+        (said said' : Option (List ℕ)) (faults faults' : ℕ)
+        → PassesHonestly H.HostModule hosts words m old new status (λ line. Says said said' faults faults' line)
+        → (status ≡ 2) ⊎ (status ≡ 6) → (why : Reason) × (status_of why ≡ status)
+        × IsJobWith H.HostModule hosts words m (Stops why) × Says said said' faults faults' (error_line why) }
+    ensures missing { (hosts : List H) (words : List Name) (m : Contents) (old new : Outside)
+        (said said' : Option (List ℕ)) (faults faults' : ℕ)
+        → (call : PassesHonestly H.HostModule hosts words m old new 3 (λ line. Says said said' faults faults' line))
+        → (file : Name) × (IsJobWith H.HostModule hosts words m (Stops (Unread file)) ⊎ FailsLast file call.events)
+        × Says said said' faults faults' (error_line (Unread file)) }
+    ensures write_fault { (hosts : List H) (words : List Name) (m : Contents) (old new : Outside)
+        (said said' : Option (List ℕ)) (faults faults' : ℕ)
+        → PassesHonestly H.HostModule hosts words m old new 4 (λ line. Says said said' faults faults' line)
+        → Begun H.HostModule hosts words m old new × Says said said' faults faults' (error_line Unwritten) }
+    ensures part { (hosts : List H) (words : List Name) (m : Contents) (old new : Outside)
+        (said said' : Option (List ℕ)) (faults faults' : ℕ)
+        → PassesHonestly H.HostModule hosts words m old new 5 (λ line. Says said said' faults faults' line)
+        → BegunIfAny H.HostModule hosts words m old new }
 {}

@@ -21,12 +21,11 @@ use Rattle.std.proofs.Common.{
   subst,
   append_assoc,
 }
-use Rattle.std.proofs.lemmas.List.{append-nil, map-append}
 use Rattle.w2c_io.specs.Contents.{Name}
 use Rattle.w2c_io.specs.Events.{Event, Read}
 use Rattle.w2c_io.specs.declared.answers.ReadAnswer.{ReadAnswer}
 use Rattle.w2c_io.specs.declared.answers.ReadAnswer.TheVariants as reading
-use Rattle.w2c_files.specs.Passing.{ReadsAll, ReadsSome, StopsBy}
+use Rattle.w2c_files.specs.Passing.{limited, ReadsAll, ReadsInOrder, ReadsSome, StopsBy}
 use Rattle.w2c_files.specs.declared.reading.ReadStop.{ReadStop}
 use Rattle.w2c_files.specs.declared.reading.ReadStop.TheVariants as read
 use Rattle.crun_words.specs.declared.inputs.InputStop.{InputStop}
@@ -56,68 +55,16 @@ use Rattle.crun_words.specs.Passing.{
   GivesUnits,
   IsAway,
   IsOver,
-  limited,
   ReadsFile,
-  ReadsInOrder,
   ReadsUnto,
   TriesCalls,
   TriesInputs,
   TriesUnits,
 }
+use Rattle.w2c_files.proofs.InOrder.{all_in_order, all_then, both_limited, last_read, longer, unto_last}
 use Rattle.crun_words.proofs.Lists.{same_some}
 
 -- ---- in order
-
--- files that gave bytes, then others
-pub all_then : (each : ℕ) (names : List Name) (all : List (List ℕ)) (first : List Event) (more : List (Name × ℕ)) (last : List Event)
-    → ReadsAll each names all first → ReadsInOrder more last → ReadsInOrder (limited each names ++ more) (first ++ last)
-all_then each [] [] events more last is then = subst (λ (e : List Event). ReadsInOrder more (e ++ last)) (sym is) then
-all_then each (n ∷ names) (b ∷ all) (e ∷ events) more last (is, rest) then =
-    inl (b, is, all_then each names all events more last rest then)
-all_then each [] (b ∷ all) events more last h then = absurd h
-all_then each (n ∷ names) [] events more last h then = absurd h
-all_then each (n ∷ names) (b ∷ all) [] more last h then = absurd h
-
--- others may follow
-pub longer : (files more : List (Name × ℕ)) (events : List Event) → ReadsInOrder files events → ReadsInOrder (files ++ more) events
-longer files more [] reads = tt
-longer [] more (e ∷ events) reads = absurd reads
-longer (f ∷ files) more (e ∷ events) (inl (b, is, rest)) = inl (b, is, longer files more events rest)
-longer (f ∷ files) more (e ∷ events) (inr last) = inr last
-
--- the last that was read, whatever it answered
-last_read : (name : Name) (most : ℕ) (more : List (Name × ℕ)) (answer : Result (List ℕ) ReadAnswer)
-    → ReadsInOrder ((name, most) ∷ more) (Read name most answer ∷ [])
-last_read name most more answer = inr (answer, refl, refl)
-
-pub unto_last : (each : ℕ) (front : List Name) (name : Name) (most : ℕ) (more : List (Name × ℕ)) (all : List (List ℕ))
-    (first events : List Event) (answer : Result (List ℕ) ReadAnswer) → ReadsAll each front all first
-    → events ≡ first ++ Read name most answer ∷ [] → ReadsInOrder (limited each front ++ (name, most) ∷ more) events
-unto_last each front name most more all first events answer gave is =
-    subst (ReadsInOrder (limited each front ++ (name, most) ∷ more)) (sym is)
-    (all_then each front all first ((name, most) ∷ more) (Read name most answer ∷ []) gave (last_read name most more answer))
-
-both_limited : (each : ℕ) (front back : List Name) → limited each (front ++ back) ≡ limited each front ++ limited each back
-both_limited each front back = map-append (λ (name : Name). (name, each)) front back
-
-front_in_order : (each : ℕ) (names front rest : List Name) (all : List (List ℕ)) (events first last : List Event) → names ≡ front ++ rest
-    → ReadsAll each front all first → events ≡ first ++ last → ReadsInOrder (limited each rest) last
-    → ReadsInOrder (limited each names) events
-front_in_order each names front rest all events first last split gave calls then =
-    subst (ReadsInOrder (limited each names)) (sym calls)
-    (subst (λ (ns : List Name). ReadsInOrder (limited each ns) (first ++ last)) (sym split)
-    (subst (λ (fs : List (Name × ℕ)). ReadsInOrder fs (first ++ last)) (sym (both_limited each front rest))
-    (all_then each front all first (limited each rest) last gave then)))
-
-pub some_in_order : (each most : ℕ) (names : List Name) (why : ReadStop) (events : List Event) → ReadsSome each most names why events
-    → ReadsInOrder (limited each names) events
-some_in_order each most names why events (front, rest, all, first, last, split, gave, calls, inl (none, is)) =
-    front_in_order each names front rest all events first last split gave calls (subst (ReadsInOrder (limited each rest)) (sym none) tt)
-some_in_order each most names why events
-    (front, rest, all, first, last, split, gave, calls, inr (name, after, answer, rest_is, last_is, stops, together)) =
-    front_in_order each names front rest all events first last split gave calls
-    (subst (λ (r : List Name). ReadsInOrder (limited each r) last) (sym rest_is)
-    (subst (ReadsInOrder (limited each (name ∷ after))) (sym last_is) (last_read name each (limited each after) answer)))
 
 -- what the units gave
 unto_in_order : (units : List Name) (name : Name) (texts : List (List ℕ)) (answer : Result (List ℕ) ReadAnswer) (events : List Event)
@@ -130,9 +77,7 @@ unto_in_order units name texts answer events u =
 pub units_in_order : (units : List Name) (r : UnitsReading) (events : List Event) → GivesUnits units r events
     → ReadsInOrder (limited most_unit_bytes units) events
 units_in_order units (UnitsRead texts) events gave =
-    subst (λ (fs : List (Name × ℕ)). ReadsInOrder fs events) (append-nil (limited most_unit_bytes units))
-    (subst (ReadsInOrder (limited most_unit_bytes units ++ [])) (append-nil events)
-    (all_then most_unit_bytes units texts events [] [] gave tt))
+    all_in_order most_unit_bytes units texts events gave
 units_in_order units (NoUnit name) events (texts, answer, away, unto) = unto_in_order units name texts answer events unto
 units_in_order units (UnitTooLong name) events (texts, answer, over, unto) = unto_in_order units name texts answer events unto
 

@@ -1,11 +1,11 @@
 -- What passes through the files that crun reads: each read with its limit, in order, and what reading them comes to by what the
 -- reads gave.
-use Rattle.std.specs.Prelude.{◌≡◌, ◌⊎◌, ℕ, ◌-◌, ◌<◌, ◌≤◌, List, [], ◌∷◌, ◌++◌, length, map, Result, Ok, Err, string_bytes}
+use Rattle.std.specs.Prelude.{◌≡◌, ◌⊎◌, ℕ, ◌-◌, ◌<◌, List, [], ◌∷◌, ◌++◌, length, Result, Ok, Err, string_bytes}
 use Rattle.w2c_io.specs.Contents.{Name}
-use Rattle.w2c_io.specs.Events.{Event, Read, Begin, Put, Finish}
+use Rattle.w2c_io.specs.Events.{Event, Read}
 use Rattle.w2c_io.specs.declared.answers.ReadAnswer.{ReadAnswer}
 use Rattle.w2c_io.specs.declared.answers.ReadAnswer.TheVariants as reading
-use Rattle.w2c_files.specs.Passing.{ReadsAll}
+use Rattle.w2c_files.specs.Passing.{limited, ReadsAll, ReadsInOrder}
 use Rattle.w2c_files.specs.Reading.{total}
 use Rattle.crun_words.specs.declared.inputs.FileStop.{FileStop}
 use Rattle.crun_words.specs.declared.inputs.FileStop.TheVariants as file_stop
@@ -30,20 +30,6 @@ use Rattle.crun_words.specs.Inputs.{
   UnitsReading,
   UnitTooLong,
 }
-
--- ---- which files are read
-
--- these files, each of which may have so many bytes
-abbrev pub limited : ℕ → List Name → List (Name × ℕ)
-limited most names = map (λ name. (name, most)) names
-
--- files are read in order, each once and with its limit, as far as they give bytes: of the last that is read any answer may come
-abbrev pub ReadsInOrder : List (Name × ℕ) → List Event → Type 0
-ReadsInOrder files [] = Unit {0}
-ReadsInOrder [] (event ∷ events) = ⊥
-ReadsInOrder (file ∷ files) (event ∷ events) =
-    ((bytes : List ℕ) × (event ≡ Read file.0 file.1 (Ok bytes)) × ReadsInOrder files events)
-    ⊎ ((answer : Result (List ℕ) ReadAnswer) × (event ≡ Read file.0 file.1 answer) × (events ≡ []))
 
 -- ---- what reading comes to, by what the reads gave
 
@@ -98,23 +84,6 @@ GivesJournal name (Held text) events = events ≡ Read name most_journal_bytes (
 GivesJournal name NoJournal events =
     (answer : Result (List ℕ) ReadAnswer) × IsAway answer × (events ≡ Read name most_journal_bytes answer ∷ [])
 GivesJournal name LongJournal events = events ≡ Read name most_journal_bytes (Err reading.TooLong) ∷ []
-
--- ---- reads that answer
-
--- no read fails, and none gives more bytes than it may
-abbrev pub Answers : Event → Type 0
-Answers (Read name limit (Ok bytes)) = length bytes ≤ limit
-Answers (Read name limit (Err reading.Failed)) = ⊥
-Answers (Read name limit (Err reading.Absent)) = Unit {0}
-Answers (Read name limit (Err reading.TooLong)) = Unit {0}
-Answers (Read name limit (Err reading.Memory)) = Unit {0}
-Answers (Begin name answer) = Unit {0}
-Answers (Put piece answer) = Unit {0}
-Answers (Finish answer) = Unit {0}
-
-abbrev pub AllAnswer : List Event → Type 0
-AllAnswer [] = Unit {0}
-AllAnswer (event ∷ events) = Answers event × AllAnswer events
 
 -- ---- the same by why reading stopped
 

@@ -10,7 +10,7 @@ use Rattle.w2c_io.specs.Passed.{puts, joined, PutsText, PutsPart, FailsOn, Write
 use Rattle.w2c_io.specs.declared.answers.ReadAnswer.{ReadAnswer}
 use Rattle.w2c_io.specs.declared.answers.ReadAnswer.TheVariants as reading
 use Rattle.w2c_io.specs.declared.answers.WriteAnswer.{WriteAnswer}
-use Rattle.w2c_files.specs.Passing.{ReadsAll, WritesFiles, BreaksOffAt, WritesSome}
+use Rattle.w2c_files.specs.Passing.{ReadsAll, ReadsInOrder, WritesFiles, BreaksOffAt, WritesSome}
 use Rattle.w2c_files.specs.Reading.{AreHeld}
 use Rattle.w2c_files.specs.Standing.{written, IsBegun, Stands, StandsAt}
 use Rattle.w2c_files.proofs.Standing.{part_begun, put_more, whole_begun}
@@ -32,6 +32,18 @@ read_keeps name limit (Err reading.Absent) old new current after does = (does.1,
 read_keeps name limit (Err reading.TooLong) old new current after does = (does.1, does.2)
 read_keeps name limit (Err reading.Failed) old new current after does = does
 read_keeps name limit (Err reading.Memory) old new current after does = does
+
+-- files that were read are as they were
+pub in_order_keep : (files : List (Name × ℕ)) (events : List Event) (old new : Told) (current after : Option Name)
+    → ReadsInOrder files events → AreHonest events old current new after → (new ≡ old) × (after ≡ current)
+in_order_keep files [] old new current after reads honest = honest
+in_order_keep [] (e ∷ events) old new current after reads honest = absurd reads
+in_order_keep (f ∷ files) (e ∷ events) old new current after (inl (bytes, is, rest)) (told, name, does, behind) =
+    let here = read_keeps f.0 f.1 (Ok bytes) old told current name (subst (λ (x : Event). Does x old current told name) is does) in
+    let more = in_order_keep files events told new name after rest behind in (more.0 ∙ here.0, more.1 ∙ here.1)
+in_order_keep (f ∷ files) (e ∷ events) old new current after (inr (answer, is, none)) (told, name, does, behind) =
+    let here = read_keeps f.0 f.1 answer old told current name (subst (λ (x : Event). Does x old current told name) is does) in
+    let more = subst (λ (es : List Event). AreHonest es told name new after) none behind in (more.0 ∙ here.0, more.1 ∙ here.1)
 
 held_here : (told : Told) (m : Contents) (name : Name) (bytes : List ℕ) → told ≡ Some m → HasFile told name bytes → get m name ≡ Some bytes
 held_here told m name bytes is has = subst (λ (t : Told). HasFile t name bytes) is has

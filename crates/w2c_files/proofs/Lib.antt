@@ -1,4 +1,6 @@
+pub mod Given
 pub mod Honest
+pub mod InOrder
 pub mod Loops
 pub mod Passing
 pub mod Standing

@@ -1,5 +1,5 @@
 -- What passes through files that are read or written one after another.
-use Rattle.std.specs.Prelude.{◌≡◌, ◌⊎◌, ℕ, ◌<◌, ◌≤◌, ◌-◌, List, [], ◌∷◌, ◌++◌, length, Result, Ok, Err}
+use Rattle.std.specs.Prelude.{◌≡◌, ◌⊎◌, ℕ, ◌<◌, ◌≤◌, ◌-◌, List, [], ◌∷◌, ◌++◌, length, map, Result, Ok, Err}
 use Rattle.w2c_io.specs.Contents.{Name}
 use Rattle.w2c_io.specs.Events.{Event, Read}
 use Rattle.w2c_io.specs.Passed.{WritesFile, BreaksOff}
@@ -17,6 +17,18 @@ abbrev pub ReadsAll : ℕ → List Name → List (List ℕ) → List Event → T
 ReadsAll each [] [] events = events ≡ []
 ReadsAll each (name ∷ names) (bytes ∷ all) (event ∷ events) = (event ≡ Read name each (Ok bytes)) × ReadsAll each names all events
 ReadsAll each _ _ _ = ⊥
+
+-- these files, each of which may have so many bytes
+abbrev pub limited : ℕ → List Name → List (Name × ℕ)
+limited most names = map (λ name. (name, most)) names
+
+-- files were read in order, each once and with its limit, as far as they gave bytes: of the last that was read any answer may come
+abbrev pub ReadsInOrder : List (Name × ℕ) → List Event → Type 0
+ReadsInOrder files [] = Unit {0}
+ReadsInOrder [] (event ∷ events) = ⊥
+ReadsInOrder (file ∷ files) (event ∷ events) =
+    ((bytes : List ℕ) × (event ≡ Read file.0 file.1 (Ok bytes)) × ReadsInOrder files events)
+    ⊎ ((answer : Result (List ℕ) ReadAnswer) × (event ≡ Read file.0 file.1 answer) × (events ≡ []))
 
 -- why a file that was read is refused, by its answer: so many bytes may come
 abbrev pub StopsBy : ℕ → ℕ → Result (List ℕ) ReadAnswer → ReadStop → Type 0

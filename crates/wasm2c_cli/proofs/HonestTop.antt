@@ -7,10 +7,10 @@ use Rattle.w2c_io.specs.declared.answers.ReadAnswer.{ReadAnswer}
 use Rattle.w2c_io.specs.declared.answers.ReadAnswer.TheVariants as reading
 use Rattle.w2c_io.specs.declared.answers.WriteAnswer.{WriteAnswer}
 use Rattle.std.proofs.lemmas.List.{append-nil}
-use Rattle.w2c_files.specs.Passing.{FailsLast, WritesFiles, BreaksOffAt, WritesSome}
+use Rattle.w2c_files.specs.Passing.{FailsLast, limited, WritesFiles, BreaksOffAt, WritesSome}
 use Rattle.w2c_files.specs.Reading.{AreHeld, AreRead, Unreadable, Missing as NotThere, TooLong, Past, IsUnreadable, StopsReading, total}
 use Rattle.w2c_files.specs.Standing.{written, Stands, StandsAt}
-use Rattle.w2c_files.proofs.Honest.{broken_stands, files_hold, honest_both, read_keeps, reads_fit, reads_held, reads_kept, some_stand}
+use Rattle.w2c_files.proofs.Honest.{broken_stands, files_hold, honest_both, in_order_keep, reads_fit, reads_held, reads_kept, some_stand}
 use Rattle.wasm_spelling.specs.Limits.{most_module_bytes}
 use Rattle.wasm2c_words.specs.CommandLine.{Line, translate, set, generate, runtime, line_of}
 use Rattle.wasm2c_cli.specs.declared.stop.Reason.{Reason}
@@ -26,17 +26,8 @@ use Rattle.wasm2c_cli.proofs.TopLaws.{is_job}
 
 reads_keep : (names : List Name) (given : List Event) (old new : Told) (current after : Option Name) → ReadsFirst names given
     → AreHonest given old current new after → new ≡ old
-reads_keep [] [] old new current after reads honest = honest.0
-reads_keep (n ∷ names) [] old new current after reads honest = honest.0
-reads_keep [] (e ∷ given) old new current after reads honest = absurd reads
-reads_keep (n ∷ names) (e ∷ given) old new current after (inl (bytes, is, reads)) (told, name, does, rest) =
-    let kept = read_keeps n most_module_bytes (Ok bytes) old told current name
-    (subst (λ (x : Event). Does x old current told name) is does) in
-    reads_keep names given told new name after reads rest ∙ kept.0
-reads_keep (n ∷ names) (e ∷ given) old new current after (inr (answer, is, none)) (told, name, does, rest) =
-    let kept = read_keeps n most_module_bytes answer old told current name
-    (subst (λ (x : Event). Does x old current told name) is does) in
-    (subst (λ (es : List Event). AreHonest es told name new after) none rest).0 ∙ kept.0
+reads_keep names given old new current after reads honest =
+    (in_order_keep (limited most_module_bytes names) given old new current after reads honest).0
 
 -- ---- jobs over bytes of which less is said
 

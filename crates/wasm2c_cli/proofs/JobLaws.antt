@@ -1,156 +1,157 @@
 -- Words ask for at most one job, and the files of a job have distinct names.
 use Rattle.std.proofs.Common.{◌≡◌, ◌⊎◌, ℕ, List, [], ◌∷◌, ◌++◌, refl, sym, ap, ◌∙◌, subst, Option, Some, None, MatchOption, inl, inr}
 use Rattle.w2c_io.specs.Contents.{Name, Contents}
+use Rattle.w2c_io.specs.Events.{Event}
 use Rattle.w2c_files.specs.Reading.{StopsReading, Unreadable, Missing as NotThere, TooLong, Past}
 use Rattle.w2c_files.specs.Standing.{IsOneOf, AreDistinct, file_names}
-use Rattle.w2c_files.proofs.Stops.{one_stop, no_stop, same_bytes}
 use Rattle.w2c_gen.proofs.Formed.{one_file}
 use Rattle.wasm_tree.specs.declared.tree.Module.{Module}
 use Rattle.wasm_spelling.specs.Limits.{most_module_bytes}
 use Rattle.wasm2c_words.specs.CommandLine.{Line, translate, set, generate, runtime, line_of}
 use Rattle.wasm2c_cli.specs.declared.stop.Reason.{Reason}
-use Rattle.wasm2c_cli.specs.Job.{Job, Usage, Missing, Refused, Write, IsJob, IsJobOf, AreSources, Writes, Translates, files_of}
+use Rattle.wasm2c_cli.specs.Job.{
+  Job,
+  Usage,
+  Missing,
+  Refused,
+  Write,
+  AreReadOf,
+  AreSourcesBy,
+  files_of,
+  IsJob,
+  IsJobBy,
+  IsJobOf,
+  Translates,
+  TranslatesBy,
+  Writes,
+  WritesBy,
+}
 use Rattle.wasm2c_cli.specs.Parts.{HasPassed}
 use Rattle.wasm2c_cli.specs.Plan.{Target, inputs_of, most_set_bytes, names_of_targets, targets_of}
-use Rattle.wasm2c_cli.specs.Reasons.{IsFirstRefused, PassesLimit}
+use Rattle.wasm2c_cli.specs.Passing.{IsJobOver, ReadsWhole, StopsAfter}
+use Rattle.wasm2c_cli.specs.Reasons.{IsFirstRefused, PassesLimitBy}
 use Rattle.wasm2c_cli.proofs.ModuleFiles.{one_of_targets}
+use Rattle.wasm2c_cli.proofs.OneReading.{contents_end, EndsOnce, reads_end}
 use Rattle.wasm2c_cli.proofs.Passed.{passed, distinct_outputs}
 use Rattle.wasm2c_cli.proofs.ReasonLaws.{accepted_not_first, one_first_refused, one_limit, limit_not_missing, one_modules}
 
+-- Below, reading the files of a line ends in one way: `S` says where it stops, and `R` what it gives.
+
 -- ---- the bytes of the modules
 
--- reading stops at none where there is no file
-nothing_stops : (contents : Contents) (file : Name) (why : Unreadable)
-    → StopsReading most_module_bytes most_set_bytes contents [] file why → ⊥
-nothing_stops contents file why s = no_name s.front s.rest s.split
-  where
-    no_name : (front rest : List Name) → [] ≡ front ++ file ∷ rest → ⊥
-    no_name [] rest e = cc
-    no_name (name ∷ front) rest e = cc
-
 -- a line whose modules' bytes are had reads all its files
-stop_not_sources : (line : Line) (contents : Contents) (file : Name) (why : Unreadable) (sources : List (List ℕ))
-    → StopsReading most_module_bytes most_set_bytes contents (inputs_of line) file why → AreSources line contents sources → ⊥
-stop_not_sources (translate t) contents file why sources s read =
-    no_stop most_module_bytes most_set_bytes contents (t.input ∷ []) file why sources s read
-stop_not_sources (set l) contents file why sources s read =
-    no_stop most_module_bytes most_set_bytes contents l.inputs file why sources s read
-stop_not_sources (generate g) contents file why sources s made = nothing_stops contents file why s
-stop_not_sources (runtime dir) contents file why sources s none = nothing_stops contents file why s
+stop_not_sources : (line : Line) (S : Name → Unreadable → Type 0) (R : List (List ℕ) → Type 0) → EndsOnce (inputs_of line) S R
+    → (file : Name) (why : Unreadable) (sources : List (List ℕ)) → S file why → AreSourcesBy R line sources → ⊥
+stop_not_sources (translate t) S R ends file why sources s read = ends.stops_or_reads file why sources s read
+stop_not_sources (set l) S R ends file why sources s read = ends.stops_or_reads file why sources s read
+stop_not_sources (generate g) S R ends file why sources s made = ends.none_stops file why refl s
+stop_not_sources (runtime dir) S R ends file why sources s none = ends.none_stops file why refl s
 
-limit_not_sources : (line : Line) (contents : Contents) (file : Name) (reason : Reason) (sources : List (List ℕ))
-    → PassesLimit contents (inputs_of line) file reason → AreSources line contents sources → ⊥
-limit_not_sources line contents file reason sources (inl long) read = stop_not_sources line contents file TooLong sources long.0 read
-limit_not_sources line contents file reason sources (inr past) read = stop_not_sources line contents file (Past past.0) sources past.1 read
-
-same_sources : (line : Line) (contents : Contents) (sources others : List (List ℕ)) → HasPassed line → AreSources line contents sources
-    → AreSources line contents others → sources ≡ others
-same_sources (translate t) contents sources others p r s =
-    same_bytes most_module_bytes most_set_bytes contents (t.input ∷ []) sources others r s
-same_sources (set l) contents sources others p r s = same_bytes most_module_bytes most_set_bytes contents l.inputs sources others r s
-same_sources (generate g) contents sources others p r s =
+same_sources : (line : Line) (S : Name → Unreadable → Type 0) (R : List (List ℕ) → Type 0) → EndsOnce (inputs_of line) S R
+    → (sources others : List (List ℕ)) → HasPassed line → AreSourcesBy R line sources → AreSourcesBy R line others → sources ≡ others
+same_sources (translate t) S R ends sources others p r s = ends.same_read sources others r s
+same_sources (set l) S R ends sources others p r s = ends.same_read sources others r s
+same_sources (generate g) S R ends sources others p r s =
     let made : r.0 ≡ s.0 = one_file g.count r.0 s.0 p.3 r.1 s.1 in
     r.2 ∙ ap (λ (bytes : List ℕ). bytes ∷ []) made ∙ sym s.2
-same_sources (runtime dir) contents sources others p r s = r ∙ sym s
+same_sources (runtime dir) S R ends sources others p r s = r ∙ sym s
 
--- ---- what is written
+-- what is written is what is translated, or the runtime
+translated_or_not : {C : Type 0} (line : Line) (R : List (List ℕ) → Type 0) (files : List (Name × List ℕ)) → WritesBy R line files
+    → (TranslatesBy R line files → C) → ((dir : Name) → line ≡ runtime dir → C) → C
+translated_or_not (translate t) R files w yes no = yes w
+translated_or_not (set s) R files w yes no = yes w
+translated_or_not (generate g) R files w yes no = yes w
+translated_or_not (runtime dir) R files w yes no = no dir refl
 
-same_translation : (line : Line) (contents : Contents) (files others : List (Name × List ℕ)) → HasPassed line
-    → Translates line contents files → Translates line contents others → files ≡ others
-same_translation line contents files others p t u =
-    let modules = one_modules t.sources u.sources t.modules u.modules (same_sources line contents t.sources u.sources p t.read u.read)
-    t.accepted u.accepted in
-    t.written ∙ ap (files_of (targets_of line)) modules ∙ sym u.written
+module _ (line : Line) (S : Name → Unreadable → Type 0) (R : List (List ℕ) → Type 0) (ends : EndsOnce (inputs_of line) S R)
+    (p : HasPassed line) where
+  limit_not_sources : (file : Name) (reason : Reason) (sources : List (List ℕ)) → PassesLimitBy (S file) reason
+      → AreSourcesBy R line sources → ⊥
+  limit_not_sources file reason sources (inl long) read = stop_not_sources line S R ends file TooLong sources long.0 read
+  limit_not_sources file reason sources (inr past) read = stop_not_sources line S R ends file (Past past.0) sources past.1 read
 
-same_files : (line : Line) (contents : Contents) (files others : List (Name × List ℕ)) → HasPassed line → Writes line contents files
-    → Writes line contents others → files ≡ others
-same_files (translate t) contents files others p w v = same_translation (translate t) contents files others p w v
-same_files (set s) contents files others p w v = same_translation (set s) contents files others p w v
-same_files (generate g) contents files others p w v = same_translation (generate g) contents files others p w v
-same_files (runtime dir) contents files others p w v = w ∙ sym v
+  -- ---- what is written
 
-stop_not_written : (line : Line) (contents : Contents) (file : Name) (why : Unreadable) (files : List (Name × List ℕ))
-    → StopsReading most_module_bytes most_set_bytes contents (inputs_of line) file why → Writes line contents files → ⊥
-stop_not_written (translate t) contents file why files s w = stop_not_sources (translate t) contents file why w.sources s w.read
-stop_not_written (set l) contents file why files s w = stop_not_sources (set l) contents file why w.sources s w.read
-stop_not_written (generate g) contents file why files s w = stop_not_sources (generate g) contents file why w.sources s w.read
-stop_not_written (runtime dir) contents file why files s w = nothing_stops contents file why s
+  same_translation : (files others : List (Name × List ℕ)) → TranslatesBy R line files → TranslatesBy R line others → files ≡ others
+  same_translation files others t u =
+      let modules = one_modules t.sources u.sources t.modules u.modules (same_sources line S R ends t.sources u.sources p t.read u.read)
+      t.accepted u.accepted in
+      t.written ∙ ap (files_of (targets_of line)) modules ∙ sym u.written
 
-limit_not_written : (line : Line) (contents : Contents) (file : Name) (reason : Reason) (files : List (Name × List ℕ))
-    → PassesLimit contents (inputs_of line) file reason → Writes line contents files → ⊥
-limit_not_written line contents file reason files (inl long) w = stop_not_written line contents file TooLong files long.0 w
-limit_not_written line contents file reason files (inr past) w = stop_not_written line contents file (Past past.0) files past.1 w
+  stop_not_written : (file : Name) (why : Unreadable) (files : List (Name × List ℕ)) → S file why → WritesBy R line files → ⊥
+  stop_not_written file why files s w = translated_or_not line R files w (λ t. stop_not_sources line S R ends file why t.sources s t.read)
+      (λ dir is. ends.none_stops file why (ap inputs_of is) s)
 
-refused_not_translated : (line : Line) (contents : Contents) (sources : List (List ℕ)) (file : Name) (reason : Reason)
-    (files : List (Name × List ℕ)) → HasPassed line → AreSources line contents sources
-    → IsFirstRefused (inputs_of line) sources file reason → Translates line contents files → ⊥
-refused_not_translated line contents sources file reason files p read first t =
-    accepted_not_first (inputs_of line) t.sources t.modules file reason t.accepted
-    (subst (λ (all : List (List ℕ)). IsFirstRefused (inputs_of line) all file reason)
-    (same_sources line contents sources t.sources p read t.read) first)
+  limit_not_written : (file : Name) (reason : Reason) (files : List (Name × List ℕ)) → PassesLimitBy (S file) reason
+      → WritesBy R line files → ⊥
+  limit_not_written file reason files (inl long) w = stop_not_written file TooLong files long.0 w
+  limit_not_written file reason files (inr past) w = stop_not_written file (Past past.0) files past.1 w
 
-refused_not_written : (line : Line) (contents : Contents) (sources : List (List ℕ)) (file : Name) (reason : Reason)
-    (files : List (Name × List ℕ)) → HasPassed line → AreSources line contents sources
-    → IsFirstRefused (inputs_of line) sources file reason → Writes line contents files → ⊥
-refused_not_written (translate t) contents sources file reason files p read first w =
-    refused_not_translated (translate t) contents sources file reason files p read first w
-refused_not_written (set s) contents sources file reason files p read first w =
-    refused_not_translated (set s) contents sources file reason files p read first w
-refused_not_written (generate g) contents sources file reason files p read first w = absurd first
-refused_not_written (runtime dir) contents sources file reason files p read first w = absurd first
+  refused_not_written : (sources : List (List ℕ)) (file : Name) (reason : Reason) (files : List (Name × List ℕ))
+      → AreSourcesBy R line sources → IsFirstRefused (inputs_of line) sources file reason → WritesBy R line files → ⊥
+  refused_not_written sources file reason files read first w = translated_or_not line R files w
+      (λ t. accepted_not_first (inputs_of line) t.sources t.modules file reason t.accepted
+      (subst (λ (all : List (List ℕ)). IsFirstRefused (inputs_of line) all file reason)
+      (same_sources line S R ends sources t.sources p read t.read) first))
+      (λ dir is. no_first sources file reason (ap inputs_of is) first)
+    where
+      no_first : (sources : List (List ℕ)) (file : Name) (reason : Reason) → inputs_of line ≡ []
+          → IsFirstRefused (inputs_of line) sources file reason → ⊥
+      no_first sources file reason none first = subst (λ (names : List Name). IsFirstRefused names sources file reason) none first
 
--- ---- at most one job
+  -- ---- at most one job
 
--- why a line's file is refused, as its job says
-abbrev Refuses : Line → Contents → Name → Reason → Type 0
-Refuses line contents file reason = PassesLimit contents (inputs_of line) file reason
-    ⊎ ((sources : List (List ℕ)) × AreSources line contents sources × IsFirstRefused (inputs_of line) sources file reason)
+  -- why a line's file is refused, as its job says
+  abbrev Refuses : Name → Reason → Type 0
+  Refuses file reason = PassesLimitBy (S file) reason
+      ⊎ ((sources : List (List ℕ)) × AreSourcesBy R line sources × IsFirstRefused (inputs_of line) sources file reason)
 
-missing_not_refused : (line : Line) (contents : Contents) (file other : Name) (reason : Reason)
-    → StopsReading most_module_bytes most_set_bytes contents (inputs_of line) file NotThere → Refuses line contents other reason → ⊥
-missing_not_refused line contents file other reason s (inl limit) = limit_not_missing contents (inputs_of line) other file reason limit s
-missing_not_refused line contents file other reason s (inr (sources, read, first)) =
-    stop_not_sources line contents file NotThere sources s read
+  missing_not_refused : (file other : Name) (reason : Reason) → S file NotThere → Refuses other reason → ⊥
+  missing_not_refused file other reason s (inl limit) = limit_not_missing S ends.one_stops other file reason limit s
+  missing_not_refused file other reason s (inr (sources, read, first)) = stop_not_sources line S R ends file NotThere sources s read
 
-not_refused_and_written : (line : Line) (contents : Contents) (file : Name) (reason : Reason) (files : List (Name × List ℕ))
-    → HasPassed line → Refuses line contents file reason → Writes line contents files → ⊥
-not_refused_and_written line contents file reason files p (inl limit) w = limit_not_written line contents file reason files limit w
-not_refused_and_written line contents file reason files p (inr (sources, read, first)) w =
-    refused_not_written line contents sources file reason files p read first w
+  not_refused_and_written : (file : Name) (reason : Reason) (files : List (Name × List ℕ)) → Refuses file reason → WritesBy R line files → ⊥
+  not_refused_and_written file reason files (inl limit) w = limit_not_written file reason files limit w
+  not_refused_and_written file reason files (inr (sources, read, first)) w = refused_not_written sources file reason files read first w
 
-same_refusal : (line : Line) (contents : Contents) (file other : Name) (reason r : Reason) → HasPassed line
-    → Refuses line contents file reason → Refuses line contents other r → (file ≡ other) × (reason ≡ r)
-same_refusal line contents file other reason r p (inl limit) (inl limit') =
-    one_limit contents (inputs_of line) file other reason r limit limit'
-same_refusal line contents file other reason r p (inl limit) (inr (sources, read, first)) =
-    absurd (limit_not_sources line contents file reason sources limit read)
-same_refusal line contents file other reason r p (inr (sources, read, first)) (inl limit) =
-    absurd (limit_not_sources line contents other r sources limit read)
-same_refusal line contents file other reason r p (inr (sources, read, first)) (inr (others, read', first')) =
-    one_first_refused (inputs_of line) sources file other reason r first
-    (subst (λ (all : List (List ℕ)). IsFirstRefused (inputs_of line) all other r)
-    (sym (same_sources line contents sources others p read read')) first')
+  same_refusal : (file other : Name) (reason r : Reason) → Refuses file reason → Refuses other r → (file ≡ other) × (reason ≡ r)
+  same_refusal file other reason r (inl limit) (inl limit') = one_limit S ends.one_stops file other reason r limit limit'
+  same_refusal file other reason r (inl limit) (inr (sources, read, first)) =
+      absurd (limit_not_sources file reason sources limit read)
+  same_refusal file other reason r (inr (sources, read, first)) (inl limit) = absurd (limit_not_sources other r sources limit read)
+  same_refusal file other reason r (inr (sources, read, first)) (inr (others, read', first')) =
+      one_first_refused (inputs_of line) sources file other reason r first
+      (subst (λ (all : List (List ℕ)). IsFirstRefused (inputs_of line) all other r)
+      (sym (same_sources line S R ends sources others p read read')) first')
 
-one_of_line : (line : Line) (contents : Contents) (job other : Job) → HasPassed line → IsJobOf line contents job
-    → IsJobOf line contents other → job ≡ other
-one_of_line line contents Usage other p j k = absurd j
-one_of_line line contents (Missing file) Usage p j k = absurd k
-one_of_line line contents (Missing file) (Missing other) p j k =
-    ap Missing (one_stop most_module_bytes most_set_bytes contents (inputs_of line) file other NotThere NotThere j k).0
-one_of_line line contents (Missing file) (Refused other reason) p j k = absurd (missing_not_refused line contents file other reason j k)
-one_of_line line contents (Missing file) (Write files) p j k = absurd (stop_not_written line contents file NotThere files j k)
-one_of_line line contents (Refused file reason) Usage p j k = absurd k
-one_of_line line contents (Refused file reason) (Missing other) p j k = absurd (missing_not_refused line contents other file reason k j)
-one_of_line line contents (Refused file reason) (Refused other r) p j k =
-    let same = same_refusal line contents file other reason r p j k in
-    λ i. Refused (same.0 i) (same.1 i)
-one_of_line line contents (Refused file reason) (Write files) p j k =
-    absurd (not_refused_and_written line contents file reason files p j k)
-one_of_line line contents (Write files) Usage p j k = absurd k
-one_of_line line contents (Write files) (Missing other) p j k = absurd (stop_not_written line contents other NotThere files k j)
-one_of_line line contents (Write files) (Refused other reason) p j k =
-    absurd (not_refused_and_written line contents other reason files p k j)
-one_of_line line contents (Write files) (Write others) p j k = ap Write (same_files line contents files others p j k)
+  one_of_line : ((files others : List (Name × List ℕ)) → WritesBy R line files → WritesBy R line others → files ≡ others)
+      → (job other : Job) → IsJobBy S R line job → IsJobBy S R line other → job ≡ other
+  one_of_line files_same Usage other j k = absurd j
+  one_of_line files_same (Missing file) Usage j k = absurd k
+  one_of_line files_same (Missing file) (Missing other) j k = ap Missing (ends.one_stops file other NotThere NotThere j k).0
+  one_of_line files_same (Missing file) (Refused other reason) j k = absurd (missing_not_refused file other reason j k)
+  one_of_line files_same (Missing file) (Write files) j k = absurd (stop_not_written file NotThere files j k)
+  one_of_line files_same (Refused file reason) Usage j k = absurd k
+  one_of_line files_same (Refused file reason) (Missing other) j k = absurd (missing_not_refused other file reason k j)
+  one_of_line files_same (Refused file reason) (Refused other r) j k =
+      let same = same_refusal file other reason r j k in λ i. Refused (same.0 i) (same.1 i)
+  one_of_line files_same (Refused file reason) (Write files) j k = absurd (not_refused_and_written file reason files j k)
+  one_of_line files_same (Write files) Usage j k = absurd k
+  one_of_line files_same (Write files) (Missing other) j k = absurd (stop_not_written other NotThere files k j)
+  one_of_line files_same (Write files) (Refused other reason) j k = absurd (not_refused_and_written other reason files k j)
+  one_of_line files_same (Write files) (Write others) j k = ap Write (files_same files others j k)
+
+same_files : (line : Line) (S : Name → Unreadable → Type 0) (R : List (List ℕ) → Type 0) → EndsOnce (inputs_of line) S R → HasPassed line
+    → (files others : List (Name × List ℕ)) → WritesBy R line files → WritesBy R line others → files ≡ others
+same_files (translate t) S R ends p files others w v = same_translation (translate t) S R ends p files others w v
+same_files (set s) S R ends p files others w v = same_translation (set s) S R ends p files others w v
+same_files (generate g) S R ends p files others w v = same_translation (generate g) S R ends p files others w v
+same_files (runtime dir) S R ends p files others w v = w ∙ sym v
+
+pub one_line_job : (line : Line) (S : Name → Unreadable → Type 0) (R : List (List ℕ) → Type 0) → EndsOnce (inputs_of line) S R
+    → HasPassed line → (job other : Job) → IsJobBy S R line job → IsJobBy S R line other → job ≡ other
+one_line_job line S R ends p job other j k = one_of_line line S R ends p (same_files line S R ends p) job other j k
 
 pub one_job : (words : List Name) (contents : Contents) (job other : Job) → IsJob words contents job → IsJob words contents other
     → job ≡ other
@@ -159,7 +160,14 @@ one_job words contents job other j k = by_line (line_of words) refl j k
     by_line : (line : Option Line) → line_of words ≡ line → MatchOption line (job ≡ Usage) (λ l. IsJobOf l contents job)
         → MatchOption line (other ≡ Usage) (λ l. IsJobOf l contents other) → job ≡ other
     by_line None is p q = p ∙ sym q
-    by_line (Some line) is p q = one_of_line line contents job other (passed words line is) p q
+    by_line (Some line) is p q = one_line_job line (StopsReading most_module_bytes most_set_bytes contents (inputs_of line))
+        (AreReadOf line contents) (contents_end contents (inputs_of line)) (passed words line is) job other p q
+
+-- over what the reads gave
+pub one_job_over : (words : List Name) (line : Line) → line_of words ≡ Some line → (given : List Event) (job other : Job)
+    → IsJobOver line given job → IsJobOver line given other → job ≡ other
+one_job_over words line is given job other j k = one_line_job line (StopsAfter (inputs_of line) given)
+    (ReadsWhole (inputs_of line) given) (reads_end given (inputs_of line)) (passed words line is) job other j k
 
 -- ---- the names of the files
 

@@ -4,6 +4,7 @@ pub mod HonestUnits
 pub mod JobLaws
 pub mod LineStops
 pub mod ModuleFiles
+pub mod OneReading
 pub mod Passed
 pub mod Passing
 pub mod PassingLines

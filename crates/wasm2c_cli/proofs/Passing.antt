@@ -13,6 +13,7 @@ use Rattle.w2c_files.specs.Passing.{ReadsAll, ReadsSome, StopsBy, WritesFiles, B
 use Rattle.w2c_files.specs.Reading.{Unreadable, Missing as NotThere, TooLong, Past, total}
 use Rattle.w2c_files.specs.declared.reading.ReadStop.{ReadStop}
 use Rattle.w2c_files.specs.declared.reading.ReadStop.TheVariants as read
+use Rattle.w2c_files.proofs.InOrder.{all_in_order, some_in_order}
 use Rattle.w2c_files.proofs.Passing.{behind_broken, both_written, broken_some, first_broken, longer_broken, one_written}
 use Rattle.wasm_spelling.specs.Limits.{most_module_bytes}
 use Rattle.wasm_spelling.specs.declared.fault.Which.TheVariants.{ModuleBytes, SetBytes}
@@ -29,35 +30,11 @@ use Rattle.wasm2c_cli.specs.Reasons.{PassesLimitBy}
 -- ---- the first of files are read
 
 pub none_read : (names : List Name) → ReadsFirst names []
-none_read [] = tt
-none_read (n ∷ names) = tt
-
--- the files in front gave bytes
-front_read : (front rest : List Name) (all : List (List ℕ)) (first : List Event) → ReadsAll most_module_bytes front all first
-    → ReadsFirst (front ++ rest) first
-front_read [] rest [] first reads = subst (ReadsFirst rest) (sym reads) (none_read rest)
-front_read [] rest (b ∷ all) first reads = absurd reads
-front_read (n ∷ front) rest [] first reads = absurd reads
-front_read (n ∷ front) rest (b ∷ all) [] reads = absurd reads
-front_read (n ∷ front) rest (b ∷ all) (e ∷ first) reads = inl (b, reads.0, front_read front rest all first reads.1)
+none_read names = tt
 
 pub all_read_first : (names : List Name) (all : List (List ℕ)) (given : List Event) → ReadsAll most_module_bytes names all given
     → ReadsFirst names given
-all_read_first names all given reads =
-    subst (λ (l : List Name). ReadsFirst l given) (append-nil names) (front_read names [] all given reads)
-
--- and the next was read last
-last_read : (front rest : List Name) (name : Name) (all : List (List ℕ)) (first : List Event) (answer : Result (List ℕ) ReadAnswer)
-    → ReadsAll most_module_bytes front all first
-    → ReadsFirst (front ++ name ∷ rest) (first ++ Read name most_module_bytes answer ∷ [])
-last_read [] rest name [] first answer reads =
-    subst (λ (l : List Event). ReadsFirst (name ∷ rest) (l ++ Read name most_module_bytes answer ∷ [])) (sym reads)
-    (inr (answer, refl, refl))
-last_read [] rest name (b ∷ all) first answer reads = absurd reads
-last_read (n ∷ front) rest name [] first answer reads = absurd reads
-last_read (n ∷ front) rest name (b ∷ all) [] answer reads = absurd reads
-last_read (n ∷ front) rest name (b ∷ all) (e ∷ first) answer reads =
-    inl (b, reads.0, last_read front rest name all first answer reads.1)
+all_read_first names all given reads = all_in_order most_module_bytes names all given reads
 
 pub many_read : (each : ℕ) (names : List Name) (all : List (List ℕ)) (events : List Event) → ReadsAll each names all events
     → length all ≡ length names
@@ -106,14 +83,7 @@ module _ (names : List Name) (given : List Event) where
   Stopped why = ReadsSome most_module_bytes most_set_bytes names why given
 
   some_read : (why : ReadStop) → Stopped why → ReadsFirst names given
-  some_read why (front, rest, all, first, last, split, reads, calls, inl (none, memory)) =
-      subst (λ (l : List Name). ReadsFirst l given) (sym split)
-      (subst (ReadsFirst (front ++ rest)) (sym (calls ∙ ap (λ (l : List Event). first ++ l) none ∙ append-nil first))
-      (front_read front rest all first reads))
-  some_read why (front, rest, all, first, last, split, reads, calls, inr (name, after, answer, is, one, stops, together)) =
-      subst (λ (l : List Name). ReadsFirst l given) (sym (split ∙ ap (λ (l : List Name). front ++ l) is))
-      (subst (ReadsFirst (front ++ name ∷ after)) (sym (calls ∙ ap (λ (l : List Event). first ++ l) one))
-      (last_read front after name all first answer reads))
+  some_read why some = some_in_order most_module_bytes most_set_bytes names why given some
 
   -- the file with a number
   stopped_at : (why : ReadStop) (k : ℕ) (reason : Unreadable) (file : Name) → (why ≡ read.Memory → ⊥)

@@ -1,9 +1,8 @@
 -- Bytes are refused for at most one reason, and those of a valid module for none; so the first file that is refused is one, and so
 -- is the one that passes a limit.
 use Rattle.std.proofs.Common.{◌≡◌, ℕ, List, [], ◌∷◌, Option, Some, None, refl, sym, ap, ◌∙◌, subst, inl, inr}
-use Rattle.w2c_io.specs.Contents.{Name, Contents}
-use Rattle.w2c_files.specs.Reading.{StopsReading, Unreadable, Missing, TooLong, Past}
-use Rattle.w2c_files.proofs.Stops.{one_stop}
+use Rattle.w2c_io.specs.Contents.{Name}
+use Rattle.w2c_files.specs.Reading.{Unreadable, Missing, TooLong, Past}
 use Rattle.wasm_tree.specs.declared.tree.Module.{Module}
 use Rattle.wasm_spelling.specs.declared.fault.Which.TheVariants.{ModuleBytes, SetBytes}
 use Rattle.wasm_spelling.specs.Limits.{most_module_bytes}
@@ -14,8 +13,7 @@ use Rattle.wasm_valid.proofs.Files.{one_file_verdict}
 use Rattle.wasm2c_cli.specs.declared.stop.Reason.{Reason}
 use Rattle.wasm2c_cli.specs.declared.stop.Reason.TheVariants.{Limit}
 use Rattle.wasm2c_cli.specs.Job.{AreAccepted}
-use Rattle.wasm2c_cli.specs.Plan.{most_set_bytes}
-use Rattle.wasm2c_cli.specs.Reasons.{IsAccepted, IsFirstRefused, IsRefused, PassesLimit, reason_for}
+use Rattle.wasm2c_cli.specs.Reasons.{IsAccepted, IsFirstRefused, IsRefused, PassesLimitBy, reason_for}
 
 -- ---- bytes
 
@@ -84,26 +82,25 @@ limit_of TooLong = Some (Limit most_module_bytes ModuleBytes)
 limit_of (Past place) = Some (Limit place SetBytes)
 
 -- reading stops at a file for a limit
-abbrev StopsOver : Contents → List Name → Name → Reason → Type 0
-StopsOver contents names file reason =
-    (why : Unreadable) × StopsReading most_module_bytes most_set_bytes contents names file why × (limit_of why ≡ Some reason)
+abbrev StopsOver : (Unreadable → Type 0) → Reason → Type 0
+StopsOver Stops reason = (why : Unreadable) × Stops why × (limit_of why ≡ Some reason)
 
-over : (contents : Contents) (names : List Name) (file : Name) (reason : Reason) → PassesLimit contents names file reason
-    → StopsOver contents names file reason
-over contents names file reason (inl (s, is)) = (TooLong, s, ap Some (sym is))
-over contents names file reason (inr (place, s, is)) = (Past place, s, ap Some (sym is))
+over : (Stops : Unreadable → Type 0) (reason : Reason) → PassesLimitBy Stops reason → StopsOver Stops reason
+over Stops reason (inl (s, is)) = (TooLong, s, ap Some (sym is))
+over Stops reason (inr (place, s, is)) = (Past place, s, ap Some (sym is))
 
-pub one_limit : (contents : Contents) (names : List Name) (file other : Name) (reason r : Reason) → PassesLimit contents names file reason
-    → PassesLimit contents names other r → (file ≡ other) × (reason ≡ r)
-one_limit contents names file other reason r limit limit' =
-    let (why, s, for) = over contents names file reason limit in
-    let (why', s', for') = over contents names other r limit' in
-    let same = one_stop most_module_bytes most_set_bytes contents names file other why why' s s' in
-    (same.0, some_same reason r (sym for ∙ ap limit_of same.1 ∙ for'))
+module _ (Stops : Name → Unreadable → Type 0)
+    (one : (file other : Name) (why reason : Unreadable) → Stops file why → Stops other reason → (file ≡ other) × (why ≡ reason)) where
+  pub one_limit : (file other : Name) (reason r : Reason) → PassesLimitBy (Stops file) reason → PassesLimitBy (Stops other) r
+      → (file ≡ other) × (reason ≡ r)
+  one_limit file other reason r limit limit' =
+      let (why, s, for) = over (Stops file) reason limit in
+      let (why', s', for') = over (Stops other) r limit' in
+      let same = one file other why why' s s' in
+      (same.0, some_same reason r (sym for ∙ ap limit_of same.1 ∙ for'))
 
-pub limit_not_missing : (contents : Contents) (names : List Name) (file other : Name) (reason : Reason)
-    → PassesLimit contents names file reason → StopsReading most_module_bytes most_set_bytes contents names other Missing → ⊥
-limit_not_missing contents names file other reason limit s' =
-    let (why, s, for) = over contents names file reason limit in
-    let same = one_stop most_module_bytes most_set_bytes contents names file other why Missing s s' in
-    no_reason reason (ap limit_of (sym same.1) ∙ for)
+  pub limit_not_missing : (file other : Name) (reason : Reason) → PassesLimitBy (Stops file) reason → Stops other Missing → ⊥
+  limit_not_missing file other reason limit s' =
+      let (why, s, for) = over (Stops file) reason limit in
+      let same = one file other why Missing s s' in
+      no_reason reason (ap limit_of (sym same.1) ∙ for)

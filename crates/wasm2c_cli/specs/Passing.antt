@@ -7,7 +7,7 @@ use Rattle.w2c_io.specs.Events.{Event, Read}
 use Rattle.w2c_io.specs.declared.answers.ReadAnswer.{ReadAnswer}
 use Rattle.w2c_io.specs.declared.answers.ReadAnswer.TheVariants as reading
 use Rattle.w2c_io.specs.declared.answers.WriteAnswer.TheVariants as writing
-use Rattle.w2c_files.specs.Passing.{ReadsAll, WritesFiles, BreaksOffAt, WritesSome}
+use Rattle.w2c_files.specs.Passing.{limited, ReadsAll, ReadsInOrder, WritesFiles, BreaksOffAt, WritesSome}
 use Rattle.w2c_files.specs.Reading.{Unreadable, Missing as NotThere, TooLong, Past, total}
 use Rattle.wasm_tree.specs.declared.tree.Module.{Module}
 use Rattle.wasm_spelling.specs.Limits.{most_module_bytes}
@@ -22,11 +22,7 @@ use Rattle.wasm2c_cli.specs.Units.{DoTheSameWithOthers, StandAllBy, texts_made}
 
 -- the first of these files were read, each once and in order, each in front of the last gave bytes, and no other call was made
 abbrev pub ReadsFirst : List Name → List Event → Type 0
-ReadsFirst names [] = Unit {0}
-ReadsFirst [] (event ∷ events) = ⊥
-ReadsFirst (name ∷ names) (event ∷ events) =
-    ((bytes : List ℕ) × (event ≡ Read name most_module_bytes (Ok bytes)) × ReadsFirst names events)
-    ⊎ ((answer : Result (List ℕ) ReadAnswer) × (event ≡ Read name most_module_bytes answer) × (events ≡ []))
+ReadsFirst names events = ReadsInOrder (limited most_module_bytes names) events
 
 -- all of these files were read, each once and in order, and gave these bytes, no more than a module and a call may have
 pub record ReadsWhole (names : List Name) (given : List Event) (all : List (List ℕ)) : Type 0 where

@@ -6,18 +6,21 @@ ghost use Rattle.w2c_io.specs.Honest.{AreHonest};
 ghost use Rattle.w2c_io.specs.Telling.{Says};
 ghost use Rattle.w2c_files.specs.Passing.{FailsLast};
 ghost use Rattle.w2c_files.specs.Standing.{file_names, AreDistinct, StandsAt};
+ghost use Rattle.wasm2c_words.specs.CommandLine.{Line, line_of};
 ghost use Rattle.wasm2c_cli.specs.declared.stop.Reason.{Reason};
 ghost use Rattle.wasm2c_cli.specs.HonestPassing.{PassesHonestly};
 ghost use Rattle.wasm2c_cli.specs.Job.{IsJob, Job, Missing, Refused, Write};
 ghost use Rattle.wasm2c_cli.specs.Lines.{read_line, refused_line, write_line};
-ghost use Rattle.wasm2c_cli.specs.Passing.{PutsLinkedUnits};
+ghost use Rattle.wasm2c_cli.specs.Passing.{IsJobOver, PutsLinkedUnits};
 ghost use Rattle.wasm2c_cli.specs.Stops.{Done, StandsOfJob};
 ghost use Rattle.wasm2c_cli.specs.Units.{WritesLinkedUnits, WritesUnits};
 
-/// The law that words ask for at most one job over what the files hold.
+/// The law that words ask for at most one job over what the files hold, and for at most one over what reads of them gave.
 pub fn one_job()
-    ensures { (words : List Name) (contents : Contents) (job other : Job)
+    ensures contents { (words : List Name) (contents : Contents) (job other : Job)
         → IsJob words contents job → IsJob words contents other → job ≡ other }
+    ensures reads { (words : List Name) (line : Line) → line_of words ≡ Some line → (given : List Event) (job other : Job)
+        → IsJobOver line given job → IsJobOver line given other → job ≡ other }
 {}
 
 /// The law that the files of a job have distinct names, so that each stands whole when all are written (`w2c_files::written_files`).

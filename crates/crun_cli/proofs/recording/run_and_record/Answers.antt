@@ -13,7 +13,7 @@ use Rattle.crun_cli.specs.Outside.{outside}
 use Rattle.crun_cli.specs.Passing.{reason_for}
 use Rattle.crun_cli.specs.Recording.{IsBlankFor}
 use Rattle.crun_cli.specs.Trying.{ended_by, stopped_by, PutsJournal, PutsJournalPart, WritesOfTexts}
-use Rattle.crun_cli.proofs.Passing.{line_unwritten, run_broken, run_written, texts_stopped}
+use Rattle.crun_cli.proofs.Passing.{run_broken, run_left, run_written, texts_stopped}
 use Rattle.crun_cli.proofs.RecordLaws.{journal_part, kept_part, kept_whole, offered_distinct, whole_run}
 use Rattle.crun_cli.proofs.recording.run_and_record.Goals as goal
 
@@ -88,7 +88,7 @@ returns-in-Err-clause-passed g c =
     none_passed old (WritesOfTexts m hosts line texts text told told ends stopped)
     (texts_stopped m hosts line texts text told told ends stopped (reason_of c.in-Err.stop)
     (subst (λ hs. StopsTexts line (symbols_of (hosts_of m hs)) texts text (reason_of c.in-Err.stop)) c.as_slice.ensures.value
-    c.in-Err.ensures.stop) refl)
+    c.in-Err.ensures.stop) (refl, refl))
 
 pub returns-in-Err-blank_journal-clause-passed : goal.returns-in-Err-blank_journal-clause-passed
 returns-in-Err-blank_journal-clause-passed g c =
@@ -101,7 +101,7 @@ returns-in-Err-blank_journal-clause-passed g c =
     none_passed (g.F.Files.trace c.args.files.now)
     (WritesOfTexts m hosts line texts text told told (ended_by (Err stop.Memory))
     (stopped_by {A = ℕ} (Err stop.Memory)))
-    (inl (refl, refl))
+    (inl (refl, (refl, refl)))
 
 pub returns-in-Err-Failed-clause-passed : goal.returns-in-Err-Failed-clause-passed
 returns-in-Err-Failed-clause-passed g c =
@@ -119,8 +119,8 @@ returns-in-Err-Failed-clause-passed g c =
     let ends = ended_by (Err stop.Unwritten) in
     let stopped = stopped_by {A = ℕ} (Err stop.Unwritten) in
     none_passed old (WritesOfTexts m hosts line texts text told told' ends stopped)
-    (line_unwritten m hosts line texts text told told' ends stopped (map unit_of task.linked.0) (calls_seen task.calls.items)
-    task.steps task.shows_state job c.in-Err-Failed.ensures.part refl)
+    (run_left m hosts line texts text told told' ends stopped (map unit_of task.linked.0) (calls_seen task.calls.items)
+    task.steps task.shows_state job c.in-Err-Failed.ensures.part (inl refl))
 
 pub returns-in-Err-Memory-clause-passed : goal.returns-in-Err-Memory-clause-passed
 returns-in-Err-Memory-clause-passed g c =
@@ -131,10 +131,15 @@ returns-in-Err-Memory-clause-passed g c =
     let line = seen_run c.args.line.now in
     let texts = c.args.inputs.now.units.items in
     let text = c.args.inputs.now.calls in
-    none_passed (g.F.Files.trace c.args.files.now)
-    (WritesOfTexts m hosts line texts text told told' (ended_by (Err stop.Memory))
-    (stopped_by {A = ℕ} (Err stop.Memory)))
-    (inl (refl, refl))
+    let old = g.F.Files.trace c.args.files.now in
+    let task = c.in-Ok.task in
+    let job =
+    subst (λ hs. IsTextsJob line (symbols_of (hosts_of m hs)) texts text (job_of task)) c.as_slice.ensures.value c.in-Ok.ensures.task in
+    let ends = ended_by (Err stop.Memory) in
+    let stopped = stopped_by {A = ℕ} (Err stop.Memory) in
+    none_passed old (WritesOfTexts m hosts line texts text told told' ends stopped)
+    (run_left m hosts line texts text told told' ends stopped (map unit_of task.linked.0) (calls_seen task.calls.items)
+    task.steps task.shows_state job c.in-Err-Memory.ensures.part (inr refl))
 
 pub returns-in-Ok-write_journal-clause-passed : goal.returns-in-Ok-write_journal-clause-passed
 returns-in-Ok-write_journal-clause-passed g c =

@@ -162,7 +162,7 @@ returns-in-Err-clause-passed g c =
     (passed_so start middle (TriesInputs line.units line.calls c.in-Err.stop)
     (PassesRun m hosts line told told (ended_by (Err (stop_for c.in-Err.stop))) (stopped_by {A = ℕ} (Err (stop_for c.in-Err.stop))))
     (λ events tried. inputs_stopped m hosts line told told (ended_by (Err (stop_for c.in-Err.stop)))
-    (stopped_by {A = ℕ} (Err (stop_for c.in-Err.stop))) c.in-Err.stop events tried refl)
+    (stopped_by {A = ℕ} (Err (stop_for c.in-Err.stop))) c.in-Err.stop events tried (refl, refl))
     (subst (λ ns. Passes start middle (TriesInputs (names_of ns) line.calls c.in-Err.stop)) c.as_slice.ensures.value
     c.in-Err.ensures.tried))
 
@@ -238,7 +238,7 @@ returns-in-Err-replayed_hosts-clause-passed g c =
     let why = reason_of c.in-Err-replayed_hosts.stop in
     both_passed start middle new Gives (TriesReplay name why) (PassesRun m hosts line told told ends stopped)
     (λ first last gave tried. replay_stopped m hosts line told told ends stopped texts text first gave name
-    (ap (λ o. option_map (λ n. n.now) o) c.in-Some.is) last why tried refl)
+    (ap (λ o. option_map (λ n. n.now) o) c.in-Some.is) last why tried (refl, refl))
     gives c.in-Err-replayed_hosts.ensures.tried
 
 pub returns-in-Ok-run_and_record-2-clause-passed : goal.returns-in-Ok-run_and_record-2-clause-passed

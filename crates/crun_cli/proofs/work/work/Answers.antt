@@ -49,7 +49,7 @@ returns-in-Err-Usage-clause-passed g c =
     let ends = ended_by (Err stop.Usage) in
     let stopped = stopped_by {A = ℕ} (Err stop.Usage) in
     none_passed old (PassesWords m hosts words told told ends stopped)
-    (usage_passed m hosts words told told ends stopped (c.in-Err-Usage.ensures.usage (ap Err c.in-Err-Usage.field-0-is)) refl)
+    (usage_passed m hosts words told told ends stopped (c.in-Err-Usage.ensures.usage (ap Err c.in-Err-Usage.field-0-is)) refl refl)
 
 pub returns-in-Err-Memory-clause-passed : goal.returns-in-Err-Memory-clause-passed
 returns-in-Err-Memory-clause-passed g c =

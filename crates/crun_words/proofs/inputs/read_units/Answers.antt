@@ -3,12 +3,13 @@ use Rattle.std.proofs.lemmas.Result.{err_from_is_err_and}
 use Rattle.w2c_io.proofs.Passed.{passed_so}
 use Rattle.w2c_files.proofs.Loops.{length-names}
 use Rattle.w2c_files.specs.Words.{names_of}
-use Rattle.w2c_files.specs.Passing.{ReadsSome}
+use Rattle.w2c_files.specs.Passing.{limited, ReadsInOrder, ReadsSome}
 use Rattle.w2c_files.specs.declared.reading.ReadStop.TheVariants as read
 use Rattle.crun_words.specs.Inputs.{most_unit_bytes, most_units_bytes, NoUnit, UnitTooLong}
-use Rattle.crun_words.specs.Passing.{limited, GivesUnits, ReadsInOrder}
+use Rattle.crun_words.specs.Passing.{GivesUnits}
 use Rattle.crun_words.proofs.InputStops.{long_within, one_at, past, past_within, too_long, unread}
-use Rattle.crun_words.proofs.Passing.{long_tried, past_tried, some_in_order, unread_tried}
+use Rattle.w2c_files.proofs.InOrder.{some_in_order}
+use Rattle.crun_words.proofs.Passing.{long_tried, past_tried, unread_tried}
 use Rattle.crun_words.proofs.inputs.read_units.Goals as goal
 
 pub returns-in_ok-named-in-Err-Unread-clause-stop : goal.returns-in_ok-named-in-Err-Unread-clause-stop

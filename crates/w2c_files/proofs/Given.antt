@@ -1,0 +1,96 @@
+-- What reads gave is told by the calls: there is one list of bytes, and one last read.
+use Rattle.std.proofs.Common.{◌≡◌, ℕ, ◌+◌, List, [], ◌∷◌, ◌++◌, length, Result, Ok, refl, sym, ◌∙◌, ap, subst, arith}
+use Rattle.w2c_io.specs.Contents.{Name}
+use Rattle.w2c_io.specs.Events.{Event, Read}
+use Rattle.w2c_io.specs.declared.answers.ReadAnswer.{ReadAnswer}
+use Rattle.w2c_files.specs.Passing.{ReadsAll}
+use Rattle.w2c_files.specs.Reading.{total}
+
+-- ---- lists of calls
+
+tails : (a b : Event) (xs ys : List Event) → a ∷ xs ≡ b ∷ ys → xs ≡ ys
+tails a b xs ys is = cc
+
+heads : (a b : Event) (xs ys : List Event) → a ∷ xs ≡ b ∷ ys → a ≡ b
+heads a b xs ys is = cc
+
+no_end : (xs : List Event) (a : Event) → [] ≡ xs ++ a ∷ [] → ⊥
+no_end [] a is = cc
+no_end (b ∷ xs) a is = cc
+
+-- the last of them, and those in front of it
+pub one_last : (xs ys : List Event) (a b : Event) → xs ++ a ∷ [] ≡ ys ++ b ∷ [] → (xs ≡ ys) × (a ≡ b)
+one_last [] [] a b is = (refl, heads a b [] [] is)
+one_last [] (y ∷ ys) a b is = absurd (no_end ys b (tails a y [] (ys ++ b ∷ []) is))
+one_last (x ∷ xs) [] a b is = absurd (no_end xs a (sym (tails x b (xs ++ a ∷ []) [] is)))
+one_last (x ∷ xs) (y ∷ ys) a b is =
+    let first = heads x y (xs ++ a ∷ []) (ys ++ b ∷ []) is in
+    let rest = one_last xs ys a b (tails x y (xs ++ a ∷ []) (ys ++ b ∷ []) is) in ((λ i. first i ∷ rest.0 i), rest.1)
+
+-- ---- one read
+
+pub one_answer : (name other : Name) (each : ℕ) (answer another : Result (List ℕ) ReadAnswer)
+    → Read name each answer ≡ Read other each another → (name ≡ other) × (answer ≡ another)
+one_answer name other each answer another is = (cc, cc)
+
+one_bytes : (name other : Name) (each : ℕ) (bytes more : List ℕ) → Read name each (Ok bytes) ≡ Read other each (Ok more) → bytes ≡ more
+one_bytes name other each bytes more is = cc
+
+-- ---- reads that gave bytes
+
+none_given : (each : ℕ) (names : List Name) (all : List (List ℕ)) → ReadsAll each names all [] → all ≡ []
+none_given each [] [] gave = refl
+none_given each [] (b ∷ all) gave = absurd gave
+none_given each (n ∷ names) [] gave = absurd gave
+none_given each (n ∷ names) (b ∷ all) gave = absurd gave
+
+-- they gave these
+pub one_given : (each : ℕ) (names others : List Name) (all more : List (List ℕ)) (events : List Event)
+    → ReadsAll each names all events → ReadsAll each others more events → all ≡ more
+one_given each [] others [] more events gave gave' = sym (none_given each others more (subst (ReadsAll each others more) gave gave'))
+one_given each [] others (b ∷ all) more events gave gave' = absurd gave
+one_given each (n ∷ names) others [] more events gave gave' = absurd gave
+one_given each (n ∷ names) others (b ∷ all) more [] gave gave' = absurd gave
+one_given each (n ∷ names) [] (b ∷ all) [] (e ∷ events) gave gave' = absurd cc
+one_given each (n ∷ names) [] (b ∷ all) (c ∷ more) (e ∷ events) gave gave' = absurd gave'
+one_given each (n ∷ names) (o ∷ others) (b ∷ all) [] (e ∷ events) gave gave' = absurd gave'
+one_given each (n ∷ names) (o ∷ others) (b ∷ all) (c ∷ more) (e ∷ events) (is, gave) (is', gave') =
+    let first = one_bytes n o each b c (sym is ∙ is') in
+    let rest = one_given each names others all more events gave gave' in λ i. first i ∷ rest i
+
+-- the last read gave bytes, behind those of the reads in front of it
+pub record GaveLast (each : ℕ) (all : List (List ℕ)) (first : List Event) (last : Event) : Type 0 where
+  pub name : Name
+  pub bytes : List ℕ
+  pub front : List Name
+  pub before : List (List ℕ)
+  pub is : last ≡ Read name each (Ok bytes)
+  pub gave : ReadsAll each front before first
+  pub sum : total all ≡ total before + length bytes
+
+pub gave_last : (each : ℕ) (names : List Name) (all : List (List ℕ)) (first : List Event) (last : Event)
+    → ReadsAll each names all (first ++ last ∷ []) → GaveLast each all first last
+gave_last each [] [] [] last gave = absurd cc
+gave_last each [] [] (e ∷ first) last gave = absurd cc
+gave_last each [] (b ∷ all) first last gave = absurd gave
+gave_last each (n ∷ names) [] first last gave = absurd gave
+gave_last each (n ∷ names) (b ∷ all) [] last (is, gave) = record {
+  name = n;
+  bytes = b;
+  front = [];
+  before = [];
+  is = is;
+  gave = refl;
+  sum = (let none = ap total (none_given each names all gave) in omega (arith, none));
+}
+gave_last each (n ∷ names) (b ∷ all) (e ∷ first) last (is, gave) =
+    let rest = gave_last each names all first last gave in
+    record {
+      name = rest.name;
+      bytes = rest.bytes;
+      front = n ∷ rest.front;
+      before = b ∷ rest.before;
+      is = rest.is;
+      gave = (is, rest.gave);
+      sum = (let sum = rest.sum in omega (arith, sum));
+    }

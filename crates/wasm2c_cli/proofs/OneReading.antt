@@ -1,0 +1,104 @@
+-- Reading files ends in one way: they all give bytes, or it stops at one of them.
+use Rattle.std.proofs.Common.{◌≡◌, ℕ, ◌+◌, ◌≤◌, List, [], ◌∷◌, ◌++◌, length, refl, sym, ◌∙◌, ap, subst, arith, Result, Ok, Err}
+use Rattle.w2c_io.specs.Contents.{Name, Contents}
+use Rattle.w2c_io.specs.Events.{Event, Read}
+use Rattle.w2c_io.specs.declared.answers.ReadAnswer.{ReadAnswer}
+use Rattle.w2c_io.specs.declared.answers.ReadAnswer.TheVariants as reading
+use Rattle.w2c_files.specs.Passing.{ReadsAll}
+use Rattle.w2c_files.specs.Reading.{AreRead, StopsReading, Unreadable, Missing as NotThere, TooLong, Past, total}
+use Rattle.w2c_files.proofs.Given.{gave_last, one_answer, one_given, one_last}
+use Rattle.w2c_files.proofs.Stops.{no_stop, one_stop, same_bytes}
+use Rattle.wasm_spelling.specs.Limits.{most_module_bytes}
+use Rattle.wasm2c_cli.specs.Passing.{ReadsWhole, StopsAfter, StopsByAnswer}
+use Rattle.wasm2c_cli.specs.Plan.{most_set_bytes}
+
+pub record EndsOnce (names : List Name) (Stops : Name → Unreadable → Type 0) (Reads : List (List ℕ) → Type 0) : Type 0 where
+  pub one_stops : (file other : Name) (why reason : Unreadable) → Stops file why → Stops other reason → (file ≡ other) × (why ≡ reason)
+  pub same_read : (all others : List (List ℕ)) → Reads all → Reads others → all ≡ others
+  pub stops_or_reads : (file : Name) (why : Unreadable) (all : List (List ℕ)) → Stops file why → Reads all → ⊥
+  pub none_stops : (file : Name) (why : Unreadable) → names ≡ [] → Stops file why → ⊥
+
+no_name : (names front rest : List Name) (file : Name) → names ≡ [] → names ≡ front ++ file ∷ rest → ⊥
+no_name names [] rest file none is = cc
+no_name names (n ∷ front) rest file none is = cc
+
+-- ---- by what the files hold
+
+pub contents_end : (contents : Contents) (names : List Name) → EndsOnce names
+    (StopsReading most_module_bytes most_set_bytes contents names) (AreRead most_module_bytes most_set_bytes contents names)
+contents_end contents names = record {
+  one_stops = λ file other why reason s t. one_stop most_module_bytes most_set_bytes contents names file other why reason s t;
+  same_read = λ all others r s. same_bytes most_module_bytes most_set_bytes contents names all others r s;
+  stops_or_reads = λ file why all s r. no_stop most_module_bytes most_set_bytes contents names file why all s r;
+  none_stops = λ file why none s. no_name names s.front s.rest file none s.split;
+}
+
+-- ---- by what the reads gave
+
+one_reason : (before : ℕ) (answer : Result (List ℕ) ReadAnswer) (why reason : Unreadable) → StopsByAnswer before answer why
+    → StopsByAnswer before answer reason → why ≡ reason
+one_reason before (Ok bytes) NotThere reason s t = absurd s
+one_reason before (Ok bytes) TooLong reason s t = absurd s
+one_reason before (Ok bytes) (Past place) NotThere s t = absurd t
+one_reason before (Ok bytes) (Past place) TooLong s t = absurd t
+one_reason before (Ok bytes) (Past place) (Past other) s t = ap Past (s.1 ∙ sym t.1)
+one_reason before (Err reading.Absent) NotThere NotThere s t = refl
+one_reason before (Err reading.Absent) NotThere TooLong s t = absurd t
+one_reason before (Err reading.Absent) NotThere (Past other) s t = absurd t
+one_reason before (Err reading.Absent) TooLong reason s t = absurd s
+one_reason before (Err reading.Absent) (Past place) reason s t = absurd s
+one_reason before (Err reading.Failed) NotThere NotThere s t = refl
+one_reason before (Err reading.Failed) NotThere TooLong s t = absurd t
+one_reason before (Err reading.Failed) NotThere (Past other) s t = absurd t
+one_reason before (Err reading.Failed) TooLong reason s t = absurd s
+one_reason before (Err reading.Failed) (Past place) reason s t = absurd s
+one_reason before (Err reading.TooLong) TooLong TooLong s t = refl
+one_reason before (Err reading.TooLong) TooLong NotThere s t = absurd t
+one_reason before (Err reading.TooLong) TooLong (Past other) s t = absurd t
+one_reason before (Err reading.TooLong) NotThere reason s t = absurd s
+one_reason before (Err reading.TooLong) (Past place) reason s t = absurd s
+one_reason before (Err reading.Memory) NotThere reason s t = absurd s
+one_reason before (Err reading.Memory) TooLong reason s t = absurd s
+one_reason before (Err reading.Memory) (Past place) reason s t = absurd s
+
+-- a read that gave bytes with room does not stop the reading
+room : (before : ℕ) (bytes : List ℕ) (answer : Result (List ℕ) ReadAnswer) (why : Unreadable) → answer ≡ Ok bytes
+    → before + length bytes ≤ most_set_bytes → StopsByAnswer before answer why → ⊥
+room before bytes answer why is fits s = by why (subst (λ (a : Result (List ℕ) ReadAnswer). StopsByAnswer before a why) is s)
+  where
+    by : (why : Unreadable) → StopsByAnswer before (Ok bytes) why → ⊥
+    by NotThere s = s
+    by TooLong s = s
+    by (Past place) (over, at) = omega (arith, over, fits)
+
+module _ (given : List Event) (names : List Name) where
+  one_after : (file other : Name) (why reason : Unreadable) → StopsAfter names given file why → StopsAfter names given other reason
+      → (file ≡ other) × (why ≡ reason)
+  one_after file other why reason s t =
+      let last = one_last s.first t.first (Read file most_module_bytes s.answer) (Read other most_module_bytes t.answer)
+      (sym s.calls ∙ t.calls) in
+      let answers = one_answer file other most_module_bytes s.answer t.answer last.1 in
+      let all = one_given most_module_bytes s.front t.front s.all t.all s.first s.read
+      (subst (λ (es : List Event). ReadsAll most_module_bytes t.front t.all es) (sym last.0) t.read) in (
+        answers.0,
+        one_reason (total t.all) t.answer why reason
+            (subst (λ (a : Result (List ℕ) ReadAnswer). StopsByAnswer (total t.all) a why) answers.1
+            (subst (λ (l : List (List ℕ)). StopsByAnswer (total l) s.answer why) all s.stops)) t.stops,
+      )
+
+  after_or_whole : (file : Name) (why : Unreadable) (all : List (List ℕ)) → StopsAfter names given file why → ReadsWhole names given all → ⊥
+  after_or_whole file why all s w =
+      let last = gave_last most_module_bytes names all s.first (Read file most_module_bytes s.answer)
+      (subst (λ (es : List Event). ReadsAll most_module_bytes names all es) s.calls w.calls) in
+      let answers = one_answer file last.name most_module_bytes s.answer (Ok last.bytes) last.is in
+      let same = one_given most_module_bytes s.front last.front s.all last.before s.first s.read last.gave in
+      let sum = last.sum in let before = ap total same in let together = w.together in
+      room (total s.all) last.bytes s.answer why answers.1 (omega (arith, sum, before, together)) s.stops
+
+  pub reads_end : EndsOnce names (StopsAfter names given) (ReadsWhole names given)
+  reads_end = record {
+    one_stops = one_after;
+    same_read = λ all others r s. one_given most_module_bytes names names all others given r.calls s.calls;
+    stops_or_reads = after_or_whole;
+    none_stops = λ file why none s. no_name names s.front s.rest file none s.split;
+  }
