@@ -132,7 +132,7 @@ static int objects(void) {
         printf("the memory differs\n");
         return 1;
     }
-    SAME(memory_size(&memory), 1u);
+    SAME(size_of_memory(&memory), 1u);
     w2c_tab_new(&table, 2, 2);
     w2c_tab_set(&table, 1, (w2c_fn)objects, 7);
     SAME(table_element(&table, 1, 7), (w2c_fn)objects);

@@ -74,7 +74,7 @@ static inline u64 w2c_mem_max(w2c_mem *m) { return m->max; }
 #endif
 
 #if defined(W2C_RT_GUARDED)
-/* The helpers that load and store: all that take a length to check an access, but memory_copy and memory_fill, which check many bytes at
+/* The helpers that load and store: all that take a length to check an access, but copy_memory and fill_memory, which check many bytes at
  * once, and for which no guard is large enough. A compiler knows at -O1 which of the names __func__ is. */
 #define W2C_RT_ACCESS(f) \
     (W2C_RT_IS(f, "i32_load") || W2C_RT_IS(f, "i32_load8_s") || W2C_RT_IS(f, "i32_load8_u") || W2C_RT_IS(f, "i32_load16_s") || \

@@ -103,6 +103,6 @@ static inline void w2c_rt_fill(w2c_mem *m, u32 to, u32 value, u32 n) {
 #define i32_popcnt(x) W2C_RT_HELPER(x, i32_popcnt, w2c_rt_i32_popcnt)(x)
 #define i64_popcnt(x) W2C_RT_HELPER(x, i64_popcnt, w2c_rt_i64_popcnt)(x)
 #define i64_extend_i32_s(x) W2C_RT_HELPER(x, i64_extend_i32_s, w2c_rt_i64_extend_i32_s)(x)
-#define memory_copy(m, x, y, z) W2C_RT_HELPER(x, memory_copy, w2c_rt_copy)(m, x, y, z)
-#define memory_fill(m, x, y, z) W2C_RT_HELPER(x, memory_fill, w2c_rt_fill)(m, x, y, z)
+#define copy_memory(m, x, y, z) W2C_RT_HELPER(x, copy_memory, w2c_rt_copy)(m, x, y, z)
+#define fill_memory(m, x, y, z) W2C_RT_HELPER(x, fill_memory, w2c_rt_fill)(m, x, y, z)
 #endif

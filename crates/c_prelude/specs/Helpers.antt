@@ -174,7 +174,7 @@ object_stmts size pieces = (all_placed I32 size nothing_made pieces).stmts
 
 abbrev pub size_helper : tree.Func
 size_helper = static_function
-    (codes "memory_size")
+    (codes "size_of_memory")
     type.U32
     ((type.PtrMem, 109) ∷ [])
     ((type.U64, 110) ∷ [])
@@ -195,7 +195,7 @@ bytes_params first second = (type.PtrMem, 109) ∷ (type.U32, first) ∷ (type.U
 
 abbrev pub copy_helper : tree.Func
 copy_helper = static_function
-    (codes "memory_copy")
+    (codes "copy_memory")
     type.Void
     (bytes_params 100 115)
     (all_of type.U64 (codes "abkl") ++ (type.U32, 118) ∷ [])
@@ -203,7 +203,7 @@ copy_helper = static_function
 
 abbrev pub fill_helper : tree.Func
 fill_helper = static_function
-    (codes "memory_fill")
+    (codes "fill_memory")
     type.Void
     (bytes_params 100 118)
     (all_of type.U64 (codes "akl"))

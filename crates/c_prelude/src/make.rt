@@ -59,10 +59,10 @@ pub fn helper_name(alloc: Global, which: Helper) -> Result<Name, Memory>
         }
         Helper::Load(op) => name_of(alloc, load_name(op)),
         Helper::Store(op) => name_of(alloc, store_name(op)),
-        Helper::Size => name_of(alloc, b"memory_size"),
+        Helper::Size => name_of(alloc, b"size_of_memory"),
         Helper::Element => name_of(alloc, b"table_element"),
-        Helper::Copy => name_of(alloc, b"memory_copy"),
-        Helper::Fill => name_of(alloc, b"memory_fill"),
+        Helper::Copy => name_of(alloc, b"copy_memory"),
+        Helper::Fill => name_of(alloc, b"fill_memory"),
     }
 }
 

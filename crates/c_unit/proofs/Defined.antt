@@ -46,6 +46,7 @@ use Rattle.c_unit.specs.Exports.{export_func, passes_on, accessor}
 use Rattle.c_unit.specs.Items.{items, bodies, objects_of, data_of, declaration, prototype}
 use Rattle.c_unit.proofs.Plans.{all_flat}
 use Rattle.c_unit.proofs.Found.{Test, Misses, Finds, FindsNone, skip, skip_none, named_by, external_by, here, find_at, find_none, find_map, found_among, none_among}
+use Rattle.c_body.proofs.Classes.{class, class_lettered}
 use Rattle.c_body.proofs.Lists.{get_numbered, all_append}
 use Rattle.c_unit.proofs.Small.{all_images}
 
@@ -147,9 +148,18 @@ abbrev tail : Name → Name
 tail [] = []
 tail (b ∷ name) = name
 
--- no name of a module's function and no symbol: these begin with `f` and `w`
+-- no name of a module's function and no symbol: the names of helpers are a class of their own
 abbrev apart : Name → Bool
-apart name = not (nat_eq (head name) 102) && not (nat_eq (head name) 119)
+apart name = nat_eq (class name) 8
+
+func_not_apart : (index : ℕ) → index < 2 ^ 64 → apart (func_name index) ≡ false
+func_not_apart index less = let other : class (func_name index) ≡ 7 = class_lettered 102 index less refl in
+    ap (λ n. nat_eq n 8) other
+
+symbol_not_apart : (name : Name) → head name ≡ 119 → apart name ≡ false
+symbol_not_apart [] letter = refl
+symbol_not_apart (c ∷ []) letter = refl
+symbol_not_apart (c ∷ d ∷ name) letter = ap (λ b. nat_eq (class (b ∷ d ∷ name)) 8) letter
 
 list_all_at : {A : Type 0} (p : A → Bool) (xs : List A) (i : ℕ) (a : A) → list_all p xs ≡ true → slice_get xs i ≡ Some a → p a ≡ true
 list_all_at p [] i a all is = absurd (cc)
@@ -168,11 +178,23 @@ list_all_at p (x ∷ xs) (suc i) a all is = list_all_at p xs i a (second_of (p x
 helpers_apart : list_all (λ which. apart (helper_of which).name) HELPERS ≡ true
 helpers_apart = refl
 
+-- symbols begin with `w`, and helpers do not
+helpers_are_no_symbols : list_all (λ which. not (nat_eq (head (helper_of which).name) 119)) HELPERS ≡ true
+helpers_are_no_symbols = refl
+
 helpers_are_no_primitives : list_all (λ which. is_none (primitive (helper_of which).name)) HELPERS ≡ true
 helpers_are_no_primitives = refl
 
 helper_apart : (which : Helper) → apart (helper_of which).name ≡ true
 helper_apart which = let at = listed which in list_all_at (λ w. apart (helper_of w).name) HELPERS at.0 which helpers_apart at.1
+
+helper_is_no_symbol : (which : Helper) → nat_eq (head (helper_of which).name) 119 ≡ false
+helper_is_no_symbol which = let at = listed which in is_not (nat_eq (head (helper_of which).name) 119)
+    (list_all_at (λ w. not (nat_eq (head (helper_of w).name) 119)) HELPERS at.0 which helpers_are_no_symbols at.1)
+  where
+    is_not : (b : Bool) → not b ≡ true → b ≡ false
+    is_not false e = refl
+    is_not true e = absurd (cc)
 
 none_of : {A : Type 0} (o : Option A) → is_none o ≡ true → o ≡ None
 none_of None h = refl
@@ -395,7 +417,8 @@ body_defined m index body there few has_body name_is =
     (ap (λ n. bytes_eq n (func_name index)) name_is ∙ bytes_equal (func_name index))
     (λ i b is passes. only b (in_range first (length m.tree.funcs) i b is) (body_is m.tree m.name b).0
     ((bytes_eq-Decides (body_of m.tree m.name b).name (func_name index)).0 passes))) in
-    in_bodies (named_by (func_name index)) m (body_of m.tree m.name index) body has_body (no_helper m (func_name index) refl) found 0
+    in_bodies (named_by (func_name index)) m (body_of m.tree m.name index) body has_body
+    (no_helper m (func_name index) (func_not_apart index (omega (arith, there.within, few)))) found 0
   where
     only : (b : ℕ) → b < imported_funcs m.tree + length m.tree.funcs
         → ((body_of m.tree m.name b).name ≡ func_name b) ⊎ ((body_of m.tree m.name b).name ≡ [])
@@ -415,7 +438,7 @@ abbrev pub IsOfSymbol : Name → Type 0
 IsOfSymbol name = head name ≡ 119
 
 no_helper_symbol : (m : NamedModule) (name : Name) → IsOfSymbol name → NoHelper (named_by name) m
-no_helper_symbol m name h = no_helper m name (ap (λ b. not (nat_eq b 102) && not (nat_eq b 119)) h)
+no_helper_symbol m name h = no_helper m name (symbol_not_apart name h)
 
 no_body_symbol : (m : NamedModule) (name : Name) → IsOfSymbol name → NoBody (named_by name) m
 no_body_symbol m name h = no_body_named m name (ap (λ b. nat_eq b 102) h) (ap (λ b. nat_eq b 0) h)
@@ -508,10 +531,4 @@ func_typed m index f body d = typed_inside m (func_name index) f body refl d
 
 pub helper_typed : (m : NamedModule) (which : Helper) (f : tree.Func) (body : tree.Body)
     → IsDefinition (defined (items m)) (helper_of which).name f body → IsDefinition (typed (items m)) (helper_of which).name f body
-helper_typed m which f body d = typed_inside m (helper_of which).name f body
-    (no_w (nat_eq (head (helper_of which).name) 102) (nat_eq (head (helper_of which).name) 119) (helper_apart which)) d
-  where
-    no_w : (b c : Bool) → (not b && not c) ≡ true → c ≡ false
-    no_w false false e = refl
-    no_w true c e = absurd (cc)
-    no_w false true e = absurd (cc)
+helper_typed m which f body d = typed_inside m (helper_of which).name f body (helper_is_no_symbol which) d

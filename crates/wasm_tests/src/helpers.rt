@@ -1,5 +1,5 @@
 // The helpers that units call.
-use c_prelude::{HELPERS, Helper, NumOp, helper};
+use c_prelude::{HELPERS, Helper, NumOp, helper, helper_name};
 use c_print::print_unit;
 use c_tree::{CType, Item, Unit};
 use std::alloc::Global;
@@ -32,9 +32,34 @@ fn a_helper_is_named_for_its_instruction(rt: HostRuntime) -> Result<(), Fail> {
     assert_eq!(rt; load.name.as_slice(), b"i64_load16_u".as_slice());
     assert!(rt; matches!(load.result, CType::U64));
     let copy = helper(alloc, Helper::Copy)?;
-    assert_eq!(rt; copy.name.as_slice(), b"memory_copy".as_slice());
+    assert_eq!(rt; copy.name.as_slice(), b"copy_memory".as_slice());
     assert!(rt; copy.params.len() == 4);
     assert!(rt; matches!(copy.result, CType::Void));
+    Ok(())
+}
+
+// Whether a name begins as those that C keeps for its library, where a lower-case letter follows (C11, 7.31.2, 7.31.8,
+// 7.31.12, 7.31.13 and 7.31.15).
+fn is_kept(name: &[u8]) -> bool {
+    name.starts_with(b"is")
+        || name.starts_with(b"to")
+        || name.starts_with(b"mem")
+        || name.starts_with(b"str")
+        || name.starts_with(b"wcs")
+        || name.starts_with(b"atomic_")
+        || name.starts_with(b"cnd_")
+        || name.starts_with(b"mtx_")
+        || name.starts_with(b"thrd_")
+        || name.starts_with(b"tss_")
+}
+
+#[test]
+fn no_helper_has_a_name_that_c_keeps(rt: HostRuntime) -> Result<(), Fail> {
+    let alloc = rt.alloc();
+    for which in &HELPERS {
+        let name = helper_name(alloc, *which)?;
+        assert!(rt; !is_kept(name.as_slice()));
+    }
     Ok(())
 }
 
