@@ -13,9 +13,9 @@ use Rattle.wasm_tree.specs.Instructions.{end_code, then_code, Call}
 use Rattle.wasm_spelling.specs.Bytes.{AreBytes}
 use Rattle.wasm_spelling.specs.Fields.{Fields, finished}
 use Rattle.wasm_spelling.specs.Limits.{most_functions, most_module_bytes}
-use Rattle.wasm_spelling.specs.ModuleFields.{types, imports, functions, tables, memories, globals, exports, start, elements, data_count, code, segments, bodies, code_fields, content, each, func_entry, instr_fields}
+use Rattle.wasm_spelling.specs.ModuleFields.{types, imports, functions, tables, memories, globals, exports, start, elements, data_count, code, segments, bodies, code_fields, content, each, func_entry, instr_fields, magic, version}
 use Rattle.wasm_spelling.specs.Places.{IsFormed}
-use Rattle.wasm_writing.specs.ShortFile.{magic, short_fields, version}
+use Rattle.wasm_writing.specs.ShortFile.{short_fields}
 use Rattle.wasm_writing.proofs.Whole.{short_file_spells}
 use Rattle.w2c_gen.specs.Generated.{body_of, code_with, generated, of_first_type, operator, run_name, signed_reading}
 use Rattle.w2c_gen.specs.GeneratedFile.{IsGeneratedFile}

@@ -53,10 +53,10 @@ pub data Done : Type 0 where
 
 -- the state with one part changed
 abbrev pub in_store : store.State → store.Store → store.State
-in_store state new = record { locals = state.locals; store = new; trail = state.trail }
+in_store state new = record state { store = new }
 
 abbrev pub in_locals : store.State → List Value → store.State
-in_locals state new = record { locals = new; store = state.store; trail = state.trail }
+in_locals state new = record state { locals = new }
 
 -- numeric instructions (4.4.1)
 abbrev pub one_operand : ValType → List Value → (ℕ → List Value → Done) → Done
@@ -133,14 +133,10 @@ grown owner m more stack state = elim (store.grown m more) [
 abbrev pub plain : LinkedSet → ℕ → Kind → List Value → store.State → Done
 plain s p (I32Const z) stack state = Leaves (I32 (pattern_of 32 z) ∷ stack) state
 plain s p (I64Const z) stack state = Leaves (I64 (pattern_of 64 z) ∷ stack) state
-plain s p (Eqz t) stack state = one_operand t stack (λ x under.
-    Leaves (I32 (truth (x == 0)) ∷ under) state)
-plain s p (Compare t op) stack state = two_operands t stack (λ x y under.
-    Leaves (I32 (truth (compare op (bits t) x y)) ∷ under) state)
-plain s p (Unary t op) stack state = one_operand t stack (λ x under.
-    Leaves (value t (unary op (bits t) x) ∷ under) state)
-plain s p (Binary t op) stack state = two_operands t stack (λ x y under.
-    answered t (binary op (bits t) x y) under state)
+plain s p (Eqz t) stack state = one_operand t stack (λ x under. Leaves (I32 (truth (x == 0)) ∷ under) state)
+plain s p (Compare t op) stack state = two_operands t stack (λ x y under. Leaves (I32 (truth (compare op (bits t) x y)) ∷ under) state)
+plain s p (Unary t op) stack state = one_operand t stack (λ x under. Leaves (value t (unary op (bits t) x) ∷ under) state)
+plain s p (Binary t op) stack state = two_operands t stack (λ x y under. answered t (binary op (bits t) x y) under state)
 plain s p I32WrapI64 (I64 x ∷ stack) state = Leaves (I32 (x % 2 ^ 32) ∷ stack) state
 plain s p I64ExtendI32S (I32 x ∷ stack) state = Leaves (I64 (extend_s 32 64 x) ∷ stack) state
 plain s p I64ExtendI32U (I32 x ∷ stack) state = Leaves (I64 x ∷ stack) state
@@ -176,16 +172,14 @@ abbrev pub spend_all : (count budget : ℕ) → store.State → (ℕ → Result)
 spend_all zero n state go = go n
 spend_all (suc count) n state go = spend n state (λ left. spend_all count left state go)
 
-abbrev pub did : ℕ → store.State → Done → Result
-did n before (Leaves stack state) = Normal n stack state
-did n before (Faults kind) = Stops (Trapped kind) before
-did n before NoRule = Stops Stuck before
-
 -- what is done is paid by so many steps more, before anything is written
 abbrev pub did_all : (count budget : ℕ) → store.State → Done → Result
 did_all count n before (Leaves stack state) = spend_all count n before (λ left. Normal left stack state)
 did_all count n before (Faults kind) = Stops (Trapped kind) before
 did_all count n before NoRule = Stops Stuck before
+
+abbrev pub did : ℕ → store.State → Done → Result
+did n before done = did_all 0 n before done
 
 -- how many bytes `memory.copy` and `memory.fill` write: the uppermost operand
 abbrev pub count_on : List Value → ℕ
@@ -199,9 +193,7 @@ dropped n (v ∷ stack) state = Normal n stack state
 -- the instructions behind one that has ended
 abbrev pub and_then : Result → (ℕ → List Value → store.State → Result) → Result
 and_then (Normal n stack state) go = go n stack state
-and_then (Branch label n stack state) go = Branch label n stack state
-and_then (Returned n stack state) go = Returned n stack state
-and_then (Stops why state) go = Stops why state
+and_then result go = result
 
 -- a value of the wanted type
 abbrev pub of_type : {A : Type 0} → ValType → Value → A → Option A
@@ -217,21 +209,21 @@ abbrev pub onto : ℕ → Option (List Value) → List Value → store.State →
 onto n None under state = Stops Stuck state
 onto n (Some values) under state = Normal n (values ++ under) state
 
--- the end of a block (4.4.6). Its code ran on an operand stack of its own; `under` is what lay below
-abbrev pub leave : Option ValType → List Value → Result → Result
-leave t under (Normal n stack state) = Normal n (stack ++ under) state
-leave t under (Branch zero n stack state) = onto n (top t stack) under state
-leave t under (Branch (suc label) n stack state) = Branch label n stack state
-leave t under (Returned n stack state) = Returned n stack state
-leave t under (Stops why state) = Stops why state
+-- the end of a block (4.4.6), where `jump` is what a branch to it does. Its code ran on an operand stack of its own; `under` is
+-- what lay below
+abbrev pub ended : (ℕ → List Value → store.State → Result) → List Value → Result → Result
+ended jump under (Normal n stack state) = Normal n (stack ++ under) state
+ended jump under (Branch zero n stack state) = jump n stack state
+ended jump under (Branch (suc label) n stack state) = Branch label n stack state
+ended jump under result = result
 
--- the end of a loop's turn
+-- a branch goes on behind the block, with the values of its label
+abbrev pub leave : Option ValType → List Value → Result → Result
+leave t under result = ended (λ n stack state. onto n (top t stack) under state) under result
+
+-- the end of a loop's turn: a branch goes on with the next one
 abbrev pub turn : (ℕ → store.State → Result) → List Value → Result → Result
-turn again under (Normal n stack state) = Normal n (stack ++ under) state
-turn again under (Branch zero n stack state) = again n state
-turn again under (Branch (suc label) n stack state) = Branch label n stack state
-turn again under (Returned n stack state) = Returned n stack state
-turn again under (Stops why state) = Stops why state
+turn again under result = ended (λ n stack state. again n state) under result
 
 -- at most so many turns of a loop. Each turn but the first is paid by a branch, so a budget of n has
 -- at most n + 1
@@ -256,29 +248,22 @@ with_result None stack = stack
 with_result (Some v) stack = v ∷ stack
 
 abbrev pub came_back : Called → List Value → store.State → Result
-came_back (Back n value new trail) stack state =
-    Normal n (with_result value stack) (record { locals = state.locals; store = new; trail = trail })
-came_back (CallStops why new trail) stack state =
-    Stops why (record { locals = state.locals; store = new; trail = trail })
+came_back (Back n value new trail) stack state = Normal n (with_result value stack) (record state { store = new; trail = trail })
+came_back (CallStops why new trail) stack state = Stops why (record state { store = new; trail = trail })
 
 -- the topmost values are the arguments, the last one on top
 abbrev pub invoke : Calls → FuncAddress → List ValType → ℕ → List Value → store.State → Result
 invoke calls f params n stack state =
     let args : List Value = reverse (take (length params) stack) in
     if equal_types params (types_of args)
-    then came_back (calls f args n state.store state.trail) (drop (length params) stack) state
-    else Stops Stuck state
+    then came_back (calls f args n state.store state.trail) (drop (length params) stack) state else Stops Stuck state
 
 abbrev pub call : LinkedSet → Calls → Option FuncAddress → ℕ → List Value → store.State → Result
 call s calls None n stack state = Stops Stuck state
-call s calls (Some f) n stack state = elim (func_type s f) [
-  | None ↦ Stops Stuck state
-  | Some ty ↦ invoke calls f ty.params n stack state
-]
+call s calls (Some f) n stack state = elim (func_type s f) [ None ↦ Stops Stuck state | Some ty ↦ invoke calls f ty.params n stack state ]
 
 -- an element is called where its function has the wanted type
-abbrev pub call_element : LinkedSet → Calls → Option (Option FuncAddress) → FuncType
-    → ℕ → List Value → store.State → Result
+abbrev pub call_element : LinkedSet → Calls → Option (Option FuncAddress) → FuncType → ℕ → List Value → store.State → Result
 call_element s calls None want n stack state = Stops (Trapped trap.TableOut) state
 call_element s calls (Some None) want n stack state = Stops (Trapped trap.Empty) state
 call_element s calls (Some (Some f)) want n stack state = elim (func_type s f) [
@@ -286,8 +271,7 @@ call_element s calls (Some (Some f)) want n stack state = elim (func_type s f) [
   | Some ty ↦ if equal_func_types ty want then invoke calls f ty.params n stack state else Stops (Trapped trap.Signature) state
 ]
 
-abbrev pub call_indirect : LinkedSet → Calls → Option store.Table → Option FuncType
-    → ℕ → List Value → store.State → Result
+abbrev pub call_indirect : LinkedSet → Calls → Option store.Table → Option FuncType → ℕ → List Value → store.State → Result
 call_indirect s calls (Some t) (Some want) n (I32 i ∷ stack) state = call_element s calls (slice_get t.elements i) want n stack state
 call_indirect s calls _ _ n _ state = Stops Stuck state
 
@@ -314,8 +298,7 @@ abbrev mutual
   exec_kind s calls p (BrTable labels default) n stack state = spend n state (λ left.
       pick stack state labels default (λ label rest. Branch label left rest state))
   exec_kind s calls p Return n stack state = spend n state (λ left. Returned left stack state)
-  exec_kind s calls p (Call index) n stack state = spend n state (λ left.
-      call s calls (func_at s p index) left stack state)
+  exec_kind s calls p (Call index) n stack state = spend n state (λ left. call s calls (func_at s p index) left stack state)
   exec_kind s calls p (CallIndirect type_index) n stack state = spend n state (λ left.
       call_indirect s calls (if_found (table_at s p 0) (store.table_in state.store)) (type_at s p type_index) left stack state)
   exec_kind s calls p MemoryCopy n stack state = spend n state (λ left.
@@ -353,8 +336,7 @@ finish t (Returned n stack state) = gave (gives_top t stack) n state
 finish t (Stops why state) = CallStops why state.store state.trail
 
 -- a function's body runs with its arguments and zeros as locals
-abbrev pub enter : LinkedSet → Calls → ℕ → Option BodyEntry → Option FuncType
-    → List Value → ℕ → store.Store → Trail → Called
+abbrev pub enter : LinkedSet → Calls → ℕ → Option BodyEntry → Option FuncType → List Value → ℕ → store.Store → Trail → Called
 enter s calls p (Some body) (Some ty) args n store trail =
     let locals : List Value = args ++ zeros (declared_locals body.runs) in
     finish ty.result (exec s calls p body.code n [] (record { locals = locals; store = store; trail = trail }))

@@ -57,42 +57,34 @@ pub record Instance : Type 0 where
 
 -- an external value of the wanted kind
 abbrev pub as_func : External → Option FuncAddress
-as_func (IsFunc f) = Some f
-as_func _ = None
+as_func external = elim external [ IsFunc f ↦ Some f | _ ↦ None ]
 
 abbrev pub as_table : External → Option ℕ
-as_table (IsTable owner) = Some owner
-as_table _ = None
+as_table external = elim external [ IsTable owner ↦ Some owner | _ ↦ None ]
 
 abbrev pub as_memory : External → Option ℕ
-as_memory (IsMemory owner) = Some owner
-as_memory _ = None
+as_memory external = elim external [ IsMemory owner ↦ Some owner | _ ↦ None ]
 
 abbrev pub as_global : External → Option GlobalAddress
-as_global (IsGlobal g) = Some g
-as_global _ = None
+as_global external = elim external [ IsGlobal g ↦ Some g | _ ↦ None ]
 
 -- the export of this name of the instance of this name
 abbrev pub exported : List Instance → List ℕ → List ℕ → Option External
 exported instances module_name name =
-    if_found (find (λ i. bytes_eq i.name module_name) instances) (λ i.
-    if_found (named name i.exports) (λ e. e))
+    if_found (find (λ i. bytes_eq i.name module_name) instances) (λ i. if_found (named name i.exports) (λ e. e))
 
 -- the function of this name of the host of this name
 abbrev pub offered : List Host → List ℕ → List ℕ → Option External
 offered hosts host_name name =
-    if_found (position_from (λ h. bytes_eq h.name host_name) 0 hosts) (λ h.
-    if_found (slice_get hosts h) (λ host.
+    if_found (position_from (λ h. bytes_eq h.name host_name) 0 hosts) (λ h. if_found (slice_get hosts h) (λ host.
     option_map (λ f. IsFunc (HostFunc h f)) (position_from (λ f. bytes_eq f.name name) 0 host.functions)))
 
 -- what an import stands for: an export of an earlier module, or a host's function
 abbrev pub meaning_of : List Host → List Instance → Import → Option External
-meaning_of hosts earlier i =
-    option_or (exported earlier i.«module» i.field) (offered hosts i.«module» i.field)
+meaning_of hosts earlier i = option_or (exported earlier i.«module» i.field) (offered hosts i.«module» i.field)
 
 -- what the imports of a kind stand for, in their order
-abbrev pub imports_of : {A : Type 0} → (Import → Bool) → (External → Option A)
-    → (Import → Option External) → List Import → List (Option A)
+abbrev pub imports_of : {A : Type 0} → (Import → Bool) → (External → Option A) → (Import → Option External) → List Import → List (Option A)
 imports_of is_wanted as_wanted meaning imports = map (λ i. if_found (meaning i) as_wanted) (filter is_wanted imports)
 
 -- imports first, then what the module with this number defines
@@ -159,17 +151,14 @@ type_at s p index = if_found (module_at s p) (λ m. type_in m index)
 -- the type and the body of a function, which an index of an import has not; the type of a global and
 -- whether it is mutable
 abbrev pub func_type : LinkedSet → FuncAddress → Option FuncType
-func_type s (ModuleFunc p index) = if_found (module_at s p) (λ m.
-    if_found (at_defined m m.funcs index) (λ f. type_at s p f.type_index))
-func_type s (HostFunc h f) = if_found (slice_get s.hosts h) (λ host.
-    option_map (λ f. f.ty) (slice_get host.functions f))
+func_type s (ModuleFunc p index) = if_found (module_at s p) (λ m. if_found (at_defined m m.funcs index) (λ f. type_at s p f.type_index))
+func_type s (HostFunc h f) = if_found (slice_get s.hosts h) (λ host. option_map (λ f. f.ty) (slice_get host.functions f))
 
 abbrev pub body_of : LinkedSet → ℕ → ℕ → Option BodyEntry
 body_of s p index = if_found (module_at s p) (λ m. at_defined m m.bodies index)
 
 abbrev pub global_type : LinkedSet → GlobalAddress → Option (ValType × Bool)
-global_type s g = if_found (module_at s g.owner) (λ m.
-    option_map (λ e. (e.ty, e.mutable)) (slice_get m.globals g.number))
+global_type s g = if_found (module_at s g.owner) (λ m. option_map (λ e. (e.ty, e.mutable)) (slice_get m.globals g.number))
 
 -- the import stands for something of its kind and of equal type; limits are left out
 abbrev pub Resolves : LinkedSet → ℕ → Import → Type 0
@@ -178,8 +167,7 @@ Resolves s p i = elim i.kind [
       × (type_at s p t ≡ Some ty) × (func_type s f ≡ Some ty)
   | ImportTable l ↦ (owner : ℕ) × (import_at s p i ≡ Some (IsTable owner))
   | ImportMemory l ↦ (owner : ℕ) × (import_at s p i ≡ Some (IsMemory owner))
-  | ImportGlobal ty mutable ↦ (g : GlobalAddress) × (import_at s p i ≡ Some (IsGlobal g))
-      × (global_type s g ≡ Some (ty, mutable))
+  | ImportGlobal ty mutable ↦ (g : GlobalAddress) × (import_at s p i ≡ Some (IsGlobal g)) × (global_type s g ≡ Some (ty, mutable))
 ]
 
 -- what makes modules and hosts a linked set, besides that each module is valid

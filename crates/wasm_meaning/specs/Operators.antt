@@ -51,8 +51,7 @@ rem_u x y = if y == 0 then Traps DivByZero else Gives (x % y)
 abbrev pub div_s : ℕ → ℕ → ℕ → Answer
 div_s N x y =
     if y == 0 then Traps DivByZero
-    else (if overflows N x y then Traps IntOverflow
-    else Gives (pattern_of N (int_div (signed N x) (signed N y))))
+    else (if overflows N x y then Traps IntOverflow else Gives (pattern_of N (int_div (signed N x) (signed N y))))
 
 -- the remainder has the sign of the dividend
 abbrev pub rem_s : ℕ → ℕ → ℕ → Answer

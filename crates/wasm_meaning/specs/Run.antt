@@ -19,7 +19,7 @@ use Rattle.wasm_tree.specs.declared.entries.Import.{Import}
 use Rattle.wasm_tree.specs.declared.entries.Start.{Start}
 use Rattle.wasm_tree.specs.declared.entries.ElementEntry.{ElementEntry}
 use Rattle.wasm_tree.specs.declared.entries.SegmentEntry.{SegmentEntry}
-use Rattle.wasm_tree.specs.declared.entries.ImportKind.TheVariants.{Func as ImportFunc, Table as ImportTable, Memory as ImportMemory, Global as ImportGlobal}
+use Rattle.wasm_tree.specs.declared.entries.ImportKind.TheVariants.{Table as ImportTable, Memory as ImportMemory}
 use Rattle.wasm_meaning.specs.Operators.{pattern_of}
 use Rattle.wasm_meaning.specs.LinkedSet.{LinkedSet, FuncAddress, as_func, as_table, as_memory, exported, instances, import_at, func_at, table_at, memory_at, global_at, func_type}
 use Rattle.wasm_meaning.specs.Store as store
@@ -80,9 +80,7 @@ pub record Planned : Type 0 where
 -- the modules in order, then the calls
 abbrev pub plan_of : LinkedSet → List ListedCall → List Planned
 plan_of s calls =
-    flat_map
-    (λ m. map (λ t. record { phase = Init m.0; place = m.0; task = t }) (tasks_of m.1.tree))
-    (numbered s.modules)
+    flat_map (λ m. map (λ t. record { phase = Init m.0; place = m.0; task = t }) (tasks_of m.1.tree)) (numbered s.modules)
     ++ map (λ c. record { phase = Call c.0; place = 0; task = CallExport c.1 }) (numbered calls)
 
 -- the value of an initial or offset expression (valid ones are constants and gets of globals)
@@ -120,24 +118,21 @@ as_offset (I64 n) = None
 -- an import is taken: a table's or a memory's limits are tested
 abbrev pub taken_import : LinkedSet → ℕ → Import → ℕ → store.Store → Trail → Called
 taken_import s p i n made trail = elim i.kind [
-  | ImportFunc t ↦ done n made trail
   | ImportTable want ↦ with_found (if_found (if_found (import_at s p i) as_table) (store.table_in made)) made trail (λ t.
       tested (limits_fit (length t.elements) t.max want) trap.ImportLimits n made trail)
   | ImportMemory want ↦ with_found (if_found (if_found (import_at s p i) as_memory) (store.memory_in made)) made trail (λ m.
       tested (limits_fit (store.pages m) m.max want) trap.ImportLimits n made trail)
-  | ImportGlobal t mutable ↦ done n made trail
+  | _ ↦ done n made trail
 ]
 
 -- the table of an element segment and its offset; the memory of a data segment and its offset
-abbrev pub with_table_at : LinkedSet → ℕ → ElementEntry → store.Store → Trail
-    → (ℕ → store.Table → ℕ → Called) → Called
+abbrev pub with_table_at : LinkedSet → ℕ → ElementEntry → store.Store → Trail → (ℕ → store.Table → ℕ → Called) → Called
 with_table_at s p e made trail go =
     with_found (table_at s p e.table) made trail (λ owner.
     with_found (store.table_in made owner) made trail (λ t.
     with_found (if_found (constant_of s p made e.offset) as_offset) made trail (λ offset. go owner t offset)))
 
-abbrev pub with_memory_at : LinkedSet → ℕ → SegmentEntry → store.Store → Trail
-    → (ℕ → store.Memory → ℕ → Called) → Called
+abbrev pub with_memory_at : LinkedSet → ℕ → SegmentEntry → store.Store → Trail → (ℕ → store.Memory → ℕ → Called) → Called
 with_memory_at s p d made trail go =
     with_found (memory_at s p d.memory) made trail (λ owner.
     with_found (store.memory_in made owner) made trail (λ m.
@@ -154,16 +149,16 @@ do_task s p (Take i) n made trail = taken_import s p i n made trail
 do_task s p (MakeTable l) n made trail = done n (store.with_table made p (store.new_table l.min l.max)) trail
 do_task s p (MakeMemory l) n made trail = done n (store.with_memory made p (store.new_memory l.min l.max)) trail
 do_task s p (MakeGlobal ty initial) n made trail = with_found (first_value s p made ty initial) made trail (λ v.
-    done n (store.with_objects made p (λ o. record { memory = o.memory; table = o.table; globals = o.globals ++ v ∷ [] })) trail)
+    done n (store.with_objects made p (λ o. record o { globals = o.globals ++ v ∷ [] })) trail)
 do_task s p (TestElements e) n made trail = with_table_at s p e made trail (λ owner t offset.
     tested (nat_le (offset + length e.funcs) (length t.elements)) trap.SegmentOut n made trail)
 do_task s p (TestData d) n made trail = with_memory_at s p d made trail (λ owner m offset.
     tested (nat_le (offset + length d.bytes) (length m.bytes)) trap.SegmentOut n made trail)
 do_task s p (WriteElement e number func) n made trail = with_table_at s p e made trail (λ owner t offset.
     with_found (func_at s p func) made trail (λ f.
-    done n (store.with_table made owner (record { elements = slice_set t.elements (offset + number) (Some f); max = t.max })) trail))
+    done n (store.with_table made owner (record t { elements = slice_set t.elements (offset + number) (Some f) })) trail))
 do_task s p (WriteByte d number byte) n made trail = with_memory_at s p d made trail (λ owner m offset.
-    done n (store.with_memory made owner (record { bytes = slice_set m.bytes (offset + number) byte; max = m.max })) trail)
+    done n (store.with_memory made owner (record m { bytes = slice_set m.bytes (offset + number) byte })) trail)
 do_task s p (CallStart func) n made trail = with_found (func_at s p func) made trail (λ f. call_within s 1024 f [] n made trail)
 do_task s p (CallExport c) n made trail = with_found (called_func s c) made trail (λ f. call_within s 1024 f c.args n made trail)
 
@@ -195,16 +190,13 @@ trail_after _ value trail = trail
 
 abbrev pub then_run : Called → Planned → (ℕ → store.Store → Trail → WasmRun) → WasmRun
 then_run (Back left value made trail) t go = go left made (trail_after t.task value trail)
-then_run (CallStops why made trail) t go =
-    record { phase = t.phase; events = trail.events; store = made; outcome = Stopped why }
+then_run (CallStops why made trail) t go = record { phase = t.phase; events = trail.events; store = made; outcome = Stopped why }
 
 -- tasks in order, with a budget of n, behind a task of the phase `last`
 abbrev pub run_tasks : LinkedSet → List Planned → Phase → ℕ → store.Store → Trail → WasmRun
 run_tasks s [] last n made trail = record { phase = last; events = trail.events; store = made; outcome = Ended }
 run_tasks s (t ∷ plan) last n made trail =
-    then_run
-    (paid (is_free t.task) n made trail (λ left. do_task s t.place t.task left made trail))
-    t (run_tasks s plan t.phase)
+    then_run (paid (is_free t.task) n made trail (λ left. do_task s t.place t.task left made trail)) t (run_tasks s plan t.phase)
 
 -- the run of a linked set with calls, at most n steps, and these replies of the hosts
 abbrev pub wasm_run : LinkedSet → List ListedCall → ℕ → List Reply → WasmRun

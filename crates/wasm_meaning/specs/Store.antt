@@ -43,22 +43,19 @@ abbrev pub memory_in : Store → ℕ → Option Memory
 memory_in store owner = if_found (slice_get store owner) (λ o. o.memory)
 
 abbrev pub with_memory : Store → ℕ → Memory → Store
-with_memory store owner m = with_objects store owner (λ o.
-    record { memory = Some m; table = o.table; globals = o.globals })
+with_memory store owner m = with_objects store owner (λ o. record o { memory = Some m })
 
 abbrev pub table_in : Store → ℕ → Option Table
 table_in store owner = if_found (slice_get store owner) (λ o. o.table)
 
 abbrev pub with_table : Store → ℕ → Table → Store
-with_table store owner t = with_objects store owner (λ o.
-    record { memory = o.memory; table = Some t; globals = o.globals })
+with_table store owner t = with_objects store owner (λ o. record o { table = Some t })
 
 abbrev pub global_in : Store → GlobalAddress → Option Value
 global_in store g = if_found (slice_get store g.owner) (λ o. slice_get o.globals g.number)
 
 abbrev pub with_global : Store → GlobalAddress → Value → Store
-with_global store g v = with_objects store g.owner (λ o.
-    record { memory = o.memory; table = o.table; globals = slice_set o.globals g.number v })
+with_global store g v = with_objects store g.owner (λ o. record o { globals = slice_set o.globals g.number v })
 
 abbrev pub pages : Memory → ℕ
 pages m = length m.bytes / 65536
@@ -74,5 +71,4 @@ new_table count max = record { elements = replicate count None; max = max }
 abbrev pub grown : Memory → ℕ → Option Memory
 grown m more =
     if nat_le (pages m + more) (min (unwrap_or m.max 16384) 16384)
-    then Some (record { bytes = m.bytes ++ replicate (more * 65536) 0; max = m.max })
-    else None
+    then Some (record m { bytes = m.bytes ++ replicate (more * 65536) 0 }) else None

@@ -1,6 +1,6 @@
 -- Single fields: what is read spells them, what is spelled is read, and the machine goes along.
 use Rattle.std.proofs.Common.{◌≡◌, ℕ, ◌+◌, ◌≤◌, Bool, true, false, cond, eqb, leb, ltb, List, [], ◌∷◌, ◌++◌, length, take, drop, Option, Some, None, Result, Ok, Err, refl, sym, ap, subst, ◌∙◌, inl, inr, arith, length-append}
-use Rattle.std.specs.Prelude.{nat_le}
+use Rattle.std.specs.Prelude.{find, nat_le, ok_or}
 use Rattle.std.specs.Str.{is_utf8}
 use Rattle.std.proofs.Math.Seq.{drop-append_seam, take-append_seam}
 use Rattle.std.proofs.lemmas.List.{take-append-drop, length-take-le}
@@ -14,7 +14,7 @@ use Rattle.leb_bytes.proofs.Numbers.{u32_of-spelled, u32_of-append, s32_of-spell
 use Rattle.wasm_tree.specs.declared.entries.ExportKind.{ExportKind}
 use Rattle.wasm_tree.specs.declared.entries.ExportKind.TheVariants as kind
 use Rattle.wasm_spelling.specs.declared.fault.ReadFault.{ReadFault}
-use Rattle.wasm_spelling.specs.declared.fault.ReadFault.TheVariants.{Float, Limit}
+use Rattle.wasm_spelling.specs.declared.fault.ReadFault.TheVariants.{Malformed, Limit}
 use Rattle.wasm_spelling.specs.declared.fault.Cause.{Cause}
 use Rattle.wasm_spelling.specs.declared.fault.Cause.TheVariants as cause
 use Rattle.wasm_spelling.specs.declared.fault.Which.{Which}
@@ -23,7 +23,7 @@ use Rattle.wasm_spelling.specs.At.{At, Counts}
 use Rattle.wasm_spelling.specs.Fields.{Fields, Then, Spelled, byte, number, signed, text, here, provided}
 use Rattle.wasm_spelling.specs.ModuleFields.{type_code, block_type_code, mutability_code, export_code, utf8, value_type, any_name, name}
 use Rattle.wasm_spelling.specs.Limits.{most_name_bytes}
-use Rattle.wasm_spelling.specs.Steps.{malformed, checked, moved, byte_of, byte_at, number_of, number_at, signed32_at, signed64_at, bytes_at, rest_at, exactly, within, utf8_of, type_of, block_type_of, flag_of, kind_of, zero_of}
+use Rattle.wasm_spelling.specs.Steps.{malformed, checked, moved, byte_of, byte_at, number_of, number_at, signed32_at, signed64_at, bytes_at, rest_at, exactly, within, utf8_of, by_code, no_type, type_of, block_type_of, flag_of, kind_of, zero_of}
 use Rattle.wasm_spelling.specs.Reading.{place_at, exactly_at, type_at, block_type_at, mutability_at, flag_at, kind_at, zero_at, utf8_at, any_name_at, name_at, counted_bytes_at}
 use Rattle.wasm_spelling.specs.Table as table
 use Rattle.wasm_spelling.specs.Table.{index, row, none_more}
@@ -207,12 +207,22 @@ exactly_coded wanted c = record {
   to = λ place v. rw (eq-eqb wanted wanted refl) refl;
 }
 
+found_first : {A X : Type 0} (t : Bool) (x : A) (more : Option A) (fault : ReadFault) (v : A)
+    → ok_or (cond t (Some x) more) fault ≡ Ok v → (t ≡ true → x ≡ v → X) → (ok_or more fault ≡ Ok v → X) → X
+found_first true x more fault v e first later = first refl (ok_is x v e)
+found_first false x more fault v e first later = later e
+
+-- the value has the code by which it was found
+by_code_is : {A : Type 0} (code : A → ℕ) (values : List A) (fault : ReadFault) (b : ℕ) (v : A) → by_code code values fault b ≡ Ok v
+    → b ≡ code v
+by_code_is code [] fault b v e = not_ok fault v e
+by_code_is code (x ∷ values) fault b v e =
+    found_first (eqb b (code x)) x (find (λ v. eqb b (code v)) values) fault v e (λ t is. eqb-true b (code x) t ∙ ap code is)
+    (λ e. by_code_is code values fault b v e)
+
 pub type_coded : Coded type_of type_code
 type_coded = record {
-  from = λ place b v e.
-      either_way (eqb b 0x7F) (yes I32) _ v e (λ t x. eqb-true b 0x7F t ∙ ap type_code (ok_is I32 v x)) (λ _ e.
-      either_way (eqb b 0x7E) (yes I64) _ v e (λ t x. eqb-true b 0x7E t ∙ ap type_code (ok_is I64 v x)) (λ _ e.
-      either_way _ (bad (Float place)) (malformed place cause.BadTypeCode) v e (λ _ x. not_ok _ v x) (λ _ x. not_ok _ v x)));
+  from = λ place b v e. by_code_is type_code (I32 ∷ I64 ∷ []) (no_type place b) b v e;
   to = λ place v. to place v;
 }
   where
@@ -222,11 +232,7 @@ type_coded = record {
 
 pub block_type_coded : Coded block_type_of block_type_code
 block_type_coded = record {
-  from = λ place b v e.
-      either_way (eqb b 0x40) (yes None) _ v e (λ t x. eqb-true b 0x40 t ∙ ap block_type_code (ok_is None v x)) (λ _ e.
-      either_way (eqb b 0x7F) (yes (Some I32)) _ v e (λ t x. eqb-true b 0x7F t ∙ ap block_type_code (ok_is (Some I32) v x)) (λ _ e.
-      either_way (eqb b 0x7E) (yes (Some I64)) _ v e (λ t x. eqb-true b 0x7E t ∙ ap block_type_code (ok_is (Some I64) v x)) (λ _ e.
-      either_way _ (bad (Float place)) (malformed place cause.BadTypeCode) v e (λ _ x. not_ok _ v x) (λ _ x. not_ok _ v x))));
+  from = λ place b v e. by_code_is block_type_code (None ∷ Some I32 ∷ Some I64 ∷ []) (no_type place b) b v e;
   to = λ place v. to place v;
 }
   where
@@ -250,11 +256,7 @@ flag_coded c = record {
 pub kind_coded : Coded kind_of export_code
 kind_coded = record {
   from = λ place b v e.
-      either_way (eqb b 0x00) (yes kind.Func) _ v e (λ t x. eqb-true b 0x00 t ∙ ap export_code (ok_is kind.Func v x)) (λ _ e.
-      either_way (eqb b 0x01) (yes kind.Table) _ v e (λ t x. eqb-true b 0x01 t ∙ ap export_code (ok_is kind.Table v x)) (λ _ e.
-      either_way (eqb b 0x02) (yes kind.Memory) _ v e (λ t x. eqb-true b 0x02 t ∙ ap export_code (ok_is kind.Memory v x)) (λ _ e.
-      either_way (eqb b 0x03) (yes kind.Global) _ v e (λ t x. eqb-true b 0x03 t ∙ ap export_code (ok_is kind.Global v x))
-      (λ _ x. not_ok _ v x))));
+      by_code_is export_code (kind.Func ∷ kind.Table ∷ kind.Memory ∷ kind.Global ∷ []) (Malformed place cause.BadKind) b v e;
   to = λ place v. to place v;
 }
   where

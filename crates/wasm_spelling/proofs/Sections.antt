@@ -1,5 +1,6 @@
 -- Sections: custom ones anywhere, the others in rising order of their ranks.
 use Rattle.std.proofs.Common.{◌≡◌, ℕ, zero, suc, ◌+◌, ◌-◌, ◌<◌, ◌≤◌, Bool, true, false, ◌||◌, ◌&&◌, not, cond, eqb, ltb, List, [], ◌∷◌, ◌++◌, append_assoc, length, Option, Some, None, Result, Ok, refl, sym, ap, subst, ◌∙◌, inl, inr, arith}
+use Rattle.std.specs.Prelude.{find}
 use Rattle.std.proofs.lemmas.List.{append-nil}
 use Rattle.std.proofs.lemmas.Bool.{and_parts, eqb-true, ltb-true, cases_lt}
 use Rattle.wasm_tree.specs.declared.entries.DataCount.{DataCount}
@@ -58,30 +59,23 @@ part_has_rank p = refl
 pub ranks_differ : (p q : Part) → rank_of p ≡ rank_of q → p ≡ q
 ranks_differ p q e = ids_differ p q (sym (part_has_rank p) ∙ ap id_at e ∙ part_has_rank q)
 
+none_some : (A : Type 0) (p : Part) → ◌≡◌ {A = Option Part} None (Some p) → A
+none_some A p e = absurd cc
+
+choose : {X : Type 0} (b : Bool) (q : Part) (more : Option Part) (p : Part) → cond b (Some q) more ≡ Some p → (b ≡ true → q ≡ p → X)
+    → (more ≡ Some p → X) → X
+choose true q more p e h m = h refl cc
+choose false q more p e h m = m e
+
+-- what is found passes the test
+found_passes : (test : Part → Bool) (ps : List Part) (p : Part) → find test ps ≡ Some p → test p ≡ true
+found_passes test [] p e = none_some (test p ≡ true) p e
+found_passes test (q ∷ ps) p e =
+    choose (test q) q (find test ps) p e (λ passes is. sym (ap test is) ∙ passes) (λ e. found_passes test ps p e)
+
 -- the part of an id
 id_is : (id : ℕ) (p : Part) → part_of id ≡ Some p → id ≡ id_of p
-id_is id p e =
-    choose (eqb id 1) types _ p e (λ t s. eqb-true id 1 t ∙ ap id_of s) (λ e.
-    choose (eqb id 2) imports _ p e (λ t s. eqb-true id 2 t ∙ ap id_of s) (λ e.
-    choose (eqb id 3) functions _ p e (λ t s. eqb-true id 3 t ∙ ap id_of s) (λ e.
-    choose (eqb id 4) tables _ p e (λ t s. eqb-true id 4 t ∙ ap id_of s) (λ e.
-    choose (eqb id 5) memories _ p e (λ t s. eqb-true id 5 t ∙ ap id_of s) (λ e.
-    choose (eqb id 6) globals _ p e (λ t s. eqb-true id 6 t ∙ ap id_of s) (λ e.
-    choose (eqb id 7) exports _ p e (λ t s. eqb-true id 7 t ∙ ap id_of s) (λ e.
-    choose (eqb id 8) start _ p e (λ t s. eqb-true id 8 t ∙ ap id_of s) (λ e.
-    choose (eqb id 9) elements _ p e (λ t s. eqb-true id 9 t ∙ ap id_of s) (λ e.
-    choose (eqb id 10) code _ p e (λ t s. eqb-true id 10 t ∙ ap id_of s) (λ e.
-    choose (eqb id 11) segments _ p e (λ t s. eqb-true id 11 t ∙ ap id_of s) (λ e.
-    choose (eqb id 12) data_count _ p e (λ t s. eqb-true id 12 t ∙ ap id_of s) (λ e.
-    none_some _ p e))))))))))))
-  where
-    none_some : (A : Type 0) (p : Part) → ◌≡◌ {A = Option Part} None (Some p) → A
-    none_some A p e = absurd cc
-
-    choose : {X : Type 0} (b : Bool) (q : Part) (more : Option Part) (p : Part) → cond b (Some q) more ≡ Some p → (b ≡ true → q ≡ p → X)
-        → (more ≡ Some p → X) → X
-    choose true q more p e h m = h refl cc
-    choose false q more p e h m = m e
+id_is id p e = eqb-true id (id_of p) (found_passes (λ part. eqb id (id_of part)) of.parts p e)
 
 -- ---- a section's id
 

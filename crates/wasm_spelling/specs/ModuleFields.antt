@@ -1,6 +1,6 @@
 -- The fields of a module in binary order (WebAssembly Core 1.0, 5.3 to 5.5; Core 2.0, 5.5.15, for the number of data segments), and
 -- which bytes spell it. The limits stand as conditions at the fields of which they speak.
-use Rattle.std.specs.Prelude.{ℕ, ◌+◌, ◌-◌, List, [], ◌∷◌, length, Bool, true, false, Option, Some, None, is_none, nat_le, nat_lt, ◌==◌, ◌≤◌}
+use Rattle.std.specs.Prelude.{ℕ, ◌+◌, ◌-◌, List, [], ◌∷◌, length, Bool, true, false, Option, Some, None, option_to_list, is_none, nat_le, nat_lt, ◌==◌, ◌≤◌}
 use Rattle.std.specs.Str.{is_utf8}
 use Rattle.w2c_base.specs.declared.value.ValType.{ValType}
 use Rattle.w2c_base.specs.declared.value.ValType.TheVariants.{I32, I64}
@@ -68,8 +68,7 @@ block_type_code None = 0x40
 block_type_code (Some t) = type_code t
 
 abbrev pub results : Option ValType → List ValType
-results None = []
-results (Some t) = t ∷ []
+results result = option_to_list result
 
 abbrev pub func_type : FuncType → Fields → Fields
 func_type ty rest =
@@ -120,21 +119,21 @@ immediates kind rest = rest
 abbrev pub end_byte : ℕ → Fields → Fields
 end_byte place rest = here place (byte 0x0B rest)
 
+-- a block is opened
+abbrev opens : (room opcode : ℕ) → (result : Option ValType) → Fields → Fields
+opens room opcode result rest = byte opcode (provided (nat_lt 0 room) (byte (block_type_code result) rest))
+
 abbrev mutual
   pub code_fields : ℕ → Code → Fields → Fields
   code_fields room end_code rest = rest
   code_fields room (then_code place kind code) rest = here place (instr_fields room kind (code_fields room code rest))
 
   pub instr_fields : ℕ → Kind → Fields → Fields
-  instr_fields room (Block result code end_place) rest =
-      byte 0x02 (provided (nat_lt 0 room) (byte (block_type_code result) (code_fields (room - 1) code (end_byte end_place rest))))
-  instr_fields room (Loop result code end_place) rest =
-      byte 0x03 (provided (nat_lt 0 room) (byte (block_type_code result) (code_fields (room - 1) code (end_byte end_place rest))))
-  instr_fields room (If result code no_else end_place) rest =
-      byte 0x04 (provided (nat_lt 0 room) (byte (block_type_code result) (code_fields (room - 1) code (end_byte end_place rest))))
-  instr_fields room (If result code (else_code else_place other) end_place) rest =
-      byte 0x04 (provided (nat_lt 0 room) (byte (block_type_code result) (code_fields (room - 1) code
-      (here else_place (byte 0x05 (code_fields (room - 1) other (end_byte end_place rest)))))))
+  instr_fields room (Block t code end_place) rest = opens room 0x02 t (code_fields (room - 1) code (end_byte end_place rest))
+  instr_fields room (Loop t code end_place) rest = opens room 0x03 t (code_fields (room - 1) code (end_byte end_place rest))
+  instr_fields room (If t code no_else end_place) rest = opens room 0x04 t (code_fields (room - 1) code (end_byte end_place rest))
+  instr_fields room (If t code (else_code else_place other) end_place) rest = opens room 0x04 t (code_fields (room - 1) code
+      (here else_place (byte 0x05 (code_fields (room - 1) other (end_byte end_place rest)))))
   instr_fields room kind rest = byte (opcode_of kind) (immediates kind rest)
 
 -- an expression, whose end is not kept
@@ -238,20 +237,12 @@ id_of data_count = 12
 id_of code = 10
 id_of segments = 11
 
--- the place in the order of sections
+-- the place in the order of sections: that of the ids, but that data_count stands in front of code
 abbrev pub rank_of : Part → ℕ
-rank_of types = 1
-rank_of imports = 2
-rank_of functions = 3
-rank_of tables = 4
-rank_of memories = 5
-rank_of globals = 6
-rank_of exports = 7
-rank_of start = 8
-rank_of elements = 9
 rank_of data_count = 10
 rank_of code = 11
 rank_of segments = 12
+rank_of part = id_of part
 
 abbrev pub start_content : Option Start → Fields → Fields
 start_content None rest = provided false rest
@@ -301,10 +292,14 @@ sections [] t rest = customs rest
 sections (part ∷ more) t rest = customs (section part t (sections more t rest))
 
 -- magic, version (5.5.15), and the sections; as many bodies as functions
+abbrev pub magic : Fields → Fields
+magic rest = byte 0x00 (byte 0x61 (byte 0x73 (byte 0x6D rest)))
+
+abbrev pub version : Fields → Fields
+version rest = byte 0x01 (byte 0x00 (byte 0x00 (byte 0x00 rest)))
+
 abbrev pub module_fields : Module → Fields
-module_fields t =
-    byte 0x00 (byte 0x61 (byte 0x73 (byte 0x6D (byte 0x01 (byte 0x00 (byte 0x00 (byte 0x00
-    (provided (length t.funcs == length t.bodies) (sections parts t finished)))))))))
+module_fields t = magic (version (provided (length t.funcs == length t.bodies) (sections parts t finished)))
 
 -- the bytes are those of the module
 abbrev pub Spells : Module → List ℕ → Type 0

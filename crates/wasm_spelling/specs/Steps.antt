@@ -1,6 +1,6 @@
 -- Reading one field at a place of a window, with its first fault. A number's own fault comes before a fault of
 -- its value (WebAssembly Core 1.0, 5.2 to 5.4; Core 2.0, 5.4.6 and 5.5.15).
-use Rattle.std.specs.Prelude.{ℕ, zero, suc, ℤ, ◌+◌, List, [], ◌∷◌, length, take, drop, Bool, true, false, ◌||◌, ◌&&◌, not, Option, Some, None, Result, Ok, Err, nat_lt, nat_le, ◌==◌, if◌then◌else◌}
+use Rattle.std.specs.Prelude.{ℕ, zero, suc, ℤ, ◌+◌, List, [], ◌∷◌, length, take, drop, find, Bool, true, false, ◌||◌, ◌&&◌, not, Option, Some, None, ok_or, Result, Ok, Err, nat_lt, nat_le, ◌==◌, if◌then◌else◌}
 use Rattle.std.specs.Str.{is_utf8}
 use Rattle.leb_bytes.specs.declared.fault.LebFault.{LebFault}
 use Rattle.leb_bytes.specs.declared.fault.LebFault.TheVariants as leb
@@ -19,7 +19,7 @@ use Rattle.wasm_spelling.specs.declared.fault.Which.{Which}
 use Rattle.wasm_spelling.specs.declared.fault.Which.TheVariants as which
 use Rattle.wasm_spelling.specs.At.{At, Counts}
 use Rattle.wasm_spelling.specs.Limits.{most_locals, most_all_locals}
-use Rattle.wasm_spelling.specs.ModuleFields.{Part, types, imports, functions, tables, memories, globals, exports, start, elements, data_count, code, segments, rank_of}
+use Rattle.wasm_spelling.specs.ModuleFields.{Part, parts, id_of, rank_of, type_code, block_type_code, export_code}
 
 infixl 10 ◌>>=◌
 abbrev pub ◌>>=◌ : {A B : Type 0} → Result A ReadFault → (A → Result B ReadFault) → Result B ReadFault
@@ -90,31 +90,25 @@ within most w place n = if nat_le n most then Ok n else Err (Limit place w)
 abbrev pub utf8_of : ℕ → List ℕ → Result (List ℕ) ReadFault
 utf8_of place t = if is_utf8 t then Ok t else malformed place cause.BadUTF8
 
+-- of these values the one that has this code, or a fault
+abbrev pub by_code : {A : Type 0} → (A → ℕ) → List A → ReadFault → ℕ → Result A ReadFault
+by_code code values fault b = ok_or (find (λ v. b == code v) values) fault
+
+-- a byte that is no type's code: a floating-point type's, or none at all
+abbrev pub no_type : ℕ → ℕ → ReadFault
+no_type place b = if (b == 0x7C) || (b == 0x7D) then Float place else Malformed place cause.BadTypeCode
+
 abbrev pub type_of : ℕ → ℕ → Result ValType ReadFault
-type_of place b =
-    if b == 0x7F then Ok I32
-    else if b == 0x7E then Ok I64
-    else if (b == 0x7C) || (b == 0x7D) then Err (Float place)
-    else malformed place cause.BadTypeCode
+type_of place b = by_code type_code (I32 ∷ I64 ∷ []) (no_type place b) b
 
 abbrev pub block_type_of : ℕ → ℕ → Result (Option ValType) ReadFault
-block_type_of place b =
-    if b == 0x40 then Ok None
-    else if b == 0x7F then Ok (Some I32)
-    else if b == 0x7E then Ok (Some I64)
-    else if (b == 0x7C) || (b == 0x7D) then Err (Float place)
-    else malformed place cause.BadTypeCode
+block_type_of place b = by_code block_type_code (None ∷ Some I32 ∷ Some I64 ∷ []) (no_type place b) b
 
 abbrev pub flag_of : Cause → ℕ → ℕ → Result Bool ReadFault
 flag_of c place b = if b == 0x00 then Ok false else if b == 0x01 then Ok true else malformed place c
 
 abbrev pub kind_of : ℕ → ℕ → Result ExportKind ReadFault
-kind_of place b =
-    if b == 0x00 then Ok kind.Func
-    else if b == 0x01 then Ok kind.Table
-    else if b == 0x02 then Ok kind.Memory
-    else if b == 0x03 then Ok kind.Global
-    else malformed place cause.BadKind
+kind_of place b = by_code export_code (kind.Func ∷ kind.Table ∷ kind.Memory ∷ kind.Global ∷ []) (Malformed place cause.BadKind) b
 
 abbrev pub zero_of : ℕ → ℕ → Result (Unit {0}) ReadFault
 zero_of place n = if n == 0 then Ok tt else malformed place cause.ZeroByteExpected
@@ -123,8 +117,7 @@ zero_of place n = if n == 0 then Ok tt else malformed place cause.ZeroByteExpect
 
 -- the instruction of a sub-opcode
 abbrev pub sub_opcode_in : Option Prefixed → ℕ → Result Prefixed ReadFault
-sub_opcode_in None place = malformed place cause.BadOpcode
-sub_opcode_in (Some r) place = Ok r
+sub_opcode_in row place = ok_or row (Malformed place cause.BadOpcode)
 
 abbrev pub sub_opcode_of : ℕ → ℕ → Result Prefixed ReadFault
 sub_opcode_of place n = sub_opcode_in (prefixed_of n) place
@@ -180,8 +173,7 @@ abbrev pub more_locals : ℕ → ℕ × At → Result (ℕ × At) ReadFault
 more_locals place x =
     if nat_le (x.1.counts.locals + x.0) most_locals
     then (if nat_le (x.1.counts.all_locals + x.0) most_all_locals
-    then Ok (x.0, record x.1 { counts = locals_counted x.0 x.1.counts })
-    else Err (Limit place which.AllLocals))
+    then Ok (x.0, record x.1 { counts = locals_counted x.0 x.1.counts }) else Err (Limit place which.AllLocals))
     else Err (Limit place which.Locals)
 
 abbrev pub run_count_at : Reader ℕ
@@ -226,20 +218,7 @@ pub data SectionId : Type 0 where
   a_part : Part → SectionId
 
 abbrev pub part_of : ℕ → Option Part
-part_of id =
-    if id == 1 then Some types
-    else if id == 2 then Some imports
-    else if id == 3 then Some functions
-    else if id == 4 then Some tables
-    else if id == 5 then Some memories
-    else if id == 6 then Some globals
-    else if id == 7 then Some exports
-    else if id == 8 then Some start
-    else if id == 9 then Some elements
-    else if id == 10 then Some code
-    else if id == 11 then Some segments
-    else if id == 12 then Some data_count
-    else None
+part_of id = find (λ part. id == id_of part) parts
 
 -- no function lacks its body
 abbrev pub bodies_done : Counts → Bool

@@ -47,9 +47,7 @@ extend_width I64Extend32S = 32
 abbrev pub extend_type : ExtendOp → ValType
 extend_type I32Extend8S = I32
 extend_type I32Extend16S = I32
-extend_type I64Extend8S = I64
-extend_type I64Extend16S = I64
-extend_type I64Extend32S = I64
+extend_type _ = I64
 
 -- ---- parts of these
 

@@ -13,69 +13,29 @@ use Rattle.wasm_tree.specs.declared.entries.ImportKind.TheVariants.{Func, Table,
 -- what an import brings into each index space: the index of a function's type, the limits of a table or a
 -- memory, a global's type and whether it is mutable
 abbrev pub func_of_import : Import → List ℕ
-func_of_import i = elim i.kind [
-  | Func type_index ↦ type_index ∷ []
-  | Table limits ↦ []
-  | Memory limits ↦ []
-  | Global ty mutable ↦ []
-]
+func_of_import i = elim i.kind [ Func type_index ↦ type_index ∷ [] | _ ↦ [] ]
 
 abbrev pub table_of_import : Import → List Limits
-table_of_import i = elim i.kind [
-  | Func type_index ↦ []
-  | Table limits ↦ limits ∷ []
-  | Memory limits ↦ []
-  | Global ty mutable ↦ []
-]
+table_of_import i = elim i.kind [ Table limits ↦ limits ∷ [] | _ ↦ [] ]
 
 abbrev pub memory_of_import : Import → List Limits
-memory_of_import i = elim i.kind [
-  | Func type_index ↦ []
-  | Table limits ↦ []
-  | Memory limits ↦ limits ∷ []
-  | Global ty mutable ↦ []
-]
+memory_of_import i = elim i.kind [ Memory limits ↦ limits ∷ [] | _ ↦ [] ]
 
 abbrev pub global_of_import : Import → List (ValType × Bool)
-global_of_import i = elim i.kind [
-  | Func type_index ↦ []
-  | Table limits ↦ []
-  | Memory limits ↦ []
-  | Global ty mutable ↦ (ty, mutable) ∷ []
-]
+global_of_import i = elim i.kind [ Global ty mutable ↦ (ty, mutable) ∷ [] | _ ↦ [] ]
 
 -- what kind of import it is
 abbrev pub is_func_import : Import → Bool
-is_func_import i = elim i.kind [
-  | Func type_index ↦ true
-  | Table limits ↦ false
-  | Memory limits ↦ false
-  | Global ty mutable ↦ false
-]
+is_func_import i = elim i.kind [ Func type_index ↦ true | _ ↦ false ]
 
 abbrev pub is_table_import : Import → Bool
-is_table_import i = elim i.kind [
-  | Func type_index ↦ false
-  | Table limits ↦ true
-  | Memory limits ↦ false
-  | Global ty mutable ↦ false
-]
+is_table_import i = elim i.kind [ Table limits ↦ true | _ ↦ false ]
 
 abbrev pub is_memory_import : Import → Bool
-is_memory_import i = elim i.kind [
-  | Func type_index ↦ false
-  | Table limits ↦ false
-  | Memory limits ↦ true
-  | Global ty mutable ↦ false
-]
+is_memory_import i = elim i.kind [ Memory limits ↦ true | _ ↦ false ]
 
 abbrev pub is_global_import : Import → Bool
-is_global_import i = elim i.kind [
-  | Func type_index ↦ false
-  | Table limits ↦ false
-  | Memory limits ↦ false
-  | Global ty mutable ↦ true
-]
+is_global_import i = elim i.kind [ Global ty mutable ↦ true | _ ↦ false ]
 
 -- how many functions and globals a module imports
 abbrev pub imported_funcs : Module → ℕ
@@ -87,8 +47,7 @@ imported_globals m = length (filter is_global_import m.imports)
 -- of what stands beside the functions that a module defines, in their order, that of the function with
 -- an index; nothing at the index of an import
 abbrev pub at_defined : {A : Type 0} → Module → List A → ℕ → Option A
-at_defined m items index =
-    if nat_lt index (imported_funcs m) then None else slice_get items (index - imported_funcs m)
+at_defined m items index = if nat_lt index (imported_funcs m) then None else slice_get items (index - imported_funcs m)
 
 -- the type indexes of the functions, the limits of the tables and the memories, the types of the globals
 abbrev pub func_space : Module → List ℕ

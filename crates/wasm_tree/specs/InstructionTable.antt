@@ -1,6 +1,6 @@
 -- Opcodes, and the table of instructions but for blocks (WebAssembly Core 1.0, 5.4 and 3.3): a row has the opcode,
 -- what stands behind it with the instruction that this makes, and the instruction's type.
-use Rattle.std.specs.Prelude.{ℕ, ℤ, List, [], ◌∷◌, ◌++◌, map, Option, Some, None, ◌==◌, if◌then◌else◌}
+use Rattle.std.specs.Prelude.{ℕ, ℤ, ◌+◌, List, [], ◌∷◌, ◌++◌, map, find, Option, ◌==◌}
 use Rattle.w2c_base.specs.declared.value.ValType.{ValType}
 use Rattle.w2c_base.specs.declared.value.ValType.TheVariants as type
 use Rattle.wasm_tree.specs.declared.code.MemArg.{MemArg}
@@ -52,72 +52,56 @@ extend_opcode I64Extend8S = 0xC2
 extend_opcode I64Extend16S = 0xC3
 extend_opcode I64Extend32S = 0xC4
 
--- numeric instructions (5.4.5)
-abbrev pub compare_opcode : ValType → CompareOp → ℕ
-compare_opcode type.I32 Eq = 0x46
-compare_opcode type.I32 Ne = 0x47
-compare_opcode type.I32 LtS = 0x48
-compare_opcode type.I32 LtU = 0x49
-compare_opcode type.I32 GtS = 0x4A
-compare_opcode type.I32 GtU = 0x4B
-compare_opcode type.I32 LeS = 0x4C
-compare_opcode type.I32 LeU = 0x4D
-compare_opcode type.I32 GeS = 0x4E
-compare_opcode type.I32 GeU = 0x4F
-compare_opcode type.I64 Eq = 0x51
-compare_opcode type.I64 Ne = 0x52
-compare_opcode type.I64 LtS = 0x53
-compare_opcode type.I64 LtU = 0x54
-compare_opcode type.I64 GtS = 0x55
-compare_opcode type.I64 GtU = 0x56
-compare_opcode type.I64 LeS = 0x57
-compare_opcode type.I64 LeU = 0x58
-compare_opcode type.I64 GeS = 0x59
-compare_opcode type.I64 GeU = 0x5A
-
-abbrev pub unary_opcode : ValType → UnaryOp → ℕ
-unary_opcode type.I32 Clz = 0x67
-unary_opcode type.I32 Ctz = 0x68
-unary_opcode type.I32 Popcnt = 0x69
-unary_opcode type.I64 Clz = 0x79
-unary_opcode type.I64 Ctz = 0x7A
-unary_opcode type.I64 Popcnt = 0x7B
-
-abbrev pub binary_opcode : ValType → BinaryOp → ℕ
-binary_opcode type.I32 Add = 0x6A
-binary_opcode type.I32 Sub = 0x6B
-binary_opcode type.I32 Mul = 0x6C
-binary_opcode type.I32 DivS = 0x6D
-binary_opcode type.I32 DivU = 0x6E
-binary_opcode type.I32 RemS = 0x6F
-binary_opcode type.I32 RemU = 0x70
-binary_opcode type.I32 And = 0x71
-binary_opcode type.I32 Or = 0x72
-binary_opcode type.I32 Xor = 0x73
-binary_opcode type.I32 Shl = 0x74
-binary_opcode type.I32 ShrS = 0x75
-binary_opcode type.I32 ShrU = 0x76
-binary_opcode type.I32 Rotl = 0x77
-binary_opcode type.I32 Rotr = 0x78
-binary_opcode type.I64 Add = 0x7C
-binary_opcode type.I64 Sub = 0x7D
-binary_opcode type.I64 Mul = 0x7E
-binary_opcode type.I64 DivS = 0x7F
-binary_opcode type.I64 DivU = 0x80
-binary_opcode type.I64 RemS = 0x81
-binary_opcode type.I64 RemU = 0x82
-binary_opcode type.I64 And = 0x83
-binary_opcode type.I64 Or = 0x84
-binary_opcode type.I64 Xor = 0x85
-binary_opcode type.I64 Shl = 0x86
-binary_opcode type.I64 ShrS = 0x87
-binary_opcode type.I64 ShrU = 0x88
-binary_opcode type.I64 Rotl = 0x89
-binary_opcode type.I64 Rotr = 0x8A
+-- numeric instructions (5.4.5): the opcode at i32. That at i64 stands so many places behind it
+abbrev at_type : ValType → (opcode behind : ℕ) → ℕ
+at_type type.I32 opcode behind = opcode
+at_type type.I64 opcode behind = opcode + behind
 
 abbrev pub eqz_opcode : ValType → ℕ
-eqz_opcode type.I32 = 0x45
-eqz_opcode type.I64 = 0x50
+eqz_opcode ty = at_type ty 0x45 0x0B
+
+abbrev comparison_at_i32 : CompareOp → ℕ
+comparison_at_i32 Eq = 0x46
+comparison_at_i32 Ne = 0x47
+comparison_at_i32 LtS = 0x48
+comparison_at_i32 LtU = 0x49
+comparison_at_i32 GtS = 0x4A
+comparison_at_i32 GtU = 0x4B
+comparison_at_i32 LeS = 0x4C
+comparison_at_i32 LeU = 0x4D
+comparison_at_i32 GeS = 0x4E
+comparison_at_i32 GeU = 0x4F
+
+abbrev pub compare_opcode : ValType → CompareOp → ℕ
+compare_opcode ty op = at_type ty (comparison_at_i32 op) 0x0B
+
+abbrev unary_at_i32 : UnaryOp → ℕ
+unary_at_i32 Clz = 0x67
+unary_at_i32 Ctz = 0x68
+unary_at_i32 Popcnt = 0x69
+
+abbrev pub unary_opcode : ValType → UnaryOp → ℕ
+unary_opcode ty op = at_type ty (unary_at_i32 op) 0x12
+
+abbrev binary_at_i32 : BinaryOp → ℕ
+binary_at_i32 Add = 0x6A
+binary_at_i32 Sub = 0x6B
+binary_at_i32 Mul = 0x6C
+binary_at_i32 DivS = 0x6D
+binary_at_i32 DivU = 0x6E
+binary_at_i32 RemS = 0x6F
+binary_at_i32 RemU = 0x70
+binary_at_i32 And = 0x71
+binary_at_i32 Or = 0x72
+binary_at_i32 Xor = 0x73
+binary_at_i32 Shl = 0x74
+binary_at_i32 ShrS = 0x75
+binary_at_i32 ShrU = 0x76
+binary_at_i32 Rotl = 0x77
+binary_at_i32 Rotr = 0x78
+
+abbrev pub binary_opcode : ValType → BinaryOp → ℕ
+binary_opcode ty op = at_type ty (binary_at_i32 op) 0x12
 
 abbrev pub opcode_of : Kind → ℕ
 opcode_of (Block result code end_place) = 0x02
@@ -266,8 +250,7 @@ rows =
     ∷ []
 
 abbrev pub first_row : ℕ → List Row → Option Row
-first_row opcode [] = None
-first_row opcode (r ∷ rest) = if r.opcode == opcode then Some r else first_row opcode rest
+first_row opcode table = find (λ r. r.opcode == opcode) table
 
 abbrev pub row_of : ℕ → Option Row
 row_of opcode = first_row opcode rows
@@ -286,8 +269,7 @@ abbrev pub prefixed : List Prefixed
 prefixed = prefixed_row 10 MemoryCopy 2 ∷ prefixed_row 11 MemoryFill 1 ∷ []
 
 abbrev pub first_prefixed : ℕ → List Prefixed → Option Prefixed
-first_prefixed sub_opcode [] = None
-first_prefixed sub_opcode (r ∷ rest) = if r.sub_opcode == sub_opcode then Some r else first_prefixed sub_opcode rest
+first_prefixed sub_opcode table = find (λ r. r.sub_opcode == sub_opcode) table
 
 abbrev pub prefixed_of : ℕ → Option Prefixed
 prefixed_of sub_opcode = first_prefixed sub_opcode prefixed

@@ -89,10 +89,8 @@ abbrev mutual
   tokens c labels (then_code place kind code) = kind_tokens c labels place kind ++ tokens c labels code
 
   pub kind_tokens : Context → Labels → ℕ → Kind → List Fault
-  kind_tokens c labels place (Block t code end_place) =
-      plain_token place ∷ (tokens c (t ∷ labels) code ++ plain_token end_place ∷ [])
-  kind_tokens c labels place (Loop t code end_place) =
-      plain_token place ∷ (tokens c (None ∷ labels) code ++ plain_token end_place ∷ [])
+  kind_tokens c labels place (Block t code end_place) = plain_token place ∷ (tokens c (t ∷ labels) code ++ plain_token end_place ∷ [])
+  kind_tokens c labels place (Loop t code end_place) = plain_token place ∷ (tokens c (None ∷ labels) code ++ plain_token end_place ∷ [])
   kind_tokens c labels place (If t code otherwise end_place) =
       plain_token place ∷ (tokens c (t ∷ labels) code ++ (else_tokens c (t ∷ labels) otherwise ++ plain_token end_place ∷ []))
   kind_tokens c labels place kind = record { place = place; cause = cause_of c labels kind } ∷ []

@@ -9,7 +9,7 @@ use Rattle.w2c_base.specs.Values.{equal_type}
 use Rattle.wasm_tree.specs.declared.tree.Module.{Module}
 use Rattle.wasm_tree.specs.declared.entries.Limits.{Limits}
 use Rattle.wasm_tree.specs.declared.entries.Import.{Import}
-use Rattle.wasm_tree.specs.declared.entries.ImportKind.TheVariants.{Func as ImportFunc, Table as ImportTable, Memory as ImportMemory, Global as ImportGlobal}
+use Rattle.wasm_tree.specs.declared.entries.ImportKind.TheVariants.{Func as ImportFunc}
 use Rattle.wasm_tree.specs.declared.entries.Export.{Export}
 use Rattle.wasm_tree.specs.declared.entries.ExportKind.TheVariants.{Func as ExportFunc, Table as ExportTable, Memory as ExportMemory, Global as ExportGlobal}
 use Rattle.wasm_tree.specs.declared.entries.Start.{Start}
@@ -29,12 +29,7 @@ is_out space index = is_none (slice_get space index)
 
 -- the type of an imported or a defined function is unknown: at the type's index
 abbrev pub unknown_import_type : Module → Import → List Fault
-unknown_import_type m i = elim i.kind [
-  | ImportFunc type_index ↦ fault_if (is_none (type_in m type_index)) i.place cause.UnknownType
-  | ImportTable limits ↦ []
-  | ImportMemory limits ↦ []
-  | ImportGlobal ty mutable ↦ []
-]
+unknown_import_type m i = elim i.kind [ ImportFunc t ↦ fault_if (is_none (type_in m t)) i.place cause.UnknownType | _ ↦ [] ]
 
 abbrev pub unknown_types : Module → List Fault
 unknown_types m =

@@ -1,6 +1,6 @@
 -- Typing of instructions and of lists of them (WebAssembly Core 1.0, 3.3; Core 2.0, 3.3.7 for bytes copied and filled). A stack is
 -- a list of value types, its top first; the operands and results of a type are written as in the standard, the top last.
-use Rattle.std.specs.Prelude.{◌≡◌, ◌≤◌, ◌^◌, Bool, true, List, [], ◌∷◌, ◌++◌, reverse, IsSome, slice_get, Option, Some, None}
+use Rattle.std.specs.Prelude.{◌≡◌, ◌≤◌, ◌^◌, Bool, true, List, [], ◌∷◌, ◌++◌, reverse, IsSome, slice_get, Option, Some, None, option_to_list}
 use Rattle.std.specs.List.{AllByRecursion}
 use Rattle.w2c_base.specs.declared.value.ValType.{ValType}
 use Rattle.w2c_base.specs.declared.value.ValType.TheVariants as type
@@ -16,8 +16,7 @@ Stack = List ValType
 
 -- no value, or one
 abbrev pub values : Option ValType → List ValType
-values None = []
-values (Some t) = t ∷ []
+values result = option_to_list result
 
 -- of type [operands] → [results]: the rest of the stack is left alone (3.3.6)
 abbrev pub Turns : List ValType → List ValType → Stack → Stack → Type 0

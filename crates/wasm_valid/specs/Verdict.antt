@@ -1,5 +1,6 @@
 -- The verdict on a module: it is valid (WebAssembly Core 1.0, 3.4.10), or it has a first fault.
 use Rattle.std.specs.Prelude.{◌≡◌, if◌then◌else◌, nat_lt, List, [], ◌∷◌, ◌++◌, zip, Option, Some, None, ◌⊎◌}
+use Rattle.std.specs.List.{AllByRecursion}
 use Rattle.wasm_tree.specs.declared.tree.Module.{Module}
 use Rattle.wasm_tree.specs.declared.entries.FuncEntry.{FuncEntry}
 use Rattle.wasm_tree.specs.declared.entries.BodyEntry.{BodyEntry}
@@ -61,8 +62,7 @@ Verdict m outcome = (faults : List Fault) × FaultsOf m faults × (outcome ≡ o
 
 -- a module is valid where no fault stands outside its bodies and each body has a typing
 abbrev pub AreTyped : Module → Bodies → Type 0
-AreTyped m [] = Unit {0}
-AreTyped m (b ∷ bodies) = IsTyped (body_context m b.0 b.1) b.1 × AreTyped m bodies
+AreTyped m bodies = AllByRecursion (λ b. IsTyped (body_context m b.0 b.1) b.1) bodies
 
 pub record IsValid (m : Module) : Type 0 where
   pub no_faults : module_faults m ≡ []

@@ -7,11 +7,11 @@ use Rattle.wasm_tree.specs.declared.entries.DataCount.{DataCount}
 use Rattle.wasm_tree.specs.declared.tree.Module.{Module}
 use Rattle.wasm_spelling.specs.Fields.{Fields, finished, byte, number, provided, window}
 use Rattle.wasm_spelling.specs.Limits.{most_functions}
-use Rattle.wasm_spelling.specs.ModuleFields.{Part, parts, types, imports, functions, tables, memories, globals, exports, start, elements, data_count, code, segments, bodies, content, data_count_content, each, element_entry, export_entry, func_entry, global_entry, id_of, import_entry, is_empty, memory_entry, module_fields, segment_entry, start_content, table_entry, type_entry}
+use Rattle.wasm_spelling.specs.ModuleFields.{Part, parts, types, imports, functions, tables, memories, globals, exports, start, elements, data_count, code, segments, bodies, content, data_count_content, each, element_entry, export_entry, func_entry, global_entry, id_of, import_entry, is_empty, memory_entry, module_fields, segment_entry, start_content, table_entry, type_entry, magic, version}
 use Rattle.wasm_spelling.specs.Limits.{most_module_bytes}
 use Rattle.wasm_writing.specs.Aside.{SpelledAside}
 use Rattle.wasm_spelling.specs.Places.{SpellsAside, bare_body, bare_data_count, bare_element, bare_export, bare_func, bare_global, bare_import, bare_limits_entry, bare_module, bare_segment, bare_start, bare_type}
-use Rattle.wasm_writing.specs.ShortFile.{filled, magic, short_fields, version}
+use Rattle.wasm_writing.specs.ShortFile.{filled, short_fields}
 use Rattle.wasm_writing.proofs.Aside.{short_aside_of, spelled_aside}
 use Rattle.wasm_writing.proofs.Both.{Both, both_here, both_none, both_self, both_short_vector, both_then, both_vector, both_window, length-bare}
 use Rattle.wasm_writing.proofs.BothEntries.{both_bodies, both_element, both_export, both_func, both_global, both_import, both_memory, both_segment, both_table, both_type}

@@ -3,18 +3,12 @@
 use Rattle.std.specs.Prelude.{ℕ, List, length, ◌==◌, if◌then◌else◌}
 use Rattle.wasm_tree.specs.declared.tree.Module.{Module}
 use Rattle.wasm_spelling.specs.Fields.{Fields, finished, byte, provided, window}
-use Rattle.wasm_spelling.specs.ModuleFields.{Part, parts, id_of, content, is_empty, each}
+use Rattle.wasm_spelling.specs.ModuleFields.{Part, parts, id_of, content, is_empty, each, magic, version}
 use Rattle.wasm_writing.specs.Aside.{SpelledShort}
 
 -- a section, where it has entries
 unfoldable pub filled : Module → Part → Fields → Fields
 filled t part rest = if is_empty part t then rest else byte (id_of part) (window (content part t finished) rest)
-
-abbrev pub magic : Fields → Fields
-magic rest = byte 0x00 (byte 0x61 (byte 0x73 (byte 0x6D rest)))
-
-abbrev pub version : Fields → Fields
-version rest = byte 0x01 (byte 0x00 (byte 0x00 (byte 0x00 rest)))
 
 -- magic, version, and the sections that have entries; as many bodies as functions
 abbrev pub short_fields : Module → Fields → Fields

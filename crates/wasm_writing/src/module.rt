@@ -3,7 +3,8 @@ ghost use Rattle.std.specs.Prelude.{◌≡◌, ◌≤◌, ◌↔◌, List, ℕ, 
 ghost use Rattle.wasm_tree.specs.declared.tree.Module.{Module as Tree};
 ghost use Rattle.wasm_writing.specs.Drafts.{Puts};
 ghost use Rattle.wasm_spelling.specs.Places.{IsFormed, SpellsAside};
-ghost use Rattle.wasm_writing.specs.ShortFile.{magic as magic_fields, version as version_fields, short_fields, IsShortFile};
+ghost use Rattle.wasm_spelling.specs.ModuleFields.{magic as magic_fields, version as version_fields};
+ghost use Rattle.wasm_writing.specs.ShortFile.{short_fields, IsShortFile};
 
 use crate::draft::Draft;
 use crate::sections::{PARTS, sections};
