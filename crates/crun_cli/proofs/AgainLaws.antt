@@ -1,24 +1,24 @@
 -- A run whose journal was written, and that is replayed, is the same run.
-use Rattle.std.proofs.Common.{◌≡◌, ◌⊎◌, inl, inr, ℕ, ◌≤◌, List, [], ◌∷◌, length, map, Option, Some, None, MatchOption, refl, sym, ap, ◌∙◌, subst}
+use Rattle.std.proofs.Common.{◌≡◌, inl, inr, ℕ, List, [], ◌∷◌, map, Option, Some, None, MatchOption, refl, sym, ap, ◌∙◌, subst}
 use Rattle.std.specs.FinMap.{get}
 use Rattle.std.specs.Prelude.{Bool}
 use Rattle.w2c_base.specs.Run.{Host}
 use Rattle.w2c_io.specs.Contents.{Name, Contents, extended, holding}
 use Rattle.w2c_io.proofs.Names.{get_here}
-use Rattle.w2c_files.specs.Reading.{AreHeld, AreRead}
+use Rattle.w2c_files.specs.Reading.{AreHeld}
 use Rattle.c_tree.specs.Tree as tree
 use Rattle.c_meaning.specs.Linking.{SymbolCall}
 use Rattle.c_meaning.specs.Run.{CRun, Ended, Outcome, OutOfSteps, Stopped}
 use Rattle.c_meaning.specs.State.{Asks, Stuck, Trapped, Undefined}
 use Rattle.c_hosts.specs.declared.host.HostModule.{Ghosts as HostModule}
 use Rattle.c_hosts.specs.declared.journal.Asked.{Asked}
-use Rattle.c_hosts.specs.Asking.{hosts_of, Answered}
-use Rattle.c_hosts.specs.Journals.{events_in, replies_in}
+use Rattle.c_hosts.specs.Asking.{hosts_of}
+use Rattle.c_hosts.specs.Journals.{replies_in}
 use Rattle.crun_lines.specs.RunLines.{lines_of}
 use Rattle.host_replay.specs.declared.replay.ReplayHost.{ReplayHost}
 use Rattle.host_replay.specs.Reading.{empty, lines_of as journal_lines_of, IsJournal}
 use Rattle.host_replay.specs.Replayed.{AreReplays, replaying}
-use Rattle.host_replay.specs.Runs.{asked_events, run_with, IsAnsweredRun}
+use Rattle.host_replay.specs.Runs.{run_with, IsAnsweredRun}
 use Rattle.host_replay.specs.Texts.{journal_text, Recorded}
 use Rattle.host_replay.proofs.Again.{asks_again}
 use Rattle.host_replay.proofs.Given.{hosts_same}
@@ -28,13 +28,11 @@ use Rattle.crun_words.specs.Inputs.{AllRead, AreInputs, Held, IsJournalReading, 
 use Rattle.crun_job.specs.Job.{IsTextsJob, Job, Run, Stops, Write}
 use Rattle.crun_job.specs.Lines.{Usage}
 use Rattle.crun_cli.specs.Again.{AsksAgain, GainsTheSame, IsTheSame, ReplaysJournal, RunsAgain}
-use Rattle.c_meaning.specs.Linking.{Program}
 use Rattle.c_meaning.specs.Run.{c_run}
-use Rattle.crun_words.specs.Inputs.{most_journal_bytes, Reading}
 use Rattle.crun_cli.specs.Ends.{By_refusal, By_run, By_unit, HasAnswer, HasPlayed, IsAnswered, IsJobWith, IsJournaled, IsRun, Ran, WithHosts}
-use Rattle.crun_cli.specs.Jobs.{symbols_of, HoldsJournal, IsJobBehind, IsJobOfTexts, IsLineJob, IsReplayJob, IsRunJob}
+use Rattle.crun_cli.specs.Jobs.{symbols_of, HoldsJournal, IsJobOfTexts, IsLineJob, IsReplayJob, IsRunJob}
 use Rattle.crun_cli.specs.Outside.{Outside}
-use Rattle.crun_cli.specs.Runs.{HasRun, HasStatus}
+use Rattle.crun_cli.specs.Runs.{HasStatus}
 use Rattle.crun_cli.proofs.OneJob.{one_job}
 
 same_journal : (text : List ℕ) (a b : Recorded) → IsJournal text a → IsJournal text b → a ≡ b

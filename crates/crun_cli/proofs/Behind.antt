@@ -1,26 +1,5 @@
 -- What the outcome of an init function or a call, and the lines that are written of it, make of where a run stands.
-use Rattle.std.proofs.Common.{
-  ◌≡◌,
-  ℕ,
-  ◌+◌,
-  List,
-  [],
-  ◌∷◌,
-  ◌++◌,
-  append_assoc,
-  length,
-  map,
-  drop,
-  Option,
-  Some,
-  None,
-  refl,
-  sym,
-  ap,
-  ◌∙◌,
-  subst,
-  arith,
-}
+use Rattle.std.proofs.Common.{◌≡◌, ℕ, ◌+◌, List, [], ◌∷◌, ◌++◌, append_assoc, length, map, drop, Option, Some, None, refl, sym, ap, ◌∙◌, subst}
 use Rattle.std.specs.Prelude.{Bool, true, false, if◌then◌else◌}
 use Rattle.std.proofs.lemmas.List.{append-nil, drop_at, map-append}
 use Rattle.w2c_base.specs.declared.value.Value.{Value}
@@ -29,7 +8,7 @@ use Rattle.w2c_base.proofs.Events.{asks_behind}
 use Rattle.w2c_io.specs.Contents.{extended}
 use Rattle.w2c_io.specs.Telling.{SaysPart}
 use Rattle.c_tree.specs.View.{unit_of}
-use Rattle.c_meaning.specs.Linking.{Program, SymbolCall}
+use Rattle.c_meaning.specs.Linking.{SymbolCall}
 use Rattle.c_meaning.specs.Run.{CRun, Ended, c_run, over}
 use Rattle.c_hosts.specs.declared.host.HostModule.{Ghosts as HostModule}
 use Rattle.c_hosts.specs.declared.journal.Asked.{Asked}

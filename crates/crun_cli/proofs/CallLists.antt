@@ -1,7 +1,6 @@
 -- The calls of a list, one by one.
-use Rattle.std.proofs.Common.{◌≡◌, ℕ, ◌+◌, ◌<◌, List, [], ◌∷◌, ◌++◌, length, map, take, drop, get_or, refl, sym, ap, ◌∙◌, arith}
+use Rattle.std.proofs.Common.{◌≡◌, ℕ, ◌+◌, ◌<◌, List, [], ◌∷◌, ◌++◌, length, take, drop, get_or, sym, arith}
 use Rattle.std.proofs.lemmas.List.{length-map, length-take-le}
-use Rattle.c_meaning.specs.Linking.{SymbolCall}
 use Rattle.crun_job.specs.declared.calls_file.NamedCall.{NamedCall}
 use Rattle.crun_job.specs.Seen.{call_seen, calls_seen}
 use Rattle.crun_cli.proofs.Loops.{mapped_next, mapped_split}

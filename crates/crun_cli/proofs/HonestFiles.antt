@@ -1,34 +1,5 @@
 -- Over files that behave as files what passed says what a call comes to over what they hold.
-use Rattle.std.proofs.Common.{
-  ◌≡◌,
-  ◌⊎◌,
-  inl,
-  inr,
-  ℕ,
-  ◌≤◌,
-  Bool,
-  true,
-  false,
-  List,
-  [],
-  ◌∷◌,
-  ◌++◌,
-  append_assoc,
-  length,
-  MatchOption,
-  Option,
-  Some,
-  None,
-  Result,
-  Ok,
-  Err,
-  refl,
-  sym,
-  ap,
-  ◌∙◌,
-  subst,
-  arith,
-}
+use Rattle.std.proofs.Common.{◌≡◌, ◌⊎◌, inl, inr, ℕ, ◌≤◌, Bool, true, false, List, [], ◌∷◌, ◌++◌, append_assoc, length, MatchOption, Option, Some, None, Err, refl, sym, ap, ◌∙◌, subst, arith}
 use Rattle.std.proofs.lemmas.List.{append-nil}
 use Rattle.std.specs.Prelude.{◌&&◌, if◌then◌else◌, option_and_then}
 use Rattle.w2c_base.specs.Run.{Host}
@@ -353,7 +324,7 @@ no_fault_asked words handed m = by (line_of words)
 -- ---- what the call comes to
 
 -- by its status: a run or a unit, a refusal, a file that could not be read, a line or a file that is not written, want of memory
-data Came {H : Type 0} (hm : HostModule H) (hosts : List H) (words : List Name) (m : Contents) (old new : Outside) (status : ℕ)
+pub data Came {H : Type 0} (hm : HostModule H) (hosts : List H) (words : List Name) (m : Contents) (old new : Outside) (status : ℕ)
     (Said : List ℕ → Type 0) (events : List Event) : Type 0 where
   Done : IsRunStatus status → Finished hm hosts words m old new status → Came hm hosts words m old new status Said events
   Refuses : (why : Reason) → status ≡ status_of why → Said (error_line why) → IsJobWith hm hosts words m (Stops why)
@@ -548,7 +519,7 @@ module _ {H : Type 0} (hm : HostModule H) (hosts : List H) (words : List Name) (
       → (middle ≡ old.files.told) × (name ≡ old.files.current)
       → AreHonest written middle name new.files.told new.files.current → (job : Job) → IsRunJob line (hosts_of hm hosts) m job
       → WritesOfRun hm hosts line old.out.told new.out.told (λ s. status ≡ s) (StopsFor status Said) given job written → Comes
-  run_comes line is given written current name middle reads honest same behind (Stops why) job (none, quiet, stopped) =
+  run_comes line is given written current name middle reads honest same behind (Stops why) job (none, (quiet, stopped)) =
       stops why (there (runs line) is (Stops why) job) (untouched middle name same written behind none quiet) stopped
   run_comes line is given written current name middle reads honest same behind (Run units calls steps shown) job of =
       let are = run_steps m line (hosts_of hm hosts) units calls steps shown job in
@@ -583,7 +554,7 @@ module _ {H : Type 0} (hm : HostModule H) (hosts : List H) (words : List Name) (
   run_fails line given written name middle same behind split job (file, is, last) writes =
       let of = subst (λ (j : Job). WritesOfRun hm hosts line old.out.told new.out.told (λ s. status ≡ s) (StopsFor status Said) given j
       written) is writes in
-      fails file (fails_first file given written events split of.0 last) (untouched middle name same written behind of.0 of.1) of.2
+      fails file (fails_first file given written events split of.0 last) (untouched middle name same written behind of.0 of.1.0) of.1.1
 
   pub comes : AreHonest events old.files.told old.files.current new.files.told new.files.current
       → PassesFor hm hosts words old.out.told new.out.told status Said events → Comes
@@ -642,7 +613,7 @@ module _ {H : Type 0} (hm : HostModule H) (hosts : List H) (words : List Name) (
               → ((written ≡ []) × StopsQuietly old.out.told new.out.told (StopsFor status Said) WantOfMemory)
               ⊎ ((job : Job) × IsRunJobOver line (hosts_of hm hosts) given job
               × WritesOfRun hm hosts line old.out.told new.out.told (λ s. status ≡ s) (StopsFor status Said) given job written) → Comes
-          by given written middle name split same reads found behind (inl (none, quiet, memory)) =
+          by given written middle name split same reads found behind (inl (none, (quiet, memory))) =
               wants (untouched middle name same written behind none quiet) memory
           by given written middle name split same reads found behind (inr (job, asks, writes)) =
               on_job (run_job_honest m line (hosts_of hm hosts) (few_of (values_of words) (runs line) is) given job old.files.current

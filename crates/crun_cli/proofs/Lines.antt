@@ -1,28 +1,6 @@
 -- The lines of what was told, of asks and of outcomes.
-use Rattle.std.proofs.Common.{
-  ◌≡◌,
-  ◌≢◌,
-  ℕ,
-  ◌+◌,
-  List,
-  [],
-  ◌∷◌,
-  ◌++◌,
-  append_assoc,
-  length,
-  map,
-  Option,
-  Some,
-  None,
-  refl,
-  sym,
-  ap,
-  ◌∙◌,
-  subst,
-  arith,
-}
+use Rattle.std.proofs.Common.{◌≡◌, ℕ, ◌+◌, List, [], ◌∷◌, ◌++◌, append_assoc, length, map, Some, refl, sym, ap, ◌∙◌, arith}
 use Rattle.std.proofs.lemmas.List.{append-nil, map-append}
-use Rattle.w2c_base.specs.declared.value.Value.{Value}
 use Rattle.w2c_base.specs.Run.{CallEnded, Event, Host, Phase, Init, Call, asks_in, values_in}
 use Rattle.w2c_base.specs.Run as run
 use Rattle.w2c_base.proofs.Events.{values_behind}
@@ -41,7 +19,7 @@ use Rattle.crun_lines.proofs.Events.{event_lines_append}
 use Rattle.host_replay.specs.Runs.{asked_events}
 use Rattle.host_replay.proofs.Again.{asked-append}
 use Rattle.crun_cli.specs.Runs.{HasStatus}
-use Rattle.crun_cli.specs.Views.{asked_line, asks_lines, lines_behind, outcome_line, status_of_outcome}
+use Rattle.crun_cli.specs.Views.{asked_line, asks_lines, lines_behind, status_of_outcome}
 
 -- ---- asks
 

@@ -1,23 +1,14 @@
 -- The lines of one object, by what a session's readers give.
-use Rattle.std.proofs.Common.{◌≡◌, ℕ, suc, ◌+◌, arith, List, [], ◌∷◌, ◌++◌, length, Option, Some, None, refl, sym, ap, ◌∙◌, subst}
-use Rattle.std.specs.Prelude.{flat_map, option_map, slice_get, zip}
+use Rattle.std.proofs.Common.{◌≡◌, ℕ, suc, ◌+◌, arith, List, [], ◌∷◌, ◌++◌, length, Option, Some, None, refl, sym, ap, ◌∙◌}
+use Rattle.std.specs.Prelude.{flat_map, option_map, zip}
 use Rattle.std.specs.List.{range_with_len}
 use Rattle.w2c_base.specs.declared.value.Value.{Value}
-use Rattle.w2c_base.specs.Lookup.{at_index, if_found, numbered}
+use Rattle.w2c_base.specs.Lookup.{at_index, if_found}
 use Rattle.w2c_base.specs.Run.{Host}
 use Rattle.c_meaning.specs.State.{CValue, Number, Pointer, FuncPointer, Element, Memory, Name, Objects, Table}
 use Rattle.crun.specs.Shown.{bytes_of, elements_count, memories_of, number_held, object_in, tables_of, vars_of}
 use Rattle.crun_lines.specs.StateLines.{element_lines, length_line, memory_lines, table_lines, variable_line, variable_lines}
-use Rattle.crun_cli.specs.Showing.{
-  length_and_elements,
-  line_of_element,
-  lines_if_found,
-  lines_of_element,
-  lines_of_memory,
-  lines_of_table,
-  lines_of_variable,
-  pages_and_rows,
-}
+use Rattle.crun_cli.specs.Showing.{length_and_elements, line_of_element, lines_if_found, lines_of_memory, lines_of_table, lines_of_variable, pages_and_rows}
 
 module _ (units : List Objects) (u : ℕ) (name : Name) where
   number_lines : (held : Option CValue) (value : Value) → if_found held number_held ≡ Some value

@@ -1,29 +1,6 @@
 -- Hosts whose symbols differ have none that comes twice.
-use Rattle.std.proofs.Common.{
-  ◌≡◌,
-  ℕ,
-  zero,
-  suc,
-  ◌+◌,
-  Bool,
-  true,
-  false,
-  ◌&&◌,
-  ◌||◌,
-  List,
-  [],
-  ◌∷◌,
-  ◌++◌,
-  append_assoc,
-  take,
-  drop,
-  map,
-  refl,
-  sym,
-  ap,
-  ◌∙◌,
-}
-use Rattle.std.specs.Prelude.{bytes_eq, flat_map, not, slice_get, Some}
+use Rattle.std.proofs.Common.{◌≡◌, ℕ, zero, suc, Bool, true, false, ◌&&◌, ◌||◌, List, [], ◌∷◌, ◌++◌, append_assoc, take, drop, refl, sym, ap, ◌∙◌}
+use Rattle.std.specs.Prelude.{bytes_eq, not, slice_get, Some}
 use Rattle.std.proofs.lemmas.List.{map-append}
 use Rattle.std.proofs.lemmas.Grind.{flat_map-append}
 use Rattle.std.proofs.lemmas.Slice.Eq.{bytes_eq-Decides}

@@ -1,23 +1,11 @@
 -- Words ask for at most one job.
-use Rattle.std.proofs.Common.{◌≡◌, ◌⊎◌, inl, inr, ℕ, List, [], ◌∷◌, Option, Some, None, MatchOption, refl, sym, ap, ◌∙◌, subst}
+use Rattle.std.proofs.Common.{◌≡◌, inl, inr, ℕ, List, Option, Some, None, MatchOption, sym, ap, ◌∙◌, subst}
 use Rattle.w2c_base.specs.Run.{Host}
 use Rattle.w2c_io.specs.Contents.{Name, Contents}
 use Rattle.host_replay.specs.Reading.{empty, lines_of}
 use Rattle.host_replay.proofs.Verdicts.{none_distinct, one_read, one_refused, read_or_refused}
-use Rattle.crun_words.specs.CommandLine.{Line, MergeLine, RunLine, TrimLine, line_of, runs, merges, trims}
-use Rattle.crun_words.specs.Inputs.{
-  AllRead,
-  Held,
-  IsJournalReading,
-  IsReading,
-  JournalReading,
-  LongCalls,
-  LongJournal,
-  LongUnit,
-  NoJournal,
-  NotThere,
-  Reading,
-}
+use Rattle.crun_words.specs.CommandLine.{Line, RunLine, line_of, runs, merges, trims}
+use Rattle.crun_words.specs.Inputs.{AllRead, Held, IsJournalReading, JournalReading, LongCalls, LongJournal, LongUnit, NoJournal, NotThere, Reading}
 use Rattle.crun_words.proofs.InputStops.{one_journal_reading, one_reading}
 use Rattle.crun_job.specs.Job.{IsTextsJob, Job, Stops}
 use Rattle.crun_job.specs.Lines.{JournalLine, Usage}

@@ -27,7 +27,6 @@ use Rattle.w2c_io.specs.Contents.{Name, Told}
 use Rattle.w2c_io.specs.Events.{Event}
 use Rattle.w2c_io.specs.Passed.{WritesFile, BreaksOff}
 use Rattle.w2c_io.specs.declared.answers.WriteAnswer.{WriteAnswer}
-use Rattle.w2c_io.specs.declared.answers.WriteAnswer.TheVariants as answer
 use Rattle.c_tree.specs.Tree as tree
 use Rattle.c_meaning.specs.Linking.{SymbolCall}
 use Rattle.c_hosts.specs.declared.host.HostModule.{Ghosts as HostModule}
@@ -514,7 +513,7 @@ module _ {H : Type 0} (m : HostModule H) (hosts : List H) (old new : Option (Lis
 
   of_run_so : (line : RunLine) (given : List Event) (job : Job) (written : List Event)
       → WritesOfRun m hosts line old new Ends Stopped given job written → WritesOfRun m hosts line old new Ends' Stopped' given job written
-  of_run_so line given (Stops why) written (nothing, quiet, stopped) = (nothing, quiet, stops why stopped)
+  of_run_so line given (Stops why) written (nothing, (quiet, stopped)) = (nothing, (quiet, stops why stopped))
   of_run_so line given (Run units calls steps shown) written of = with_so line.replayed (IsReadLast given)
       (λ G n gs. WritesRun n gs line.journal units calls steps shown old new Ends Stopped written)
       (λ G n gs. WritesRun n gs line.journal units calls steps shown old new Ends' Stopped' written)

@@ -1,10 +1,8 @@
 -- The hosts of a journal that is read offer each symbol once.
 use Rattle.std.proofs.Common.{◌≡◌, true, List, [], ◌∷◌, ◌++◌, map, refl, sym, ap, ◌∙◌, subst}
-use Rattle.std.specs.Prelude.{flat_map}
 use Rattle.std.proofs.lemmas.List.{map-append}
 use Rattle.w2c_base.specs.Run.{Host, HostFunction}
 use Rattle.c_tree.specs.Rules.{are_distinct}
-use Rattle.c_tree.specs.Scope.{Name}
 use Rattle.c_link.specs.declared.host_symbol.HostSymbol.{HostSymbol}
 use Rattle.c_link.specs.Resolved.{symbol_names}
 use Rattle.crun.specs.HostSymbols.{symbols_of_host, symbols_of_hosts, symbol_in}

@@ -1,7 +1,6 @@
 -- The run form: from what its steps say over texts and hosts to what the words ask for.
-use Rattle.std.proofs.Common.{◌≡◌, ◌⊎◌, ◌≤◌, inl, inr, ℕ, List, Option, Some, None, MatchOption, refl, sym, ap, ◌∙◌, subst}
+use Rattle.std.proofs.Common.{◌≡◌, ◌≤◌, inl, inr, ℕ, List, Option, Some, None, MatchOption, refl, sym, ap, ◌∙◌, subst}
 use Rattle.std.specs.Prelude.{string_bytes}
-use Rattle.w2c_base.specs.Run.{Host}
 use Rattle.w2c_io.specs.Contents.{Name, Contents, Told}
 use Rattle.w2c_io.specs.Causes.{Faulted}
 use Rattle.w2c_io.specs.Telling.{Tells}
@@ -48,11 +47,11 @@ use Rattle.crun_job.specs.Lines.{
   WantOfMemory,
 }
 use Rattle.crun_job.specs.Seen.{reason_of}
-use Rattle.crun_job.specs.Stopping.{stop_for, StopsTexts}
-use Rattle.crun_cli.specs.Ends.{HasJournalPart, HasPlayed, HasPlayedPart, IsJobWith, IsJournaled, IsUnwritten, Ran, RanPart, WithHosts}
+use Rattle.crun_job.specs.Stopping.{stop_for}
+use Rattle.crun_cli.specs.Ends.{HasPlayed, HasPlayedPart, IsJobWith, IsJournaled, IsUnwritten, Ran, RanPart, WithHosts}
 use Rattle.crun_cli.specs.Files.{HasReading, IsReadBy, IsToRead, IsToWrite, IsUnitFile}
 use Rattle.crun_cli.specs.Jobs.{symbols_of, HoldsJournal, IsJobOfTexts, IsLineJob, IsReplayJob, IsRunJob}
-use Rattle.crun_cli.specs.Outside.{AreUntouched, FilesSeen, IsUntouched, Outside, SinkSeen}
+use Rattle.crun_cli.specs.Outside.{FilesSeen, IsUntouched, Outside, SinkSeen}
 use Rattle.crun_cli.specs.Stopping.{IsRunUnwritten, IsTextsPart, IsTextsRun, StopsReplay, StopsRun, StopsWork}
 
 -- ---- what was done behind reading is done from the start

@@ -1,53 +1,14 @@
 -- What a session has told stands in front of what every longer run tells.
-use Rattle.std.proofs.Common.{
-  ◌≡◌,
-  ℕ,
-  ◌+◌,
-  ◌-◌,
-  ◌≤◌,
-  List,
-  [],
-  ◌∷◌,
-  ◌++◌,
-  append_assoc,
-  length,
-  map,
-  Option,
-  Some,
-  None,
-  refl,
-  sym,
-  ap,
-  ◌∙◌,
-  subst,
-  arith,
-}
+use Rattle.std.proofs.Common.{◌≡◌, ℕ, ◌+◌, ◌-◌, List, [], ◌∷◌, ◌++◌, length, map, Option, Some, None, refl, sym, ap, ◌∙◌, arith}
 use Rattle.std.specs.Prelude.{option_map, is_some}
-use Rattle.std.specs.List.{position_from, range_with_len}
-use Rattle.std.specs.Prelude.{zip}
+use Rattle.std.specs.List.{position_from}
 use Rattle.std.proofs.lemmas.List.{append-nil}
 use Rattle.w2c_base.specs.Run.{Event, Phase, Init, Call, Reply}
-use Rattle.c_meaning.specs.State.{FuncAddress, UnitFunc, Machine, Number, Stuck}
-use Rattle.c_meaning.specs.Linking.{Program, SymbolCall, called_func, defined_for_all, definition_at}
+use Rattle.c_meaning.specs.State.{UnitFunc, Machine, Number, Stuck}
+use Rattle.c_meaning.specs.Linking.{Program, SymbolCall, defined_for_all, definition_at}
 use Rattle.c_meaning.specs.Machine.{fresh}
 use Rattle.c_meaning.specs.Step.{Step, Next, Back, Stops, begin, call}
-use Rattle.c_meaning.specs.Run.{
-  CRun,
-  Ended,
-  Entry,
-  Over,
-  Stopped,
-  Pending,
-  Progress,
-  after,
-  begin_entry,
-  begun,
-  c_run,
-  c_start,
-  entries_of,
-  over,
-  run_of,
-}
+use Rattle.c_meaning.specs.Run.{CRun, Ended, Entry, Over, Stopped, Pending, Progress, after, begin_entry, begun, c_run, entries_of, over, run_of}
 use Rattle.c_meaning.proofs.Fronts.{entries_behind, entries_longer}
 use Rattle.c_meaning.proofs.Longer.{after_over, after_sum}
 use Rattle.c_meaning.proofs.Told.{machine_of}

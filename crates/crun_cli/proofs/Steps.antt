@@ -1,5 +1,5 @@
 -- What the calls of a session and the lines that were written of them make of where a run stands.
-use Rattle.std.proofs.Common.{◌≡◌, ℕ, List, [], ◌∷◌, ◌++◌, length, drop, Option, None, Some, IfSome, refl, sym, ap, ◌∙◌, subst}
+use Rattle.std.proofs.Common.{◌≡◌, ℕ, List, [], ◌∷◌, ◌++◌, length, drop, Option, None, Some, IfSome, sym, ap, ◌∙◌, subst}
 use Rattle.w2c_base.specs.Run.{Ask, Event, Init, Call, asks_in}
 use Rattle.w2c_io.specs.Contents.{extended}
 use Rattle.w2c_io.specs.Telling.{SaysPart}

@@ -1,6 +1,5 @@
 -- What the top call says, from why its work stopped or what it came to.
 use Rattle.std.proofs.Common.{◌≡◌, ◌⊎◌, inl, inr, ℕ, ◌≤◌, List, Option, Some, None, MatchOption, refl, sym, ◌∙◌, subst, arith}
-use Rattle.w2c_base.specs.Run.{Host}
 use Rattle.w2c_io.specs.Contents.{Name, Contents}
 use Rattle.w2c_io.specs.Causes.{Rose, Faulted}
 use Rattle.w2c_io.specs.Telling.{Tells}
@@ -37,26 +36,7 @@ use Rattle.crun_job.specs.Lines.{
 use Rattle.crun_cli.proofs.AgainLaws.{runs_again}
 use Rattle.crun_cli.proofs.OneJob.{one_job}
 use Rattle.crun_cli.specs.Again.{RunsAgain}
-use Rattle.crun_cli.specs.Ends.{
-  Begun,
-  BegunIfAny,
-  By_refusal,
-  By_run,
-  By_unit,
-  Finished,
-  HasAnswer,
-  HasPlayed,
-  IsAnswered,
-  IsJobWith,
-  IsRun,
-  IsRunStatus,
-  IsUnread,
-  IsUnwritten,
-  Ran,
-  RanPart,
-  Refuses,
-  WithHosts,
-}
+use Rattle.crun_cli.specs.Ends.{Begun, BegunIfAny, By_refusal, By_run, By_unit, Finished, HasAnswer, HasPlayed, IsAnswered, IsJobWith, IsRunStatus, IsUnread, IsUnwritten, Refuses, WithHosts}
 use Rattle.crun_cli.specs.Files.{IsToRead, IsUnitFile}
 use Rattle.crun_cli.specs.Jobs.{symbols_of, IsLineJob, IsReplayJob, IsRunJob}
 use Rattle.crun_cli.specs.Outside.{IsUntouched, Outside}

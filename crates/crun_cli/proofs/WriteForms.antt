@@ -1,8 +1,7 @@
 -- The forms that write a unit: from what is asked for over what files hold to what the words ask for.
-use Rattle.std.proofs.Common.{◌≡◌, ◌⊎◌, inl, inr, List, [], ◌∷◌, Option, Some, None, MatchOption, refl, sym, ap, ◌∙◌, subst}
+use Rattle.std.proofs.Common.{◌≡◌, ◌⊎◌, inl, inr, List, [], ◌∷◌, Option, Some, None, MatchOption, refl, sym, ◌∙◌, subst}
 use Rattle.w2c_io.specs.Contents.{Name, Contents, holding}
 use Rattle.w2c_io.specs.Causes.{Faulted}
-use Rattle.w2c_io.specs.Telling.{Tells}
 use Rattle.w2c_files.specs.Standing.{IsOneOf}
 use Rattle.c_tree.specs.Spelled.{CSpells}
 use Rattle.c_tree.specs.Tree as tree

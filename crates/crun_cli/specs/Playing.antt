@@ -1,6 +1,6 @@
 -- Where a session and its lines stand in the middle of a run, and behind it. The state `e` is that of the session at its start,
 -- with the hosts as they were handed in.
-use Rattle.std.specs.Prelude.{◌≡◌, ℕ, List, [], ◌++◌, map, Option}
+use Rattle.std.specs.Prelude.{◌≡◌, ℕ, List, ◌++◌, map, Option}
 use Rattle.w2c_base.specs.Run.{Ask, Event, asks_in}
 use Rattle.w2c_io.specs.Contents.{extended}
 use Rattle.w2c_io.specs.Telling.{SaysPart}

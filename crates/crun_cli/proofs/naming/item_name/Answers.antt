@@ -1,4 +1,4 @@
-use Rattle.std.proofs.Common.{◌≡◌, ◌∙◌, ap, map, get_or, [], length, rules, Some}
+use Rattle.std.proofs.Common.{◌≡◌, ◌∙◌, ap, map, get_or, [], rules, Some}
 use Rattle.std.specs.Prelude.{slice_get}
 use Rattle.c_tree.specs.View.{item_of}
 use Rattle.crun.specs.Names.{function_name}

@@ -1,7 +1,6 @@
-use Rattle.std.proofs.Common.{ap, subst}
+use Rattle.std.proofs.Common.{ap}
 use Rattle.std.specs.Prelude.{Err}
 use Rattle.c_hosts.specs.Asking.{hosts_of}
-use Rattle.crun.specs.HostSymbols.{IsTwiceAt}
 use Rattle.crun_cli.proofs.Offered.{none_twice}
 use Rattle.crun_cli.proofs.offering.offered_symbols.Goals as goal
 

@@ -1,8 +1,4 @@
-use Rattle.std.proofs.Common.{◌≡◌, ◌∙◌, [], List, ℕ, Option, IfSome, true, refl, sym, ap, subst, map, rules}
-use Rattle.c_tree.specs.View.{unit_of}
-use Rattle.c_meaning.specs.Linking.{SymbolCall}
-use Rattle.crun_job.specs.Seen.{calls_seen}
-use Rattle.crun_cli.specs.Playing.{HasPlayed}
+use Rattle.std.proofs.Common.{[], refl}
 use Rattle.crun_cli.proofs.Written.{says_nothing}
 use Rattle.crun_cli.proofs.play.play.Goals as goal
 

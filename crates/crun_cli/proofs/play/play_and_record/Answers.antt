@@ -1,10 +1,10 @@
-use Rattle.std.proofs.Common.{◌≡◌, ◌∙◌, true, sym, ap, subst, map}
+use Rattle.std.proofs.Common.{◌∙◌, sym, ap, subst, map}
 use Rattle.std.specs.List.{list_all}
 use Rattle.c_tree.specs.View.{unit_of}
 use Rattle.c_hosts.specs.Asking.{hosts_of}
 use Rattle.host_replay.specs.Fitting.{fits}
 use Rattle.crun_job.specs.Seen.{calls_seen}
-use Rattle.crun_cli.specs.Recording.{AreToFill, HasTaken, IsFilled}
+use Rattle.crun_cli.specs.Recording.{IsFilled}
 use Rattle.crun_cli.proofs.Recorded.{asks_fit, is_filled, to_fill, whole_part}
 use Rattle.crun_cli.proofs.play.play_and_record.Goals as goal
 

@@ -1,8 +1,6 @@
-use Rattle.std.proofs.Common.{◌≡◌, ◌∙◌, [], List, ℕ, Option, IfSome, true, false, refl, sym, ap, subst, map, rules}
+use Rattle.std.proofs.Common.{◌≡◌, true, false, subst, map, rules}
 use Rattle.c_tree.specs.View.{unit_of}
-use Rattle.c_meaning.specs.Linking.{SymbolCall}
 use Rattle.crun_job.specs.Seen.{calls_seen}
-use Rattle.crun_cli.specs.Playing.{HasPlayed}
 use Rattle.crun_cli.specs.Runs.{HasPart}
 use Rattle.crun_cli.specs.Recording.{HasAsked}
 use Rattle.crun_cli.proofs.Behind.{left_part, ran_alone, ran_shown, shown_part}

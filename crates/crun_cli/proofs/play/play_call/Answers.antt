@@ -1,30 +1,7 @@
-use Rattle.std.proofs.Common.{
-  ◌≡◌,
-  ◌∙◌,
-  ◌+◌,
-  ◌<◌,
-  [],
-  ◌∷◌,
-  ◌++◌,
-  ℕ,
-  true,
-  Some,
-  None,
-  refl,
-  sym,
-  ap,
-  subst,
-  arith,
-  take,
-  drop,
-  map,
-  length,
-  rules,
-}
-use Rattle.c_tree.specs.View.{unit_of}
-use Rattle.c_meaning.specs.Linking.{fits, Program, SymbolCall}
+use Rattle.std.proofs.Common.{◌≡◌, ◌∙◌, true, refl, sym, ap, subst, length}
+use Rattle.c_meaning.specs.Linking.{fits, Program}
 use Rattle.crun.specs.Sessions.{program_of}
-use Rattle.crun_job.specs.Seen.{call_seen, calls_seen}
+use Rattle.crun_job.specs.Seen.{call_seen}
 use Rattle.crun_cli.proofs.Steps.{call_goes_on, call_is_left, call_stops, call_wants, played_if_some}
 use Rattle.crun_cli.proofs.play.play_call.Goals as goal
 

@@ -1,33 +1,6 @@
-use Rattle.std.proofs.Common.{
-  ◌≡◌,
-  ◌∙◌,
-  ◌+◌,
-  ◌<◌,
-  ◌≤◌,
-  [],
-  ◌∷◌,
-  ◌++◌,
-  ℕ,
-  List,
-  Option,
-  IfSome,
-  true,
-  Some,
-  None,
-  refl,
-  sym,
-  ap,
-  subst,
-  arith,
-  take,
-  drop,
-  map,
-  length,
-  rules,
-}
-use Rattle.c_tree.specs.View.{unit_of}
-use Rattle.c_meaning.specs.Linking.{fits, Program, SymbolCall}
-use Rattle.crun.specs.Sessions.{program_of, State}
+use Rattle.std.proofs.Common.{◌≡◌, ◌∙◌, ◌+◌, ◌<◌, ◌≤◌, ◌∷◌, ◌++◌, ℕ, List, Option, IfSome, subst, arith, take, drop, length}
+use Rattle.c_meaning.specs.Linking.{SymbolCall}
+use Rattle.crun.specs.Sessions.{State}
 use Rattle.crun_job.specs.Seen.{call_seen, calls_seen}
 use Rattle.crun_cli.specs.Playing.{HasPlayed, IsBehind, IsLeft}
 use Rattle.std.proofs.lemmas.List.{length-map, take_all}

@@ -1,4 +1,4 @@
-use Rattle.std.proofs.Common.{◌≡◌, ◌≤◌, [], List, ℕ, Option, take}
+use Rattle.std.proofs.Common.{◌≡◌, [], List, ℕ, Option, take}
 use Rattle.crun.specs.declared.outcome.Standing.TheVariants as standing
 use Rattle.crun.specs.Sessions.{State}
 use Rattle.crun_cli.specs.Playing.{IsBehind}

@@ -1,31 +1,4 @@
-use Rattle.std.proofs.Common.{
-  ◌≡◌,
-  ◌∙◌,
-  ◌+◌,
-  ◌-◌,
-  ◌<◌,
-  [],
-  ◌∷◌,
-  ◌++◌,
-  ℕ,
-  true,
-  Some,
-  None,
-  refl,
-  sym,
-  ap,
-  subst,
-  arith,
-  take,
-  drop,
-  map,
-  length,
-  rules,
-}
-use Rattle.c_tree.specs.View.{unit_of}
-use Rattle.c_meaning.specs.Linking.{fits, Program, SymbolCall}
-use Rattle.crun.specs.Sessions.{program_of}
-use Rattle.crun_job.specs.Seen.{call_seen, calls_seen}
+use Rattle.std.proofs.Common.{◌∙◌, ◌-◌, sym, rules}
 use Rattle.crun_cli.proofs.Steps.{inits_are_left, inits_go_on, inits_stop, inits_want, played_if_some}
 use Rattle.crun_cli.proofs.play.play_inits.Goals as goal
 

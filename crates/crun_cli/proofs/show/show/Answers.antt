@@ -1,5 +1,5 @@
-use Rattle.std.proofs.Common.{◌≡◌, ◌+◌, ◌-◌, ◌∙◌, sym, ap, subst, arith, rules, take, drop, map, length}
-use Rattle.std.specs.Prelude.{Ok, Err, Some, slice_get, flat_map, option_map, option_copied}
+use Rattle.std.proofs.Common.{◌≡◌, ◌+◌, ◌-◌, ◌∙◌, sym, ap, subst, rules, length}
+use Rattle.std.specs.Prelude.{Ok, Err, Some, slice_get}
 use Rattle.std.specs.List.{range_with_len}
 use Rattle.c_hosts.specs.Asking.{hosts_of}
 use Rattle.crun.specs.Sessions.{objects_of}

@@ -1,4 +1,4 @@
-use Rattle.std.proofs.Common.{◌≡◌, ◌+◌, ◌<◌, sym, subst, arith, take, drop, map, length}
+use Rattle.std.proofs.Common.{◌+◌, ◌<◌, sym, subst, arith, take, drop, map, length}
 use Rattle.std.proofs.lemmas.List.{length-map}
 use Rattle.c_hosts.specs.Asking.{hosts_of}
 use Rattle.crun.specs.Sessions.{objects_of}

@@ -1,7 +1,5 @@
-use Rattle.std.proofs.Common.{◌≡◌, ◌+◌, ◌-◌, ◌∙◌, sym, ap, subst, arith, take, drop, map, length}
-use Rattle.std.specs.Prelude.{Ok, Err, flat_map, option_map, option_copied}
-use Rattle.std.specs.List.{range_with_len}
-use Rattle.c_hosts.specs.Asking.{hosts_of}
+use Rattle.std.proofs.Common.{◌∙◌, sym, ap}
+use Rattle.std.specs.Prelude.{option_map, option_copied}
 use Rattle.crun.specs.Sessions.{objects_of}
 use Rattle.crun.specs.Shown.{bytes_in}
 use Rattle.crun_cli.proofs.Objects.{memory_there}

@@ -1,10 +1,5 @@
-use Rattle.std.proofs.Common.{◌≡◌, ◌+◌, ◌-◌, ◌∙◌, sym, ap, subst, arith, take, drop, map, length}
-use Rattle.std.specs.Prelude.{Ok, Err, flat_map, option_map, option_copied}
-use Rattle.std.specs.List.{range_with_len}
-use Rattle.c_hosts.specs.Asking.{hosts_of}
-use Rattle.crun.specs.Sessions.{objects_of}
-use Rattle.crun_lines.specs.StateLines.{length_line, pages_line, row_lines}
-use Rattle.crun_cli.specs.Showing.{lines_of_element}
+use Rattle.std.specs.Prelude.{Ok, Err}
+use Rattle.crun_lines.specs.StateLines.{pages_line, row_lines}
 use Rattle.crun_cli.proofs.Written.{stops_writing, then_writes}
 use Rattle.crun_cli.proofs.show_objects.show_pages.Goals as goal
 

@@ -1,8 +1,5 @@
-use Rattle.std.proofs.Common.{◌≡◌, ◌+◌, ◌-◌, ◌∙◌, sym, ap, subst, arith, take, drop, map, length}
-use Rattle.std.specs.Prelude.{Ok, Err, flat_map, option_map, option_copied}
+use Rattle.std.proofs.Common.{◌+◌, ◌-◌, sym, subst, arith, length}
 use Rattle.std.specs.List.{range_with_len}
-use Rattle.c_hosts.specs.Asking.{hosts_of}
-use Rattle.crun.specs.Sessions.{objects_of}
 use Rattle.std.specs.Prelude.{◌/◌}
 use Rattle.crun_lines.specs.StateLines.{row_line}
 use Rattle.crun_cli.proofs.Loops.{one_more, range_next, range_split, stopped_at, AreWritten}

@@ -1,4 +1,3 @@
-use Rattle.std.proofs.Common.{◌≡◌}
 use Rattle.c_hosts.specs.Asking.{hosts_of}
 use Rattle.crun_lines.specs.HostLines.{replied_line}
 use Rattle.crun_cli.specs.Views.{asked_line}

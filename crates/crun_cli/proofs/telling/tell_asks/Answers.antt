@@ -1,8 +1,5 @@
-use Rattle.std.proofs.Common.{◌≡◌, ◌+◌, ◌-◌, ◌∙◌, sym, ap, subst, arith, take, drop, map, length}
-use Rattle.std.specs.Prelude.{Ok, Err, flat_map, option_map, option_copied}
-use Rattle.std.specs.List.{range_with_len}
+use Rattle.std.proofs.Common.{◌+◌, sym, subst, take, drop}
 use Rattle.c_hosts.specs.Asking.{hosts_of}
-use Rattle.crun.specs.Sessions.{objects_of}
 use Rattle.crun_cli.specs.Views.{asked_line}
 use Rattle.crun_cli.proofs.Loops.{front_next, front_split, one_more, stopped_at, AreWritten}
 use Rattle.crun_cli.proofs.telling.tell_asks.Goals as goal
