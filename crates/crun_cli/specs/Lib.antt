@@ -8,6 +8,8 @@ pub mod Ends
 pub mod Passing
 pub mod Again
 pub mod EnvHost
+-- and README's run
+pub mod Example
 -- of the code alone
 pub mod Writing
 pub mod Views
