@@ -222,7 +222,7 @@ module _ {H : Type 0} (m : HostModule H) (hosts : List H) (contents : Contents)
       let run = run_is (hosts_of m hosts) (replies_in played.run.asks) in (
         subst (λ (r : CRun). HasStatus r.outcome status) run played.run.has_status,
         played.run.lines ∙ ap (λ (r : CRun). extended old.out.told (lines_of (hosts_of m hosts) false r)) run
-        ∙ ap (extended old.out.told) (line_is (hosts_of m hosts)),
+            ∙ ap (extended old.out.told) (line_is (hosts_of m hosts)),
         played.written,
       )
 

@@ -181,17 +181,31 @@ unfolding digits
 five_report = refl
 
 first_holds : (contents : Contents) → Comes contents 100 alone (script.AssertReturn two_call (Some (I32 42))) word.Ok alone
-first_holds contents = (refl, inl (two_fits, inr (not_spent (units_run (set_at alone) (listed two_call ∷ []) 100).outcome one_ends,
-    inl (one_gives, refl))))
+first_holds contents = (
+  refl,
+  inl (
+    two_fits,
+    inr (
+      not_spent (units_run (set_at alone) (listed two_call ∷ []) 100).outcome one_ends,
+      inl (one_gives, refl),
+    ),
+  ),
+)
 
 call_kept : (contents : Contents) → Comes contents 100 alone (script.Invoke two_call) word.Ok called
 call_kept contents = inl (two_fits, (refl, refl))
 
 second_holds : (contents : Contents) → Comes contents 100 called (script.AssertReturn two_call (Some (I32 42))) word.Ok called
-second_holds contents = (refl, inl (two_fits, inr (
-  not_spent (units_run (set_at alone) (listed two_call ∷ listed two_call ∷ []) 100).outcome both_end,
-  inl (both_give, refl),
-)))
+second_holds contents = (
+  refl,
+  inl (
+    two_fits,
+    inr (
+      not_spent (units_run (set_at alone) (listed two_call ∷ listed two_call ∷ []) 100).outcome both_end,
+      inl (both_give, refl),
+    ),
+  ),
+)
 
 module _ (contents : Contents) (script_there : get contents (codes "examples/two.json") ≡ Some two_json)
     (module_there : get contents (codes "examples/two.wasm") ≡ Some two_wasm) where
@@ -211,19 +225,31 @@ module _ (contents : Contents) (script_there : get contents (codes "examples/two
   )
 
   five_are : AreWords contents 100 two_commands five
-  five_are = (called, (
-    word.Ok, word.Ok ∷ word.Ok ∷ word.Ok ∷ word.Ok ∷ [], alone, module_joins,
+  five_are = (
+    called,
     (
-      word.Ok, word.Ok ∷ word.Ok ∷ word.Ok ∷ [], alone, first_holds contents,
+      word.Ok,
+      word.Ok ∷ word.Ok ∷ word.Ok ∷ word.Ok ∷ [],
+      alone,
+      module_joins,
       (
-        word.Ok, word.Ok ∷ word.Ok ∷ [], called, call_kept contents,
-        (word.Ok, word.Ok ∷ [], called, second_holds contents, (word.Ok, [], called, script_is_none, (refl, refl), refl), refl),
+        word.Ok,
+        word.Ok ∷ word.Ok ∷ word.Ok ∷ [],
+        alone,
+        first_holds contents,
+        (
+          word.Ok,
+          word.Ok ∷ word.Ok ∷ [],
+          called,
+          call_kept contents,
+          (word.Ok, word.Ok ∷ [], called, second_holds contents, (word.Ok, [], called, script_is_none, (refl, refl), refl), refl),
+          refl,
+        ),
         refl,
       ),
       refl,
     ),
-    refl,
-  ))
+  )
 
   -- ---- what the words ask for
 
