@@ -27,3 +27,5 @@ pub mod Passing
 pub mod AgainLaws
 pub mod TopLaws
 pub mod HonestFiles
+-- README's run
+pub mod ExampleRun

@@ -9,6 +9,8 @@ pub mod Passing
 pub mod HonestPassing
 pub mod Again
 pub mod EnvHost
+-- and README's run
+pub mod Example
 -- of the code alone
 pub mod Writing
 pub mod Views

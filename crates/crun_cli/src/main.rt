@@ -2,6 +2,7 @@
 #![tactic(auto)]
 
 mod env;
+mod example;
 mod law;
 mod merging;
 mod names;
@@ -24,6 +25,7 @@ mod writing;
 
 use c_hosts::BoxedHost;
 use env::Env;
+pub use example::two_c_is_run;
 pub use law::{honest_files, one_job};
 use std::boxed::Box;
 use std::process::ExitCode;

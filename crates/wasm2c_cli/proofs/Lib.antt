@@ -1,3 +1,5 @@
+pub mod ExampleJob
+pub mod ExampleRuns
 pub mod FileStops
 pub mod HonestTop
 pub mod HonestUnits

@@ -9,6 +9,8 @@ pub mod Stops
 pub mod Top
 pub mod Passing
 pub mod HonestPassing
+-- and README's first module, with what they come to
+pub mod Example
 -- of the code alone
 pub mod Parts
 pub mod PartsPassing

@@ -2,6 +2,7 @@
 #![tactic(auto)]
 
 mod accepting;
+mod example;
 mod law;
 mod plan;
 mod reading;
@@ -15,6 +16,7 @@ mod translating;
 mod work;
 mod writing;
 
+pub use example::{two_c_gives_42, two_wasm_becomes_two_c};
 pub use law::{distinct_files, honest_files, one_job};
 use std::process::ExitCode;
 pub use top::{sure_top, wasm2c_top};

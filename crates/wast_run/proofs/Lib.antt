@@ -33,3 +33,5 @@ pub mod JobLaws
 pub mod TopLaws
 -- Where files behave as files
 pub mod Honest
+-- The worked script
+pub mod ExampleScript

@@ -4,6 +4,8 @@ pub mod Report
 pub mod Parts
 pub mod Jobs
 pub mod Passing
+-- and a worked script
+pub mod Example
 -- of the code alone
 pub mod Stopping
 pub mod Judging

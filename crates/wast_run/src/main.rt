@@ -3,6 +3,7 @@
 
 mod cases;
 mod commands;
+mod example;
 mod judging;
 mod law;
 mod reporting;
@@ -17,6 +18,7 @@ mod work;
 mod writing;
 
 pub use cases::reports_of_words;
+pub use example::two_json_is_reported;
 pub use law::{honest_files, one_report};
 pub use runs::units_come_to_what_modules_come_to;
 use std::process::ExitCode;

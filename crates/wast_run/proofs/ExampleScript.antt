@@ -1,0 +1,276 @@
+-- The worked script: what its text says, what the files hold, and the word that each command comes to.
+use Rattle.std.proofs.Common.{◌≡◌, ℕ, zero, suc, pos, List, [], ◌∷◌, length, Option, Some, None, MatchOption, codes, inl, inr, refl, ap, ◌∙◌, subst, arith}
+use Rattle.std.specs.List.{AllByRecursion}
+use Rattle.std.proofs.lemmas.Bool.{leb-true}
+use Rattle.std.specs.Char.{encode_utf8}
+use Rattle.std.specs.Fmt.{digits}
+use Rattle.std.specs.FinMap.{get}
+use Rattle.std.specs.Str.{chars, is_utf8}
+use Rattle.clap.proofs.OnLiterals.{clap_on_literals}
+use Rattle.w2c_base.specs.declared.value.ValType.TheVariants as type
+use Rattle.leb_bytes.specs.Computed.{s32_of, u32_of}
+use Rattle.wasm_tree.specs.Instructions.{end_code, then_code, I32Const, Binary}
+use Rattle.wasm_tree.specs.declared.operators.BinaryOp.TheVariants.{Add}
+use Rattle.wasm_tree.specs.declared.entries.ExportKind.TheVariants.{Func as ExportFunc}
+use Rattle.wasm_tree.specs.declared.tree.Module.{Module}
+use Rattle.wasm_spelling.specs.ModuleFields.{Spells}
+use Rattle.wasm_spelling.specs.Steps.{bytes_at, checked, number_at, reads, signed32_at}
+use Rattle.wasm_spelling.specs.Reading.{bodies_at, body_at, body_content_at, content_at, exactly_at, export_entry_at, file_at, form_at, func_entry_at, func_type_at, item_at, items_at, kind_at, magic_at, module_at, name_at, part_at, sections_at, times_at, type_at, type_entry_at, utf8_at, version_at, window_at}
+use Rattle.wasm_spelling.proofs.Whole.{file_takes}
+use Rattle.wasm_valid.specs.ModuleFaults.{module_faults}
+use Rattle.wasm_valid.specs.Verdict.{IsValid}
+use Rattle.wasm_valid.proofs.Verdicts as verdicts
+use Rattle.serde_json.proofs.OnLiterals.{serde_json_on_literals}
+use Rattle.w2c_base.specs.declared.value.Value.TheVariants.{I32}
+use Rattle.w2c_io.specs.Contents.{Contents, extended}
+use Rattle.wasm_spelling.specs.declared.fault.Cause.TheVariants as cause
+use Rattle.wasm_spelling.specs.declared.fault.ReadFault.TheVariants as fault
+use Rattle.wasm_spelling.specs.Limits.{most_module_bytes}
+use Rattle.wasm_spelling.specs.Table.{Upto, after, row}
+use Rattle.wasm_valid.specs.FileVerdict.{Read, Unread}
+use Rattle.wasm_valid.specs.Verdict.{Accepted}
+use Rattle.wasm_meaning.specs.LinkedSet.{IsLinked, ModuleFunc, NamedModule, Resolves, module_at as numbered}
+use Rattle.wasm_meaning.specs.Run.{Fits}
+use Rattle.c_meaning.specs.Run as c
+use Rattle.wast_script.specs.CommandLine.{Line, line_of}
+use Rattle.wast_script.specs.Commands as script
+use Rattle.wast_script.specs.Commands.{Command}
+use Rattle.wast_script.specs.Lines.{Usage}
+use Rattle.wast_script.specs.Scripts.{IsScript, most_script_bytes}
+use Rattle.wast_script.proofs.Readings.{one_script}
+use Rattle.wast_run.specs.declared.word.Word.{Word}
+use Rattle.wast_run.specs.declared.word.Word.TheVariants as word
+use Rattle.wast_run.specs.Example.{two_json, two_report, two_wasm, two_words}
+use Rattle.wast_run.specs.Jobs.{IsJob, IsJobBehind, Reported, Reports, Stops}
+use Rattle.wast_run.specs.Report.{AreWords, AreWordsInTime, Comes, EndsWith, Setting, at_first, listed, report_of, report_status, set_at}
+use Rattle.wast_run.specs.Runs.{modules_run, units_run}
+use Rattle.wast_run.proofs.Leads.{lead_plain}
+use Rattle.wast_run.proofs.OneReport.{one_report}
+
+-- ---- the words, and the commands
+
+abbrev two_line : Line
+two_line = record { steps = 100; script = codes "examples/two.json" }
+
+two_line_is : line_of two_words ≡ Some two_line
+unfolding line_of clap_on_literals
+two_line_is = refl
+
+abbrev two_file : script.ModuleFile
+two_file = record { name = codes "two"; filename = codes "examples/two.wasm" }
+
+abbrev two_call : script.Call
+two_call = record { module_name = codes "two"; field_name = codes "f"; args = [] }
+
+abbrev two_commands : List Command
+two_commands =
+    script.Module two_file
+    ∷ script.AssertReturn two_call (Some (I32 42))
+    ∷ script.Invoke two_call
+    ∷ script.AssertReturn two_call (Some (I32 42))
+    ∷ script.AssertMalformed (codes "examples/two.json")
+    ∷ []
+
+two_script : IsScript two_json two_commands
+unfolding serde_json_on_literals
+two_script = record {
+  short = leb-true (length two_json) most_script_bytes refl;
+  json = _;
+  is_json = ((two_json, (refl, refl)), refl);
+  has_commands = record { objects = _; objects_are = refl; commands_are = refl };
+}
+
+-- ---- the module
+
+abbrev two_tree : Module
+two_tree = record {
+  types = record { place = 11; ty = record { params = []; result = Some type.I32 } } ∷ [];
+  imports = [];
+  funcs = record { type_index = 0; place = 18 } ∷ [];
+  tables = [];
+  memories = [];
+  globals = [];
+  exports = record { name = codes "f"; kind = ExportFunc; index = 0; name_place = 22; index_place = 25 } ∷ [];
+  start = None;
+  elements = [];
+  data_count = None;
+  segments = [];
+  bodies = record {
+    runs = [];
+    code = then_code 31 (I32Const (pos 40)) (then_code 33 (I32Const (pos 2)) (then_code 35 (Binary type.I32 Add) end_code));
+    end_place = 36;
+  } ∷ [];
+}
+
+two_spelled : Spells two_tree two_wasm
+unfolding file_at module_at magic_at version_at exactly_at checked reads sections_at part_at content_at window_at times_at type_entry_at
+    func_type_at type_at func_entry_at export_entry_at name_at utf8_at is_utf8 chars encode_utf8 kind_at bodies_at body_at body_content_at
+    items_at item_at form_at bytes_at number_at signed32_at u32_of s32_of
+two_spelled = (file_takes two_wasm two_tree refl, omega arith)
+
+two_is_valid : IsValid two_tree
+unfolding module_faults
+two_is_valid = record {
+  no_faults = refl;
+  bodies = (
+    (
+      type.I32 ∷ [],
+      ([], refl, refl),
+      (type.I32 ∷ type.I32 ∷ [], (type.I32 ∷ [], refl, refl), (type.I32 ∷ [], ([], refl, refl), refl)),
+    ),
+    tt,
+  );
+}
+
+-- ---- the set of it, and runs
+
+abbrev two_named : NamedModule
+two_named = record { name = codes "two"; tree = two_tree }
+
+abbrev alone : Setting
+alone = record { modules = two_named ∷ []; kept = [] }
+
+abbrev called : Setting
+called = record { modules = two_named ∷ []; kept = listed two_call ∷ [] }
+
+some_same : (m n : Module) → ◌≡◌ {A = Option Module} (Some m) (Some n) → m ≡ n
+some_same m n e = cc
+
+none_some : (m : Module) → ◌≡◌ {A = Option Module} None (Some m) → ⊥
+none_some m e = cc
+
+no_imports : (p : ℕ) (m : Module) → numbered (set_at alone) p ≡ Some m → AllByRecursion (Resolves (set_at alone) p) m.imports
+no_imports zero m is = subst (λ (n : Module). AllByRecursion (Resolves (set_at alone) 0) n.imports) (some_same two_tree m is) tt
+no_imports (suc p) m is = absurd (none_some m is)
+
+two_linked : IsLinked (set_at alone)
+two_linked = record { at_most_16 = omega arith; names_differ = (tt, tt); functions_differ = tt; imports_resolve = no_imports }
+
+two_fits : Fits (set_at alone) (listed two_call)
+two_fits = (ModuleFunc 0 0, record { params = []; result = Some type.I32 }, refl, refl, refl, tt)
+
+-- the units' runs of one call and of two end, and so do the modules'
+one_ends : (units_run (set_at alone) (listed two_call ∷ []) 100).outcome ≡ c.Ended
+unfolding digits
+one_ends = refl
+
+both_end : (units_run (set_at alone) (listed two_call ∷ listed two_call ∷ []) 100).outcome ≡ c.Ended
+unfolding digits
+both_end = refl
+
+not_spent : (o : c.Outcome) → o ≡ c.Ended → o ≡ c.OutOfSteps → ⊥
+not_spent o is out = cc
+
+one_gives : EndsWith (Some (I32 42)) (modules_run (set_at alone) (listed two_call ∷ []) 100)
+one_gives = (refl, [], refl)
+
+both_give : EndsWith (Some (I32 42)) (modules_run (set_at alone) (listed two_call ∷ listed two_call ∷ []) 100)
+both_give = (refl, Some (I32 42) ∷ [], refl)
+
+-- ---- the words of the commands
+
+no_module : Upto two_json (fault.Malformed 0 cause.BadMagic)
+unfolding row after checked number_at u32_of
+no_module = (100, refl)
+
+abbrev five : List Word
+five = word.Ok ∷ word.Ok ∷ word.Ok ∷ word.Ok ∷ word.Ok ∷ []
+
+five_report : report_of five ≡ two_report
+unfolding digits
+five_report = refl
+
+first_holds : (contents : Contents) → Comes contents 100 alone (script.AssertReturn two_call (Some (I32 42))) word.Ok alone
+first_holds contents = (
+  refl,
+  inl (
+    two_fits,
+    inr (
+      not_spent (units_run (set_at alone) (listed two_call ∷ []) 100).outcome one_ends,
+      inl (one_gives, refl),
+    ),
+  ),
+)
+
+call_kept : (contents : Contents) → Comes contents 100 alone (script.Invoke two_call) word.Ok called
+call_kept contents = inl (two_fits, (refl, refl))
+
+second_holds : (contents : Contents) → Comes contents 100 called (script.AssertReturn two_call (Some (I32 42))) word.Ok called
+second_holds contents = (
+  refl,
+  inl (
+    two_fits,
+    inr (
+      not_spent (units_run (set_at alone) (listed two_call ∷ listed two_call ∷ []) 100).outcome both_end,
+      inl (both_give, refl),
+    ),
+  ),
+)
+
+module _ (contents : Contents) (script_there : get contents (codes "examples/two.json") ≡ Some two_json)
+    (module_there : get contents (codes "examples/two.wasm") ≡ Some two_wasm) where
+  module_joins : Comes contents 100 at_first (script.Module two_file) word.Ok alone
+  module_joins = (
+    Some (Read two_tree Accepted),
+    (two_wasm, module_there, (leb-true (length two_wasm) most_module_bytes refl, (two_spelled, verdicts.accepted two_tree two_is_valid))),
+    inl (two_linked, (refl, refl)),
+  )
+
+  script_is_none : Comes contents 100 called (script.AssertMalformed (codes "examples/two.json")) word.Ok called
+  script_is_none = (
+    Some (Unread (fault.Malformed 0 cause.BadMagic)),
+    (two_json, script_there, (leb-true (length two_json) most_module_bytes refl, no_module)),
+    refl,
+    refl,
+  )
+
+  five_are : AreWords contents 100 two_commands five
+  five_are = (
+    called,
+    (
+      word.Ok,
+      word.Ok ∷ word.Ok ∷ word.Ok ∷ word.Ok ∷ [],
+      alone,
+      module_joins,
+      (
+        word.Ok,
+        word.Ok ∷ word.Ok ∷ word.Ok ∷ [],
+        alone,
+        first_holds contents,
+        (
+          word.Ok,
+          word.Ok ∷ word.Ok ∷ [],
+          called,
+          call_kept contents,
+          (word.Ok, word.Ok ∷ [], called, second_holds contents, (word.Ok, [], called, script_is_none, (refl, refl), refl), refl),
+          refl,
+        ),
+        refl,
+      ),
+      refl,
+    ),
+  )
+
+  -- ---- what the words ask for
+
+  by_script : (steps : ℕ) (commands : List Command) → IsJob two_words contents (Reports steps commands)
+      → (commands ≡ two_commands) × (steps ≡ 100)
+  by_script steps commands job =
+      let behind = subst (λ (line : Option Line). MatchOption line (Reports steps commands ≡ Stops Usage)
+      (λ l. IsJobBehind l (get contents l.script) (Reports steps commands))) two_line_is job in
+      let said = subst (λ (text : Option (List ℕ)). IsJobBehind two_line text (Reports steps commands)) script_there behind in
+      (one_script two_json commands two_commands said.0 two_script, said.1)
+
+  by_words : (all : List Word) → AreWordsInTime contents 100 two_commands all → all ≡ five
+  by_words all (behind, lead) =
+      one_report contents 100 two_commands all five (behind, lead_plain contents 100 at_first two_commands all behind lead) five_are
+
+  pub two_reported : (old new : Option (List ℕ)) (status : ℕ) → Reported two_words contents old new status
+      → (status ≡ 0) × (new ≡ extended old two_report)
+  two_reported old new status (steps, commands, job, (all, in_time, printed, is_status)) =
+      let said = by_script steps commands job in
+      let words = by_words all (subst (λ (n : ℕ). AreWordsInTime contents n two_commands all) said.1
+      (subst (λ (cs : List Command). AreWordsInTime contents steps cs all) said.0 in_time)) in (
+        is_status ∙ ap report_status words,
+        printed ∙ ap (λ (ws : List Word). extended old (report_of ws)) words ∙ ap (extended old) five_report,
+      )
