@@ -1,6 +1,7 @@
 //! Runs units of the C subset, linked with hosts, by the meaning of C.
 #![tactic(auto)]
 
+mod cases;
 mod env;
 mod example;
 mod law;
@@ -24,6 +25,7 @@ mod work;
 mod writing;
 
 use c_hosts::BoxedHost;
+pub use cases::{runs_with_a_host, runs_without_hosts};
 use env::Env;
 pub use example::two_c_is_run;
 pub use law::{honest_files, one_job};

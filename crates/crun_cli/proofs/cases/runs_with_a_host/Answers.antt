@@ -1,0 +1,77 @@
+use Rattle.std.proofs.Common.{◌≡◌, ℕ, zero, suc, false, List, [], ◌∷◌, Option, Some, None, codes, slice_get, refl, sym, ap, subst}
+use Rattle.std.specs.Fmt.{digits}
+use Rattle.w2c_base.specs.declared.value.Value.{Value}
+use Rattle.w2c_base.specs.declared.value.Value.TheVariants.{I32, I64}
+use Rattle.w2c_base.specs.Run.{Host, Reply}
+use Rattle.w2c_io.specs.Contents.{extended}
+use Rattle.c_tree.specs.declared.tree.CType.TheVariants.{U64}
+use Rattle.c_meaning.specs.Linking.{SymbolCall}
+use Rattle.c_meaning.specs.Run.{CRun, c_run}
+use Rattle.c_meaning.specs.Samples.{call_with, env, host_call}
+use Rattle.c_hosts.specs.declared.host.HostModule.{Ghosts as HostModule}
+use Rattle.c_hosts.specs.declared.host.HostReply.{HostReply}
+use Rattle.c_hosts.specs.declared.host.HostReply.TheVariants as reply
+use Rattle.c_hosts.specs.declared.journal.Asked.{Asked}
+use Rattle.c_hosts.specs.Asking.{Answered, Keeps, host_of}
+use Rattle.c_hosts.specs.Journals.{replies_in}
+use Rattle.crun_lines.specs.RunLines.{lines_of}
+use Rattle.host_replay.specs.Runs.{asked_events, run_with}
+use Rattle.crun_cli.specs.Runs.{HasRun, HasStatus}
+use Rattle.crun_cli.proofs.cases.runs_with_a_host.Goals as goal
+
+abbrev calls : List SymbolCall
+calls = call_with (I32 3) (I32 0) ∷ []
+
+-- the run with such a host
+abbrev with_host : Host → List Asked → CRun
+with_host host asks = c_run (record { units = host_call U64 ∷ []; hosts = host ∷ [] }) calls 2 (replies_in asks)
+
+abbrev tick : Asked
+tick = record { host = 0; function = 0; args = []; reply = reply.Value (Some (I64 1)) }
+
+none_is_some : {A : Type 0} (a : A) → None ≡ Some a → ⊥
+none_is_some a e = absurd cc
+
+same_one : {A : Type 0} (a b : A) → Some a ≡ Some b → a ≡ b
+same_one a b e = cc
+
+the_one : {A : Type 0} (a b : A) (number : ℕ) → slice_get (a ∷ []) number ≡ Some b → a ≡ b
+the_one a b zero e = same_one a b e
+the_one a b (suc number) e = absurd (none_is_some b e)
+
+module _ {H : Type 0} (m : HostModule H) (before : H) (is_env : host_of m before ≡ env) where
+  answered : (after : H) → Keeps m before after → m.may before (m.state before) 0 [] (reply.Value (Some (I64 1))) (m.state after)
+      → HasRun m (before ∷ []) (host_call U64 ∷ []) calls 2 false (Some []) (Some (codes "host env tick = i64:1\ncall 1 = i32:3\n")) 0
+  unfolding digits
+  answered after keeps may = record {
+    asks = tick ∷ [];
+    after = after ∷ [];
+    answered = (after ∷ [], record { old = before; new = after; old_is = refl; new_is = refl; may = may; keeps = keeps }, refl);
+    told = ap (λ (host : Host). asked_events (with_host host (tick ∷ [])).events) is_env;
+    has_status = subst (λ (host : Host). HasStatus (with_host host (tick ∷ [])).outcome 0) (sym is_env) refl;
+    lines = ap (λ (host : Host). extended (Some []) (lines_of (host ∷ []) false (with_host host (tick ∷ [])))) (sym is_env);
+  }
+
+  -- nothing may be answered, so nothing was
+  no_asks : ((function : ℕ) (args : List Value) (answer : HostReply) (after : List ℕ)
+      → m.may before (m.state before) function args answer after → ⊥)
+      → (asks : List Asked) (after : List H) → Answered m (before ∷ []) asks after → asks ≡ []
+  no_asks silent [] after is = refl
+  no_asks silent (a ∷ asks) after (middle, answers, rest) = absurd (silent a.function a.args a.reply (m.state answers.new)
+      (subst (λ (h : H). m.may h (m.state h) a.function a.args a.reply (m.state answers.new))
+      (sym (the_one before answers.old a.host answers.old_is)) answers.may))
+
+  no_run : ((function : ℕ) (args : List Value) (answer : HostReply) (after : List ℕ)
+      → m.may before (m.state before) function args answer after → ⊥)
+      → (new : Option (List ℕ)) (status : ℕ)
+      → HasRun m (before ∷ []) (host_call U64 ∷ []) calls 2 false (Some []) new status → ⊥
+  no_run silent new status r =
+      let waits = subst (λ (asks : List Asked). HasStatus (run_with m (before ∷ []) (host_call U64 ∷ []) calls 2 asks).outcome status)
+      (no_asks silent r.asks r.after r.answered) r.has_status in
+      subst (λ (host : Host). HasStatus (with_host host []).outcome status) is_env waits
+
+pub returns-clause-answered : goal.returns-clause-answered
+returns-clause-answered g c before after is_env keeps may = answered g.H.HostModule before is_env after keeps may
+
+pub returns-clause-silent : goal.returns-clause-silent
+returns-clause-silent g c before is_env silent new status run = no_run g.H.HostModule before is_env silent new status run
