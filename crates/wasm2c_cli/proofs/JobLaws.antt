@@ -59,10 +59,10 @@ same_sources (runtime dir) S R ends sources others p r s = r ∙ sym s
 -- what is written is what is translated, or the runtime
 translated_or_not : {C : Type 0} (line : Line) (R : List (List ℕ) → Type 0) (files : List (Name × List ℕ)) → WritesBy R line files
     → (TranslatesBy R line files → C) → ((dir : Name) → line ≡ runtime dir → C) → C
-translated_or_not (translate t) R files w yes no = yes w
-translated_or_not (set s) R files w yes no = yes w
-translated_or_not (generate g) R files w yes no = yes w
-translated_or_not (runtime dir) R files w yes no = no dir refl
+translated_or_not (translate t) R files w by_files by_runtime = by_files w
+translated_or_not (set s) R files w by_files by_runtime = by_files w
+translated_or_not (generate g) R files w by_files by_runtime = by_files w
+translated_or_not (runtime dir) R files w by_files by_runtime = by_runtime dir refl
 
 module _ (line : Line) (S : Name → Unreadable → Type 0) (R : List (List ℕ) → Type 0) (ends : EndsOnce (inputs_of line) S R)
     (p : HasPassed line) where
