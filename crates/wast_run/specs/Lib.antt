@@ -4,13 +4,10 @@ pub mod Report
 pub mod Parts
 pub mod Jobs
 pub mod Passing
-<<<<<<< ours
 -- and a worked script
 pub mod Example
-=======
 -- a module and a call of it, written by hand, for closed cases alone
 pub mod Samples
->>>>>>> theirs
 -- of the code alone
 pub mod Stopping
 pub mod Judging

@@ -17,12 +17,8 @@ mod word;
 mod work;
 mod writing;
 
-<<<<<<< ours
-pub use cases::reports_of_words;
-pub use example::two_json_is_reported;
-=======
 pub use cases::{commands_come_to_words, reports_of_words};
->>>>>>> theirs
+pub use example::two_json_is_reported;
 pub use law::{honest_files, one_report};
 pub use runs::units_come_to_what_modules_come_to;
 use std::process::ExitCode;
