@@ -5,7 +5,7 @@ by node. Needs gcc, clang with wasm-ld, Debian's wasi-libc and wabt, and node.
 
 A time is seconds of processor time inside `run` (of node when the engine is warm, with all its threads). Each is short, all are run in turn,
 and the least of fifteen counts, so that other work on the machine does little harm. All are compiled at one level, and on x86-64 with jumps
-that do not cross 32 bytes, which on some processors costs a hot loop a tenth for where it happens to lie. Prints a table of times, one of
+that do not cross 32 bytes and loops that begin at one of 32, which on some processors costs a hot loop a tenth for where it happens to lie. Prints a table of times, one of
 units' times as parts of those of WABT's C that finds accesses out of bounds in the same way, and one of the processor time that a
 compiler takes for the unit and of the size of its code.
 
@@ -43,7 +43,8 @@ COMPILERS = ["gcc", "clang"]
 def aligned(compiler):
     if platform.machine() != "x86_64":
         return []
-    return ["-mbranches-within-32B-boundaries" if compiler == "clang" else "-Wa,-mbranches-within-32B-boundaries"]
+    jumps = "-mbranches-within-32B-boundaries"
+    return [jumps if compiler == "clang" else f"-Wa,{jumps}", "-falign-loops=32"]
 
 
 def seconds_of(*command):

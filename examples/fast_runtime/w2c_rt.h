@@ -80,7 +80,13 @@ void w2c_tab_free(w2c_tab *);
 static inline u64 w2c_mem_len(w2c_mem *m) { return m->len; }
 static inline u64 w2c_mem_max(w2c_mem *m) { return m->max; }
 
-static inline u32 w2c_get1(w2c_mem *m, u64 a) { return m->bytes[a]; }
+/* What is loaded is kept in a register under gcc, which else compares it where it stands, and that takes some processors longer. */
+#if defined(__GNUC__) && !defined(__clang__)
+#define W2C_RT_LOADED(v) __asm__ volatile("" : : "r"(v))
+#else
+#define W2C_RT_LOADED(v) ((void)0)
+#endif
+static inline u32 w2c_get1(w2c_mem *m, u64 a) { u32 v = m->bytes[a]; W2C_RT_LOADED(v); return v; }
 static inline void w2c_put1(w2c_mem *m, u64 a, u32 v) { m->bytes[a] = (u8)v; }
 
 #if defined(W2C_RT_BYTEWISE)
@@ -91,9 +97,9 @@ static inline void w2c_put2(w2c_mem *m, u64 a, u32 v) { w2c_put1(m, a, v); w2c_p
 static inline void w2c_put4(w2c_mem *m, u64 a, u32 v) { w2c_put2(m, a, v); w2c_put2(m, a + 2, v >> 16); }
 static inline void w2c_put8(w2c_mem *m, u64 a, u64 v) { w2c_put4(m, a, (u32)v); w2c_put4(m, a + 4, (u32)(v >> 32)); }
 #else
-static inline u32 w2c_get2(w2c_mem *m, u64 a) { uint16_t v; memcpy(&v, m->bytes + a, 2); return v; }
-static inline u32 w2c_get4(w2c_mem *m, u64 a) { u32 v; memcpy(&v, m->bytes + a, 4); return v; }
-static inline u64 w2c_get8(w2c_mem *m, u64 a) { u64 v; memcpy(&v, m->bytes + a, 8); return v; }
+static inline u32 w2c_get2(w2c_mem *m, u64 a) { uint16_t v; memcpy(&v, m->bytes + a, 2); W2C_RT_LOADED(v); return v; }
+static inline u32 w2c_get4(w2c_mem *m, u64 a) { u32 v; memcpy(&v, m->bytes + a, 4); W2C_RT_LOADED(v); return v; }
+static inline u64 w2c_get8(w2c_mem *m, u64 a) { u64 v; memcpy(&v, m->bytes + a, 8); W2C_RT_LOADED(v); return v; }
 static inline void w2c_put2(w2c_mem *m, u64 a, u32 v) { uint16_t low = (uint16_t)v; memcpy(m->bytes + a, &low, 2); }
 static inline void w2c_put4(w2c_mem *m, u64 a, u32 v) { memcpy(m->bytes + a, &v, 4); }
 static inline void w2c_put8(w2c_mem *m, u64 a, u64 v) { memcpy(m->bytes + a, &v, 8); }

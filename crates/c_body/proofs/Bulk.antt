@@ -20,7 +20,7 @@ use Rattle.wasm_meaning.specs.Store as store
 use Rattle.wasm_meaning.specs.Execution as exec
 use Rattle.c_tree.specs.Tree as tree
 use Rattle.c_meaning.specs.State as state
-use Rattle.c_meaning.specs.State.{Is, Number, Pointer}
+use Rattle.c_meaning.specs.State.{Is, Pointer}
 use Rattle.c_meaning.specs.Machine as machine
 use Rattle.c_meaning.specs.Primitives.{with_content}
 use Rattle.c_meaning.specs.Step.{evaluate_args}

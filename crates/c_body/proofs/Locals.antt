@@ -15,7 +15,6 @@ use Rattle.wasm_meaning.specs.Execution as exec
 use Rattle.c_tree.specs.declared.tree.COp.TheVariants as op
 use Rattle.c_tree.specs.Tree as tree
 use Rattle.c_meaning.specs.State as state
-use Rattle.c_meaning.specs.State.{Evaluated, Is}
 use Rattle.c_meaning.specs.Step.{after_label}
 use Rattle.c_meaning.proofs.Ways.{stays, join_one}
 use Rattle.c_prelude.specs.Pieces.{num as number}

@@ -12,7 +12,7 @@ use Rattle.wasm_tree.specs.declared.entries.FuncEntry.{FuncEntry}
 use Rattle.wasm_tree.specs.declared.entries.BodyEntry.{BodyEntry}
 use Rattle.wasm_tree.specs.IndexSpaces.{type_in, imported_funcs, at_defined}
 use Rattle.wasm_tree.specs.Instructions as wasm
-use Rattle.wasm_tree.specs.Instructions.{Code, end_code, then_code, Kind, Otherwise, no_else, else_code}
+use Rattle.wasm_tree.specs.Instructions.{Code, then_code, Kind, Otherwise, no_else, else_code}
 use Rattle.wasm_tree.specs.InstructionTable.{Typing, of_types, by_rule}
 use Rattle.wasm_tree.specs.Views.{code_tree, kind_tree}
 use Rattle.wasm_spelling.specs.Places.{IsFormed}

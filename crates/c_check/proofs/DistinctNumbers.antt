@@ -1,5 +1,5 @@
 -- Numbers without two equal ones, from the end on.
-use Rattle.std.proofs.Common.{◌≡◌, ℕ, zero, suc, ◌+◌, ◌==◌, Bool, true, false, ◌&&◌, ◌||◌, cond, is_eq, nat_cmp, List, [], ◌∷◌, drop, Some, refl, sym, ap, ◌∙◌, arith, BTreeSet}
+use Rattle.std.proofs.Common.{◌≡◌, ℕ, zero, suc, ◌+◌, ◌==◌, Bool, true, false, ◌&&◌, ◌||◌, cond, is_eq, nat_cmp, List, [], ◌∷◌, drop, Some, refl, sym, ap, ◌∙◌, BTreeSet}
 use Rattle.std.specs.Prelude.{not, slice_get}
 use Rattle.std.specs.List.{list_any}
 use Rattle.std.specs.BTreeMap.{is_at}

@@ -1,12 +1,11 @@
 -- What hosts offer, and that answers change nothing of it.
 use Rattle.std.proofs.Common.{◌≡◌, ℕ, get_or, append_assoc, List, [], ◌∷◌, ◌++◌, map, Option, Some, None, refl, sym, ap, ◌∙◌, subst}
-use Rattle.std.specs.Prelude.{set, slice_get, option_map}
+use Rattle.std.specs.Prelude.{slice_get, option_map}
 use Rattle.std.proofs.lemmas.Option.{slice_get-map, unwrap_or-slice_get}
 use Rattle.std.specs.Option.{unwrap_or}
 use Rattle.std.proofs.Math.Seq.{map-set_same}
 use Rattle.w2c_base.specs.declared.signature.FuncType.{FuncType}
 use Rattle.w2c_base.specs.Lookup.{if_found}
-use Rattle.w2c_base.specs.Run.{Host}
 use Rattle.w2c_base.specs.Run as run
 use Rattle.c_meaning.specs.Linking.{Program, host_type}
 use Rattle.c_thread.specs.declared.linked.HostCall.{HostCall}

@@ -8,7 +8,7 @@ use Rattle.w2c_base.specs.Lookup.{named, with_named}
 use Rattle.w2c_base.specs.Run as run
 use Rattle.w2c_base.specs.Run.{Ask, Event, Reply, Trail, Gave, asked}
 use Rattle.w2c_base.specs.Values.{equal_types, types_of, is_result}
-use Rattle.c_meaning.specs.State.{Name, CValue, Number, Pointer, FuncPointer, Machine, Running, Frame as Waiting, Stop, Asks, Stuck, of_one_type}
+use Rattle.c_meaning.specs.State.{Name, CValue, Number, Pointer, FuncPointer, Machine, Running, Frame as Waiting, Asks, Stuck, of_one_type}
 use Rattle.c_meaning.specs.Linking.{Program, host_type}
 use Rattle.c_meaning.specs.Machine.{var_in, with_trail, with_var}
 use Rattle.c_meaning.specs.Step.{Step, Next, Back, Stops, assign, assign_depth, depth_name, give, in_unit, next, put_in, replied, with_vars}

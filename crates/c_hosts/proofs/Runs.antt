@@ -1,7 +1,7 @@
 -- One statement more of a run with hosts.
-use Rattle.std.proofs.Common.{◌≡◌, ℕ, suc, ◌+◌, ◌-◌, ◌≤◌, ◌<◌, List, [], ◌∷◌, ◌++◌, append_assoc, map, Option, Some, None, refl, sym, ap, ◌∙◌, subst, arith}
+use Rattle.std.proofs.Common.{◌≡◌, ℕ, ◌+◌, ◌-◌, ◌≤◌, ◌<◌, List, [], ◌∷◌, ◌++◌, append_assoc, Option, None, refl, sym, ap, ◌∙◌, arith}
 use Rattle.std.proofs.lemmas.List.{append-nil, map-append}
-use Rattle.w2c_base.specs.Run.{Event, Reply, Trail}
+use Rattle.w2c_base.specs.Run.{Event, Reply}
 use Rattle.c_meaning.specs.State.{State}
 use Rattle.c_meaning.specs.Linking.{Program}
 use Rattle.c_meaning.specs.Run.{Going, Pending, Progress, after, go_on}

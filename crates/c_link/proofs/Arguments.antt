@@ -1,11 +1,9 @@
 -- Which arguments fit the parameters of a function.
-use Rattle.std.proofs.Common.{◌≡◌, ℕ, suc, ◌+◌, ◌<◌, ◌≤◌, length, get_or, drop, Bool, true, false, ◌&&◌, List, [], ◌∷◌, map, refl, sym, ap, ◌∙◌, arith}
-use Rattle.std.proofs.lemmas.List.{drop_all}
+use Rattle.std.proofs.Common.{◌≡◌, ℕ, suc, ◌+◌, ◌<◌, ◌≤◌, length, drop, Bool, true, false, ◌&&◌, List, [], ◌∷◌, map, refl, ap, ◌∙◌, arith}
 use Rattle.w2c_base.specs.declared.value.Value.{Value}
 use Rattle.w2c_base.specs.Values.{type_of, types_of}
 use Rattle.c_tree.specs.declared.tree.CType.{CType}
-use Rattle.c_tree.specs.declared.tree.CType.TheVariants.{Void, U32, U64, PtrU32, PtrU64, Mem, PtrMem, Tab, PtrTab, FnPtr}
-use Rattle.c_tree.proofs.Tested.{at_front}
+use Rattle.c_tree.specs.declared.tree.CType.TheVariants.{Void}
 use Rattle.c_tree.specs.Runtime.{same_type, same_types}
 use Rattle.c_meaning.specs.Linking.{c_type_of, c_params_of}
 

@@ -11,7 +11,7 @@ use Rattle.c_tree.specs.Tree as tree
 use Rattle.c_tree.specs.Scope.{Name}
 use Rattle.c_tree.specs.Rules.{item_rules, are_alike}
 use Rattle.c_tree.specs.FirstBroken.{BrokenAt, KeepsRules, broken_of, broken_in_item, broken_in_body}
-use Rattle.c_meaning.specs.Linking.{Definition, defined, defined_for_all}
+use Rattle.c_meaning.specs.Linking.{Definition}
 use Rattle.c_check.specs.FirstRule.{item_breaks}
 use Rattle.c_check.specs.UnitNames.{none_clash, stands_behind}
 use Rattle.c_check.proofs.Clashes.{none_clash_more}

@@ -26,10 +26,8 @@ trap_kinds = Unreachable ∷ MemoryOut ∷ DivByZero ∷ IntOverflow ∷ TableOu
     ∷ Signature ∷ Exhaustion ∷ ImportLimits ∷ SegmentOut ∷ HostTrap ∷ []
 
 abbrev pub trap : List CValue → Machine → Effect
-trap (Number (I32 code) ∷ []) m = elim (find (λ kind. code_of kind == code) trap_kinds) [
-  | None ↦ IsUndefined 8
-  | Some kind ↦ Traps kind
-]
+trap (Number (I32 code) ∷ []) m =
+    elim (find (λ kind. code_of kind == code) trap_kinds) [ None ↦ IsUndefined 8 | Some kind ↦ Traps kind ]
 trap _ m = NoEffect
 
 abbrev pub gives : Machine → Value → Effect
@@ -63,7 +61,7 @@ mem_max _ m = NoEffect
 
 -- the memory with other bytes
 abbrev pub with_content : Memory → List ℕ → Memory
-with_content memory bytes = record { is_made = memory.is_made; bytes = bytes; max = memory.max }
+with_content memory bytes = record memory { bytes = bytes }
 
 -- the old number of pages, or 4294967295 where the maximum or 16,384 would be passed
 abbrev pub mem_grow : List CValue → Machine → Effect
@@ -125,11 +123,7 @@ tab_fn _ m = NoEffect
 
 -- the table with another element
 abbrev pub with_element : Table → ℕ → Element → Table
-with_element table place e = record {
-  is_made = table.is_made;
-  elements = slice_set table.elements place (Some e);
-  max = table.max;
-}
+with_element table place e = record table { elements = slice_set table.elements place (Some e) }
 
 abbrev pub set_element : Machine → ObjectAddress → Table → ℕ → FuncAddress → ℕ → Effect
 set_element m a table place f signature = elim (slice_get table.elements place) [
@@ -146,26 +140,12 @@ tab_set _ m = NoEffect
 
 abbrev pub primitives : List (Name × (List CValue → Machine → Effect))
 primitives =
-    (codes "w2c_trap", trap)
-    ∷ (codes "w2c_mem_new", mem_new)
-    ∷ (codes "w2c_mem_len", mem_len)
-    ∷ (codes "w2c_mem_max", mem_max)
-    ∷ (codes "w2c_mem_grow", mem_grow)
-    ∷ (codes "w2c_get1", get 1 type.I32)
-    ∷ (codes "w2c_get2", get 2 type.I32)
-    ∷ (codes "w2c_get4", get 4 type.I32)
-    ∷ (codes "w2c_get8", get 8 type.I64)
-    ∷ (codes "w2c_put1", put 1 type.I32)
-    ∷ (codes "w2c_put2", put 2 type.I32)
-    ∷ (codes "w2c_put4", put 4 type.I32)
-    ∷ (codes "w2c_put8", put 8 type.I64)
-    ∷ (codes "w2c_tab_new", tab_new)
-    ∷ (codes "w2c_tab_len", tab_len)
-    ∷ (codes "w2c_tab_max", tab_max)
-    ∷ (codes "w2c_tab_sig", tab_sig)
-    ∷ (codes "w2c_tab_fn", tab_fn)
-    ∷ (codes "w2c_tab_set", tab_set)
-    ∷ []
+    (codes "w2c_trap", trap) ∷ (codes "w2c_mem_new", mem_new) ∷ (codes "w2c_mem_len", mem_len) ∷ (codes "w2c_mem_max", mem_max)
+    ∷ (codes "w2c_mem_grow", mem_grow) ∷ (codes "w2c_get1", get 1 type.I32) ∷ (codes "w2c_get2", get 2 type.I32)
+    ∷ (codes "w2c_get4", get 4 type.I32) ∷ (codes "w2c_get8", get 8 type.I64) ∷ (codes "w2c_put1", put 1 type.I32)
+    ∷ (codes "w2c_put2", put 2 type.I32) ∷ (codes "w2c_put4", put 4 type.I32) ∷ (codes "w2c_put8", put 8 type.I64)
+    ∷ (codes "w2c_tab_new", tab_new) ∷ (codes "w2c_tab_len", tab_len) ∷ (codes "w2c_tab_max", tab_max) ∷ (codes "w2c_tab_sig", tab_sig)
+    ∷ (codes "w2c_tab_fn", tab_fn) ∷ (codes "w2c_tab_set", tab_set) ∷ []
 
 -- the primitive of this name
 abbrev pub primitive : Name → Option (List CValue → Machine → Effect)

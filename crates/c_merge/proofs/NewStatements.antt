@@ -252,7 +252,7 @@ module _ (p : Program) (are : FitTogether p.units) (u : ℕ) (items : List tree.
 
   arg_fits : (t : CType) (a : tree.Arg) → arg_suits s t a ≡ true → arg_suits s' t (renamed.arg ρ u a) ≡ true
   arg_fits t (tree.Value e) is = ap (λ o. has_same_type o t) (type_same e) ∙ is
-  arg_fits t (tree.Address n) is = rw (file_variables_same p are u items at_u n0 f b others front n) is
+  arg_fits t (tree.Address n) is = rw (file_variables_same p are u items at_u n0 f b others front n, arg_suits) is
   arg_fits t (tree.OfFunction n) is =
       let both = and_parts (is_some (named n (file_functions s))) (same_type t type.FnPtr) is in
       λ i. file_functions_there p are u items at_u n0 f b others front n both.0 i && both.1 i

@@ -234,7 +234,7 @@ module _ (items : List tree.Item) (keeps : KeepsRules items) where
       arg_kept : (t : CType) (a : tree.Arg) → list_all (is_known s) (arg_uses a) ≡ true → arg_suits s t a ≡ true → KeptArg ρ u a
       arg_kept t (tree.Value e) known suits = tt
       arg_kept t (tree.Address n) known suits = by_option (named n (file_variables s))
-          (λ none. absurd (false≢true (rw none at suits)))
+          (λ none. absurd (false≢true (rw (none, arg_suits) at suits)))
           (λ ty there.
           let from = named_from variable_of (take (k + 1) items) n ty there in
           own_not_depth n (variable_free from.0 from.1 n ty (take_keeps (k + 1) items from.0 from.1 from.2) from.3))

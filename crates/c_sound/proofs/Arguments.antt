@@ -125,11 +125,11 @@ module _ (p : Program) (m : Machine) (r : Running) (s : Scope) (machine : TypedM
       → arg_suits s t a ≡ true → Comes (OfType p t) (evaluate_arg p m r a)
   arg_evaluates (tree.Value e) t known typed suits = value_arg e t known (has_it s e t typed suits)
   arg_evaluates (tree.Address name) t known typed suits = by_option (named name (file_variables s))
-      (λ none. absurd (let f = rw none at suits in false≢true f))
+      (λ none. absurd (let f = rw (none, arg_suits) at suits in false≢true f))
       (λ target there. by_option (pointer_to target)
-      (λ none. absurd (let f = rw (there, none) at suits in false≢true f))
+      (λ none. absurd (let f = rw (there, none, arg_suits) at suits in false≢true f))
       (λ u points.
-      let same : same_type t u ≡ true = rw (there, points) at suits in
+      let same : same_type t u ≡ true = rw (there, points, arg_suits) at suits in
       let is : pointer_to target ≡ Some t = points ∙ ap Some (sym (type_same t u same)) in
       let stands = scope.file_vars name target there in
       rw (object_there p m (in_unit r name) target t machine stands is) (pointer_is p (in_unit r name) target t stands is)))

@@ -3,7 +3,6 @@ use Rattle.std.proofs.Common.{◌≡◌, Bool, if◌then◌else◌, ◌-◌, Lis
 use Rattle.std.specs.Prelude.{slice_get}
 use Rattle.std.proofs.lemmas.List.{reverse-append}
 use Rattle.c_tree.specs.declared.tree.CType.{CType}
-use Rattle.c_tree.specs.Tree as tree
 use Rattle.c_meaning.specs.State.{Name, CValue, Machine, Running, Frame as Waiting, Stuck}
 use Rattle.c_meaning.specs.Linking.{Program}
 use Rattle.c_meaning.specs.Step.{Step, Stops, next, assign, give, is_returned, returned}

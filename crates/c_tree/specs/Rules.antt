@@ -43,8 +43,7 @@ are_distinct (name ∷ names) = not (is_among name names) && are_distinct names
 -- most one body. The later of two items that clash breaks the rule.
 
 abbrev pub has_body : tree.Item → Bool
-has_body (tree.Function f) = is_some f.body
-has_body _ = false
+has_body item = elim item [ tree.Function f ↦ is_some f.body | _ ↦ false ]
 
 abbrev same_bool : Bool → Bool → Bool
 same_bool true b = b
@@ -74,30 +73,21 @@ abbrev pub is_own_name : Name → Bool
 is_own_name name = not (is_runtime_name name) && not (is_symbol name)
 
 abbrev pub file_name_is_free : tree.Item → Bool
-file_name_is_free (tree.Array name count bytes) = is_own_name name
-file_name_is_free (tree.Var t name number) = is_own_name name
 file_name_is_free (tree.Function f) = if f.is_static then is_own_name f.name else is_symbol f.name
+file_name_is_free item = is_own_name (name_of item)
 
 -- the names of a function's parameters and local variables
 abbrev pub body_variables : tree.Func → List (Name × CType)
-body_variables f = param_variables f ++ locals_of f.body
-  where
-    locals_of : Option tree.Body → List (Name × CType)
-    locals_of None = []
-    locals_of (Some b) = local_variables b
+body_variables f = param_variables f ++ elim f.body [ None ↦ [] | Some b ↦ local_variables b ]
 
 abbrev pub local_names : tree.Item → List Name
-local_names (tree.Function f) = map (λ v. v.0) (body_variables f)
-local_names _ = []
+local_names item = elim item [ tree.Function f ↦ map (λ v. v.0) (body_variables f) | _ ↦ [] ]
 
 abbrev pub names_are_free : Place → Bool
 names_are_free p = file_name_is_free p.item && list_all is_own_name (local_names p.item)
 
 abbrev pub label_is_free : StmtPlace → Bool
-label_is_free p = elim p.stmt [
-  | tree.Label name ↦ is_own_name name
-  | _ ↦ true
-]
+label_is_free p = elim p.stmt [ tree.Label name ↦ is_own_name name | _ ↦ true ]
 
 -- ---- 3: the types of what is declared (C11, 6.2.5, 6.7.6.2, 6.7.6.3 paragraph 10). Variables are
 -- not void; memories and tables are variables of file scope alone; a parameter is void only as the
@@ -170,10 +160,7 @@ abbrev pub defines : Name → tree.Item → Bool
 defines name item = bytes_eq (name_of item) name && has_body item
 
 abbrev pub is_defined_if_static : Place → Bool
-is_defined_if_static p = elim p.item [
-  | tree.Function f ↦ not f.is_static || list_any (defines f.name) p.unit
-  | _ ↦ true
-]
+is_defined_if_static p = elim p.item [ tree.Function f ↦ not f.is_static || list_any (defines f.name) p.unit | _ ↦ true ]
 
 -- ---- 6: names of a function's own (C11, 6.9.1 paragraph 5, 6.2.1 paragraph 4, 6.7 paragraph 3).
 -- The parameters of a definition have names, all those of parameters and local variables are
@@ -195,8 +182,7 @@ own_names_are_distinct p = elim p.item [
 -- is named is there
 
 abbrev pub label_of : tree.Stmt → Option Name
-label_of (tree.Label name) = Some name
-label_of _ = None
+label_of stmt = elim stmt [ tree.Label name ↦ Some name | _ ↦ None ]
 
 abbrev pub labels_of : List tree.Stmt → List Name
 labels_of stmts = filter_map label_of stmts
@@ -266,8 +252,7 @@ abbrev pub has_type : Scope → tree.Expr → Bool
 has_type s e = is_some (type_of s e)
 
 abbrev pub arg_has_type : Scope → tree.Arg → Bool
-arg_has_type s (tree.Value e) = has_type s e
-arg_has_type s _ = true
+arg_has_type s arg = elim arg [ tree.Value e ↦ has_type s e | _ ↦ true ]
 
 abbrev pub may_be_assigned : Scope → Name → Bool
 may_be_assigned s n = if_any (named n (variables s)) (λ t. not (is_object_type t))
@@ -300,11 +285,7 @@ has_same_type found t = if_any found (same_type t)
 
 abbrev pub arg_suits : Scope → CType → tree.Arg → Bool
 arg_suits s t (tree.Value e) = has_same_type (type_of s e) t
-arg_suits s t (tree.Address n) = if_any_pointer (if_found (named n (file_variables s)) pointer_to) t
-  where
-    if_any_pointer : Option CType → CType → Bool
-    if_any_pointer None t = false
-    if_any_pointer (Some u) t = same_type t u
+arg_suits s t (tree.Address n) = elim (if_found (named n (file_variables s)) pointer_to) [ None ↦ false | Some u ↦ same_type t u ]
 arg_suits s t (tree.OfFunction n) = is_some (named n (file_functions s)) && same_type t type.FnPtr
 
 abbrev pub args_suit : Scope → List CType → List tree.Arg → Bool
@@ -336,11 +317,7 @@ types_agree p = not (names_are_known p) || stmt_suits p.scope p.stmt
 -- ---- 11: the cases of a switch (C11, 6.8.4.2 paragraph 3) are distinct numbers of its type
 
 abbrev pub case_value : tree.Case → ℕ
-case_value c = elim c.0 [
-  | N32 n ↦ n
-  | N64 n ↦ n
-  | Plain n ↦ n
-]
+case_value c = elim c.0 [ N32 n ↦ n | N64 n ↦ n | Plain n ↦ n ]
 
 abbrev pub are_distinct_numbers : List ℕ → Bool
 are_distinct_numbers [] = true
@@ -367,10 +344,7 @@ ends_body (tree.Call target (tree.Called name) args) = bytes_eq name (codes "w2c
 ends_body _ = false
 
 abbrev pub body_is_not_empty : Place → Bool
-body_is_not_empty p = elim p.item [
-  | tree.Function f ↦ if_any f.body (λ b. nat_le 1 (length b.stmts))
-  | _ ↦ true
-]
+body_is_not_empty p = elim p.item [ tree.Function f ↦ if_any f.body (λ b. nat_le 1 (length b.stmts)) | _ ↦ true ]
 
 abbrev pub last_ends_body : StmtPlace → Bool
 last_ends_body p = not (p.number == length p.scope.body.stmts) || ends_body p.stmt
@@ -380,24 +354,11 @@ last_ends_body p = not (p.number == length p.scope.body.stmts) || ends_body p.st
 -- what each asks of an item, its parameters and its local variables
 abbrev pub item_rules : List (ℕ × (Place → Bool))
 item_rules =
-    (1, is_declared_once)
-    ∷ (2, names_are_free)
-    ∷ (3, types_are_proper)
-    ∷ (4, first_values_suit)
-    ∷ (5, is_defined_if_static)
-    ∷ (6, own_names_are_distinct)
-    ∷ (12, body_is_not_empty)
-    ∷ []
+    (1, is_declared_once) ∷ (2, names_are_free) ∷ (3, types_are_proper) ∷ (4, first_values_suit) ∷ (5, is_defined_if_static)
+    ∷ (6, own_names_are_distinct) ∷ (12, body_is_not_empty) ∷ []
 
 -- what each asks of a statement
 abbrev pub stmt_rules : List (ℕ × (StmtPlace → Bool))
 stmt_rules =
-    (2, label_is_free)
-    ∷ (3, written_type_is_proper)
-    ∷ (7, labels_are_there)
-    ∷ (8, names_are_known)
-    ∷ (9, expressions_are_typed)
-    ∷ (10, types_agree)
-    ∷ (11, cases_are_distinct)
-    ∷ (12, last_ends_body)
-    ∷ []
+    (2, label_is_free) ∷ (3, written_type_is_proper) ∷ (7, labels_are_there) ∷ (8, names_are_known) ∷ (9, expressions_are_typed)
+    ∷ (10, types_agree) ∷ (11, cases_are_distinct) ∷ (12, last_ends_body) ∷ []

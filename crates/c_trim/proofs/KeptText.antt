@@ -83,10 +83,7 @@ module _ (ρ : Renaming) (u : ℕ) (s : Scope) (none : named depth_name (file_va
     where
       not_there : x ≡ depth_name → rule.arg_suits s t (tree.Address x) ≡ false
       not_there e = ap (λ y. rule.arg_suits s t (tree.Address y)) e
-          ∙ ap (λ o. (elim (if_found o pointer_to) as (λ _. CType → Bool) [ None ↦ λ v. false | Some w ↦ λ v. scope_same v w ]) t) none
-        where
-          scope_same : CType → CType → Bool
-          scope_same v w = same_type v w
+          ∙ ap (λ o. elim (if_found o pointer_to) as (λ _. Bool) [ None ↦ false | Some w ↦ same_type t w ]) none
 
       no : false ≡ true → bytes_eq x depth_name ≡ false
       no e = cc

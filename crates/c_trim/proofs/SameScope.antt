@@ -8,9 +8,8 @@ use Rattle.c_tree.specs.declared.tree.CType.TheVariants as type
 use Rattle.c_tree.specs.Tree as tree
 use Rattle.c_tree.specs.Runtime.{same_type, primitives}
 use Rattle.c_tree.specs.Scope as scope
-use Rattle.c_tree.specs.Scope.{Name, Scope, file_variables, variables, arrays, file_functions, functions, pointed_by, pointer_to, is_comparison, is_object_type, type_of, typing_of, is_among}
+use Rattle.c_tree.specs.Scope.{Name, Scope, variables, arrays, file_functions, functions, pointed_by, pointer_to, is_comparison, is_object_type, type_of, typing_of, is_among}
 use Rattle.c_tree.specs.Rules as rule
-use Rattle.c_tree.specs.Rules.{StmtPlace}
 use Rattle.c_trim.specs.Trim.{arg_functions, callee_functions, stmt_functions}
 use Rattle.c_trim.proofs.RulesHold.{Hold, StmtsHold, stmt_at}
 use Rattle.c_trim.proofs.Lists.{all_of_both, both_append, named_in_front}
@@ -172,7 +171,7 @@ module _ (needed : Name → Bool) (old new : List tree.Item) (agree : AgreeOn ne
   same_suit : (t : CType) (a : tree.Arg) → Each needed (arg_functions a) → rule.arg_suits s' t a ≡ rule.arg_suits s t a
   same_suit t (tree.Value e) all = ap (λ o. rule.has_same_type o t) (same_type_of e)
   same_suit t (tree.Address x) all =
-      ap (λ o. (elim o as (λ _. CType → Bool) [ None ↦ λ u. false | Some u ↦ λ v. same_type v u ]) t)
+      ap (λ o. elim o as (λ _. Bool) [ None ↦ false | Some u ↦ same_type t u ])
       (ap (λ vs. if_found (named x vs) pointer_to) agree.variables)
   same_suit t (tree.OfFunction x) all = ap (λ o. is_some o && same_type t type.FnPtr) (agree.functions x all.0)
 

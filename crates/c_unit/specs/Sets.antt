@@ -8,7 +8,7 @@ use Rattle.w2c_mangle.specs.Symbols.{export_symbol_of}
 use Rattle.wasm_valid.specs.Verdict.{IsValid}
 use Rattle.wasm_meaning.specs.LinkedSet.{LinkedSet, NamedModule, IsLinked}
 use Rattle.wasm_meaning.specs.Execution as exec
-use Rattle.wasm_meaning.specs.Run.{ListedCall, Fits, WasmRun, wasm_run}
+use Rattle.wasm_meaning.specs.Run.{ListedCall, Fits, wasm_run}
 use Rattle.wasm_meaning.specs.Run as wasm
 use Rattle.c_meaning.specs.State.{Place, Undefined, Stuck}
 use Rattle.c_meaning.specs.Linking.{Program, SymbolCall, link_refusal}

@@ -40,7 +40,7 @@ use Rattle.c_tree.specs.declared.tree.CType.TheVariants.{Void, U32, U64}
 use Rattle.c_tree.specs.Tree as tree
 use Rattle.c_tree.specs.Runtime.{same_type, same_types}
 use Rattle.c_tree.specs.Scope.{Name, func_type_of}
-use Rattle.c_meaning.specs.State.{FuncAddress, UnitFunc, HostFunc}
+use Rattle.c_meaning.specs.State.{FuncAddress, UnitFunc}
 use Rattle.c_meaning.specs.Linking.{
   Definition,
   Program,

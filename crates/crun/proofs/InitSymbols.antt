@@ -23,7 +23,6 @@ use Rattle.std.proofs.Common.{
 }
 use Rattle.std.proofs.lemmas.List.{append_cancel_left, append_cancel_right}
 use Rattle.w2c_mangle.specs.Escaping.{escaped}
-use Rattle.w2c_mangle.specs.Symbols.{init_symbol_of}
 use Rattle.w2c_mangle.proofs.EscapedNames.{escaped-injective}
 use Rattle.c_meaning.specs.Linking.{is_init_symbol}
 use Rattle.c_meaning.proofs.InitSymbols.{found_are_init_symbols, init_symbols_found}

@@ -32,7 +32,7 @@ use Rattle.std.proofs.Common.{
   subst,
   arith,
 }
-use Rattle.std.specs.Prelude.{slice_get, zip, filter, filter_map, flat_map, option_map}
+use Rattle.std.specs.Prelude.{slice_get, zip, filter, filter_map, flat_map}
 use Rattle.std.specs.List.{cons_option, range_with_len}
 use Rattle.std.proofs.lemmas.List.{append-nil, map-append}
 use Rattle.w2c_base.specs.Lookup.{if_found, numbered}

@@ -4,6 +4,7 @@ use Rattle.std.proofs.lemmas.List.{append-nil}
 use Rattle.std.specs.Prelude.{◌&&◌, if◌then◌else◌, option_and_then}
 use Rattle.w2c_base.specs.Run.{Host}
 use Rattle.w2c_io.specs.Contents.{Name, Contents, Told, holding}
+use Rattle.w2c_io.specs.Telling.{Tells}
 use Rattle.w2c_io.specs.Events.{Event, Read}
 use Rattle.w2c_io.specs.Honest.{AreHonest}
 use Rattle.w2c_io.specs.Passed.{BreaksOff, WritesFile}
@@ -72,19 +73,24 @@ use Rattle.crun_job.specs.Lines.{
   Unwritten,
   WantOfMemory,
 }
+use Rattle.crun_cli.specs.Again.{RunsAgain}
 use Rattle.crun_cli.specs.Ends.{
   Begun,
   BegunIfAny,
+  By_refusal,
   Finished,
   HasPlayed,
   HasPlayedPart,
+  IsAnswered,
   IsJobWith,
   IsJournaled,
+  IsKept,
   IsRunStatus,
   journal_of,
   WithHosts,
   WithHostsBy,
 }
+use Rattle.crun_cli.specs.Files.{IsToWrite}
 use Rattle.crun_cli.specs.HonestPassing.{PassesHonestly}
 use Rattle.crun_cli.specs.Jobs.{
   symbols_of,
@@ -120,7 +126,17 @@ use Rattle.crun_cli.specs.Passing.{
 }
 use Rattle.crun_cli.specs.Runs.{HasPart, HasRun}
 use Rattle.crun_cli.proofs.RecordLaws.{ran_status}
-use Rattle.crun_cli.proofs.TopLaws.{of_status_3, of_status_4, stop_apart}
+use Rattle.crun_cli.proofs.TopLaws.{
+  begun_apart,
+  decided,
+  done_again,
+  done_complete,
+  done_refused,
+  of_status_3,
+  of_status_4,
+  stop_apart,
+  written_by_no_run,
+}
 
 -- ---- a line names no more than 16 units
 
@@ -633,6 +649,88 @@ module _ {H : Type 0} (hm : HostModule H) (hosts : List H) (words : List Name) (
       go (Some (trims line)) is (quiet, p) = units_come (trims line) is (line.unit ∷ []) (IsTrimmedText line) (omega arith)
           (λ job of. of) quiet p
 
+-- ---- no file changes but the one that the words name for writing
+
+module _ {H : Type 0} (hm : HostModule H) (hosts : List H) (words : List Name) (m : Contents) where
+  -- the file of a unit that is asked for
+  unit_to_write : (output : Name) (unit : List tree.Item) → IsJobWith hm hosts words m (Write output unit)
+      → IsToWrite output (line_of words)
+  unit_to_write output unit job = by (line_of words) refl job
+    where
+      of_units : (units : List Name) (IsOf : List (List ℕ) → Job → Type 0) (written : Name)
+          → ((texts : List (List ℕ)) → IsOf texts (Write output unit) → output ≡ written)
+          → IsUnitsJob m units IsOf (Write output unit) → output ≡ written
+      of_units units IsOf written found (UnitsRead texts, is, of) = found texts of
+      of_units units IsOf written found (NoUnit file, is, of) = absurd cc
+      of_units units IsOf written found (UnitTooLong file, is, of) = absurd cc
+
+      merged_to : (line : MergeLine) (texts : List (List ℕ)) → IsMerged line (symbols_of (hosts_of hm hosts)) texts (Write output unit)
+          → output ≡ line.output
+      merged_to line texts (inl (units, linked, is)) = cc
+      merged_to line texts (inr (number, file, why, at, refused, is)) = absurd cc
+
+      trimmed_to : (line : TrimLine) (texts : List (List ℕ)) → IsTrimmedText line texts (Write output unit) → output ≡ line.output
+      trimmed_to line texts (inl (whole, trimmed, are, is_trimmed, is)) = cc
+      trimmed_to line texts (inr (number, why, refused, is)) = absurd cc
+
+      by : (o : Option Line) → line_of words ≡ o → MatchOption o (Write output unit ≡ Stops Usage)
+          (λ l. IsLineJob (hosts_of hm hosts) m l (Write output unit)) → IsToWrite output o
+      by None none is = absurd cc
+      by (Some (runs line)) is of = absurd (written_by_no_run hm hosts words m line output unit is job)
+      by (Some (merges line)) is of =
+          of_units line.units (IsMerged line (symbols_of (hosts_of hm hosts))) line.output (merged_to line) of
+      by (Some (trims line)) is of = of_units (line.unit ∷ []) (IsTrimmedText line) line.output (trimmed_to line) of
+
+  module _ (old new : Outside) where
+    -- a file that is named for writing is begun
+    begun_kept : (file : Name) (text : List ℕ) → IsToWrite file (line_of words) → IsBegun old.files.told new.files.told file text
+        → IsKept words old new
+    begun_kept file text named (inl same) = inl same
+    begun_kept file text named (inr (part, prefix, is)) = inr (file, part, named, is)
+
+    -- the journal of a line
+    journal_named : (line : RunLine) → line_of words ≡ Some (runs line) → (file : Name) → line.journal ≡ Some file
+        → IsToWrite file (line_of words)
+    journal_named line is file named = subst (IsToWrite file) (sym is) named
+
+    journal_kept : (line : RunLine) → line_of words ≡ Some (runs line) → (o : Option Name) → line.journal ≡ o → (j : Recorded)
+        → IsJournaled o j old.files.told new.files.told → IsKept words old new
+    journal_kept line is None none j same = inl same
+    journal_kept line is (Some file) named j written =
+        inr (file, journal_text j, journal_named line is file named, written.0)
+
+    played_kept : (line : RunLine) → line_of words ≡ Some (runs line) → (G : Type 0) (n : HostModule G) (gs : List G)
+        (units : List (List tree.Item)) (calls : List SymbolCall) (status : ℕ)
+        → HasPlayed n gs line units calls old new status → IsKept words old new
+    played_kept line is G n gs units calls status played =
+        journal_kept line is line.journal refl (journal_of n gs played.run.asks) played.written
+
+    part_kept : (line : RunLine) → line_of words ≡ Some (runs line) → (G : Type 0) (n : HostModule G) (gs : List G)
+        (units : List (List tree.Item)) (calls : List SymbolCall) → HasPlayedPart n gs line units calls old new → IsKept words old new
+    part_kept line is G n gs units calls (inl (part, same)) = inl same
+    part_kept line is G n gs units calls (inr part) =
+        begun_kept part.name (journal_text (journal_of n gs part.run.asks)) (journal_named line is part.name part.named) part.begun
+
+    -- with any hosts
+    with_any : (o : Option Name) (P : (G : Type 0) → HostModule G → List G → Type 0) (C : Type 0)
+        → ((G : Type 0) (n : HostModule G) (gs : List G) → P G n gs → C) → WithHosts hm hosts o m P → C
+    with_any None P C so of = so _ hm hosts of
+    with_any (Some name) P C so (j, replays, held, are, of) = so _ _ replays of
+
+    finished_kept : (status : ℕ) → Finished hm hosts words m old new status → IsKept words old new
+    finished_kept status (inl (line, units, calls, is, job, with)) =
+        with_any line.replayed (λ G n gs. HasPlayed n gs line units calls old new status) (IsKept words old new)
+        (λ G n gs. played_kept line is G n gs units calls status) with
+    finished_kept status (inr (zero, wrote)) =
+        inr (wrote.output, print_of wrote.unit, unit_to_write wrote.output wrote.unit wrote.job, wrote.written)
+
+    part_of_it_kept : Begun hm hosts words m old new → IsKept words old new
+    part_of_it_kept (inl (line, units, calls, is, job, with)) =
+        with_any line.replayed (λ G n gs. HasPlayedPart n gs line units calls old new) (IsKept words old new)
+        (λ G n gs. part_kept line is G n gs units calls) with
+    part_of_it_kept (inr wrote) =
+        begun_kept wrote.output (print_of wrote.unit) (unit_to_write wrote.output wrote.unit wrote.job) wrote.begun
+
 -- ---- the clauses
 
 module _ {H : Type 0} (hm : HostModule H) (hosts : List H) (words : List Name) (m : Contents) (old new : Outside) (status : ℕ)
@@ -718,3 +816,54 @@ module _ {H : Type 0} (hm : HostModule H) (hosts : List H) (words : List Name) (
       by (Fails file is said last same) = inl same
       by (Breaks is said begun) = absurd (omega (arith, is, five))
       by (Wants is begun) = begun
+
+  -- the last call was a read that failed
+  abbrev Failed : Type 0
+  Failed = (file : Name) × FailsLast file call.events
+
+  pub honest_answered : (status ≡ 4) ⊎ (status ≡ 5) ⊎ ((file : Name) × FailsLast file call.events) ⊎ IsAnswered hm hosts words m status
+  honest_answered = by came
+    where
+      done : (status ≡ 5) ⊎ IsAnswered hm hosts words m status → (status ≡ 4) ⊎ (status ≡ 5) ⊎ Failed ⊎ IsAnswered hm hosts words m status
+      done (inl five) = inr (inl five)
+      done (inr answered) = inr (inr (inr answered))
+
+      by : Came hm hosts words m old new status Said call.events
+          → (status ≡ 4) ⊎ (status ≡ 5) ⊎ Failed ⊎ IsAnswered hm hosts words m status
+      by (Done run finished) = done (done_complete hm hosts words m old new status finished)
+      by (Refuses why is said job same) = inr (inr (inr (By_refusal why job is)))
+      by (Fails file is said last same) = inr (inr (inl (file, last)))
+      by (Breaks is said begun) = inl is
+      by (Wants is begun) = inr (inl is)
+
+  pub honest_decided : (why : Reason) → IsJobWith hm hosts words m (Stops why)
+      → (status ≡ status_of why) ⊎ (status ≡ 5) ⊎ ((file : Name) × FailsLast file call.events)
+  honest_decided why refused = by came
+    where
+      done : (status ≡ status_of why) ⊎ (status ≡ 5) → (status ≡ status_of why) ⊎ (status ≡ 5) ⊎ Failed
+      done (inl is) = inl is
+      done (inr five) = inr (inl five)
+
+      by : Came hm hosts words m old new status Said call.events → (status ≡ status_of why) ⊎ (status ≡ 5) ⊎ Failed
+      by (Done run finished) = done (done_refused hm hosts words m old new status why finished refused)
+      by (Refuses first is said job same) = inl (decided hm hosts words m status why (By_refusal first job is) refused)
+      by (Fails file is said last same) = inr (inr (file, last))
+      by (Breaks is said begun) = absurd (begun_apart hm hosts words m old new why begun refused)
+      by (Wants is begun) = inr (inl is)
+
+  pub honest_replayed : IsRunStatus status → Tells new.files.told (λ left. RunsAgain hm words m left old new status)
+  honest_replayed run = λ left told. done_again hm hosts words m left old new status call.told told (honest_finished run)
+
+  pub honest_kept : IsKept words old new
+  honest_kept = by came
+    where
+      if_any : BegunIfAny hm hosts words m old new → IsKept words old new
+      if_any (inl same) = inl same.files.told
+      if_any (inr begun) = part_of_it_kept hm hosts words m old new begun
+
+      by : Came hm hosts words m old new status Said call.events → IsKept words old new
+      by (Done run finished) = finished_kept hm hosts words m old new status finished
+      by (Refuses why is said job same) = inl same.files.told
+      by (Fails file is said last same) = inl same.files.told
+      by (Breaks is said begun) = part_of_it_kept hm hosts words m old new begun
+      by (Wants is begun) = if_any begun

@@ -1,7 +1,7 @@
 -- The lines of what was told, of asks and of outcomes.
 use Rattle.std.proofs.Common.{◌≡◌, ℕ, ◌+◌, List, [], ◌∷◌, ◌++◌, append_assoc, length, map, Some, refl, sym, ap, ◌∙◌, arith}
 use Rattle.std.proofs.lemmas.List.{append-nil, map-append}
-use Rattle.w2c_base.specs.Run.{CallEnded, Event, Host, Phase, Init, Call, asks_in, values_in}
+use Rattle.w2c_base.specs.Run.{CallEnded, Event, Host, Init, Call, asks_in, values_in}
 use Rattle.w2c_base.specs.Run as run
 use Rattle.w2c_base.proofs.Events.{values_behind}
 use Rattle.c_meaning.specs.State.{Trapped, Undefined}

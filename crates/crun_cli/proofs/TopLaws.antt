@@ -99,7 +99,7 @@ stop_small status Unwritten is = omega (arith, is)
 stop_small status WantOfMemory is = omega (arith, is)
 
 -- a line of the run form asks for no unit
-written_by_no_run : {H : Type 0} (hm : HostModule H) (hosts : List H) (words : List Name) (m : Contents) (line : RunLine) (output : Name)
+pub written_by_no_run : {H : Type 0} (hm : HostModule H) (hosts : List H) (words : List Name) (m : Contents) (line : RunLine) (output : Name)
     (unit : List tree.Item) → line_of words ≡ Some (runs line) → IsJobWith hm hosts words m (Write output unit) → ⊥
 written_by_no_run hm hosts words m line output unit is job =
     of_line (subst (λ o. MatchOption o (Write output unit ≡ Stops Usage) (λ l. IsLineJob (hosts_of hm hosts) m l (Write output unit))) is
@@ -186,13 +186,13 @@ module _ {H : Type 0} (hm : HostModule H) (hosts : List H) (words : List Name) w
       no_line m line output unit is job = written_by_no_run hm hosts words m line output unit is job
 
   -- what is begun is no job that is refused
-  begun_apart : (m : Contents) (old new : Outside) (why : Reason) → Begun hm hosts words m old new → Asks m (Stops why) → ⊥
+  pub begun_apart : (m : Contents) (old new : Outside) (why : Reason) → Begun hm hosts words m old new → Asks m (Stops why) → ⊥
   begun_apart m old new why (inl (line, units, calls, is, job, with)) refused =
       no_run m units calls line.steps line.shows_state why job refused
   begun_apart m old new why (inr wrote) refused = no_unit m wrote.output wrote.unit why wrote.job refused
 
   -- a job that is refused decides, whatever answers
-  decided : (m : Contents) (status : ℕ) (why : Reason) → Answered m status → Asks m (Stops why) → status ≡ status_of why
+  pub decided : (m : Contents) (status : ℕ) (why : Reason) → Answered m status → Asks m (Stops why) → status ≡ status_of why
   decided m status why (By_refusal first job is) refused =
       subst (λ j. IsOfStop j) (same_job m (Stops first) (Stops why) job refused) is
     where

@@ -31,23 +31,24 @@ use w2c_files::write_file;
 use w2c_io::{Files, Sink, WriteAnswer};
 
 /// Runs the units of these texts, linked with the hosts, with the calls of these lines, and gives the status of the run. Where the
-/// line names a file for the journal, the text of the run's journal is written to it, behind the lines of the run.
+/// line names a file for the journal, the text of the run's journal is written to it, behind the lines of the run. The texts are
+/// dropped before anything runs.
 pub fn run_and_record<F: Files, O: Sink, H: HostModule>(
     alloc: Global,
     line: &RunLine<'_>,
-    inputs: &Inputs,
+    inputs: Inputs,
     hosts: Vec<H>,
     files: &mut F,
     out: &mut O,
 ) -> Result<u8, Stop>
     requires offered { AreOffered H.HostModule hosts.items }
-    requires many { length inputs.now.units.items ≡ length line.now.units.items }
-    requires short { AreShort inputs.now.units.items }
-    ensures ran { IfOk result (λ status. IsTextsRun H.HostModule hosts.items (seen_run line.now) inputs.now.units.items inputs.now.calls
+    requires many { length inputs.units.items ≡ length line.now.units.items }
+    requires short { AreShort inputs.units.items }
+    ensures ran { IfOk result (λ status. IsTextsRun H.HostModule hosts.items (seen_run line.now) inputs.units.items inputs.calls
         (λ units calls. HasPlayed H.HostModule hosts.items (seen_run line.now) units calls
         (outside F.Files O.Sink files.old out.old) (outside F.Files O.Sink files.new out.new) status)) }
     ensures status { IfOk result IsRunStatus }
-    ensures stop { IfErr result (λ stop. StopsRun H.HostModule hosts.items (seen_run line.now) inputs.now.units.items inputs.now.calls
+    ensures stop { IfErr result (λ stop. StopsRun H.HostModule hosts.items (seen_run line.now) inputs.units.items inputs.calls
         (outside F.Files O.Sink files.old out.old) (outside F.Files O.Sink files.new out.new) (reason_of stop)) }
     ensures reads { F.read_faults files.new ≡ F.read_faults files.old }
     ensures writes { F.write_faults files.old ≤ F.write_faults files.new }
@@ -59,13 +60,14 @@ pub fn run_and_record<F: Files, O: Sink, H: HostModule>(
     ensures current { (seen_run line.now).journal ≡ None → F.current files.new ≡ F.current files.old }
     // What passed through the files, those of the system too.
     ensures passed { Passes (F.trace files.old) (F.trace files.new)
-        (WritesOfTexts H.HostModule hosts.items (seen_run line.now) inputs.now.units.items inputs.now.calls
+        (WritesOfTexts H.HostModule hosts.items (seen_run line.now) inputs.units.items inputs.calls
         (O.told out.old) (O.told out.new) (ended_by result) (stopped_by result)) }
 {
-    let task = match task_of(alloc, line, inputs, hosts.as_slice()) {
+    let task = match task_of(alloc, line, &inputs, hosts.as_slice()) {
         Ok(task) => task,
         Err(stop) => return Err(stop),
     };
+    drop(inputs);
     let journal = match blank_journal(alloc, line, hosts.as_slice()) {
         Ok(journal) => journal,
         Err(Memory) => return Err(Stop::Memory),

@@ -57,7 +57,7 @@ pub fn run<F: Files, O: Sink, H: HostModule>(
         Err(stop) => return Err(stop_of(stop)),
     };
     match line.replayed {
-        None => match run_and_record(alloc, line, &inputs, hosts, files, out) {
+        None => match run_and_record(alloc, line, inputs, hosts, files, out) {
             Ok(status) => Ok(status),
             Err(stop) => Err(stop),
         },
@@ -66,7 +66,7 @@ pub fn run<F: Files, O: Sink, H: HostModule>(
                 Ok(replays) => replays,
                 Err(stop) => return Err(stop),
             };
-            match run_and_record(alloc, line, &inputs, replays, files, out) {
+            match run_and_record(alloc, line, inputs, replays, files, out) {
                 Ok(status) => Ok(status),
                 Err(stop) => Err(stop),
             }

@@ -1,5 +1,5 @@
 -- The lines of a journal that can be written add up to it.
-use Rattle.std.proofs.Common.{◌≡◌, ◌&&◌, ℕ, zero, suc, Bool, true, false, length, List, [], ◌∷◌, ◌++◌, map, flat_map, slice_get, option_map, Option, Some, None, refl, sym, ap, ◌∙◌, subst, append_assoc}
+use Rattle.std.proofs.Common.{◌≡◌, ◌&&◌, ℕ, zero, suc, true, false, length, List, [], ◌∷◌, ◌++◌, map, flat_map, slice_get, option_map, Option, Some, None, refl, sym, ap, ◌∙◌, subst, append_assoc}
 use Rattle.std.specs.List.{list_all}
 use Rattle.std.proofs.lemmas.List.{append-nil}
 use Rattle.w2c_base.proofs.Conjunctions.{both_hold}

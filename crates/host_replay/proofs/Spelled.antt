@@ -1,5 +1,5 @@
 -- The text of a journal that can be written is that journal.
-use Rattle.std.proofs.Common.{◌≡◌, ◌==◌, ◌<◌, ◌^◌, ◌&&◌, ℕ, zero, suc, Bool, true, false, length, List, [], ◌∷◌, ◌++◌, codes, map, flat_map, slice_get, lit<, Option, Some, None, refl, sym, ap, ◌∙◌, subst, append_assoc, arith}
+use Rattle.std.proofs.Common.{◌≡◌, ◌==◌, ◌<◌, ◌^◌, ◌&&◌, ℕ, zero, suc, true, length, List, [], ◌∷◌, ◌++◌, codes, map, flat_map, slice_get, lit<, Option, Some, None, refl, sym, ap, ◌∙◌, subst, append_assoc, arith}
 use Rattle.std.specs.List.{join_with_byte, list_all, AllByRecursion}
 use Rattle.std.proofs.lemmas.Bool.{ltb-true}
 use Rattle.std.proofs.lemmas.Grind.{flat_map-append}

@@ -53,7 +53,8 @@ pub given_up : (old middle put new : List Event) (name : Name) (text part piece 
 given_up old middle put new name text part piece after why split passed one ends =
     part_written old (old ++ Begin name (Ok tt) ∷ []) put new name text why refl (stopped (behind_begin old middle name part passed)) ends
   where
-    stopped : Passes (old ++ Begin name (Ok tt) ∷ []) middle (PutsText part) → Passes (old ++ Begin name (Ok tt) ∷ []) put (PutsPart text why)
+    stopped : Passes (old ++ Begin name (Ok tt) ∷ []) middle (PutsText part)
+        → Passes (old ++ Begin name (Ok tt) ∷ []) put (PutsPart text why)
     stopped (events, is, puts) = (
       events ++ Put piece (Err why) ∷ [],
       one ∙ ap (λ (l : List Event). l ++ Put piece (Err why) ∷ []) is

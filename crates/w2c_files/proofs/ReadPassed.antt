@@ -19,8 +19,8 @@ reads_joined each (n ∷ names) [] events name bytes reads = absurd reads
 reads_joined each (n ∷ names) (b ∷ all) [] name bytes reads = absurd reads
 reads_joined each (n ∷ names) (b ∷ all) (e ∷ events) name bytes reads = (reads.0, reads_joined each names all events name bytes reads.1)
 
-pub one_more_read : (each left : ℕ) (old before new : List Event) (names : List Name) (k number : ℕ) (name : Name) (all more : List (List ℕ)) (bytes : List ℕ)
-    → slice_get names k ≡ Some name → more ≡ all ++ bytes ∷ []
+pub one_more_read : (each left : ℕ) (old before new : List Event) (names : List Name) (k number : ℕ) (name : Name)
+    → (all more : List (List ℕ)) (bytes : List ℕ) → slice_get names k ≡ Some name → more ≡ all ++ bytes ∷ []
     → Passes old before (ReadsAll each (take k names) all) → Passes before new (ReadsOne each left name number (Ok bytes))
     → Passes old new (ReadsAll each (take (k + 1) names) more)
 one_more_read each left old before new names k number name all more bytes at same (events, is, reads) (one, one_is, read) = (
@@ -28,13 +28,13 @@ one_more_read each left old before new names k number name all more bytes at sam
   one_is ∙ ap (λ (l : List Event). before ++ l) read ∙ ap (λ (l : List Event). l ++ Read name each (Ok bytes) ∷ []) is
       ∙ append_assoc old events (Read name each (Ok bytes) ∷ []),
   subst (λ (l : List (List ℕ)). ReadsAll each (take (k + 1) names) l (events ++ Read name each (Ok bytes) ∷ [])) (sym same)
-      (subst (λ (l : List Name). ReadsAll each l (all ++ bytes ∷ []) (events ++ Read name each (Ok bytes) ∷ [])) (sym (next_at names k name at))
-      (reads_joined each (take k names) all events name bytes reads)),
+      (subst (λ (l : List Name). ReadsAll each l (all ++ bytes ∷ []) (events ++ Read name each (Ok bytes) ∷ []))
+      (sym (next_at names k name at)) (reads_joined each (take k names) all events name bytes reads)),
 )
 
 -- the next file is refused
-pub next_stops : (each most left : ℕ) (old before new : List Event) (names : List Name) (k : ℕ) (name : Name) (all : List (List ℕ)) (why : ReadStop)
-    → slice_get names k ≡ Some name → length all ≡ k → total all + left ≡ most
+pub next_stops : (each most left : ℕ) (old before new : List Event) (names : List Name) (k : ℕ) (name : Name)
+    → (all : List (List ℕ)) (why : ReadStop) → slice_get names k ≡ Some name → length all ≡ k → total all + left ≡ most
     → Passes old before (ReadsAll each (take k names) all) → Passes before new (ReadsOne each left name k (Err why))
     → Passes old new (ReadsSome each most names why)
 next_stops each most left old before new names k name all why at many room (events, is, reads) (one, one_is, (answer, read, stops)) = (

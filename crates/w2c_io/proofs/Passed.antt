@@ -110,7 +110,8 @@ memory_wanted old text = none_passed old (PutsPart text writing.Memory) (memory_
 -- a text was put in one piece, as it is answered
 pub whole_passed : (old new : List Event) (piece text : List ℕ) (result : Result (Unit {0}) WriteAnswer) → piece ≡ text
     → new ≡ old ++ Put piece result ∷ [] → OnOk result (Passes old new (PutsText text))
-whole_passed old new piece text (Ok tt) same is = (Put piece (Ok tt) ∷ [], is, put_same piece text (Put piece (Ok tt) ∷ []) same (one_put piece))
+whole_passed old new piece text (Ok tt) same is =
+    (Put piece (Ok tt) ∷ [], is, put_same piece text (Put piece (Ok tt) ∷ []) same (one_put piece))
 whole_passed old new piece text (Err why) same is = tt
 
 pub vain_passed : (old new : List Event) (piece text : List ℕ) (result : Result (Unit {0}) WriteAnswer) → piece ≡ text
@@ -120,8 +121,8 @@ vain_passed old new piece text (Err why) same is =
     (Put piece (Err why) ∷ [], is, put_in_vain text piece [] why (sym same ∙ sym (append-nil piece)))
 
 -- one text, then another
-pub more_passed : (old middle new : List Event) (front back : List ℕ) → Passes old middle (PutsText front) → Passes middle new (PutsText back)
-    → Passes old new (PutsText (front ++ back))
+pub more_passed : (old middle new : List Event) (front back : List ℕ) → Passes old middle (PutsText front)
+    → Passes middle new (PutsText back) → Passes old new (PutsText (front ++ back))
 more_passed old middle new front back =
     both_passed old middle new (PutsText front) (PutsText back) (PutsText (front ++ back)) (both_put front back)
 
@@ -141,7 +142,8 @@ front_passed old new whole front rest split =
 -- ---- a file from its begin to its finish
 
 -- one call was made
-pub one_call : (old new : List Event) (event : Event) (P : List Event → Type 0) → new ≡ old ++ event ∷ [] → P (event ∷ []) → Passes old new P
+pub one_call : (old new : List Event) (event : Event) (P : List Event → Type 0)
+    → new ≡ old ++ event ∷ [] → P (event ∷ []) → Passes old new P
 one_call old new event P is holds = (event ∷ [], is, holds)
 
 -- it was begun, something was put, and it was finished

@@ -20,7 +20,8 @@ use Rattle.wasm2c_cli.specs.Lines.{read_line, refused_line, usage_line, write_li
 use Rattle.wasm2c_cli.specs.Passing.{Follows, IsJobOver, PassesLine, ReadsFirst, ReadsWhole, StopsAfter, StopsByAnswer}
 use Rattle.wasm2c_cli.specs.Plan.{inputs_of, most_set_bytes}
 use Rattle.wasm2c_cli.specs.Stops.{Done, StandsOfJob}
-use Rattle.wasm2c_cli.proofs.TopLaws.{is_job}
+use Rattle.wasm2c_cli.specs.Top.{Answers}
+use Rattle.wasm2c_cli.proofs.TopLaws.{is_job, usage_job}
 
 -- ---- reads
 
@@ -173,14 +174,14 @@ module _ (line : Line) (m : Contents) (given put : List Event) (new : Told) (cur
 module _ (words : List Name) (status : ℕ) (says : List ℕ → Type 0) (m : Contents) (new : Told)
     (call : PassesHonestly words status says m new) where
   -- nothing passed, or it passed for a line
-  by_words : {C : Type 0} → ((call.events ≡ []) → ((status ≡ 2) × says usage_line) ⊎ (status ≡ 5) → C)
+  by_words : {C : Type 0} → (line_of words ≡ None → (call.events ≡ []) → ((status ≡ 2) × says usage_line) ⊎ (status ≡ 5) → C)
       → ((line : Line) → line_of words ≡ Some line → PassesLine line status says call.events → C) → C
   by_words {C} none some = by_line (line_of words) refl call.passes
     where
       by_line : (o : Option Line) → line_of words ≡ o
           → MatchOption o ((call.events ≡ []) × (((status ≡ 2) × says usage_line) ⊎ (status ≡ 5)))
           (λ line. PassesLine line status says call.events) → C
-      by_line None is (nothing, ends) = none nothing ends
+      by_line None is (nothing, ends) = none is nothing ends
       by_line (Some line) is passes = some line is passes
 
   split_of : (line : Line) (p : PassesLine line status says call.events)
@@ -193,7 +194,7 @@ module _ (words : List Name) (status : ℕ) (says : List ℕ → Type 0) (m : Co
   -- ---- status 1 to 3: nothing has changed
 
   pub honest_untouched : (status ≡ 1) ⊎ (status ≡ 2) ⊎ (status ≡ 3) → new ≡ Some m
-  honest_untouched ends = by_words (λ nothing stops. no_calls nothing) (λ line is p. on_line line p (split_of line p))
+  honest_untouched ends = by_words (λ none nothing stops. no_calls nothing) (λ line is p. on_line line p (split_of line p))
     where
       not_so : (n : ℕ) → status ≡ n → ((n ≡ 0) ⊎ (n ≡ 4) ⊎ (n ≡ 5)) → ⊥
       not_so n is other = by_cases ends other
@@ -231,7 +232,7 @@ module _ (words : List Name) (status : ℕ) (says : List ℕ → Type 0) (m : Co
   -- ---- status 0: the job's files stand whole
 
   done_here : status ≡ 0 → (files : List (Name × List ℕ)) × IsJob words m (Write files) × (new ≡ written (Some m) files)
-  done_here zero = by_words (λ nothing ends. absurd (no_end ends)) (λ line is p. on_line line is p (split_of line p))
+  done_here zero = by_words (λ none nothing ends. absurd (no_end ends)) (λ line is p. on_line line is p (split_of line p))
     where
       no_end : ((status ≡ 2) × says usage_line) ⊎ (status ≡ 5) → ⊥
       no_end (inl (two, said)) = omega (arith, zero, two)
@@ -271,7 +272,7 @@ module _ (words : List Name) (status : ℕ) (says : List ℕ → Type 0) (m : Co
 
   pub honest_write_fault : status ≡ 4 → (file : Name) × (files : List (Name × List ℕ)) × IsJob words m (Write files)
       × StandsAt (Some m) new files file × says (write_line file)
-  honest_write_fault four = by_words (λ nothing ends. absurd (no_end ends)) (λ line is p. on_line line is p (split_of line p))
+  honest_write_fault four = by_words (λ none nothing ends. absurd (no_end ends)) (λ line is p. on_line line is p (split_of line p))
     where
       no_end : ((status ≡ 2) × says usage_line) ⊎ (status ≡ 5) → ⊥
       no_end (inl (two, said)) = omega (arith, four, two)
@@ -308,7 +309,7 @@ module _ (words : List Name) (status : ℕ) (says : List ℕ → Type 0) (m : Co
   -- ---- status 5: some of the job's files stand
 
   pub honest_stands : status ≡ 5 → StandsOfJob words m (Some m) new
-  honest_stands five = by_words (λ nothing ends. inl (no_calls nothing)) (λ line is p. on_line line is p (split_of line p))
+  honest_stands five = by_words (λ none nothing ends. inl (no_calls nothing)) (λ line is p. on_line line is p (split_of line p))
     where
       on_job : (line : Line) → line_of words ≡ Some line → (p : PassesLine line status says call.events)
           → AreHonest (p.given ++ p.put) (Some m) call.current new call.after → (job : Job) → IsJobOver line p.given job
@@ -336,7 +337,7 @@ module _ (words : List Name) (status : ℕ) (says : List ℕ → Type 0) (m : Co
 
   pub honest_refused : status ≡ 1 → (file : Name) × (reason : Reason) × says (refused_line file reason)
       × IsJob words m (Refused file reason)
-  honest_refused one = by_words (λ nothing ends. absurd (no_end ends)) (λ line is p. on_line line is p (split_of line p))
+  honest_refused one = by_words (λ none nothing ends. absurd (no_end ends)) (λ line is p. on_line line is p (split_of line p))
     where
       no_end : ((status ≡ 2) × says usage_line) ⊎ (status ≡ 5) → ⊥
       no_end (inl (two, said)) = omega (arith, one, two)
@@ -371,7 +372,7 @@ module _ (words : List Name) (status : ℕ) (says : List ℕ → Type 0) (m : Co
   -- ---- status 3: the file is not there, or its read failed
 
   pub honest_missing : status ≡ 3 → (file : Name) × says (read_line file) × (IsJob words m (Missing file) ⊎ FailsLast file call.events)
-  honest_missing three = by_words (λ nothing ends. absurd (no_end ends)) (λ line is p. on_line line is p (split_of line p))
+  honest_missing three = by_words (λ none nothing ends. absurd (no_end ends)) (λ line is p. on_line line is p (split_of line p))
     where
       no_end : ((status ≡ 2) × says usage_line) ⊎ (status ≡ 5) → ⊥
       no_end (inl (two, said)) = omega (arith, three, two)
@@ -408,3 +409,34 @@ module _ (words : List Name) (status : ℕ) (says : List ℕ → Type 0) (m : Co
         | inl job ↦ on_job line is p honest job.0 job.1 job.2
         | inr memory ↦ absurd (no_end (inr memory.0))
       ]
+
+  -- ---- any status: that of the job, unless a read or a write failed or memory was wanting
+
+  abbrev Answered : Type 0
+  Answered = (status ≡ 4) ⊎ (status ≡ 5) ⊎ ((file : Name) × FailsLast file call.events)
+      ⊎ ((job : Job) × IsJob words m job × Answers job status)
+
+  pub honest_answered : (status ≡ 4) ⊎ (status ≡ 5) ⊎ ((file : Name) × FailsLast file call.events)
+      ⊎ ((job : Job) × IsJob words m job × Answers job status)
+  honest_answered = by_words of_usage (λ line is p. elim p.follows [
+    | inl job ↦ on_job job.0 p.put job.2
+    | inr memory ↦ inr (inl memory.0)
+  ])
+    where
+      of_usage : line_of words ≡ None → (call.events ≡ []) → ((status ≡ 2) × says usage_line) ⊎ (status ≡ 5) → Answered
+      of_usage none nothing (inl (two, said)) = inr (inr (inr (Usage, usage_job words m none, two)))
+      of_usage none nothing (inr five) = inr (inl five)
+
+      of_missing : status ≡ 3 → (file : Name) × says (read_line file) × (IsJob words m (Missing file) ⊎ FailsLast file call.events)
+          → Answered
+      of_missing three (file, said, inl job) = inr (inr (inr (Missing file, job, three)))
+      of_missing three (file, said, inr fails) = inr (inr (inl (file, fails)))
+
+      on_job : (job : Job) (put : List Event) → Follows job status says put → Answered
+      on_job Usage put follows = absurd follows
+      on_job (Missing file) put (three, none, said) = of_missing three (honest_missing three)
+      on_job (Refused file reason) put (one, none, said) =
+          let (other, why, line, job) = honest_refused one in inr (inr (inr (Refused other why, job, one)))
+      on_job (Write files) put (inl (zero, wrote)) = let (all, job, stand) = done_here zero in inr (inr (inr (Write all, job, zero)))
+      on_job (Write files) put (inr (inl (four, file, broken, said))) = inl four
+      on_job (Write files) put (inr (inr (five, some))) = inr (inl five)

@@ -1,6 +1,5 @@
 -- What passes through files that are read or written one after another, by the stop.
 use Rattle.std.proofs.Common.{◌≡◌, ℕ, ◌-◌, zero, suc, List, [], ◌∷◌, ◌++◌, length, refl, sym, ◌∙◌, ap, subst, append_assoc, arith, Some, Result, Ok, Err, OnOk, IfErr, slice_get, string_bytes, inl, inr}
-use Rattle.std.proofs.lemmas.List.{append-nil}
 use Rattle.w2c_io.specs.Contents.{Name}
 use Rattle.w2c_io.specs.Events.{Event, Read, Begin, Finish}
 use Rattle.w2c_io.specs.Passed.{Passes, PutsText, WritesFile, BreaksOff}

@@ -37,7 +37,7 @@ pub is_job : (words : List Name) (line : Line) (contents : Contents) (job : Job)
 is_job words line contents job is of_line =
     subst (λ (o : Option Line). MatchOption o (job ≡ Usage) (λ l. IsJobOf l contents job)) (sym is) of_line
 
-usage_job : (words : List Name) (contents : Contents) → line_of words ≡ None → IsJob words contents Usage
+pub usage_job : (words : List Name) (contents : Contents) → line_of words ≡ None → IsJob words contents Usage
 usage_job words contents none =
     subst (λ (o : Option Line). MatchOption o (◌≡◌ {A = Job} Usage Usage) (λ l. IsJobOf l contents Usage)) (sym none) refl
 

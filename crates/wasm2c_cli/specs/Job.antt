@@ -38,17 +38,15 @@ AreSources line contents sources = AreSourcesBy (AreReadOf line contents) line s
 abbrev pub AreAccepted : List (List ℕ) → List Module → Type 0
 AreAccepted [] [] = Unit {0}
 AreAccepted (bytes ∷ sources) (m ∷ modules) = IsVerdictOn bytes (Read m Accepted) × AreAccepted sources modules
-AreAccepted [] (m ∷ modules) = ⊥
-AreAccepted (bytes ∷ sources) [] = ⊥
+AreAccepted _ _ = ⊥
 
 -- the files of a module: its C file, then its header
 abbrev pub module_files : Target → Module → List (Name × List ℕ)
 module_files t m = (t.c_file, text_of m t.module_name) ∷ (t.header, header_text_of m t.module_name) ∷ []
 
 abbrev pub files_of : List Target → List Module → List (Name × List ℕ)
-files_of [] modules = []
-files_of (t ∷ targets) [] = []
 files_of (t ∷ targets) (m ∷ modules) = module_files t m ++ files_of targets modules
+files_of _ _ = []
 
 -- each module is accepted, and these are the files to write
 pub record TranslatesBy (Reads : List (List ℕ) → Type 0) (line : Line) (files : List (Name × List ℕ)) : Type 0 where
@@ -63,10 +61,8 @@ Translates line contents files = TranslatesBy (AreReadOf line contents) line fil
 
 -- the files that a line asks for
 abbrev pub WritesBy : (List (List ℕ) → Type 0) → Line → List (Name × List ℕ) → Type 0
-WritesBy Reads (translate t) files = TranslatesBy Reads (translate t) files
-WritesBy Reads (set s) files = TranslatesBy Reads (set s) files
-WritesBy Reads (generate g) files = TranslatesBy Reads (generate g) files
 WritesBy Reads (runtime dir) files = files ≡ runtime_files dir
+WritesBy Reads line files = TranslatesBy Reads line files
 
 abbrev pub Writes : Line → Contents → List (Name × List ℕ) → Type 0
 Writes line contents files = WritesBy (AreReadOf line contents) line files

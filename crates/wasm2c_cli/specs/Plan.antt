@@ -33,8 +33,7 @@ target_in dir input = record {
 abbrev pub inputs_of : Line → List Name
 inputs_of (translate t) = t.input ∷ []
 inputs_of (set s) = s.inputs
-inputs_of (generate g) = []
-inputs_of (runtime dir) = []
+inputs_of _ = []
 
 -- the modules that are translated, in order
 abbrev pub targets_of : Line → List Target

@@ -44,10 +44,9 @@ PassesLimit contents names file reason = PassesLimitBy (StopsReading most_module
 
 -- the first of the files that is refused: those in front of it are accepted
 abbrev pub IsFirstRefused : List Name → List (List ℕ) → Name → Reason → Type 0
-IsFirstRefused [] sources file reason = ⊥
-IsFirstRefused (name ∷ names) [] file reason = ⊥
 IsFirstRefused (name ∷ names) (bytes ∷ sources) file reason =
     ((file ≡ name) × IsRefused bytes reason) ⊎ (IsAccepted bytes × IsFirstRefused names sources file reason)
+IsFirstRefused _ _ file reason = ⊥
 
 -- the reason of a refusal, where it was not for want of memory
 abbrev pub reason_of : Refusal → Option Reason

@@ -13,6 +13,7 @@ ghost use Rattle.wasm2c_cli.specs.Job.{IsJob, Job, Missing, Refused, Write};
 ghost use Rattle.wasm2c_cli.specs.Lines.{read_line, refused_line, write_line};
 ghost use Rattle.wasm2c_cli.specs.Passing.{IsJobOver, PutsLinkedUnits};
 ghost use Rattle.wasm2c_cli.specs.Stops.{Done, StandsOfJob};
+ghost use Rattle.wasm2c_cli.specs.Top.{Answers};
 ghost use Rattle.wasm2c_cli.specs.Units.{WritesLinkedUnits, WritesUnits};
 
 /// The law that words ask for at most one job over what the files hold, and for at most one over what reads of them gave.
@@ -30,8 +31,13 @@ pub fn distinct_files()
 {}
 
 /// The law of files that behave as files: what passed for words then says of what they hold what the clauses of the top call
-/// on contents say. So after status 0 the job's files stand whole and nothing else has changed.
+/// on contents say. So after status 0 the job's files stand whole and nothing else has changed, and the status is that of the job
+/// where no read and no write failed and memory was not wanting.
 pub fn honest_files()
+    ensures answered { (words : List Name) (status : ℕ) (said new_said : Option (List ℕ)) (faults new_faults : ℕ) (m : Contents)
+        (new : Told) → (call : PassesHonestly words status (Says said new_said faults new_faults) m new)
+        → (status ≡ 4) ⊎ (status ≡ 5) ⊎ ((file : Name) × FailsLast file call.events)
+        ⊎ ((job : Job) × IsJob words m job × Answers job status) }
     ensures untouched { (words : List Name) (status : ℕ) (said new_said : Option (List ℕ)) (faults new_faults : ℕ) (m : Contents)
         (new : Told) → PassesHonestly words status (Says said new_said faults new_faults) m new
         → (status ≡ 1) ⊎ (status ≡ 2) ⊎ (status ≡ 3) → new ≡ Some m }

@@ -23,7 +23,7 @@ use w2c_io::Files;
 use w2c_sim::accept;
 use wasm2c_words::Generation;
 
-/// Reads all files, accepts all, and then writes the C file and the header of each.
+/// Reads all files, accepts all, drops their bytes, and then writes the C file and the header of each.
 pub fn translate<F: Files>(
     alloc: Global,
     inputs: &[&str],
@@ -53,6 +53,7 @@ pub fn translate<F: Files>(
         Ok(modules) => modules,
         Err(stop) => return Err(stop),
     };
+    drop(sources);
     write_modules(alloc, targets, modules.as_slice(), files)
 }
 

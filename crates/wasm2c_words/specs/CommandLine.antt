@@ -63,9 +63,8 @@ translation input output module_name =
 
 -- one file, and the module's name is NAME, else by the file's
 abbrev pub line_with_output : Name → Option (List ℕ) → List Name → Option Line
-line_with_output output name [] = None
 line_with_output output name (input ∷ []) = translation input output (unwrap_or name (module_name_of input))
-line_with_output output name (input ∷ other ∷ files) = None
+line_with_output output name _ = None
 
 -- no name
 abbrev pub line_with_dir : Name → Option (List ℕ) → List Name → Option Line
@@ -86,8 +85,7 @@ line_with_count count output name (file ∷ files) = None
 -- no name and no file
 abbrev pub line_with_runtime : Name → Option (List ℕ) → List Name → Option Line
 line_with_runtime dir None [] = Some (runtime dir)
-line_with_runtime dir None (file ∷ files) = None
-line_with_runtime dir (Some name) files = None
+line_with_runtime dir _ _ = None
 
 -- the form by the options that stand: -o alone, --dir alone, -o and --gen, or --runtime alone
 abbrev pub line_by : Option Name → Option Name → Option (List ℕ) → Option Name → Option (List ℕ) → List Name → Option Line

@@ -23,7 +23,7 @@ use Rattle.wasm_spelling.specs.ModuleFields as of
 use Rattle.wasm_spelling.specs.ModuleFields.{mutability_code, export_code}
 use Rattle.wasm_spelling.specs.Steps.{Reader, reads, number_at}
 use Rattle.wasm_spelling.specs.Table as table
-use Rattle.wasm_spelling.specs.Table.{Field, index, instructions, of_types, of_imports, of_functions, of_tables, of_memories, of_globals, of_exports, of_elements, of_segments, of_indexes, parts_of, import_fields, row}
+use Rattle.wasm_spelling.specs.Table.{Field, index, instructions, of_types, of_imports, of_tables, of_memories, of_globals, of_exports, of_elements, of_segments, of_indexes, parts_of, import_fields, row}
 use Rattle.wasm_spelling.specs.Reading.{kind_at, place_at, vector_at, type_entry_at, import_kind_at, import_at, func_entry_at, table_entry_at, memory_entry_at, global_entry_at, export_entry_at, start_at, func_ref_at, element_entry_at, segment_entry_at}
 use Rattle.wasm_spelling.proofs.Tools.{ok_is, reads_ok, reads_again}
 use Rattle.wasm_spelling.proofs.Took.{SpelledAt, Took, took_as, took_then, Takes, Again, first_taken, first_again}

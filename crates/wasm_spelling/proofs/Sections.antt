@@ -13,7 +13,7 @@ use Rattle.wasm_spelling.specs.ModuleFields as of
 use Rattle.wasm_spelling.specs.ModuleFields.{each, Part, types, imports, functions, tables, memories, globals, exports, start, elements, data_count, code, segments, id_of, rank_of, content, is_empty, section, sections, custom}
 use Rattle.wasm_spelling.specs.Steps.{◌>>=◌, malformed, Reader, reads, rest_at, part_of, agrees_with, bodies_done, data_done, SectionId, no_section, a_custom, a_part, section_begins, section_id_of, section_id_at}
 use Rattle.wasm_spelling.specs.Table as table
-use Rattle.wasm_spelling.specs.Table.{Field, State, state, used_up, size, content_of, section_fields, row, none_more}
+use Rattle.wasm_spelling.specs.Table.{Field, state, used_up, size, content_of, section_fields, row, none_more}
 use Rattle.wasm_spelling.specs.Reading.{any_name_at, content_at, custom_content_at, part_at, custom_at, after_id, sections_at, all_sections_at}
 use Rattle.wasm_spelling.proofs.Tools.{yes, ok_is, not_ok, reads_ok}
 use Rattle.wasm_spelling.proofs.Took.{SpelledAt, Taken, taken_then, Took, took_then}

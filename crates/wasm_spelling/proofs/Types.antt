@@ -11,10 +11,10 @@ use Rattle.wasm_spelling.specs.At.{At}
 use Rattle.wasm_spelling.specs.Limits.{most_parameters, most_results, most_memory_pages, most_table_elements}
 use Rattle.wasm_spelling.specs.Fields.{Fields, Spelled, byte, number, here}
 use Rattle.wasm_spelling.specs.ModuleFields as of
-use Rattle.wasm_spelling.specs.ModuleFields.{each, short_vector, results, mutability_code, limits_from}
+use Rattle.wasm_spelling.specs.ModuleFields.{each, results, mutability_code, limits_from}
 use Rattle.wasm_spelling.specs.Steps.{Reader, reads}
 use Rattle.wasm_spelling.specs.Table as table
-use Rattle.wasm_spelling.specs.Table.{Field, count_at, of_parameters, of_results, row, none_more, sizes_of, table_minimum, memory_minimum, index}
+use Rattle.wasm_spelling.specs.Table.{Field, of_parameters, of_results, row, none_more, sizes_of, table_minimum, memory_minimum, index}
 use Rattle.wasm_spelling.specs.Reading.{type_at, flag_at, limited_at, vector_at, func_type_at, first_of_results, maximum_at, limits_at, memory_type_at, table_type_at}
 use Rattle.wasm_spelling.proofs.Tools.{ok_is, reads_ok, reads_again}
 use Rattle.wasm_spelling.proofs.Took.{SpelledAt, Took, took_none, took_as, took_then, Takes, Again, first_taken, first_again}

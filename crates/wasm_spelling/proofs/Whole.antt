@@ -8,10 +8,10 @@ use Rattle.wasm_spelling.specs.At.{At, Counts}
 use Rattle.wasm_spelling.specs.Limits.{most_module_bytes}
 use Rattle.wasm_spelling.specs.Fields.{Fields, Spelled, byte, provided, finished}
 use Rattle.wasm_spelling.specs.ModuleFields as of
-use Rattle.wasm_spelling.specs.ModuleFields.{Part, id_of, is_empty, parts, sections, module_fields, Spells}
+use Rattle.wasm_spelling.specs.ModuleFields.{Part, is_empty, parts, sections, module_fields, Spells}
 use Rattle.wasm_spelling.specs.Steps.{◌>>=◌, reads}
 use Rattle.wasm_spelling.specs.Table as table
-use Rattle.wasm_spelling.specs.Table.{State, state, Field, step, after, start_of, at_first, no_counts, none_more, Upto}
+use Rattle.wasm_spelling.specs.Table.{State, state, Field, step, after, start_of, at_first, no_counts, Upto}
 use Rattle.wasm_spelling.specs.Reading.{all_sections_at, no_module, magic_at, version_at, module_at, tree_of, file_at}
 use Rattle.wasm_spelling.proofs.Tools.{bind_ok, ok_is, reads_ok, reads_again}
 use Rattle.wasm_spelling.proofs.Took.{SpelledAt, Took, took_then, Takes, Again, first_taken, first_again}

@@ -27,7 +27,7 @@ use Rattle.wasm_spelling.specs.Bytes.{AreBytes}
 use Rattle.wasm_spelling.specs.Fields.{Custom, Fields, finished, byte, number, text, here, provided, window}
 use Rattle.wasm_spelling.specs.Limits.{most_parameters, most_results, most_name_bytes, most_functions, most_locals, most_all_locals, most_blocks, most_memory_pages, most_table_elements, most_module_bytes}
 use Rattle.wasm_spelling.specs.ModuleFields as of
-use Rattle.wasm_spelling.specs.ModuleFields.{Part, each, vector, short_vector, utf8, any_name, name, type_code, value_type, results, func_type, limits_from, limits, table_type, memory_type, mutability_code, code_fields, end_byte, expression, type_entry, import_kind, import_entry, func_entry, table_entry, memory_entry, global_entry, export_code, export_entry, start_entry, func_ref, element_entry, segment_entry, runs, locals_of, bodies, custom, customs, parts, id_of, content, is_empty, section, sections, module_fields, Spells}
+use Rattle.wasm_spelling.specs.ModuleFields.{Part, each, vector, short_vector, utf8, any_name, name, type_code, value_type, results, func_type, limits_from, limits, mutability_code, code_fields, end_byte, expression, type_entry, import_kind, import_entry, func_entry, table_entry, memory_entry, global_entry, export_code, export_entry, func_ref, element_entry, segment_entry, runs, locals_of, bodies, custom, customs, parts, id_of, content, is_empty, section, sections, module_fields, Spells}
 use Rattle.wasm_spelling.specs.Within.{BodyIsWithin, IsMaximum, IsName, least_bytes}
 use Rattle.wasm_spelling.proofs.Behind.{Behind, behind_fewer, past_byte, past_number, past_text, past_here, past_provided, past_window, past_either, past_some, within_file}
 use Rattle.wasm_spelling.proofs.WithinCode.{each_within, code_within}

@@ -5,7 +5,7 @@ use Rattle.std.proofs.Common.{ap, ◌∙◌}
 use Rattle.w2c_base.specs.declared.value.ValType.{ValType}
 use Rattle.wasm_tree.specs.declared.code.MemArg.{MemArg}
 use Rattle.wasm_tree.specs.Instructions as tree
-use Rattle.wasm_tree.specs.Instructions.{Code, Kind, Otherwise, end_code, then_code, no_else, else_code}
+use Rattle.wasm_tree.specs.Instructions.{Code, Kind, end_code, then_code, no_else, else_code}
 use Rattle.wasm_tree.specs.declared.operators.UnaryOp.{UnaryOp}
 use Rattle.wasm_tree.specs.declared.operators.BinaryOp.{BinaryOp}
 use Rattle.wasm_tree.specs.declared.operators.CompareOp.{CompareOp}

@@ -1,5 +1,5 @@
 -- Instructions that look something up and then take and put operands: where it is there, only the operands can be faulty.
-use Rattle.std.proofs.Common.{◌≡◌, ℕ, ◌<◌, length, is_some, arith, Bool, true, false, ◌||◌, is_none, List, [], ◌∷◌, ◌++◌, reverse, Option, Some, None, Result, Ok, Err, slice_get, refl, sym, ap, ◌∙◌}
+use Rattle.std.proofs.Common.{◌≡◌, ℕ, ◌<◌, length, is_some, arith, Bool, true, false, ◌||◌, is_none, List, [], ◌∷◌, ◌++◌, Option, Some, None, Result, Ok, Err, slice_get, refl, sym, ap, ◌∙◌}
 use Rattle.std.specs.List.{list_any}
 use Rattle.std.proofs.lemmas.List.Folds.{list_any-append}
 use Rattle.w2c_base.specs.declared.value.ValType.{ValType}

@@ -5,6 +5,7 @@ use Rattle.std.proofs.Common.{Option, Some, None, Ok, Err}
 use Rattle.std.proofs.Common.{append_assoc, refl, sym, ap, ◌∙◌, subst, arith}
 use Rattle.std.proofs.lemmas.Option.{same_Some, none-some}
 use Rattle.std.specs.FinMap.{get}
+use Rattle.std.specs.List.{AllByRecursion}
 use Rattle.w2c_io.specs.Contents.{Name, Contents, Told, IsPrefix}
 use Rattle.w2c_io.specs.Events.{Event, Read}
 use Rattle.w2c_io.specs.Honest.{AreHonest, Does}
@@ -23,13 +24,16 @@ use Rattle.wast_script.specs.Lines.{Reason, Usage, Unwritten, WantOfMemory, Refu
 use Rattle.wast_script.specs.Scripts.{most_script_bytes}
 use Rattle.wast_run.specs.declared.word.Word.{Word}
 use Rattle.wast_run.specs.Report.{Comes, IsFile, LeadInTime, Setting, at_first, ok_count, report_of}
-use Rattle.wast_run.specs.Parts.{lines_before, IsFirstMissing, IsPart}
-use Rattle.wast_run.specs.Jobs.{GainedPart, HasReading, IsAnswered, IsNotThere, IsJob, IsJobBehind, Job, Refuses, Reported, Reports, Stops}
+use Rattle.wast_run.specs.Parts.{file_of, lines_before, GainsLinesBefore, HasItsFile, IsFirstMissing, IsNamed, IsPart}
+use Rattle.wast_run.specs.Jobs.{GainedPart, HasReading, IsAnswered, IsNotThere, IsJob, IsJobBehind, Job, Refuses, Reported}
+use Rattle.wast_run.specs.Jobs.{GainsPrefix, ReportedPart, Reports, Stops}
 use Rattle.wast_run.specs.Passing.{Answer, ComesOver, DoesJob, DoesLine, Ending, EndsSo, IsGiven, IsJobBy, IsNoFile, IsReadAs}
 use Rattle.wast_run.specs.Passing.{IsStatusOf, LastLines, LastReads, LeadOver, PassesFor, ReadsNext, ReportsOver, StopsIn, WantsMemory}
 use Rattle.wast_run.specs.Passing.{module_read, script_read}
 use Rattle.wast_run.proofs.Leads.{lead_plain, lead_there}
-use Rattle.wast_run.proofs.TopLaws.{no_report, whole_part}
+use Rattle.wast_run.proofs.JobLaws.{AreApart, IsOneScript, job_apart, one_status}
+use Rattle.wast_run.proofs.TopLaws.{fault_not_3, fault_not_4, gained_before, missing_always, no_report, nothing_gained, part_gains}
+use Rattle.wast_run.proofs.TopLaws.{reported_always, whole_part}
 use Rattle.wast_run.proofs.WordLines.{lines_in_front}
 use Rattle.wast_run.proofs.WorkLaws.{job_by_line, job_of_text}
 
@@ -259,7 +263,7 @@ Over words m old out events (Ok status) = Reported words m old out status
 Over words m old out events (Err Usage) = Refuses words (Some m) Usage × (out ≡ old)
 Over words m old out events (Err (Refused why)) = Refuses words (Some m) (Refused why) × (out ≡ old)
 Over words m old out events (Err (Unread file)) = (FailsLast file events ⊎ IsNotThere words m file) × GainedPart words m old out
-Over words m old out events (Err Unwritten) = GainedPart words m old out
+Over words m old out events (Err Unwritten) = ReportedPart words m old out
 Over words m old out events (Err WantOfMemory) = GainedPart words m old out
 
 fails_behind : (file : Name) (first given events : List Event) → events ≡ first ++ given → FailsLast file given → FailsLast file events
@@ -275,6 +279,13 @@ not_usage line (Err reading.Absent) job = absurd cc
 not_usage line (Err reading.Failed) job = absurd cc
 not_usage line (Err reading.TooLong) job = absurd cc
 not_usage line (Err reading.Memory) job = job
+
+not_unwritten : (line : Line) (answer : Answer) → IsJobBy line answer (Stops Unwritten) → ⊥
+not_unwritten line (Ok text) job = job
+not_unwritten line (Err reading.Absent) job = absurd cc
+not_unwritten line (Err reading.Failed) job = absurd cc
+not_unwritten line (Err reading.TooLong) job = absurd cc
+not_unwritten line (Err reading.Memory) job = job
 
 refused_unread : (why : ScriptFault) (file : Name) → Stops (Refused why) ≡ Stops (Unread file) → ⊥
 refused_unread why file e = absurd cc
@@ -335,7 +346,7 @@ module _ (words : List Name) (m : Contents) (old out : Option (List ℕ)) (event
           by (inl fails) = inl (subst (λ (l : List Event). FailsLast file l) (sym whole)
               (subst (λ f. FailsLast f (script_read line.script answer)) (sym (same_unread file line.script fails.1)) fails.0))
           by (inr job) = inr (inl job)
-      stops_over Unwritten job same none = inl same
+      stops_over Unwritten job same none = absurd (not_unwritten line answer job)
       stops_over WantOfMemory job same none = inl same
 
       module _ (steps : ℕ) (commands : List Command) (by_job : IsJobBy line answer (Reports steps commands)) where
@@ -351,8 +362,8 @@ module _ (words : List Name) (m : Contents) (old out : Option (List ℕ)) (event
         midst_over : (why : Reason) → StopsIn steps commands old out why given → Over words m old out events (Err why)
         midst_over why stops = by why refl (subst (λ why. LastReads why stops.rest stops.last) refl stops.stop)
           where
-            part : GainedPart words m old out
-            part = inr (
+            part : ReportedPart words m old out
+            part = (
               steps,
               commands,
               job,
@@ -373,9 +384,9 @@ module _ (words : List Name) (m : Contents) (old out : Option (List ℕ)) (event
             by (Refused fault) same reads = absurd reads
             by (Unread file) same reads =
                 let had = stop_missing m steps commands old out why given behind_script new after stops behind_honest file same in
-                (missing file had, part)
+                (missing file had, inr part)
             by Unwritten same reads = part
-            by WantOfMemory same reads = part
+            by WantOfMemory same reads = inr part
 
         reports_over : (ending : Ending) → ReportsOver steps commands old out ending given → Over words m old out events ending
         reports_over (Ok status) (all, at, lead, gained, status_is) =
@@ -420,13 +431,6 @@ module _ (words : List Name) (m : Contents) (old out : Option (List ℕ)) (event
 job_of_usage : (words : List Name) (m : Contents) → line_of words ≡ None → IsJob words m (Stops Usage)
 job_of_usage words m none =
     subst (λ o. MatchOption o (Stops Usage ≡ Stops Usage) (λ line. IsJobBehind line (get m line.script) (Stops Usage))) (sym none) refl
-
-not_three : (why : ScriptFault) → fault_status why ≢ 3
-not_three fault.TooLong e = omega (arith, e)
-not_three fault.NotJson e = omega (arith, e)
-not_three fault.NoCommands e = omega (arith, e)
-not_three (fault.Command number) e = omega (arith, e)
-not_three fault.Memory e = omega (arith, e)
 
 low_status : (b : Bool) (status : ℕ) → status ≡ (if b then 0 else 1) → status ≤ 1
 low_status true status is = omega (arith, is)
@@ -492,7 +496,7 @@ module _ (words : List Name) (m : Contents) (old out said said' : Option (List �
           → (file : Name) × (FailsLast file events ⊎ IsNotThere words m file) × Says said said' faults faults' (error_line (Unread file))
       for_reason (Unread file) stopped is says = (file, stopped.0, says)
       for_reason Usage stopped is says = absurd (omega (arith, is))
-      for_reason (Refused why) stopped is says = absurd (not_three why is)
+      for_reason (Refused why) stopped is says = absurd (fault_not_3 why is)
       for_reason Unwritten stopped is says = absurd (omega (arith, is))
       for_reason WantOfMemory stopped is says = absurd (omega (arith, is))
 
@@ -510,7 +514,7 @@ module _ (words : List Name) (m : Contents) (old out said said' : Option (List �
       by (Err Usage) stopped = inl stopped.1
       by (Err (Refused why)) stopped = inl stopped.1
       by (Err (Unread file)) stopped = stopped.1
-      by (Err Unwritten) stopped = stopped
+      by (Err Unwritten) stopped = inr stopped
       by (Err WantOfMemory) stopped = stopped
 
   abbrev Answered : Type 0
@@ -534,3 +538,85 @@ module _ (words : List Name) (m : Contents) (old out said said' : Option (List �
           inr (inr (inr (Reports steps commands, job, inr (all, (at, lead_plain m steps at_first commands all at lead), is ∙ same))))
       by (Err why) stopped (inl (is, says)) = for_reason why stopped is
       by (Err why) stopped (inr five) = inr (inl five)
+
+  -- a line that is not written is one of a report
+  pub honest_unwritten : status ≡ 4 → ReportedPart words m old out × Says said said' faults faults' (error_line Unwritten)
+  honest_unwritten four = by passes.0 over passes.2
+    where
+      for_reason : (why : Reason) → Over words m old out events (Err why) → status_of why ≡ 4
+          → Says said said' faults faults' (error_line why)
+          → ReportedPart words m old out × Says said said' faults faults' (error_line Unwritten)
+      for_reason Unwritten stopped is says = (stopped, says)
+      for_reason Usage stopped is says = absurd (omega (arith, is))
+      for_reason (Refused why) stopped is says = absurd (fault_not_4 why is)
+      for_reason (Unread file) stopped is says = absurd (omega (arith, is))
+      for_reason WantOfMemory stopped is says = absurd (omega (arith, is))
+
+      by : (ending : Ending) → Over words m old out events ending → IsStatusOf ending status (Says said said' faults faults')
+          → ReportedPart words m old out × Says said said' faults faults' (error_line Unwritten)
+      by (Ok done) reported is = absurd (omega (arith, report_low words m old out done reported, is, four))
+      by (Err why) stopped is = let r = reason_is why 4 is four (omega arith) in for_reason why stopped r.0 r.1
+
+  -- the last call was a read that failed
+  abbrev Failed : Type 0
+  Failed = (file : Name) × FailsLast file events
+
+  module _ (apart : AreApart) where
+    pub honest_decided : (why : Reason) → IsJob words m (Stops why)
+        → (status ≡ status_of why) ⊎ (status ≡ 5) ⊎ ((file : Name) × FailsLast file events)
+    honest_decided why job = by honest_answer
+      where
+        by : Answered → (status ≡ status_of why) ⊎ (status ≡ 5) ⊎ Failed
+        by (inl four) =
+            let (steps, commands, asked, gained) = (honest_unwritten four).0 in
+            absurd (job_apart apart words m steps commands why asked job)
+        by (inr (inl five)) = inr (inl five)
+        by (inr (inr (inl fails))) = inr (inr fails)
+        by (inr (inr (inr (Stops other, asked, is)))) = inl (is ∙ one_status words m other why asked job)
+        by (inr (inr (inr (Reports steps commands, asked, answers)))) = absurd (job_apart apart words m steps commands why asked job)
+
+    pub honest_quiet : (why : Reason) → IsJob words m (Stops why) → out ≡ old
+    honest_quiet why job = nothing_gained words m old out apart why job honest_part
+
+    module _ (one : IsOneScript) (steps : ℕ) (commands : List Command) (job : IsJob words m (Reports steps commands)) where
+      pub honest_there : AllByRecursion (HasItsFile m) commands
+          → (status ≡ 0) ⊎ (status ≡ 1) ⊎ (status ≡ 4) ⊎ (status ≡ 5) ⊎ ((file : Name) × FailsLast file events)
+      honest_there there = by honest_answer
+        where
+          done : (status ≡ 0) ⊎ (status ≡ 1) ⊎ (status ≡ 5)
+              → (status ≡ 0) ⊎ (status ≡ 1) ⊎ (status ≡ 4) ⊎ (status ≡ 5) ⊎ Failed
+          done (inl zero) = inl zero
+          done (inr (inl one)) = inr (inl one)
+          done (inr (inr five)) = inr (inr (inr (inl five)))
+
+          by : Answered → (status ≡ 0) ⊎ (status ≡ 1) ⊎ (status ≡ 4) ⊎ (status ≡ 5) ⊎ Failed
+          by (inl four) = inr (inr (inl four))
+          by (inr (inl five)) = inr (inr (inr (inl five)))
+          by (inr (inr (inl fails))) = inr (inr (inr (inr fails)))
+          by (inr (inr (inr answered))) =
+              done (reported_always apart one words m steps commands job status there (inr answered))
+
+      pub honest_not_there : (file : Name) → IsNamed commands file → get m file ≡ None
+          → (status ≡ 3) ⊎ (status ≡ 4) ⊎ (status ≡ 5) ⊎ ((file : Name) × FailsLast file events)
+      honest_not_there file named missing = by honest_answer
+        where
+          done : (status ≡ 3) ⊎ (status ≡ 5) → (status ≡ 3) ⊎ (status ≡ 4) ⊎ (status ≡ 5) ⊎ Failed
+          done (inl three) = inl three
+          done (inr five) = inr (inr (inl five))
+
+          by : Answered → (status ≡ 3) ⊎ (status ≡ 4) ⊎ (status ≡ 5) ⊎ Failed
+          by (inl four) = inr (inl four)
+          by (inr (inl five)) = inr (inr (inl five))
+          by (inr (inr (inl fails))) = inr (inr (inr fails))
+          by (inr (inr (inr answered))) =
+              done (missing_always apart one words m steps commands job status file named missing (inr answered))
+
+  module _ (one : IsOneScript) where
+    pub honest_prefix : GainsPrefix words m old out
+    honest_prefix = part_gains one words m old out honest_part
+
+    pub honest_before : (steps : ℕ) (before behind : List Command) (command : Command) (file : Name)
+        → IsJob words m (Reports steps (before ++ command ∷ behind)) → file_of command ≡ Some file → get m file ≡ None
+        → GainsLinesBefore m steps before old out
+    honest_before steps before behind command file job names missing =
+        gained_before words m old out one steps before behind command file job names missing honest_part

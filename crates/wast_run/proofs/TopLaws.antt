@@ -65,14 +65,14 @@ status_between (Unread file) = between 3 (omega arith) (omega arith)
 status_between Unwritten = between 4 (omega arith) (omega arith)
 status_between WantOfMemory = between 5 (omega arith) (omega arith)
 
-fault_not_3 : (why : ScriptFault) → fault_status why ≢ 3
+pub fault_not_3 : (why : ScriptFault) → fault_status why ≢ 3
 fault_not_3 fault.TooLong e = below 2 3 (omega arith) (sym e)
 fault_not_3 fault.NotJson e = below 2 3 (omega arith) (sym e)
 fault_not_3 fault.NoCommands e = below 2 3 (omega arith) (sym e)
 fault_not_3 (fault.Command number) e = below 2 3 (omega arith) (sym e)
 fault_not_3 fault.Memory e = below 3 5 (omega arith) e
 
-fault_not_4 : (why : ScriptFault) → fault_status why ≢ 4
+pub fault_not_4 : (why : ScriptFault) → fault_status why ≢ 4
 fault_not_4 fault.TooLong e = below 2 4 (omega arith) (sym e)
 fault_not_4 fault.NotJson e = below 2 4 (omega arith) (sym e)
 fault_not_4 fault.NoCommands e = below 2 4 (omega arith) (sym e)

@@ -1,9 +1,9 @@
 use Rattle.std.proofs.Common.{◌≡◌, ◌∷◌, ◌++◌, [], List, Some, sym, ap, ◌∙◌, subst}
 use Rattle.std.proofs.lemmas.List.{append-nil}
-use Rattle.w2c_base.specs.Run.{Gave, Reply, asked as asked_trail}
+use Rattle.w2c_base.specs.Run.{Gave, Reply}
 use Rattle.c_meaning.specs.State.{Stuck}
 use Rattle.c_meaning.specs.Step.{Stops}
-use Rattle.c_thread.specs.Linked.{below_in, machine_in, step_in, waiting_in}
+use Rattle.c_thread.specs.Linked.{below_in, machine_in, waiting_in}
 use Rattle.c_hosts.specs.declared.host.HostReply.TheVariants as reply
 use Rattle.c_hosts.specs.Journals.{ask_of, asked}
 use Rattle.c_hosts.specs.Running.{trail_before, trail_behind}

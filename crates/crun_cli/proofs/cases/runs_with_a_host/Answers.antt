@@ -2,7 +2,7 @@ use Rattle.std.proofs.Common.{◌≡◌, ℕ, zero, suc, false, List, [], ◌∷
 use Rattle.std.specs.Fmt.{digits}
 use Rattle.w2c_base.specs.declared.value.Value.{Value}
 use Rattle.w2c_base.specs.declared.value.Value.TheVariants.{I32, I64}
-use Rattle.w2c_base.specs.Run.{Host, Reply}
+use Rattle.w2c_base.specs.Run.{Host}
 use Rattle.w2c_io.specs.Contents.{extended}
 use Rattle.c_tree.specs.declared.tree.CType.TheVariants.{U64}
 use Rattle.c_meaning.specs.Linking.{SymbolCall}

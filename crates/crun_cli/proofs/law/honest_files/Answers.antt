@@ -1,10 +1,14 @@
 use Rattle.std.proofs.Common.{refl}
 use Rattle.w2c_io.specs.Telling.{Says}
 use Rattle.crun_cli.proofs.HonestFiles.{
+  honest_answered,
+  honest_decided,
   honest_finished,
+  honest_kept,
   honest_missing,
   honest_part,
   honest_refused,
+  honest_replayed,
   honest_untouched,
   honest_write_fault,
 }
@@ -33,3 +37,19 @@ returns-clause-write_fault g c = λ hosts words m old new said said' faults faul
 pub returns-clause-part : goal.returns-clause-part
 returns-clause-part g c = λ hosts words m old new said said' faults faults' call.
     honest_part g.H.HostModule hosts words m old new 5 (λ line. Says said said' faults faults' line) call refl
+
+pub returns-clause-answered : goal.returns-clause-answered
+returns-clause-answered g c = λ hosts words m old new status said said' faults faults' call.
+    honest_answered g.H.HostModule hosts words m old new status (λ line. Says said said' faults faults' line) call
+
+pub returns-clause-refused_always : goal.returns-clause-refused_always
+returns-clause-refused_always g c = λ hosts words m old new status said said' faults faults' call why job.
+    honest_decided g.H.HostModule hosts words m old new status (λ line. Says said said' faults faults' line) call why job
+
+pub returns-clause-replayed : goal.returns-clause-replayed
+returns-clause-replayed g c = λ hosts words m old new status said said' faults faults' call run.
+    honest_replayed g.H.HostModule hosts words m old new status (λ line. Says said said' faults faults' line) call run
+
+pub returns-clause-kept : goal.returns-clause-kept
+returns-clause-kept g c = λ hosts words m old new status said said' faults faults' call.
+    honest_kept g.H.HostModule hosts words m old new status (λ line. Says said said' faults faults' line) call

@@ -61,15 +61,17 @@ pub returns-clause-passed : goal.returns-clause-passed
 returns-clause-passed g c =
     let files = g.F.Files in
     all_passed c.args.limits.each (files.trace c.args.files.now) (files.trace c.loop-k.files) (names_of c.args.names.now) c.loop-k.k
-    c.loop-k.all.items (let n = length-names c.args.names.now in omega (arith, n, c.loop-k-test.false, c.loop-k.auto.k-end)) c.loop-k.invariant.passed
+    c.loop-k.all.items (let n = length-names c.args.names.now in omega (arith, n, c.loop-k-test.false, c.loop-k.auto.k-end))
+    c.loop-k.invariant.passed
 
 pub returns-in_err-push-clause-tried : goal.returns-in_err-push-clause-tried
 returns-in_err-push-clause-tried g c =
     let files = g.F.Files in
     let names = names_of c.args.names.now in
     let all = c.loop-k.all.items ++ c.in-Ok.bytes ∷ [] in
+    let limits = c.args.limits in
     if_memory c.from_residual.result
-    (λ stop. Passes (files.trace c.args.files.now) (files.trace c.read_file.new.files) (ReadsSome c.args.limits.each c.args.limits.all names stop))
+    (λ stop. Passes (files.trace c.args.files.now) (files.trace c.read_file.new.files) (ReadsSome limits.each limits.all names stop))
     c.from_residual.ensures.1
     (memory_stops c.args.limits.each c.args.limits.all (files.trace c.args.files.now) (files.trace c.read_file.new.files) names
     (take (c.loop-k.k + 1) names) (drop (c.loop-k.k + 1) names) all (sym (take-append-drop (c.loop-k.k + 1) names))

@@ -1,6 +1,6 @@
 use Rattle.std.proofs.Common.{refl}
 use Rattle.w2c_io.specs.Telling.{Says}
-use Rattle.wasm2c_cli.proofs.HonestTop.{honest_done, honest_missing, honest_refused, honest_stands, honest_untouched, honest_write_fault}
+use Rattle.wasm2c_cli.proofs.HonestTop.{honest_answered, honest_done, honest_missing, honest_refused, honest_stands, honest_untouched, honest_write_fault}
 use Rattle.wasm2c_cli.proofs.HonestUnits.{honest_linked, honest_units}
 use Rattle.wasm2c_cli.proofs.law.honest_files.Goals as goal
 
@@ -33,3 +33,7 @@ returns-clause-write_fault c = λ words said said' faults faults' m new call.
 pub returns-clause-stands : goal.returns-clause-stands
 returns-clause-stands c = λ words said said' faults faults' m new call.
     honest_stands words 5 (Says said said' faults faults') m new call refl
+
+pub returns-clause-answered : goal.returns-clause-answered
+returns-clause-answered c = λ words status said said' faults faults' m new call.
+    honest_answered words status (Says said said' faults faults') m new call

@@ -1,4 +1,18 @@
-use Rattle.wast_run.proofs.Honest.{honest_answer, honest_part, honest_refusal, honest_report, honest_unread, told_kept}
+use Rattle.wast_run.proofs.Honest.{
+  honest_answer,
+  honest_before,
+  honest_decided,
+  honest_not_there,
+  honest_part,
+  honest_prefix,
+  honest_quiet,
+  honest_refusal,
+  honest_report,
+  honest_there,
+  honest_unread,
+  honest_unwritten,
+  told_kept,
+}
 use Rattle.wast_run.proofs.law.honest_files.Goals as goal
 
 pub returns : goal.returns
@@ -13,6 +27,26 @@ returns c = record {
       honest_part words m old new said said' status faults faults' events current told after passes honest;
   answered = λ words m old new said said' status faults faults' events current told after passes honest.
       honest_answer words m old new said said' status faults faults' events current told after passes honest;
+  refused_always = λ words m old new said said' status faults faults' events current told after passes honest.
+      honest_decided words m old new said said' status faults faults' events current told after passes honest
+      c.one_reading.ensures.apart;
+  reported_always = λ words m old new said said' status faults faults' events current told after passes honest.
+      honest_there words m old new said said' status faults faults' events current told after passes honest
+      c.one_reading.ensures.apart c.one_reading.ensures.script;
+  missing_always = λ words m old new said said' status faults faults' events current told after passes honest.
+      honest_not_there words m old new said said' status faults faults' events current told after passes honest
+      c.one_reading.ensures.apart c.one_reading.ensures.script;
+  write_fault = λ words m old new said said' status faults faults' events current told after passes honest.
+      honest_unwritten words m old new said said' status faults faults' events current told after passes honest;
+  nothing_without_script = λ words m old new said said' status faults faults' events current told after passes honest.
+      honest_quiet words m old new said said' status faults faults' events current told after passes honest
+      c.one_reading.ensures.apart;
+  prefix = λ words m old new said said' status faults faults' events current told after passes honest.
+      honest_prefix words m old new said said' status faults faults' events current told after passes honest
+      c.one_reading.ensures.script;
+  part_before = λ words m old new said said' status faults faults' events current told after passes honest.
+      honest_before words m old new said said' status faults faults' events current told after passes honest
+      c.one_reading.ensures.script;
   stands = λ words m old new said said' status faults faults' events current told after passes honest.
       told_kept words m old new said said' status faults faults' events current told after passes honest;
 }

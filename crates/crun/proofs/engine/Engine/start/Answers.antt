@@ -1,4 +1,4 @@
-use Rattle.std.proofs.Common.{map, refl, sym, ap, subst}
+use Rattle.std.proofs.Common.{map, refl, sym, subst}
 use Rattle.c_tree.specs.View.{unit_of}
 use Rattle.crun.specs.Entries.{HaveCounts}
 use Rattle.c_hosts.specs.Asking.{hosts_of}

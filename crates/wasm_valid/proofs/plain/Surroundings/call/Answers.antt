@@ -1,4 +1,4 @@
-use Rattle.std.proofs.Common.{◌≡◌, Option, Some, map, slice_get, option_map, reverse, sym, ap, ◌∙◌}
+use Rattle.std.proofs.Common.{◌≡◌, Some, map, slice_get, option_map, reverse, sym, ap, ◌∙◌}
 use Rattle.std.specs.Option.{option_copied}
 use Rattle.std.proofs.lemmas.Option.{slice_get-map}
 use Rattle.wasm_valid.specs.Seen.{type_seen}
