@@ -1,7 +1,6 @@
 #!/usr/bin/env python3
 """Counts, with valgrind's callgrind, the instructions inside `run` of the programs that speed.py built: which do not differ from run to run, as
-times do. Prints for each row of units what part it takes of WABT's C that finds accesses out of bounds in the same way, and, since WABT's guard
-mode counts no calls, of WABT's C with guard pages and with calls counted to the same depth, too.
+times do. Prints for each row of units what part it takes of the rows of WABT's C that speed.py measures it against.
 
 instructions.py FOLDER [--level=-O3]: the folder that speed.py made. Needs valgrind, and what speed.py needs."""
 import argparse
@@ -13,8 +12,6 @@ from concurrent.futures import ThreadPoolExecutor
 import jobs
 import speed
 
-COUNTED = "WABT, guard pages, calls counted"
-speed.ROWS[COUNTED] = ("wabt", ["-DWASM_RT_USE_STACK_DEPTH_COUNT=1", "-DWASM_RT_MAX_CALL_STACK_DEPTH=1024"], None)
 RUN = ["--toggle-collect=w2cZ_*Z_fZ_run", "--toggle-collect=Z_*Z_run"]
 
 
@@ -41,9 +38,10 @@ def main():
     cells = [(*column, title) for column in columns for title in speed.ROWS if title != "native"]
     with ThreadPoolExecutor() as pool:
         counts = dict(zip(cells, pool.map(lambda cell: instructions(*cell, given.level), cells)))
-    pairs = [(title, beside) for title, (_, _, beside) in speed.ROWS.items() if beside]
-    pairs += [(title, COUNTED) for title, (maker, _, _) in speed.ROWS.items() if maker == "guard"]
-    rows = [(f"{title} / {beside}", [f"{counts[(*column, title)] / counts[(*column, beside)]:.2f}" for column in columns]) for title, beside in pairs]
+    rows = [
+        (f"{title}: of {beside}", [f"{counts[(*column, title)] / counts[(*column, beside)]:.2f}" for column in columns])
+        for title, beside in speed.pairs_of(speed.ROWS)
+    ]
     speed.table(columns, rows)
 
 

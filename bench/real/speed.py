@@ -1,7 +1,7 @@
 #!/usr/bin/env python3
 """Times the jobs of this folder: compiled natively, and compiled to WebAssembly by clang -O2 and then run as the C of wasm2c with the guard and
-the fast runtime, each with and without the compiler's own operators, as the C of WABT's wasm2c in both of its ways to check bounds, and
-by node. Needs gcc, clang with wasm-ld, Debian's wasi-libc and wabt, and node.
+the fast runtime, each with and without the compiler's own operators, as the C of WABT's wasm2c in both of its ways to check bounds, and, since
+its C with guard pages counts no calls, with these counted to the same depth as in a unit, too, and by node. Needs gcc, clang with wasm-ld, Debian's wasi-libc and wabt, and node.
 
 A time is seconds of processor time inside `run` (of node when the engine is warm, with all its threads). Each is short, all are run in turn,
 and the least of fifteen counts, so that other work on the machine does little harm. All are compiled at one level, and on x86-64 with jumps
@@ -25,6 +25,8 @@ import jobs
 
 ROUNDS = {"kernels": 1, "zlib": 1, "bzip2": 1, "lz4": 5, "expat": 5}
 EXPLICIT = ["-DWASM_RT_MEMCHECK_SIGNAL_HANDLER=0", "-DWASM_RT_MAX_CALL_STACK_DEPTH=1024"]
+CALLS_COUNTED = ["-DWASM_RT_USE_STACK_DEPTH_COUNT=1", "-DWASM_RT_MAX_CALL_STACK_DEPTH=1024"]
+COUNTED = "WABT, guard pages, calls counted"
 OPERATORS = ["-DW2C_RT_OPERATORS"]
 
 # Of each row who makes it (the name of a runtime is that of wasm2c's), flags, and the row that it is measured against.
@@ -33,6 +35,7 @@ ROWS = {
     "wasm2c, guard runtime, operators": ("guard", OPERATORS, "WABT, guard pages"),
     "wasm2c, guard runtime": ("guard", [], "WABT, guard pages"),
     "WABT, guard pages": ("wabt", [], None),
+    COUNTED: ("wabt", CALLS_COUNTED, None),
     "wasm2c, fast runtime, operators": ("fast", OPERATORS, "WABT, checks in C"),
     "wasm2c, fast runtime": ("fast", [], "WABT, checks in C"),
     "WABT, checks in C": ("wabt", EXPLICIT, None),
@@ -127,6 +130,12 @@ def time_all(chosen, titles, times):
     return {cell: sorted(seconds) for cell, seconds in taken.items()}
 
 
+def pairs_of(titles):
+    """Each row of units with the rows of WABT's C that it is measured against: with the guard runtime also the one that counts calls."""
+    pairs = [(title, ROWS[title][2]) for title in titles if ROWS[title][2] in titles]
+    return pairs + [(title, COUNTED) for title in titles if ROWS[title][0] == "guard" and COUNTED in titles]
+
+
 def table(columns, rows):
     print("| | " + " | ".join(f"{job} {compiler}" for job, compiler in columns) + " |")
     print("|---|" + "---|" * len(columns))
@@ -163,11 +172,10 @@ def main():
     rows = [(title, [f"{least(job, compiler, title):.3f}" for job, compiler in columns]) for title in titles]
     rows.append(("node", [f"{least(job, None, 'node'):.3f}" if compiler == COMPILERS[0] else "" for job, compiler in columns]))
     table(columns, rows)
-    pairs = [(title, ROWS[title][2]) for title in titles if ROWS[title][2] in titles]
-    print("Parts of the time of WABT's C of the same kind, by the least and the second least times:\n")
-    table(columns, [(title, [
+    print("Parts of the time of WABT's C, by the least and the second least times:\n")
+    table(columns, [(f"{title}: of {other}", [
         " ".join(f"{taken[job, compiler, title][k] / taken[job, compiler, other][k]:.2f}" for k in range(min(2, given.times)))
-        for job, compiler in columns]) for title, other in pairs])
+        for job, compiler in columns]) for title, other in pairs_of(titles)])
     print("Seconds to compile the unit, and KB of its code:\n")
     table(columns, [(title, [
         f"{built[name_of(job, compiler, title)]['seconds']:.1f}" + (f", {built[name_of(job, compiler, title)]['bytes'] // 1000}" if title != "native" else "")

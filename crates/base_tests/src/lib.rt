@@ -1,17 +1,9 @@
-//! Tests of the lowest crates, by what they offer to others. They stand apart, since a crate with tests is
+//! Tests of the lowest crates, by what they offer to others, and of files and streams. They stand apart, since a crate with tests is
 //! proved twice, with and without them.
 #![tactic(auto)]
 
 #[cfg(test)]
 mod c_numbers;
-#[cfg(test)]
-mod c_units;
-#[cfg(test)]
-mod call_lines;
-#[cfg(test)]
-mod code;
-#[cfg(test)]
-mod cutting;
 #[cfg(test)]
 mod escaped_words;
 #[cfg(test)]
@@ -19,27 +11,15 @@ mod escaping;
 #[cfg(test)]
 mod fault_texts;
 #[cfg(test)]
-mod host_lines;
-#[cfg(test)]
-mod index_spaces;
-#[cfg(test)]
-mod lists;
+mod files;
 #[cfg(test)]
 mod memories;
 #[cfg(test)]
-mod object_lines;
-#[cfg(test)]
 mod object_names;
 #[cfg(test)]
-mod printing_headers;
-#[cfg(test)]
-mod printing_items;
-#[cfg(test)]
-mod printing_units;
+mod outside;
 #[cfg(test)]
 mod reading_numbers;
-#[cfg(test)]
-mod rows;
 #[cfg(test)]
 mod signatures;
 #[cfg(test)]
@@ -48,6 +28,8 @@ mod symbols;
 mod tokens;
 #[cfg(test)]
 mod traps;
+#[cfg(test)]
+mod turns;
 #[cfg(test)]
 mod unescaping;
 #[cfg(test)]

@@ -12,7 +12,7 @@ use Rattle.wasm_tree.specs.declared.tree.Module.{Module}
 use Rattle.wasm_tree.specs.Views.{code_tree, kind_tree}
 use Rattle.c_tree.specs.Scope.{Name}
 use Rattle.c_tree.proofs.Tested.{at_front}
-use Rattle.c_scope.proofs.NameTables.{either_way}
+use Rattle.name_table.proofs.NameTables.{either_way}
 use Rattle.c_prelude.specs.declared.operation.Helper.{Helper}
 use Rattle.c_prelude.specs.declared.operation.TheConstants.{HELPERS}
 use Rattle.c_prelude.specs.Helpers.{helper_of}

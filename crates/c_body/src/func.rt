@@ -1,5 +1,5 @@
 // The function of a body.
-ghost use Rattle.std.specs.Prelude.{◌≡◌, ◌<◌, ◌-◌, ◌^◌, ◌++◌, length, replicate, slice_get, IfOk, OnOk};
+ghost use Rattle.std.specs.Prelude.{◌≡◌, ◌<◌, ◌-◌, ◌^◌, ◌++◌, length, replicate, IfOk, OnOk};
 ghost use Rattle.std.specs.Option.{option_copied};
 ghost use Rattle.w2c_base.specs.Lookup.{if_found};
 ghost use Rattle.wasm_tree.specs.IndexSpaces.{declared_locals, at_defined, type_in};

@@ -10,7 +10,7 @@ ghost use Rattle.c_body.specs.Steps as steps;
 
 use crate::steps::{Step, Way, step_of};
 use c_prelude::{HELPERS, Helper, NumOp, helper_name};
-use c_scope::{NameTable, Salted};
+use name_table::{NameTable, Salted};
 use std::alloc::Global;
 use w2c_base::Memory;
 use wasm_tree::{Code, ElsePart, Kind, Module};

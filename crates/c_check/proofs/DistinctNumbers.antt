@@ -6,7 +6,7 @@ use Rattle.std.specs.BTreeMap.{is_at}
 use Rattle.std.specs.BTreeSet.{contains}
 use Rattle.std.specs.Cmp.{unsigned_tied}
 use Rattle.c_tree.specs.Rules.{are_distinct_numbers}
-use Rattle.c_check.proofs.Distinct.{drop_front}
+use Rattle.c_rules.proofs.Distinct.{drop_front}
 
 -- where the end is not distinct, the whole is not
 pub distinct_end : (numbers : List ℕ) (j : ℕ) → are_distinct_numbers (drop j numbers) ≡ false → are_distinct_numbers numbers ≡ false

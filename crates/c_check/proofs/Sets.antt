@@ -1,18 +1,17 @@
 -- Sets of names, and tests of all items of a list.
-use Rattle.std.proofs.Common.{◌≡◌, ℕ, zero, suc, ◌+◌, ◌<◌, ◌≤◌, Bool, true, false, ◌&&◌, ◌||◌, if◌then◌else◌, List, [], ◌∷◌, ◌++◌, length, get_or, take, map, bytes_eq, is_some, Option, Some, None, refl, sym, ap, ◌∙◌, arith}
+use Rattle.std.proofs.Common.{◌≡◌, ℕ, zero, suc, ◌+◌, ◌<◌, ◌≤◌, Bool, true, false, ◌&&◌, ◌||◌, if◌then◌else◌, List, [], ◌∷◌, ◌++◌, length, get_or, take, map, bytes_eq, is_some, Option, refl, sym, ap, ◌∙◌, arith}
 use Rattle.std.specs.Prelude.{filter_map, not}
-use Rattle.std.specs.List.{list_all, list_any, cons_option}
+use Rattle.std.specs.List.{list_all, list_any}
 use Rattle.std.proofs.lemmas.List.{length-map}
 use Rattle.w2c_base.specs.Lookup.{named}
 use Rattle.c_tree.specs.declared.tree.CType.{CType}
 use Rattle.c_tree.specs.Tree as tree
 use Rattle.c_tree.specs.Scope.{name_of}
-use Rattle.c_tree.specs.Rules.{has_body, defines, hides_none}
+use Rattle.c_tree.specs.Rules.{hides_none}
 use Rattle.c_scope.specs.declared.own.Variable.{Variable}
 use Rattle.c_scope.specs.Own.{variable_pair}
-use Rattle.c_scope.proofs.NameTables.{either_way}
 use Rattle.c_scope.proofs.NextItem.{knows_next}
-use Rattle.c_check.specs.UnitNames.{defined_of, names_of}
+use Rattle.c_rules.specs.UnitNames.{names_of}
 
 pub or_nothing : (b : Bool) → (b || false) ≡ b
 or_nothing true = refl
@@ -56,27 +55,6 @@ all_same p q (x ∷ xs) e = ap (λ b. b && list_all p xs) (e x) ∙ ap (λ b. q 
 pub names_of_pairs : (vs : List Variable) → map (λ (v : Variable). v.name.now) vs ≡ map (λ (p : List ℕ × CType). p.0) (map variable_pair vs)
 names_of_pairs [] = refl
 names_of_pairs (v ∷ vs) = ap (λ zs. v.name.now ∷ zs) (names_of_pairs vs)
-
-pub defined_front : (q : List ℕ) (x : tree.Item) (items : List tree.Item)
-    → list_any (bytes_eq q) (defined_of (x ∷ items))
-    ≡ ((bytes_eq (name_of x) q && has_body x) || list_any (bytes_eq q) (defined_of items))
-defined_front q x items = go (has_body x) (bytes_eq (name_of x) q) (either_way q (name_of x))
-  where
-    front : (b : Bool) → bytes_eq q (name_of x) ≡ b
-        → (bytes_eq q (name_of x) || list_any (bytes_eq q) (defined_of items)) ≡ ((b && true) || list_any (bytes_eq q) (defined_of items))
-    front true e = ap (λ c. c || list_any (bytes_eq q) (defined_of items)) e
-    front false e = ap (λ c. c || list_any (bytes_eq q) (defined_of items)) e
-
-    go : (h b : Bool) → bytes_eq q (name_of x) ≡ b
-        → list_any (bytes_eq q) (cons_option (if h then Some (name_of x) else None) (defined_of items))
-        ≡ ((b && h) || list_any (bytes_eq q) (defined_of items))
-    go true b e = front b e
-    go false true e = refl
-    go false false e = refl
-
-pub defines_among : (q : List ℕ) (items : List tree.Item) → list_any (bytes_eq q) (defined_of items) ≡ list_any (defines q) items
-defines_among q [] = refl
-defines_among q (x ∷ items) = defined_front q x items ∙ ap (λ b. (bytes_eq (name_of x) q && has_body x) || b) (defines_among q items)
 
 pub names_listed : (items : List tree.Item) → names_of items ≡ map name_of items
 names_listed [] = refl

@@ -1,10 +1,8 @@
 // The cases of a switch (C11, 6.8.4.2).
 ghost use Rattle.std.specs.Prelude.{◌≡◌, ◌&&◌, ◌<◌, map, length, slice_get, Some, IfOk};
 ghost use Rattle.std.specs.List.{list_all};
-ghost use Rattle.c_tree.specs.View.{stmt_of, expr_of};
 ghost use Rattle.c_tree.specs.Scope.{type_of};
 ghost use Rattle.c_tree.specs.Rules.{case_value, are_distinct_numbers, cases_suit, cases_are_distinct, number_suits, if_any};
-ghost use Rattle.c_scope.specs.ScopeOf.{scope_of};
 ghost use Rattle.c_check.specs.Places.{stmt_place};
 
 use crate::shapes::number_suits;

@@ -11,13 +11,14 @@ ghost use Rattle.c_tree.specs.Rules.{are_alike, is_declared_once, is_defined_if_
 ghost use Rattle.c_tree.specs.Scope.{func_type_of};
 ghost use Rattle.c_scope.specs.FileItems.{declared};
 ghost use Rattle.c_scope.specs.Tables.{Knows};
-ghost use Rattle.c_check.specs.UnitNames.{FindsFirst, by_names, defined_of, none_clash};
+ghost use Rattle.c_rules.specs.UnitNames.{FindsFirst, by_names, defined_of, none_clash};
 ghost use Rattle.c_check.specs.Places.{item_place};
 
 use crate::names::{has_body, name_of};
-use c_scope::{FileScope, NameTable, Salted};
+use c_rules::same_type;
+use c_scope::FileScope;
 use c_tree::{CType, Func, Item, Name};
-use c_types::same_type;
+use name_table::{NameTable, Salted};
 use std::alloc::Global;
 use w2c_base::Memory;
 

@@ -1,9 +1,9 @@
 // The rules of an item.
 ghost use Rattle.std.specs.Prelude.{◌≡◌, IfOk};
 ghost use Rattle.c_scope.specs.FileItems.{declared};
-ghost use Rattle.c_check.specs.FirstRule.{item_breaks};
+ghost use Rattle.c_rules.specs.FirstRule.{item_breaks};
 ghost use Rattle.c_check.specs.Places.{item_place};
-ghost use Rattle.c_check.specs.UnitNames.{FindsFirst};
+ghost use Rattle.c_rules.specs.UnitNames.{FindsFirst};
 
 use crate::declarations::{is_declared_once, is_defined_if_static};
 use crate::ours::{local_names, names_are_free, own_names_are_distinct};
@@ -14,7 +14,7 @@ use std::alloc::Global;
 use w2c_base::Memory;
 
 /// The first rule that an item breaks by itself, a parameter or a local variable.
-#[tactic(auto, unfolding(crate::specs::FirstRule::item_breaks))]
+#[tactic(auto, unfolding(c_rules::specs::FirstRule::item_breaks))]
 pub fn item_rule(alloc: Global, progress: &Progress, item: &Item) -> Result<Option<u32>, Memory>
     requires { FindsFirst progress.now.earlier.first (declared progress.now.file) }
     ensures { IfOk result (λ r. r ≡ item_breaks (item_place progress.now.file item.now)) }

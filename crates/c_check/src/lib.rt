@@ -12,4 +12,5 @@ mod progress;
 mod shapes;
 mod statements;
 
-pub use checked::{CheckRefusal, CheckedUnit};
+pub use c_rules::CheckedUnit;
+pub use checked::{Check, CheckRefusal};

@@ -5,10 +5,10 @@ ghost use Rattle.c_tree.specs.View.{item_of, stmt_of};
 ghost use Rattle.c_tree.specs.Scope.{is_among, name_of};
 ghost use Rattle.c_tree.specs.Rules.{label_of, labels_of, has_body};
 ghost use Rattle.c_scope.specs.Tables.{Knows};
-ghost use Rattle.c_check.specs.UnitNames.{some_name, defined_name, names_of, defined_of};
+ghost use Rattle.c_rules.specs.UnitNames.{defined_name, names_of, defined_of};
 
-use c_scope::{NameTable, Salted};
 use c_tree::{Item, Stmt};
+use name_table::{NameTable, Salted};
 use std::alloc::Global;
 use w2c_base::Memory;
 

@@ -1,17 +1,17 @@
 // Names of a function's own: its parameters and local variables (C11, 6.9.1, 6.2.1, 6.7).
-ghost use Rattle.std.specs.Prelude.{◌≡◌, ◌&&◌, ◌<◌, ℕ, List, not, map, length, slice_get, Some, is_some, IfOk};
+ghost use Rattle.std.specs.Prelude.{◌≡◌, ◌&&◌, ◌<◌, ℕ, not, map, length, slice_get, Some, is_some, IfOk};
 ghost use Rattle.std.specs.List.{list_all};
 ghost use Rattle.w2c_base.specs.Lookup.{named};
 ghost use Rattle.c_tree.specs.View.{item_of, func_of};
 ghost use Rattle.c_tree.specs.Rules.{local_names, names_are_free, is_own_name, params_are_named, are_distinct, own_names_are_distinct, hides_none, body_variables};
 ghost use Rattle.c_scope.specs.Tables.{Knows};
-ghost use Rattle.c_scope.specs.Own.{variable_pair};
-ghost use Rattle.c_check.specs.UnitNames.{names_of};
+ghost use Rattle.c_rules.specs.UnitNames.{names_of};
 ghost use Rattle.c_check.specs.Places.{alone, item_place};
 
 use crate::shapes::{file_name_is_free, is_own_name, proper_params};
-use c_scope::{FileScope, NameTable, Salted, Variable, own_variables};
+use c_scope::{FileScope, Variable, own_variables};
 use c_tree::{CType, Func, Item, Name};
+use name_table::{NameTable, Salted};
 use std::alloc::Global;
 use w2c_base::Memory;
 

@@ -2,17 +2,18 @@
 ghost use Rattle.std.specs.Prelude.{◌≡◌, ◌+◌, map, option_map, Some, IfOk};
 ghost use Rattle.c_tree.specs.Tree as tree;
 ghost use Rattle.c_tree.specs.View.{item_of, func_of};
-ghost use Rattle.c_check.specs.FirstRule.{first_in_stmts, first_in_body, first_in_items};
+ghost use Rattle.c_rules.specs.FirstRule.{first_in_stmts, first_in_body, first_in_items};
 ghost use Rattle.c_scope.specs.ScopeOf.{scope_of};
 ghost use Rattle.c_check.specs.Broken.{broken_at};
-ghost use Rattle.c_check.specs.FirstRule.{func_in};
+ghost use Rattle.c_rules.specs.FirstRule.{func_in};
 
 use crate::items::item_rule;
 use crate::names::{label_name, label_names, put};
 use crate::progress::Progress;
 use crate::statements::stmt_rule;
-use c_scope::{FileScope, NameTable, Scope, own_table, own_variables};
+use c_scope::{FileScope, Scope, own_table, own_variables};
 use c_tree::{Body, Func, Item};
+use name_table::NameTable;
 use std::alloc::Global;
 use w2c_base::Memory;
 

@@ -3,14 +3,16 @@ ghost use Rattle.std.specs.Prelude.{◌≡◌, ◌+◌, ◌<◌, true, None, map
 ghost use Rattle.c_tree.specs.View.{item_of};
 ghost use Rattle.c_scope.specs.FileItems.{declared};
 ghost use Rattle.c_scope.specs.Tables.{Knows};
-ghost use Rattle.c_check.specs.FirstRule.{item_breaks};
+ghost use Rattle.c_rules.specs.FirstRule.{item_breaks};
 ghost use Rattle.c_check.specs.Places.{item_place};
-ghost use Rattle.c_check.specs.UnitNames.{FindsFirst, names_of, defined_of, none_clash};
+ghost use Rattle.c_rules.specs.UnitNames.{FindsFirst, names_of, defined_of, none_clash};
 
 use crate::declarations::{Earlier, enter_first};
 use crate::names::{declared_names, defined_name, defined_names, put};
-use c_scope::{FileScope, NameTable, salt_of};
+use c_rules::salt_of;
+use c_scope::FileScope;
 use c_tree::Item;
+use name_table::NameTable;
 use std::alloc::Global;
 use w2c_base::Memory;
 

@@ -1,9 +1,9 @@
 // What rules ask of an item alone, or of a statement alone: reserved names (C11, 7.1.3), types
 // (6.2.5, 6.7.6.2, 6.7.6.3), first values (6.7.9) and ends (6.9.1).
-ghost use Rattle.std.specs.Prelude.{◌≡◌, ◌&&◌, not, map, nat_eq, nat_le, length, true, false, bytes_eq, codes};
+ghost use Rattle.std.specs.Prelude.{◌≡◌, ◌&&◌, nat_le, length, true, false, bytes_eq, codes};
 ghost use Rattle.std.specs.List.{list_all};
-ghost use Rattle.c_tree.specs.View.{item_of, stmt_of, maybe_body_of, func_of, callee_of};
-ghost use Rattle.c_tree.specs.Rules.{is_runtime_name, is_symbol, is_own_name, file_name_is_free, is_value_type, is_result_type, proper_params, proper_types, locals_have_values, types_are_proper, written_type_is_proper, number_suits, locals_suit, first_values_suit, body_is_not_empty, ends_body, if_any, label_is_free};
+ghost use Rattle.c_tree.specs.View.{item_of, stmt_of, maybe_body_of, callee_of};
+ghost use Rattle.c_tree.specs.Rules.{is_symbol, is_own_name, file_name_is_free, is_value_type, is_result_type, proper_params, proper_types, locals_have_values, types_are_proper, written_type_is_proper, number_suits, locals_suit, first_values_suit, body_is_not_empty, ends_body, if_any, label_is_free};
 ghost use Rattle.c_tree.specs.Tree as tree;
 ghost use Rattle.c_check.specs.Places.{alone, stmt_alone};
 

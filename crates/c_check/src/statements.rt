@@ -1,20 +1,21 @@
 // The rules of a statement.
-ghost use Rattle.std.specs.Prelude.{◌≡◌, ◌&&◌, not, ◌-◌, ℕ, List, map, take, is_some, IfOk};
+ghost use Rattle.std.specs.Prelude.{◌≡◌, ◌&&◌, not, ◌-◌, ℕ, take, is_some, IfOk};
 ghost use Rattle.std.specs.List.{list_all};
 ghost use Rattle.w2c_base.specs.Lookup.{named};
 ghost use Rattle.c_tree.specs.View.{stmt_of};
 ghost use Rattle.c_tree.specs.Rules.{label_of, labels_of, labels_named, labels_are_there, cases_are_distinct, if_any};
 ghost use Rattle.c_scope.specs.Tables.{Knows};
 ghost use Rattle.c_scope.specs.ScopeOf.{scope_of};
-ghost use Rattle.c_check.specs.FirstRule.{stmt_breaks};
+ghost use Rattle.c_rules.specs.FirstRule.{stmt_breaks};
 ghost use Rattle.c_check.specs.Places.{stmt_place};
 
 use crate::cases::cases_are_distinct;
 use crate::names::label_name;
 use crate::shapes::{ends_body, label_is_free, written_type_is_proper};
-use c_scope::{NameTable, Scope};
+use c_scope::Scope;
 use c_tree::{Name, Num, Stmt};
 use c_types::{names_are_known, stmt_is_typed, types_agree};
+use name_table::NameTable;
 use std::alloc::Global;
 use w2c_base::Memory;
 
@@ -83,7 +84,7 @@ fn labels_are_there(
 }
 
 /// The first rule that a statement breaks.
-#[tactic(auto, unfolding(crate::specs::FirstRule::stmt_breaks))]
+#[tactic(auto, unfolding(c_rules::specs::FirstRule::stmt_breaks))]
 pub fn stmt_rule(
     alloc: Global,
     s: &Scope,

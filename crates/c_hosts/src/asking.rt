@@ -1,8 +1,8 @@
 // Hosts that are asked.
-ghost use Rattle.std.specs.Prelude.{◌≡◌, ◌∷◌, ◌++◌, [], MatchOption, OnErr, IfOk, length, slice_get, true, false};
+ghost use Rattle.std.specs.Prelude.{◌≡◌, ◌∷◌, ◌++◌, [], MatchOption, OnErr, IfOk, true, false};
 ghost use Rattle.w2c_base.specs.Values.{equal_type, equal_types, type_of, types_of};
 ghost use Rattle.c_hosts.specs.declared.host.HostFunction.{HostFunction as Function};
-ghost use Rattle.c_hosts.specs.Asking.{offered, Answers, IsOffered};
+ghost use Rattle.c_hosts.specs.Asking.{Answers, IsOffered};
 ghost use Rattle.c_hosts.specs.Hosts.{IsReply};
 ghost use Rattle.c_hosts.specs.Journals.{asked};
 

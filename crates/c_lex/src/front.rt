@@ -2,7 +2,7 @@
 ghost use Rattle.std.specs.Prelude.{◌≡◌, ◌<◌, ◌≤◌, ◌+◌, length, take, drop, slice_index, true, IfSome, ◌==◌, ◌&&◌};
 ghost use Rattle.std.specs.List.{list_all};
 ghost use Rattle.c_tree.specs.Text as text;
-ghost use Rattle.c_lex.specs.Fixed.{among, sign_of};
+ghost use Rattle.c_lex.specs.Fixed.{sign_of};
 ghost use Rattle.c_lex.specs.Front.{token_of, in_class, front_of, is_within};
 
 use crate::token::Token;

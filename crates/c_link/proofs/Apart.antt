@@ -10,7 +10,7 @@ use Rattle.c_tree.specs.Tree as tree
 use Rattle.c_tree.specs.Scope.{Name, func_type_of as type_of_func}
 use Rattle.c_meaning.specs.Linking as linking
 use Rattle.c_meaning.specs.Linking.{Definition, definition_of, defined_for_all, is_external}
-use Rattle.c_scope.proofs.Lookups.{named-append}
+use Rattle.name_table.proofs.Lookups.{named-append}
 use Rattle.c_link.specs.declared.offers.Owner.TheVariants as owner
 use Rattle.c_link.specs.Offers.{Offered, unit_type_of, host_offer, host_offers, unit_offers, offers}
 use Rattle.c_link.specs.Refusals.{first_of, first_twice, found_before, twice_by, twice_in}

@@ -9,7 +9,7 @@ use Rattle.c_tree.specs.Runtime.{same_func_type}
 use Rattle.c_tree.specs.Scope.{Name, func_type_of as type_of_func}
 use Rattle.c_meaning.specs.Linking as linking
 use Rattle.c_meaning.specs.Linking.{Definition, Program, SymbolCall, defined_for_all, external_functions, fits, link_refusal, twice, unresolved}
-use Rattle.c_scope.proofs.Lookups.{named-append}
+use Rattle.name_table.proofs.Lookups.{named-append}
 use Rattle.c_link.specs.Offers.{Offered, unit_offers, offers, external_func}
 use Rattle.c_link.specs.Refusals.{first_of, first_refusal, first_twice, found_before, twice_by, twice_in, unlike, unresolved_by, unresolved_in}
 use Rattle.c_link.specs.Calls.{signature_of, takes, takes_if_any}

@@ -12,9 +12,9 @@ use Rattle.c_tree.specs.Runtime.{same_func_type}
 use Rattle.c_tree.specs.Rules.{are_distinct}
 use Rattle.c_tree.specs.Scope.{Name, is_among, func_type_of as type_of_func}
 use Rattle.c_meaning.specs.Linking as linking
-use Rattle.c_check.specs.UnitNames.{none_clash, stands_behind}
-use Rattle.c_scope.proofs.NameTables.{either_way}
-use Rattle.c_scope.proofs.Lookups.{among-append}
+use Rattle.c_rules.specs.UnitNames.{none_clash, stands_behind}
+use Rattle.name_table.proofs.NameTables.{either_way}
+use Rattle.name_table.proofs.Lookups.{among-append}
 use Rattle.c_link.specs.declared.host_symbol.HostSymbol.{HostSymbol}
 use Rattle.c_link.specs.Offers.{Offered, c_symbols, host_offer, host_offers, offers, unit_offers}
 use Rattle.c_link.specs.Refusals.{first_of, first_refusal, first_twice, found_before, twice_in, unlike, unresolved_by, unresolved_in}

@@ -13,7 +13,7 @@ use Rattle.c_tree.specs.Scope.{Name, func_type_of as type_of_func}
 use Rattle.c_meaning.specs.State.{FuncAddress, UnitFunc, HostFunc}
 use Rattle.c_meaning.specs.Linking as linking
 use Rattle.c_meaning.specs.Linking.{Definition, Program, defined, defined_for_all, c_func_type_of}
-use Rattle.c_scope.proofs.Lookups.{named-append, or_none}
+use Rattle.name_table.proofs.Lookups.{named-append, or_none}
 use Rattle.c_link.specs.declared.offers.Owner.TheVariants as owner
 use Rattle.c_link.specs.Offers.{Offered, host_offer, host_offers, unit_offers, offers, owner_of}
 use Rattle.c_link.specs.Refusals.{first_twice}

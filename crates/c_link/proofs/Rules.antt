@@ -12,11 +12,11 @@ use Rattle.c_tree.specs.Scope.{Name}
 use Rattle.c_tree.specs.Rules.{item_rules, are_alike}
 use Rattle.c_tree.specs.FirstBroken.{BrokenAt, KeepsRules, broken_of, broken_in_item, broken_in_body}
 use Rattle.c_meaning.specs.Linking.{Definition}
-use Rattle.c_check.specs.FirstRule.{item_breaks}
-use Rattle.c_check.specs.UnitNames.{none_clash, stands_behind}
-use Rattle.c_check.proofs.Clashes.{none_clash_more}
-use Rattle.c_check.proofs.FirstOf.{first_broken_of}
-use Rattle.c_check.proofs.Onward.{declared_once}
+use Rattle.c_rules.specs.FirstRule.{item_breaks}
+use Rattle.c_rules.specs.UnitNames.{none_clash, stands_behind}
+use Rattle.c_rules.proofs.Clashes.{none_clash_more}
+use Rattle.c_rules.proofs.FirstOf.{first_broken_of}
+use Rattle.c_rules.proofs.Onward.{declared_once}
 use Rattle.c_link.specs.Programs.{AllChecked, IsChecked}
 use Rattle.c_link.proofs.Apart.{seen_under, definitions_from, first_under}
 use Rattle.c_link.proofs.Walks.{numbered_at, take_next}

@@ -9,7 +9,7 @@ use Rattle.w2c_base.specs.Lookup.{named, numbered}
 use Rattle.c_tree.specs.Tree as tree
 use Rattle.c_tree.specs.Scope.{Name}
 use Rattle.c_meaning.proofs.Fronts.{zip_from}
-use Rattle.c_scope.proofs.Lookups.{named-append, or_assoc, or_none}
+use Rattle.name_table.proofs.Lookups.{named-append, or_assoc, or_none}
 use Rattle.c_link.specs.declared.offers.Offer.{Offer}
 use Rattle.c_link.specs.declared.offers.Owner.{Owner}
 use Rattle.c_link.specs.Offers.{Offered, Holds, told, offered_by, offers, host_offers, unit_offers, item_offer}

@@ -7,7 +7,7 @@ use Rattle.c_tree.specs.Tree as tree
 use Rattle.c_tree.specs.Runtime.{same_type, same_types}
 use Rattle.c_tree.proofs.Tested.{at_front}
 use Rattle.c_meaning.specs.Linking.{c_type_of, c_params_of}
-use Rattle.c_check.proofs.SameTypes.{same_many}
+use Rattle.c_rules.proofs.SameTypes.{same_many}
 
 abbrev pub types_in : List tree.Param → List CType
 types_in params = map (λ p. p.0) params

@@ -7,7 +7,7 @@ use Rattle.std.proofs.lemmas.List.{drop_all, length-map}
 use Rattle.std.proofs.lemmas.Option.{slice_get-map, slice_get-get_or}
 use Rattle.w2c_base.specs.Lookup.{numbered}
 use Rattle.c_meaning.specs.Linking as linking
-use Rattle.c_check.proofs.Distinct.{drop_front}
+use Rattle.c_rules.proofs.Distinct.{drop_front}
 use Rattle.c_link.specs.declared.refusal.LinkRefusal.{LinkRefusal}
 use Rattle.c_link.specs.declared.refusal.LinkRefusal.TheVariants as refusal
 use Rattle.c_link.specs.Refusals.{IsRefusal, first_of}

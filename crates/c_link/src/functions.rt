@@ -6,8 +6,8 @@ ghost use Rattle.c_tree.specs.Scope.{func_type_of as type_of_func};
 ghost use Rattle.c_meaning.specs.Linking.{c_func_type_of, c_params_of, c_result_of, c_type_of};
 ghost use Rattle.c_link.specs.Offers.{defined_func, external_func};
 
+use c_rules::same_type;
 use c_tree::{CFuncType, CType, CTypes, Func, Item, Name, Params};
-use c_types::same_type;
 use std::alloc::Global;
 use w2c_base::{FuncType, Memory, ValType};
 

@@ -16,9 +16,9 @@ use crate::offers::{Offers, Owner};
 use crate::own::own_tables;
 use crate::passes::{define_all, resolve_all};
 use crate::refusal::LinkRefusal;
-use c_check::CheckedUnit;
-use c_scope::NameTable;
+use c_rules::CheckedUnit;
 use c_tree::CFuncType;
+use name_table::NameTable;
 use std::alloc::Global;
 use std::marker::Model;
 use w2c_base::Value;
@@ -110,6 +110,13 @@ impl Linked {
         ensures resolved { first_refusal (map unit_of self.now.0) (c_symbols self.now.1) ≡ None }
     {
         self.units.as_slice()
+    }
+
+    /// Gives the units back, in the order in which they were handed in.
+    pub fn into_units(self) -> Vec<CheckedUnit>
+        ensures { result.items ≡ self.0 }
+    {
+        self.units
     }
 
     /// The unit that was handed in at a place, counted from 0.

@@ -10,9 +10,9 @@ use crate::functions::{defined_function, external_function, has_type};
 use crate::host_symbol::HostSymbol;
 use crate::offers::Offers;
 use crate::refusal::LinkRefusal;
-use c_check::CheckedUnit;
-use c_scope::{Salted, absorb_unit};
+use c_rules::{CheckedUnit, absorb_unit};
 use c_tree::{Func, Item};
+use name_table::Salted;
 use std::alloc::Global;
 
 // The key of all names of hosts and units.

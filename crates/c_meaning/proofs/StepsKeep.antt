@@ -111,7 +111,10 @@ module _ {A : Type 0} (f : Objects → A) (alike : ShownAlike f) where
   changed_unit m u change h = go (slice_get m.units u) refl
     where
       go : (o : Option Objects) → slice_get m.units u ≡ o → map f (
-          elim o as (λ x. Machine) [ None ↦ m | Some o ↦ record { depth = m.depth; units = slice_set m.units u (change o); trail = m.trail } ]
+          elim o as (λ x. Machine) [
+            | None ↦ m
+            | Some o ↦ record { depth = m.depth; units = slice_set m.units u (change o); trail = m.trail }
+          ]
           ).units ≡ map f m.units
       go None found = refl
       go (Some o) found = set_same f m.units u o (change o) found (h o found)
@@ -401,8 +404,10 @@ module _ (p : Program) {P : Machine → Type 0} (kept : KeptByObjects P) (asks :
   act_keeps m r (tree.SetStar name e ∷ rest) below has = with_keeps P m (step.place_of r rest) (step.evaluate p m r e) _ has (λ v.
       with_keeps P m (step.place_of r rest) (then_evaluate (found (step.value_of m r name)) step.as_object) _ has (λ a.
       put_var_keeps kept m a (Number v) (step.at_rest r rest) below has))
-  act_keeps m r (tree.Call target callee args ∷ rest) below has = with_keeps P m (step.place_of r rest) (step.evaluate_args p m r args) _ has
-      (λ values. callee_keeps callee (step.place_of r rest) m r values (record { target = target; running = step.at_rest r rest } ∷ below) has)
+  act_keeps m r (tree.Call target callee args ∷ rest) below has = with_keeps P m (step.place_of r rest)
+      (step.evaluate_args p m r args) _ has
+      (λ values. callee_keeps callee (step.place_of r rest) m r values
+      (record { target = target; running = step.at_rest r rest } ∷ below) has)
   act_keeps m r (tree.Goto name ∷ rest) below has = jump_keeps P m r name below has
   act_keeps m r (tree.If op left right name ∷ rest) below has =
       with_keeps P m (step.place_of r rest) (step.evaluate p m r (tree.Op op left right)) _ has (λ v.

@@ -9,7 +9,7 @@ ghost use Rattle.c_tree.specs.declared.tree.COp.TheVariants as op;
 ghost use Rattle.c_meaning.specs.State.{Is, Bad, Number, Pointer, FuncPointer, UnitFunc, Trapped, Undefined, Asks, Stuck};
 ghost use Rattle.c_meaning.specs.Operators.{operate};
 ghost use Rattle.c_meaning.specs.Linking.{NotDefined, Twice, TypeDiffers, fits, func_type, link_refusal, is_init_symbol};
-ghost use Rattle.c_meaning.specs.Primitives.{Gives, Traps, IsUndefined, get, put, mem_new, mem_len, mem_grow, tab_sig, tab_fn, tab_set, tab_new, primitives};
+ghost use Rattle.c_meaning.specs.Primitives.{Gives, IsUndefined, get, put, mem_new, mem_len, mem_grow, tab_sig, tab_fn, tab_set, tab_new, primitives};
 ghost use Rattle.c_meaning.specs.Run.{Ended, OutOfSteps, Stopped, c_run};
 ghost use Rattle.c_meaning.specs.Samples as sample;
 ghost use Rattle.c_tree.specs.Runtime as header;

@@ -9,7 +9,7 @@ use Rattle.c_tree.specs.FirstBroken.{KeepsRules}
 use Rattle.c_tree.specs.Scope.{Name, func_type_of}
 use Rattle.c_meaning.specs.Linking as linking
 use Rattle.c_meaning.specs.Linking.{Definition, defined_for_all}
-use Rattle.c_scope.proofs.Lookups.{named-append}
+use Rattle.name_table.proofs.Lookups.{named-append}
 use Rattle.c_sound.proofs.Choices.{same_some}
 use Rattle.c_sound.proofs.Lists.{take_has}
 use Rattle.c_sound.proofs.SameTypes.{func_types_same}

@@ -7,8 +7,8 @@ ghost use Rattle.c_renaming.specs.Merging.{joined};
 ghost use Rattle.c_merge.specs.Merge.{RunsAsUnits, merged, new_names};
 
 use crate::items::put_items;
-use c_check::{CheckRefusal, CheckedUnit};
 use c_link::Linked;
+use c_rules::CheckedUnit;
 use c_tree::Unit;
 use std::alloc::Global;
 use w2c_base::Memory;
@@ -24,11 +24,8 @@ pub fn merge(alloc: Global, linked: &Linked) -> Result<CheckedUnit, Memory>
     // That each unit keeps the rules, and that they link, are clauses of this.
     let _ = linked.units();
     let one = merged_items(alloc, linked)?;
-    match CheckedUnit::check(alloc, one) {
-        Ok(checked) => Ok(checked),
-        Err(CheckRefusal::Memory) => Err(Memory),
-        Err(CheckRefusal::Rule(_, _, _)) => unreachable!(),
-    }
+    let checked = CheckedUnit::known(alloc, one)?;
+    Ok(checked)
 }
 
 #[tactic(auto, using(crate::proofs::Joined::units_all))]

@@ -162,7 +162,8 @@ both_odd u w P = omega arith
 common : (u w n : ℕ) → bit_and u w ≡ 0 → bit_and ((u * 2 + 1) * 2 ^ n) ((w * 2 + 1) * 2 ^ n) ≡ 2 ^ n
 common u w n h =
     let p : 0 < 2 ^ n = pow_pos n in
-    let a : bit_and ((u * 2 + 1) * 2 ^ n + 0) ((w * 2 + 1) * 2 ^ n + 0) ≡ bit_and (u * 2 + 1) (w * 2 + 1) * 2 ^ n + bit_and 0 0 = and_block n
+    let a : bit_and ((u * 2 + 1) * 2 ^ n + 0) ((w * 2 + 1) * 2 ^ n + 0) ≡ bit_and (u * 2 + 1) (w * 2 + 1) * 2 ^ n + bit_and 0 0 =
+    and_block n
     (u * 2 + 1) (w * 2 + 1) 0 0 p p in
     let b : bit_and (u * 2 + 1) (w * 2 + 1) ≡ bit_and u w * 2 + bit_and 1 1 = and_block 1 u w 1 1 (omega arith) (omega arith) in
     let c : bit_and (u * 2 + 1) (w * 2 + 1) ≡ 1 = b ∙ rw h refl in

@@ -1,5 +1,5 @@
 // Expressions, where so many may stand inside one another.
-ghost use Rattle.std.specs.Prelude.{◌≡◌, ◌<◌, ◌≤◌, false, length, OnOk, IfSome};
+ghost use Rattle.std.specs.Prelude.{◌≡◌, ◌<◌, ◌≤◌, false, length, IfSome};
 ghost use Rattle.c_tree.specs.Tokens.{Fixed};
 ghost use Rattle.c_tree.specs.View.{expr_of};
 ghost use Rattle.c_lex.specs.Cursor.{is_last};

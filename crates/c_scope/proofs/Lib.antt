@@ -1,4 +1,2 @@
-pub mod NameTables
-pub mod Lookups
 pub mod Steps
 pub mod NextItem

@@ -5,7 +5,7 @@ use Rattle.std.specs.List.{list_any}
 use Rattle.std.specs.Option.{option_or}
 use Rattle.std.proofs.lemmas.List.Elements.{filter_map-append}
 use Rattle.w2c_base.specs.Lookup.{named}
-use Rattle.c_scope.proofs.Lookups.{named-append, among-append}
+use Rattle.name_table.proofs.Lookups.{named-append, among-append}
 
 pub take_next : {A B : Type 0} (f : A → B) (xs : List A) (i : ℕ) (x : A) → i < length xs → x ≡ get_or xs i x
     → take (i + 1) (map f xs) ≡ take i (map f xs) ++ f x ∷ []

@@ -1,10 +1,10 @@
 -- Loops over a list that keep 'what is made, and what the rest gives, is the whole'.
-use Rattle.std.proofs.Common.{◌≡◌, ℕ, zero, suc, arith, ◌+◌, ◌<◌, ◌≤◌, Bool, true, false, if◌then◌else◌, List, [], ◌∷◌, ◌++◌, append_assoc, length, get_or, drop, map, bytes_eq, Option, Some, None, refl, sym, ap, ◌∙◌}
+use Rattle.std.proofs.Common.{◌≡◌, ℕ, zero, suc, arith, ◌+◌, ◌<◌, ◌≤◌, Bool, true, false, if◌then◌else◌, List, [], ◌∷◌, ◌++◌, length, get_or, drop, map, bytes_eq, Option, Some, None, refl, sym, ap, ◌∙◌}
 use Rattle.std.specs.Option.{option_or}
-use Rattle.std.proofs.lemmas.List.{map_push, drop_all}
+use Rattle.std.proofs.lemmas.List.{drop_all}
 use Rattle.w2c_base.specs.Lookup.{named}
 use Rattle.c_tree.proofs.Tested.{at_front}
-use Rattle.c_scope.proofs.Lookups.{or_assoc, or_none}
+use Rattle.name_table.proofs.Lookups.{or_assoc, or_none}
 
 -- ---- a search by name
 
@@ -21,16 +21,6 @@ pub named_stops : {A B : Type 0} (f : A → List ℕ × B) (q : List ℕ) (xs : 
 named_stops f q xs i x whole lt is same so_far =
     sym (ap (λ ys. named q (map f ys)) (at_front xs i x lt is)
     ∙ ap (λ b. if b then Some (f x).1 else named q (map f (drop (i + 1) xs))) same) ∙ so_far
-
--- ---- entries that are put at the end
-
-pub put_more : {V B : Type 0} (f : V → B) (made : List V) (v : V) (left rest whole : List B) → left ≡ f v ∷ rest
-    → map f made ++ left ≡ whole → map f (made ++ v ∷ []) ++ rest ≡ whole
-put_more f made v left rest whole is so_far =
-    ap (λ ys. ys ++ rest) (map_push f made v) ∙ append_assoc (map f made) (f v ∷ []) rest ∙ ap (λ ys. map f made ++ ys) (sym is) ∙ so_far
-
-pub put_none : {B : Type 0} (made left rest whole : List B) → left ≡ rest → made ++ left ≡ whole → made ++ rest ≡ whole
-put_none made left rest whole is so_far = ap (λ ys. made ++ ys) (sym is) ∙ so_far
 
 -- ---- a table that grows entry by entry
 

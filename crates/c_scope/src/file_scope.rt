@@ -8,9 +8,8 @@ ghost use Rattle.c_tree.specs.View.{func_of, item_of};
 ghost use Rattle.c_tree.specs.Scope.{is_among, func_type_of};
 ghost use Rattle.c_scope.specs.Tables.{Finds, Knows, FindsTypes, variables_of, arrays_of, functions_of};
 
-use crate::name_table::NameTable;
-use crate::salted::Salted;
 use c_tree::{CType, Func, Item};
+use name_table::{NameTable, Salted};
 use std::alloc::Global;
 use w2c_base::Memory;
 
@@ -97,7 +96,7 @@ impl<'a> FileScope<'a> {
     }
 }
 
-#[tactic(auto, using(crate::proofs::Lookups::or_none))]
+#[tactic(auto, using(name_table::proofs::Lookups::or_none))]
 fn enter_variable(alloc: Global, table: &mut NameTable<CType>, item: &Item) -> Result<(), Memory>
     ensures { OnOk result ((q : List ℕ) → named q table.new ≡ option_or (named q table.old) (named q (variables_of (item_of item.now ∷ [])))) }
 {

@@ -2,15 +2,13 @@
 ghost use Rattle.std.specs.Prelude.{◌≡◌, ℕ, ◌++◌, if◌then◌else◌, List, map, bytes_eq, Some, None, IfOk, OnOk};
 ghost use Rattle.std.specs.Option.{option_or};
 ghost use Rattle.w2c_base.specs.Lookup.{named};
-ghost use Rattle.c_tree.specs.View.{func_of, body_of};
-ghost use Rattle.c_tree.specs.Scope.{param_variables, local_variables};
+ghost use Rattle.c_tree.specs.View.{func_of};
 ghost use Rattle.c_tree.specs.Rules.{body_variables};
 ghost use Rattle.c_scope.specs.Tables.{Finds};
 ghost use Rattle.c_scope.specs.Own.{variable_pair, params_of, locals_of};
 
-use crate::name_table::NameTable;
-use crate::salted::Salted;
 use c_tree::{Body, CType, Func, Name, Num};
+use name_table::{NameTable, Salted};
 use std::alloc::Global;
 use w2c_base::Memory;
 

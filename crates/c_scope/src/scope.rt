@@ -1,5 +1,5 @@
 // The names at a statement of a function.
-ghost use Rattle.std.specs.Prelude.{◌≡◌, ◌++◌, is_some, option_map, Some, None, if◌then◌else◌, bytes_eq, codes, [], ◌∷◌};
+ghost use Rattle.std.specs.Prelude.{◌≡◌, ◌++◌, is_some, option_map, Some, None, if◌then◌else◌, codes, [], ◌∷◌};
 ghost use Rattle.w2c_base.specs.Lookup.{named};
 ghost use Rattle.c_tree.specs.declared.tree.CType.TheVariants.{U32};
 ghost use Rattle.c_tree.specs.View.{func_of, body_of};
@@ -9,10 +9,10 @@ ghost use Rattle.c_scope.specs.Tables.{Finds};
 ghost use Rattle.c_scope.specs.Signatures.{signature_type};
 
 use crate::file_scope::FileScope;
-use crate::name_table::NameTable;
 use crate::runtime::primitive_named;
 use crate::signature::Signature;
 use c_tree::{Body, CType, Func};
+use name_table::NameTable;
 
 /// Where a statement stands: the names of file scope up to its function, which is declared too, and
 /// the function with its parameters and local variables.

@@ -6,7 +6,7 @@ use Rattle.std.specs.Option.{option_or}
 use Rattle.w2c_base.specs.Lookup.{named}
 use Rattle.c_tree.specs.Scope.{Name}
 use Rattle.c_tree.proofs.Tested.{at_front}
-use Rattle.c_scope.proofs.Lookups.{or_assoc, or_none, named-append}
+use Rattle.name_table.proofs.Lookups.{or_assoc, or_none, named-append}
 use Rattle.c_symbols.specs.Symbols.{Typed}
 use Rattle.c_symbols.specs.declared.types.SymbolType.{SymbolType}
 use Rattle.c_symbols.specs.Typed.{type_of}

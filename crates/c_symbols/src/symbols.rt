@@ -8,8 +8,8 @@ ghost use Rattle.c_symbols.specs.Typed.{type_of};
 
 use crate::indexes::{Indexes, Symbol};
 use crate::types::{SymbolType, accessor, same};
-use c_scope::{NameTable, Salted};
 use c_tree::{CType, Name};
+use name_table::{NameTable, Salted};
 use std::alloc::Global;
 use w2c_base::Memory;
 use wasm_tree::{Import, Module};

@@ -1,6 +1,6 @@
-// Two units and a host that are linked, and each refusal.
+// Two units and a host that are linked.
 use crate::texts::checked;
-use c_link::{HostSymbol, LinkRefusal, Linked, Owner, link};
+use c_link::{HostSymbol, Linked, Owner, link};
 use std::alloc::Global;
 use std::test::Fail;
 use w2c_base::{Bytes, FuncType, Memory, Types, ValType, Value};
@@ -9,31 +9,6 @@ use w2c_base::{Bytes, FuncType, Memory, Types, ValType, Value};
 const ASKS_F: &str = "#include \"w2c_rt.h\"
 u32 w2cZ_f(u32 x);
 static u32 s(u32 x) {
-return x;
-}
-";
-
-const ASKS_F_OF_U64: &str = "#include \"w2c_rt.h\"
-u32 w2cZ_f(u64 x);
-static u32 s(u32 x) {
-return x;
-}
-";
-
-const ASKS_G_AND_F: &str = "#include \"w2c_rt.h\"
-u32 w2cZ_g(u32 x);
-u32 w2cZ_f(u64 x);
-";
-
-const DEFINES_F: &str = "#include \"w2c_rt.h\"
-u32 w2cZ_f(u32 x) {
-return x;
-}
-";
-
-const DEFINES_F_ASKS_G: &str = "#include \"w2c_rt.h\"
-u32 w2cZ_g(u32 x);
-u32 w2cZ_f(u32 x) {
 return x;
 }
 ";
@@ -60,12 +35,15 @@ fn host(alloc: Global) -> Result<HostSymbol, Memory> {
 }
 
 // The units of two texts, linked with the host.
-fn linked(alloc: Global, first: &str, second: &str) -> Result<Result<Linked, LinkRefusal>, Fail> {
+fn linked(alloc: Global, first: &str, second: &str) -> Result<Linked, Fail> {
     let host = host(alloc)?;
     let mut units = Vec::new(alloc);
     units.push(checked(alloc, first)?)?;
     units.push(checked(alloc, second)?)?;
-    Ok(link(alloc, units, &[host]))
+    match link(alloc, units, &[host]) {
+        Ok(linked) => Ok(linked),
+        Err(_) => Err(Fail::new("the units link")),
+    }
 }
 
 fn names_are_owned(linked: &Linked) -> bool {
@@ -91,60 +69,9 @@ fn calls_fit(linked: &Linked) -> bool {
 
 #[test]
 fn what_is_linked(rt: HostRuntime) -> Result<(), Fail> {
-    let linked = linked(rt.alloc(), ASKS_F, DEFINES_F_ASKS_H)?
-        .ok()
-        .ok_or("the units link")?;
+    let linked = linked(rt.alloc(), ASKS_F, DEFINES_F_ASKS_H)?;
     let counts = (linked.units().len(), linked.host_symbols().len());
     assert!(rt; counts == (2, 1) && names_are_owned(&linked) && calls_fit(&linked));
-    Ok(())
-}
-
-/// What stands in the way of a link.
-#[derive(Clone, Copy, PartialEq, Eq)]
-enum Refused {
-    Undefined,
-    TypeDiffers,
-    Twice,
-}
-
-// Two texts, and which unit's symbol is refused.
-type Row = (&'static str, &'static str, Refused, usize, &'static str);
-
-const ROWS: [Row; 3] = [
-    (ASKS_G_AND_F, DEFINES_F, Refused::Undefined, 0, "w2cZ_g"),
-    (
-        ASKS_F_OF_U64,
-        DEFINES_F_ASKS_G,
-        Refused::TypeDiffers,
-        0,
-        "w2cZ_f",
-    ),
-    (DEFINES_F_ASKS_G, DEFINES_F, Refused::Twice, 1, "w2cZ_f"),
-];
-
-fn is_refused(alloc: Global, row: &Row) -> Result<bool, Fail> {
-    let (first, second, wanted, wanted_unit, wanted_symbol) = *row;
-    let (refused, unit, symbol) = match linked(alloc, first, second)? {
-        Err(LinkRefusal::Undefined(unit, symbol)) => (Refused::Undefined, unit, symbol),
-        Err(LinkRefusal::TypeDiffers(unit, symbol)) => (Refused::TypeDiffers, unit, symbol),
-        Err(LinkRefusal::Twice(unit, symbol)) => (Refused::Twice, unit, symbol),
-        _ => return Ok(false),
-    };
-    Ok(refused == wanted && unit == wanted_unit && symbol.as_slice() == wanted_symbol.as_bytes())
-}
-
-// The number of the first row that is not refused so.
-fn first_other(alloc: Global) -> Result<Option<usize>, Fail> {
-    for (i, row) in ROWS.iter().enumerate() {
-        if !is_refused(alloc, row)? {
-            return Ok(Some(i));
-        }
-    }
-    Ok(None)
-}
-
-#[test]
-fn what_is_refused(rt: HostRuntime) -> Result<(), Fail> {
-    assert_eq!(rt; first_other(rt.alloc())?, None);
+    assert!(rt; linked.into_units().len() == 2);
     Ok(())
 }

@@ -45,7 +45,6 @@ impl Drop for Counter<'_> {
 impl HostModule for Counter<'_> {
     ghost use Rattle.std.specs.Prelude.{◌≡◌, ◌∷◌, [], Some, ℕ};
     ghost use Rattle.w2c_base.specs.declared.value.Value.TheVariants.{I64};
-    ghost use Rattle.c_hosts.specs.declared.host.HostReply.TheVariants as reply;
 
     ghost name_of = { λ h. h.name };
 

@@ -1,7 +1,7 @@
 // The units of the tests, by the texts that spell them.
-use c_check::CheckedUnit;
+use c_check::{Check, CheckedUnit};
 use c_read::read_unit;
-use c_tree::{Item, Unit};
+use c_tree::Unit;
 use std::alloc::Global;
 use std::test::Fail;
 
@@ -22,22 +22,5 @@ pub fn checked(alloc: Global, text: &str) -> Result<CheckedUnit, Fail> {
     match CheckedUnit::check(alloc, unit) {
         Ok(unit) => Ok(unit),
         Err(_) => Err(Fail::new("the unit keeps the rules")),
-    }
-}
-
-/// Whether the items are functions of these names.
-pub fn are_named(items: &[Item], names: &[&str]) -> bool {
-    for (item, name) in items.iter().zip(names) {
-        if !is_named(item, name) {
-            return false;
-        }
-    }
-    items.len() == names.len()
-}
-
-fn is_named(item: &Item, name: &str) -> bool {
-    match item {
-        Item::Func(f) => f.name.as_slice() == name.as_bytes(),
-        Item::Array(_, _, _) | Item::Var(_, _, _) => false,
     }
 }

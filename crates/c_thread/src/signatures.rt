@@ -13,8 +13,8 @@ ghost use Rattle.c_thread.specs.FuncTypes.{agree_at, type_at, AreFuncTypes};
 use crate::control::LinkedUnit;
 use crate::linked::{LinkedStep, LinkedThread};
 use c_objects::{FuncId, Held};
+use c_rules::same_type;
 use c_tree::{CFuncType, CType};
-use c_types::same_type;
 use std::alloc::Global;
 use w2c_base::Memory;
 

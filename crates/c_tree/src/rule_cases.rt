@@ -1,6 +1,6 @@
 // Closed cases of the rules, by computation: for each rule a unit that keeps it, and units that
 // break it and no other.
-ghost use Rattle.std.specs.Prelude.{◌≡◌, true, false, [], ◌∷◌, ◌++◌, codes, Some, None};
+ghost use Rattle.std.specs.Prelude.{◌≡◌, false, [], ◌∷◌, ◌++◌, codes, Some, None};
 ghost use Rattle.c_tree.specs.declared.tree.CType.TheVariants as type;
 ghost use Rattle.c_tree.specs.declared.tree.Num.TheVariants.{N32, N64, Plain};
 ghost use Rattle.c_tree.specs.declared.tree.COp.TheVariants as op;

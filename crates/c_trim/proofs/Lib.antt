@@ -13,4 +13,4 @@ pub mod Marking
 pub mod Spread
 pub mod Exact
 pub mod InPlace
-pub mod Refused
+pub mod Carried

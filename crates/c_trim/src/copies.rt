@@ -1,6 +1,6 @@
 // Copies of the parts of a unit, with trees of their own.
 ghost use Rattle.std.specs.Prelude.{◌≡◌, IfOk, map};
-ghost use Rattle.c_tree.specs.View.{expr_of, arg_of, func_type_of, callee_of, stmt_of, body_of, maybe_body_of, func_of, item_of};
+ghost use Rattle.c_tree.specs.View.{expr_of, arg_of, func_type_of, callee_of, stmt_of, maybe_body_of, func_of, item_of};
 
 use c_tree::{
     Arg, Args, Body, CFuncType, Callee, Cases, Expr, Func, Item, Locals, Name, Params, Stmt, Stmts,

@@ -1,7 +1,6 @@
 // The functions of a unit that chains of names reach from its external functions.
 ghost use Rattle.std.specs.Prelude.{◌≡◌, ℕ, length, slice_get, ◌∷◌, [], List, map, flat_map, if◌then◌else◌, Some, None, OnOk, IfOk};
 ghost use Rattle.std.specs.Option.{option_or};
-ghost use Rattle.std.specs.Str.{bytes_eq};
 ghost use Rattle.w2c_base.specs.Lookup.{named};
 ghost use Rattle.c_tree.specs.Rules.{defines};
 ghost use Rattle.c_tree.specs.Tree as tree;
@@ -9,8 +8,9 @@ ghost use Rattle.c_tree.specs.View.{arg_of, callee_of, stmt_of, maybe_body_of, f
 ghost use Rattle.c_trim.specs.Trim.{arg_functions, callee_functions, stmt_functions, body_functions, item_functions};
 ghost use Rattle.c_trim.specs.Marks.{AreAllReached, AreReached, BegunTo, KnowsDefiners, begins, functions_at, reached_by, with_item, with_names};
 
-use c_scope::{NameTable, salt_of};
+use c_rules::salt_of;
 use c_tree::{Arg, Body, Callee, Func, Item, Name, Stmt};
+use name_table::NameTable;
 use std::alloc::Global;
 use w2c_base::Memory;
 

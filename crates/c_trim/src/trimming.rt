@@ -8,9 +8,9 @@ ghost use Rattle.c_trim.specs.Trim.{IsTrimmed, kept, stays};
 
 use crate::copies::copy_item;
 use crate::reach::{Marks, definers, reach_all};
-use c_check::{CheckRefusal, CheckedUnit};
-use c_scope::NameTable;
+use c_rules::CheckedUnit;
 use c_tree::{Item, Name, Unit};
+use name_table::NameTable;
 use std::alloc::Global;
 use w2c_base::Memory;
 
@@ -24,11 +24,8 @@ pub fn trim(alloc: Global, u: &CheckedUnit) -> Result<CheckedUnit, Memory>
 {
     let unit = u.unit();
     let kept = needed_items(alloc, unit)?;
-    match CheckedUnit::check(alloc, kept) {
-        Ok(trimmed) => Ok(trimmed),
-        Err(CheckRefusal::Memory) => Err(Memory),
-        Err(CheckRefusal::Rule(_, _, _)) => unreachable!(),
-    }
+    let trimmed = CheckedUnit::known(alloc, kept)?;
+    Ok(trimmed)
 }
 
 fn needed_items(alloc: Global, unit: &Unit) -> Result<Unit, Memory>

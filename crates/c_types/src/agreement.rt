@@ -1,17 +1,18 @@
 // Whether assignments, calls and results have the declared types (C11, 6.5.2.2, 6.5.16.1,
 // 6.8.6.4).
-ghost use Rattle.std.specs.Prelude.{◌≡◌, ◌&&◌, not, map, is_some, Some, None, option_map, false};
-ghost use Rattle.w2c_base.specs.Lookup.{if_found, named};
+ghost use Rattle.std.specs.Prelude.{◌≡◌, ◌&&◌, map, Some, None, option_map, false};
+ghost use Rattle.w2c_base.specs.Lookup.{if_found};
 ghost use Rattle.c_tree.specs.View.{expr_of, arg_of, callee_of, stmt_of};
-ghost use Rattle.c_tree.specs.Scope.{pointed_by, pointer_to, type_of};
+ghost use Rattle.c_tree.specs.Scope.{pointer_to, type_of};
 ghost use Rattle.c_tree.specs.Rules.{if_any, has_same_type, arg_suits, args_suit, callee_type, target_suits, call_suits, stmt_suits, proper_types};
 ghost use Rattle.c_tree.specs.Runtime.{same_type};
 ghost use Rattle.c_tree.specs.declared.tree.CType.{CType};
 ghost use Rattle.c_scope.specs.ScopeOf.{scope_of};
 ghost use Rattle.c_scope.specs.Signatures.{signature_type};
 
-use crate::ctype::{Typed, is_void, pointer_to, proper_types, same_type};
+use crate::ctype::{Typed, is_void, pointer_to, proper_types};
 use crate::typing::{pointed, type_of};
+use c_rules::same_type;
 use c_scope::{Scope, Signature};
 use c_tree::{Arg, CType, Callee, Expr, Name, Stmt};
 

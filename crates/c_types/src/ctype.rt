@@ -1,9 +1,9 @@
 // Types by their kinds.
 ghost use Rattle.std.specs.Prelude.{◌≡◌, map};
-ghost use Rattle.c_tree.specs.Runtime.{same_type};
 ghost use Rattle.c_tree.specs.Scope.{is_number_type, is_object_type, is_comparison, pointed_by, pointer_to};
 ghost use Rattle.c_tree.specs.Rules.{is_void, is_value_type, is_result_type, proper_types};
 
+use c_rules::same_type;
 use c_tree::{COp, CType, Name};
 
 /// What has a type, as a parameter has.
@@ -31,13 +31,6 @@ impl Typed for (CType, Option<Name>) {
     fn ctype(&self) -> CType {
         self.0
     }
-}
-
-/// Whether two types are one.
-pub fn same_type(a: CType, b: CType) -> bool
-    ensures { result ≡ same_type a b }
-{
-    a == b
 }
 
 /// Whether it is the type of no value.

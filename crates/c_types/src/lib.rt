@@ -11,7 +11,6 @@ mod typing;
 pub use agreement::types_agree;
 pub use ctype::{
     Typed, is_number_type, is_object_type, is_result_type, is_value_type, is_void, proper_types,
-    same_type,
 };
 pub use known::names_are_known;
 pub use typed::stmt_is_typed;

@@ -1,5 +1,5 @@
 // Whether the expressions of a statement have types (C11, 6.5.3.2, 6.5.4 to 6.5.14, 6.8.4.1).
-ghost use Rattle.std.specs.Prelude.{◌≡◌, map, is_some};
+ghost use Rattle.std.specs.Prelude.{◌≡◌, is_some};
 ghost use Rattle.std.specs.List.{list_all};
 ghost use Rattle.c_tree.specs.View.{expr_of, arg_of, callee_of, stmt_of};
 ghost use Rattle.c_tree.specs.Rules.{if_any, has_type, arg_has_type, may_be_assigned, points_to_number, may_be_called, stmt_is_typed};
@@ -7,8 +7,9 @@ ghost use Rattle.c_tree.specs.Runtime.{same_type};
 ghost use Rattle.c_tree.specs.declared.tree.CType.TheVariants.{FnPtr};
 ghost use Rattle.c_scope.specs.ScopeOf.{scope_of};
 
-use crate::ctype::{is_comparison, is_object_type, same_type};
+use crate::ctype::{is_comparison, is_object_type};
 use crate::typing::{common_type, pointed, type_of, typing_of};
+use c_rules::same_type;
 use c_scope::Scope;
 use c_tree::{Arg, CType, Callee, Expr, Name, Stmt};
 

@@ -1,5 +1,5 @@
 // The types of expressions (C11, 6.5).
-ghost use Rattle.std.specs.Prelude.{◌≡◌, not, if◌then◌else◌, is_some, Some, None};
+ghost use Rattle.std.specs.Prelude.{◌≡◌, if◌then◌else◌, is_some, Some, None};
 ghost use Rattle.w2c_base.specs.Lookup.{if_found};
 ghost use Rattle.c_tree.specs.View.{expr_of};
 ghost use Rattle.c_tree.specs.Scope.{typing_of, type_of, number_type, value_type, may_be_narrowed, name_typing, value_typing, num_typing, common_type, op_typing, typed_if, pointed_by};
@@ -9,7 +9,8 @@ ghost use Rattle.c_tree.specs.declared.tree.CType.TheVariants as type;
 ghost use Rattle.c_scope.specs.ScopeOf.{scope_of};
 ghost use Rattle.c_types.specs.Typings.{typing};
 
-use crate::ctype::{is_comparison, is_number_type, is_object_type, pointed_by, same_type};
+use crate::ctype::{is_comparison, is_number_type, is_object_type, pointed_by};
+use c_rules::same_type;
 use c_scope::Scope;
 use c_tree::{COp, CType, Expr, Num};
 

@@ -29,7 +29,8 @@ PassesOn symbol f = (variable : tree.Local) × (f.body ≡ Some (record {
   stmts = tree.Call (Some variable.1) (tree.Called symbol) [] ∷ tree.Return (tree.Value (tree.Name variable.1)) ∷ [];
 }))
 
-passed : {pointer : CType} → IsPointer pointer → (name symbol : Name) → PassesOn symbol (passes_on (accessor_type pointer) name (Some symbol))
+passed : {pointer : CType} → IsPointer pointer → (name symbol : Name)
+    → PassesOn symbol (passes_on (accessor_type pointer) name (Some symbol))
 passed of_table name symbol = ((type.PtrTab, result_name, Plain 0), refl)
 passed of_memory name symbol = ((type.PtrMem, result_name, Plain 0), refl)
 passed of_u32 name symbol = ((type.PtrU32, result_name, Plain 0), refl)

@@ -1,5 +1,6 @@
 -- The parameters of a function that passes a call on.
-use Rattle.std.proofs.Common.{◌≡◌, ℕ, zero, suc, add-one, ◌+◌, ◌<◌, List, [], ◌∷◌, length, map, drop, get_or, refl, ap, ◌∙◌, arith}
+use Rattle.std.proofs.Common.{◌≡◌, ℕ, zero, suc, add-one, ◌+◌, ◌<◌, List, [], ◌∷◌, ◌++◌, append_assoc, length, map, drop, get_or, refl, sym, ap, ◌∙◌, arith}
+use Rattle.std.proofs.lemmas.List.{map_push}
 use Rattle.w2c_base.specs.declared.value.ValType.{ValType}
 use Rattle.c_tree.specs.Tree as tree
 use Rattle.c_meaning.specs.Linking.{c_type_of}
@@ -21,3 +22,9 @@ args_next (t ∷ types) k lt = at (drop k (t ∷ types)) (drop (k + 1) (t ∷ ty
     at : (left rest : List ValType) (u : ValType) → left ≡ u ∷ rest
         → args_from k (map c_type_of left) ≡ tree.Value (tree.Name (param_name k)) ∷ args_from (k + 1) (map c_type_of rest)
     at left rest u e = ap (λ ls. args_from k (map c_type_of ls)) e ∙ (rw add-one refl)
+
+-- one more at the end of what is made
+pub put_more : {V B : Type 0} (f : V → B) (made : List V) (v : V) (left rest whole : List B) → left ≡ f v ∷ rest
+    → map f made ++ left ≡ whole → map f (made ++ v ∷ []) ++ rest ≡ whole
+put_more f made v left rest whole is so_far =
+    ap (λ ys. ys ++ rest) (map_push f made v) ∙ append_assoc (map f made) (f v ∷ []) rest ∙ ap (λ ys. map f made ++ ys) (sym is) ∙ so_far

@@ -8,7 +8,7 @@ use Rattle.wasm_tree.specs.declared.entries.Import.{Import}
 use Rattle.wasm_meaning.specs.LinkedSet.{NamedModule}
 use Rattle.c_tree.specs.Scope.{Name, is_among}
 use Rattle.c_tree.proofs.Tested.{at_front}
-use Rattle.c_scope.proofs.NameTables.{either_way}
+use Rattle.name_table.proofs.NameTables.{either_way}
 use Rattle.c_unit.specs.Seen.{PutsFirst, SeesMore, typed}
 use Rattle.c_symbols.specs.declared.indexes.Symbol.{Symbol}
 use Rattle.c_symbols.specs.Named.{pair_of}

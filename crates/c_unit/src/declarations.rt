@@ -6,9 +6,9 @@ ghost use Rattle.c_symbols.specs.Named.{named_of, pair_of};
 ghost use Rattle.c_unit.specs.Seen.{PutsFirst, SeesMore};
 ghost use Rattle.c_symbols.specs.Typed.{type_of};
 
-use c_scope::NameTable;
 use c_symbols::{Symbol, SymbolType, Symbols};
 use c_tree::Name;
+use name_table::NameTable;
 use std::alloc::Global;
 use w2c_base::Memory;
 

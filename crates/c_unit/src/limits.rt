@@ -3,7 +3,7 @@
 ghost use Rattle.std.specs.Prelude.{◌≡◌, ◌∷◌, [], Some, ◌<◌, ◌-◌, ◌^◌, ◌++◌, suc, not, if◌then◌else◌, codes, filter, map, IfOk, OnOk};
 ghost use Rattle.wasm_tree.specs.IndexSpaces.{is_func_import, is_global_import};
 ghost use Rattle.alike.specs.Alike.{memory_name, table_name};
-ghost use Rattle.c_tree.specs.View.{expr_of, stmt_of};
+ghost use Rattle.c_tree.specs.View.{stmt_of};
 ghost use Rattle.c_tree.specs.Tree as tree;
 ghost use Rattle.c_tree.specs.declared.tree.COp.TheVariants as op;
 ghost use Rattle.c_body.specs.Names.{label_name as label_name_of, pointer_name as pointer_name_of};

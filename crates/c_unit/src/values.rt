@@ -1,7 +1,7 @@
 // The init function makes what the module defines: tables, memories and globals.
 ghost use Rattle.std.specs.Prelude.{◌≡◌, ◌<◌, option_map, ◌+◌, length, None, ◌++◌, ◌∷◌, [], map, IfOk, OnOk};
 ghost use Rattle.c_tree.specs.Tree as tree;
-ghost use Rattle.c_tree.specs.View.{arg_of, expr_of, stmt_of};
+ghost use Rattle.c_tree.specs.View.{expr_of, stmt_of};
 ghost use Rattle.alike.specs.Alike.{global_name};
 ghost use Rattle.w2c_base.specs.Lookup.{numbered};
 ghost use Rattle.wasm_tree.specs.IndexSpaces.{imported_globals};
@@ -44,7 +44,6 @@ fn only(code: &Code) -> Option<&Kind>
 
 impl<'a> Source<'a> {
     ghost use Rattle.c_unit.specs.Single.{constant_by};
-    ghost use Rattle.c_unit.specs.Sources.{module_of};
 
     /// The tables.
     pub(crate) fn put_tables(&self, stmts: &mut Stmts) -> Result<(), Memory>

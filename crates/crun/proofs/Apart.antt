@@ -32,7 +32,7 @@ use Rattle.c_tree.specs.Tree as tree
 use Rattle.c_tree.specs.Runtime.{same_type}
 use Rattle.c_tree.specs.Scope.{Name, name_of}
 use Rattle.c_tree.specs.WellFormed.{IsName, NamedItem}
-use Rattle.c_check.specs.UnitNames.{none_clash, stands_behind}
+use Rattle.c_rules.specs.UnitNames.{none_clash, stands_behind}
 use Rattle.c_objects.specs.Stores.{AreApart, AreNames, Differ}
 use Rattle.crun.specs.declared.names.ObjectKind.{ObjectKind}
 use Rattle.crun.specs.declared.names.ObjectKind.TheVariants as kind

@@ -56,7 +56,7 @@ use Rattle.c_meaning.specs.Linking.{
   is_external,
   typed,
 }
-use Rattle.c_scope.proofs.Lookups.{named-append}
+use Rattle.name_table.proofs.Lookups.{named-append}
 use Rattle.c_link.specs.declared.host_symbol.HostSymbol.{HostSymbol}
 use Rattle.c_link.specs.Programs.{IsProgramOf}
 use Rattle.c_link.proofs.Apart.{definitions_from, first_under, seen_under}

@@ -39,7 +39,7 @@ use Rattle.c_tree.specs.Tree as tree
 use Rattle.c_tree.specs.Rules.{are_alike}
 use Rattle.c_tree.specs.Scope.{Name}
 use Rattle.c_tree.specs.WellFormed.{IsName, NamedItem}
-use Rattle.c_check.specs.UnitNames.{none_clash, stands_behind}
+use Rattle.c_rules.specs.UnitNames.{none_clash, stands_behind}
 use Rattle.c_meaning.specs.Linking.{defined, definition_of}
 use Rattle.c_machine.specs.Names.{defined_name, entry_in, found_at, function_in}
 use Rattle.c_machine.specs.Threads.{definition_in}

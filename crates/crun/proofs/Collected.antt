@@ -33,7 +33,7 @@ use Rattle.std.proofs.lemmas.List.{append-nil, drop_all, length-map, map-append}
 use Rattle.std.proofs.lemmas.List.Elements.{filter_map-append}
 use Rattle.std.proofs.lemmas.Option.{slice_get-map}
 use Rattle.w2c_base.specs.Lookup.{numbered}
-use Rattle.c_check.proofs.Distinct.{drop_front}
+use Rattle.c_rules.proofs.Distinct.{drop_front}
 use Rattle.c_link.proofs.Walks.{mapped_at, numbered_at, numbered_past, take_next}
 
 -- what a list gives is what its first item gives, and then what the others give

@@ -7,7 +7,7 @@ use Rattle.w2c_base.proofs.Conjunctions.{left_holds, right_holds}
 use Rattle.c_tree.specs.declared.tree.CType.{CType}
 use Rattle.c_tree.specs.Tree as tree
 use Rattle.c_tree.specs.Scope.{Name}
-use Rattle.c_check.specs.UnitNames.{none_clash, stands_behind}
+use Rattle.c_rules.specs.UnitNames.{none_clash, stands_behind}
 use Rattle.c_meaning.specs.Linking.{Definition, defined, defined_for_all}
 use Rattle.c_link.proofs.Apart.{seen_under, definitions_from, first_under}
 use Rattle.c_link.proofs.Rules.{first_defined, none_under}

@@ -17,7 +17,6 @@ use Rattle.std.proofs.Common.{
   All,
   refl,
   sym,
-  ap,
   ◌∙◌,
   subst,
 }

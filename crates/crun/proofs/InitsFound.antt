@@ -21,7 +21,6 @@ use Rattle.std.proofs.Common.{
   ◌++◌,
   map,
   get_or,
-  is_some,
   Option,
   Some,
   None,

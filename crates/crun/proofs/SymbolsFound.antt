@@ -43,7 +43,7 @@ use Rattle.c_tree.specs.Scope.{Name}
 use Rattle.c_meaning.specs.State.{FuncAddress, UnitFunc, HostFunc}
 use Rattle.c_meaning.specs.Linking as linking
 use Rattle.c_meaning.specs.Linking.{Definition, Program, c_func_type_of, defined_for_all, external_func}
-use Rattle.c_scope.proofs.Lookups.{named-append}
+use Rattle.name_table.proofs.Lookups.{named-append}
 use Rattle.c_link.specs.declared.host_symbol.HostSymbol.{HostSymbol}
 use Rattle.c_link.specs.Offers.{c_symbols}
 use Rattle.c_link.specs.Programs.{IsProgramOf, symbol_pair}

@@ -10,7 +10,7 @@ use Rattle.c_tree.specs.Scope.{Name}
 use Rattle.c_tree.specs.View.{unit_of}
 use Rattle.c_tree.specs.WellFormed.{NamedItem}
 use Rattle.c_tree.proofs.WellFormedUnits.{well_formed}
-use Rattle.c_check.specs.UnitNames.{none_clash}
+use Rattle.c_rules.specs.UnitNames.{none_clash}
 use Rattle.c_meaning.specs.State.{UnitFunc}
 use Rattle.c_meaning.specs.Linking.{Definition, Program, array_bytes, array_named, defined, definition_at, external_func, func_named}
 use Rattle.c_link.specs.declared.host_symbol.HostSymbol.{HostSymbol}

@@ -11,7 +11,7 @@ use Rattle.c_tree.specs.declared.tree.CType.{CType}
 use Rattle.c_tree.specs.Tree as tree
 use Rattle.c_tree.specs.Scope.{Name, func_type_of}
 use Rattle.c_tree.specs.View.{func_type_of as type_of_c}
-use Rattle.c_check.specs.UnitNames.{none_clash}
+use Rattle.c_rules.specs.UnitNames.{none_clash}
 use Rattle.c_meaning.specs.Linking as linking
 use Rattle.c_meaning.specs.Linking.{Definition, Program, c_func_type_of, defined, defined_for_all, definition_of, func_type, typed}
 use Rattle.c_link.specs.declared.host_symbol.HostSymbol.{HostSymbol}

@@ -1,6 +1,5 @@
 // One function of linked units, run with hosts from its beginning to its end.
 ghost use Rattle.std.specs.Prelude.{◌≡◌, ◌-◌, ◌≤◌, List, map, IfOk, OnErr};
-ghost use Rattle.w2c_base.specs.declared.value.Value.{Value as AnyValue};
 ghost use Rattle.w2c_base.specs.Run.{Call};
 ghost use Rattle.c_sound.specs.Typed.{Begins};
 ghost use Rattle.c_hosts.specs.declared.journal.Asked.{Asked};

@@ -1,5 +1,5 @@
 // The symbols of hosts' functions.
-ghost use Rattle.std.specs.Prelude.{◌≡◌, false, ◌∷◌, ◌++◌, [], ℕ, Err, IfOk, OnOk, true, is_ok};
+ghost use Rattle.std.specs.Prelude.{◌≡◌, false, ◌∷◌, ◌++◌, [], ℕ, Err, IfOk, OnOk, true};
 ghost use Rattle.c_tree.specs.Rules.{are_distinct};
 ghost use Rattle.c_tree.specs.Scope.{is_among};
 ghost use Rattle.c_meaning.specs.Linking.{Program};
@@ -13,7 +13,7 @@ ghost use Rattle.crun.specs.HostSymbols.{AreKnown, IsFirstTwice, IsTwiceAt, symb
 use c_hosts::{HostFunction, HostModule};
 use c_link::HostSymbol;
 use c_machine::Numbers;
-use c_scope::Salted;
+use name_table::Salted;
 use std::alloc::Global;
 use w2c_base::Memory;
 use w2c_mangle::{SymbolKind, export_symbol};

@@ -9,8 +9,8 @@ ghost use Rattle.crun.specs.Names.{naming_of};
 
 use crate::init_symbol::is_init_symbol;
 use c_link::{Linked, defined_function};
+use c_rules::same_type;
 use c_tree::{CType, Func, Item, Name};
-use c_types::same_type;
 use std::alloc::Global;
 use w2c_base::Memory;
 

@@ -3,11 +3,11 @@ ghost use Rattle.std.specs.Prelude.{◌≡◌, ◌∷◌, ◌++◌, [], map, opt
 ghost use Rattle.c_tree.specs.Scope.{name_of};
 ghost use Rattle.c_tree.specs.View.{item_of, unit_of};
 ghost use Rattle.c_machine.specs.Names.{entry_in, number_in, texts, Finds};
-ghost use Rattle.crun.specs.Names.{array_name as array_name_of, has_object as declares_object, names_in, object_name as object_name_of};
+ghost use Rattle.crun.specs.Names.{array_name as array_name_of, has_object as declares_object, names_in};
 
 use crate::objects::{first_value, is_of};
 use c_machine::{Numbers, number_all};
-use c_scope::salt_of;
+use c_rules::salt_of;
 use c_tree::{CType, Item};
 use std::alloc::Global;
 use w2c_base::Memory;

@@ -7,8 +7,8 @@ ghost use Rattle.c_objects.specs.Views.{value_of, Naming};
 ghost use Rattle.crun.specs.Objects.{first_of, is_of as declares, memory_value, table_value, var_value, AreFirst};
 
 use c_objects::{Held, MemoryCell, TableCell, UnitObjects};
+use c_rules::same_type;
 use c_tree::{CType, Item, Num};
-use c_types::same_type;
 use std::alloc::Global;
 use w2c_base::{Memory, Value};
 

@@ -1,5 +1,5 @@
 // Sessions.
-ghost use Rattle.std.specs.Prelude.{◌≡◌, ◌≢◌, ◌∷◌, ◌++◌, ◌-◌, ◌≤◌, ◌<◌, [], ℕ, slice_get, Some, List, Option, length, map, true, Err, IfErr, IfOk, OnErr, OnOk, None, option_map, option_copied};
+ghost use Rattle.std.specs.Prelude.{◌≡◌, ◌≢◌, ◌∷◌, ◌++◌, ◌-◌, ◌≤◌, ◌<◌, [], ℕ, slice_get, Some, List, Option, length, map, true, Err, IfErr, IfOk, OnErr, None, option_map, option_copied};
 ghost use Rattle.w2c_base.specs.declared.value.Value.{Value as AnyValue};
 ghost use Rattle.w2c_base.specs.Lookup.{at_index, if_found};
 ghost use Rattle.w2c_base.specs.Run.{asks_in, Ask, Call, Event, Init};
@@ -241,6 +241,13 @@ impl<H: HostModule> Session<H> {
         };
         self.standing = standing_behind(outcome);
         Ok(outcome)
+    }
+
+    /// Gives the session and its hosts up, and the linked units back, so that another session can run them.
+    pub fn into_linked(self) -> Linked
+        ensures { result ≡ self.linked }
+    {
+        self.engine.linked
     }
 
     /// Gives the session and its hosts up.

@@ -1,5 +1,5 @@
 // What a session begins with.
-ghost use Rattle.std.specs.Prelude.{◌≡◌, ◌-◌, [], length, map, IfOk};
+ghost use Rattle.std.specs.Prelude.{◌≡◌, ◌-◌, [], IfOk};
 ghost use Rattle.c_hosts.specs.Asking.{hosts_of};
 ghost use Rattle.crun.specs.Entries.{HaveCounts};
 ghost use Rattle.crun.specs.HostSymbols.{symbols_of_hosts};

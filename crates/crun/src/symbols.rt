@@ -10,9 +10,9 @@ ghost use Rattle.crun.specs.Entries.{entries, entry_of, host_ids as host_ids_of,
 use c_link::{HostSymbol, Linked, defined_function};
 use c_machine::{Numbers, number_all};
 use c_objects::FuncId;
-use c_scope::Salted;
 use c_thread::Symbols;
 use c_tree::Item;
+use name_table::Salted;
 use std::alloc::Global;
 use w2c_base::Memory;
 

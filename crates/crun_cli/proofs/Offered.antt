@@ -7,7 +7,7 @@ use Rattle.std.proofs.lemmas.Slice.Eq.{bytes_eq-Decides}
 use Rattle.w2c_base.specs.Run.{Host}
 use Rattle.c_tree.specs.Rules.{are_distinct}
 use Rattle.c_tree.specs.Scope.{Name, is_among}
-use Rattle.c_scope.proofs.Lookups.{among-append}
+use Rattle.name_table.proofs.Lookups.{among-append}
 use Rattle.c_link.specs.declared.host_symbol.HostSymbol.{HostSymbol}
 use Rattle.c_link.specs.Resolved.{symbol_names}
 use Rattle.crun.specs.HostSymbols.{symbols_of_host, symbols_of_hosts, IsTwiceAt}

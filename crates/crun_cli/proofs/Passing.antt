@@ -501,7 +501,8 @@ module _ {H : Type 0} (m : HostModule H) (hosts : List H) (old new : Option (Lis
           ⊎ ((why : WriteAnswer) × BreaksJournal journal (journal_of n gs w.run.asks) why written × Stopped' (reason_for why))
       go (inl (whole, ended)) = inl (whole, ends w.status ended)
       go (inr (why, broken, stopped)) = inr (why, broken, stops (reason_for why) stopped)
-  run_so n gs journal units calls steps shown written (inr (part, nothing, inl stopped)) = inr (part, nothing, inl (stops Unwritten stopped))
+  run_so n gs journal units calls steps shown written (inr (part, nothing, inl stopped)) =
+      inr (part, nothing, inl (stops Unwritten stopped))
   run_so n gs journal units calls steps shown written (inr (part, nothing, inr stopped)) =
       inr (part, nothing, inr (stops WantOfMemory stopped))
 

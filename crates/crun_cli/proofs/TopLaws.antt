@@ -99,7 +99,8 @@ stop_small status Unwritten is = omega (arith, is)
 stop_small status WantOfMemory is = omega (arith, is)
 
 -- a line of the run form asks for no unit
-pub written_by_no_run : {H : Type 0} (hm : HostModule H) (hosts : List H) (words : List Name) (m : Contents) (line : RunLine) (output : Name)
+pub written_by_no_run : {H : Type 0} (hm : HostModule H) (hosts : List H)
+    (words : List Name) (m : Contents) (line : RunLine) (output : Name)
     (unit : List tree.Item) → line_of words ≡ Some (runs line) → IsJobWith hm hosts words m (Write output unit) → ⊥
 written_by_no_run hm hosts words m line output unit is job =
     of_line (subst (λ o. MatchOption o (Write output unit ≡ Stops Usage) (λ l. IsLineJob (hosts_of hm hosts) m l (Write output unit))) is

@@ -72,7 +72,11 @@ stops_writing e old new before after a b first = record {
 -- another value, the same text
 pub writes_as : {A B : Type 0} (x : A) (y : B) (old new : Option (List ℕ)) (before after : ℕ) (text : List ℕ)
     → Writes old new before after text (Ok x) → Writes old new before after text (Ok y)
-writes_as x y old new before after text wrote = record { whole = wrote.whole; part = tt; cause = done_cause y before after wrote.cause.kept }
+writes_as x y old new before after text wrote = record {
+  whole = wrote.whole;
+  part = tt;
+  cause = done_cause y before after wrote.cause.kept;
+}
 
 -- ---- a line that is another text
 

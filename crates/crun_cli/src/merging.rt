@@ -18,9 +18,9 @@ ghost use Rattle.crun_cli.specs.Stopping.{StopsWrite};
 ghost use Rattle.crun_cli.specs.Trying.{done_by, stopped_by, TriesUnit};
 
 use crate::output::write_output;
-use c_check::CheckedUnit;
 use c_link::HostSymbol;
 use c_merge::merge;
+use c_rules::CheckedUnit;
 use crun_job::{Stop, link_units, stop_at, stop_of};
 use crun_words::{MergeLine, read_units};
 use std::alloc::Global;

@@ -9,8 +9,8 @@ ghost use Rattle.crun_lines.specs.NameOrder.{in_order, numbered_from};
 ghost use Rattle.crun_lines.specs.Views.{entry_of, texts};
 ghost use Rattle.crun_cli.specs.Showing.{declares_kind, kind_of};
 
+use c_rules::same_type;
 use c_tree::{CType, Item, Num};
-use c_types::same_type;
 use crun_lines::{Numbered, names_in_order};
 use std::alloc::Global;
 use w2c_base::Memory;

@@ -11,7 +11,7 @@ ghost use Rattle.crun_cli.specs.Output.{StopsOutput};
 ghost use Rattle.crun_cli.specs.Passing.{WritesUnit};
 ghost use Rattle.crun_cli.specs.Trying.{done_by, stopped_by};
 
-use c_check::CheckedUnit;
+use c_rules::CheckedUnit;
 use crun_job::Stop;
 use std::alloc::Global;
 use unit_file::write_unit;

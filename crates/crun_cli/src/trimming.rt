@@ -17,7 +17,7 @@ ghost use Rattle.crun_cli.specs.Stopping.{StopsWrite};
 ghost use Rattle.crun_cli.specs.Trying.{done_by, stopped_by, TriesUnit};
 
 use crate::output::write_output;
-use c_check::CheckedUnit;
+use c_rules::CheckedUnit;
 use c_trim::trim;
 use crun_job::{Stop, check_units, stop_at, stop_of};
 use crun_words::{TrimLine, read_units};

@@ -8,7 +8,7 @@ ghost use Rattle.crun_job.specs.Refusals.{RefusesText, RefusesTexts};
 
 use crate::refusal::UnitsRefusal;
 use crate::stop::Cause;
-use c_check::{CheckRefusal, CheckedUnit};
+use c_check::{Check, CheckRefusal, CheckedUnit};
 use c_read::read_unit;
 use c_tree::CReadFault;
 use std::alloc::Global;

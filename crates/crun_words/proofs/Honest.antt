@@ -150,7 +150,8 @@ module _ (m : Contents) where
         by answer away u.front (the_last name texts answer events u honest) u.rest u.split u.first u.calls
       where
         by : (answer : Result (List ℕ) ReadAnswer) → IsAway answer → (front : List Name) → Last name texts answer front
-            → (rest : List Name) → units ≡ front ++ name ∷ rest → (first : List Event) → events ≡ first ++ Read name most_unit_bytes answer ∷ []
+            → (rest : List Name) → units ≡ front ++ name ∷ rest → (first : List Event)
+            → events ≡ first ++ Read name most_unit_bytes answer ∷ []
             → (IsUnitsReading m units (NoUnit name) ⊎ FailsLast name events) × (new ≡ Some m)
         by (Ok bytes) away front last rest split first calls = absurd away
         by (Err reading.Absent) away front (short, read, (c, does)) rest split first calls =

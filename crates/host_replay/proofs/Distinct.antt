@@ -6,7 +6,7 @@ use Rattle.w2c_base.proofs.Conjunctions.{left_holds, right_holds}
 use Rattle.w2c_base.specs.Run.{Host}
 use Rattle.c_tree.specs.Rules.{are_distinct}
 use Rattle.c_tree.specs.Scope.{Name, is_among}
-use Rattle.c_scope.proofs.Lookups.{among-append}
+use Rattle.name_table.proofs.Lookups.{among-append}
 use Rattle.host_replay.specs.Reading.{symbol_at, symbol_of}
 use Rattle.host_replay.specs.Writable.{symbols_of, AreDistinct}
 

@@ -8,8 +8,8 @@ ghost use Rattle.host_replay.specs.Recording.{recorded};
 
 use crate::file::JournalFile;
 use crate::reading::Reading;
-use c_scope::Salted;
 use journal_lines::{part_at, parts};
+use name_table::Salted;
 use std::alloc::{AllocError, Global};
 use w2c_base::Memory;
 

@@ -1,5 +1,5 @@
 // A journal that is read, line by line.
-ghost use Rattle.std.specs.Prelude.{◌≡◌, true, false, ℕ, IfOk, OnOk};
+ghost use Rattle.std.specs.Prelude.{◌≡◌, true, false, ℕ, IfOk};
 ghost use Rattle.journal_lines.specs.declared.line.JournalLine.{JournalLine as AnyLine};
 ghost use Rattle.journal_lines.specs.Lines.{IsLine};
 ghost use Rattle.crun_lines.specs.Views.{reply_of as line_reply};
@@ -13,9 +13,9 @@ use crate::file::JournalFile;
 use crate::fitting::fits;
 use crate::place::{Place, new_function};
 use c_hosts::{Asked, HostReply};
-use c_scope::{NameTable, Salted};
 use crun_lines::Reply;
 use journal_lines::{FunctionLine, HostLine, JournalLine, read_line};
+use name_table::{NameTable, Salted};
 use std::alloc::Global;
 use w2c_base::{Bytes, Memory};
 use w2c_mangle::{SymbolKind, export_symbol};

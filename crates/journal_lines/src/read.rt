@@ -9,7 +9,7 @@ ghost use Rattle.crun_lines.specs.Views.{texts};
 ghost use Rattle.journal_lines.specs.declared.line.FunctionLine.{FunctionLine as AnyFunction};
 ghost use Rattle.journal_lines.specs.declared.line.HostLine.{HostLine as AnyHost};
 ghost use Rattle.journal_lines.specs.declared.line.JournalLine.{JournalLine as AnyLine};
-ghost use Rattle.journal_lines.specs.Lines.{IsBytes, IsGiven, IsLine};
+ghost use Rattle.journal_lines.specs.Lines.{IsGiven, IsLine};
 ghost use Rattle.journal_lines.specs.Words.{call_words, type_words, SayCall, SayFunction, SayLine, SayName};
 
 use crate::cuts::parts;

@@ -1,5 +1,5 @@
 // Numbers at the front of a window of bytes, which is all that a call may read.
-ghost use Rattle.std.specs.Prelude.{◌≡◌, ℕ, ◌+◌, ◌*◌, ◌^◌, ◌<◌, ◌≤◌, List};
+ghost use Rattle.std.specs.Prelude.{◌≡◌, ℕ, ◌+◌, ◌*◌, ◌^◌, ◌<◌, ◌≤◌};
 ghost use Rattle.w2c_base.specs.SpelledNumber.{signed_sum};
 ghost use Rattle.leb_bytes.specs.Computed.{s32_of, s64_of, u32_of};
 ghost use Rattle.leb_bytes.specs.Reading.{Answers, AnswersSigned, AnswersUnsigned};

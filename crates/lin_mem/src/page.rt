@@ -1,5 +1,5 @@
 // One page of a memory.
-ghost use Rattle.std.specs.Prelude.{◌≡◌, ◌+◌, ◌^◌, ◌<◌, ◌≤◌, None, Some, All, IfOk, ◌++◌, drop, length, map, replicate, take};
+ghost use Rattle.std.specs.Prelude.{◌≡◌, ◌+◌, ◌^◌, ◌<◌, ◌≤◌, Some, All, IfOk, ◌++◌, drop, length, map, take};
 ghost use Rattle.w2c_base.specs.LittleEndian.{with_bytes};
 ghost use Rattle.lin_mem.specs.Places.{IsFull, somes};
 

@@ -9,8 +9,8 @@ ghost use Rattle.c_tree.specs.View.{unit_of};
 ghost use Rattle.c_tree.specs.Spelled.{CSpells};
 ghost use Rattle.c_print.specs.Print.{print_of};
 
-use c_check::CheckedUnit;
 use c_print::{print_item_to, printed_units_are_read_again};
+use c_rules::CheckedUnit;
 use c_tree::Tok;
 use std::alloc::Global;
 use w2c_files::give_up;

@@ -1,5 +1,5 @@
 // What is said of a text, in the words of crun's lines.
-use c_check::{CheckRefusal, CheckedUnit};
+use c_check::{Check, CheckRefusal, CheckedUnit};
 use c_print::print_unit;
 use c_read::read_unit;
 use c_tree::{CReadFault, Part, Tok, Wanted};

@@ -1,5 +1,5 @@
 // Files in memory that never fail. Each call is noted with its answer.
-ghost use Rattle.std.specs.Prelude.{◌≡◌, ◌≤◌, ◌<◌, [], true, IsTrue, Some, None, OnOk, OnErr, MatchOption, IfOk, IsErrOf, length};
+ghost use Rattle.std.specs.Prelude.{◌≡◌, ◌≤◌, ◌<◌, [], true, Some, None, OnOk, OnErr, MatchOption, IfOk, IsErrOf, length};
 ghost use Rattle.std.specs.FinMap as map;
 ghost use Rattle.w2c_io.specs.Contents.{appending, HasFile, HasNoFile, HasLongFile};
 ghost use Rattle.w2c_io.specs.declared.answers.ReadAnswer.TheVariants as reading;

@@ -117,7 +117,8 @@ module _ (line : Line) (m : Contents) (given put : List Event) (new : Told) (cur
       }
     where
       unreadable : (told : Told) (here there : Option Name) (answer : Result (List ℕ) ReadAnswer) (why : Unreadable)
-          → (why ≡ NotThere → ⊥) → StopsByAnswer (total at.all) answer why → Does (Read file most_module_bytes answer) (Some m) here told there
+          → (why ≡ NotThere → ⊥) → StopsByAnswer (total at.all) answer why
+          → Does (Read file most_module_bytes answer) (Some m) here told there
           → IsUnreadable most_module_bytes most_set_bytes (total at.all) m file why
       unreadable told here now answer NotThere there stops does = absurd (there refl)
       unreadable told here now (Ok bytes) TooLong there stops does = absurd stops
@@ -147,7 +148,8 @@ module _ (line : Line) (m : Contents) (given put : List Event) (new : Told) (cur
         together = at.together;
       })
     where
-      by_answer : (told : Told) (here now : Option Name) (answer : Result (List ℕ) ReadAnswer) → StopsByAnswer (total at.all) answer NotThere
+      by_answer : (told : Told) (here now : Option Name) (answer : Result (List ℕ) ReadAnswer)
+          → StopsByAnswer (total at.all) answer NotThere
           → given ≡ at.first ++ Read file most_module_bytes answer ∷ [] → Does (Read file most_module_bytes answer) (Some m) here told now
           → AreRead most_module_bytes most_set_bytes m at.front at.all → IsJobOf line m (Missing file) ⊎ FailsLast file given
       by_answer told here now (Err reading.Absent) stops calls does read = inl (record {

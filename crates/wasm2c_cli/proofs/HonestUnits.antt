@@ -17,7 +17,8 @@ use Rattle.wasm2c_cli.proofs.Passed.{distinct_outputs, passed}
 use Rattle.wasm2c_cli.proofs.TopLaws.{all_there, hold_weaker}
 
 -- the files of modules whose units were put
-units_hold : (new : Told) (targets : List Target) (sources : List (List ℕ)) (modules : List Module) → HoldAll IsUnitOf targets sources modules
+units_hold : (new : Told) (targets : List Target) (sources : List (List ℕ)) (modules : List Module)
+    → HoldAll IsUnitOf targets sources modules
     → ((name : Name) (text : List ℕ) → HasText name text (files_of targets modules) → HasFile new name text)
     → HoldAll (HoldsUnit new) targets sources modules
 units_hold new [] [] [] held there = tt
@@ -56,7 +57,8 @@ module _ (words : List Name) (line : Line) (is : line_of words ≡ Some line) (m
     all = units_hold new (targets_of line) puts.stand.sources puts.stand.modules puts.stand.all
         (all_there m new (files_of (targets_of line) puts.stand.modules)
         (files_distinct (targets_of line) puts.stand.modules (distinct_targets words line is))
-        (whole_put line m puts.given puts.put new current after puts.reads here (files_of (targets_of line) puts.stand.modules) puts.files));
+        (whole_put line m puts.given puts.put new current after puts.reads here (files_of (targets_of line) puts.stand.modules)
+        puts.files));
   }
 
   abbrev texts_stand : StandAll (HoldsText new) line m

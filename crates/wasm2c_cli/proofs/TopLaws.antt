@@ -215,7 +215,8 @@ names_made (t ∷ targets) (m ∷ modules) many =
     ap (λ (l : List Name). t.c_file ∷ t.header ∷ l) (names_made targets modules (omega (arith, many)))
 
 -- files of distinct names that are written stand
-pub all_there : (old : Contents) (new : Told) (files : List (Name × List ℕ)) → AreDistinct (file_names files) → new ≡ written (Some old) files
+pub all_there : (old : Contents) (new : Told) (files : List (Name × List ℕ)) → AreDistinct (file_names files)
+    → new ≡ written (Some old) files
     → (name : Name) (text : List ℕ) → HasText name text files → HasFile new name text
 all_there old None files distinct whole name text has = tt
 all_there old (Some after) files distinct whole name text has = stand_whole files old after distinct (sym whole) name text has
@@ -317,7 +318,8 @@ are_linked theorem words old new writes = λ contents told. linked contents (wri
       sources = stand.sources;
       modules = stand.modules;
       read = stand.read;
-      all = hold_weaker (HoldsUnit new) (HoldsText new) (λ t bytes m held. held.text) (targets_of line) stand.sources stand.modules stand.all;
+      all = hold_weaker (HoldsUnit new) (HoldsText new) (λ t bytes m held. held.text) (targets_of line)
+          stand.sources stand.modules stand.all;
     }
 
     linked : (contents : Contents) → (line : Line) × (line_of words ≡ Some line) × StandAll (HoldsUnit new) line contents

@@ -45,7 +45,8 @@ runtime_source =
     ++ (codes "u64 w2c_tab_len(w2c_tab *t) { return t->len; }\nu64 w2c_tab_max(w2c_tab *t) { return t->max; }\n"
     ++ (codes "u64 w2c_tab_sig(w2c_tab *t, u64 i) { return t->elems[i].sig; }\n"
     ++ (codes "w2c_fn w2c_tab_fn(w2c_tab *t, u64 i) { return t->elems[i].fn; }\n"
-    ++ (codes "void w2c_tab_set(w2c_tab *t, u64 i, w2c_fn f, u64 sig) { t->elems[i].fn = f; t->elems[i].sig = sig; }\n")))))))))))))))))))))))))
+    ++ (codes "void w2c_tab_set(w2c_tab *t, u64 i, w2c_fn f, u64 sig) { t->elems[i].fn = f; t->elems[i].sig = sig; }\n"
+    )))))))))))))))))))))))))
 
 -- the files in their directory: the header, then the source
 abbrev pub runtime_files : Name → List (Name × List ℕ)

@@ -1,5 +1,5 @@
 // The reading of the words.
-ghost use Rattle.std.specs.Prelude.{◌≡◌, None, Some, IfOk, IsErrOf, option_map};
+ghost use Rattle.std.specs.Prelude.{◌≡◌, None, Some, IfOk, IsErrOf};
 ghost use Rattle.clap.specs.Words.{found_of, kind_of, rows_of};
 ghost use Rattle.w2c_files.specs.Words.{texts};
 ghost use Rattle.wasm2c_words.specs.Command.{values_in};

@@ -2,7 +2,6 @@
 ghost use Rattle.std.specs.Prelude.{◌≡◌, IfOk};
 ghost use Rattle.clap.specs.Words.{found_of, rows_of};
 ghost use Rattle.wasm2c_words.specs.Command.{values_in};
-ghost use Rattle.w2c_files.specs.Words.{names_of};
 ghost use Rattle.wasm2c_words.specs.Seen.{seen_values};
 
 use clap::ArgMatches;

@@ -1,9 +1,8 @@
 // Single fields: bytes, numbers and names (WebAssembly Core 1.0, 5.2).
 ghost use Rattle.std.specs.Prelude.{◌≡◌};
 ghost use Rattle.std.specs.Str.{is_utf8 as is_utf8_of};
-ghost use Rattle.wasm_spelling.specs.Steps.{cause_of as the_cause, byte_at, number_at, signed32_at, signed64_at, bytes_at, rest_at};
+ghost use Rattle.wasm_spelling.specs.Steps.{cause_of as the_cause, byte_at, number_at, signed32_at, signed64_at, bytes_at};
 ghost use Rattle.wasm_spelling.specs.Reading.{exactly_at, limited_at, name_at, counted_bytes_at, utf8_at};
-ghost use Rattle.wasm_spelling.specs.Limits.{most_name_bytes};
 ghost use Rattle.wasm_binary.specs.View.{Gives, at, seen};
 
 use crate::rest::Rest;

@@ -8,7 +8,7 @@ ghost use Rattle.wasm_spelling.specs.Places.{IsFormed};
 ghost use Rattle.wasm_spelling.specs.At.{At};
 ghost use Rattle.wasm_spelling.specs.Table.{Upto};
 ghost use Rattle.wasm_spelling.specs.Reading.{magic_at, version_at, file_at, no_module};
-ghost use Rattle.wasm_binary.specs.View.{Gives, at, seen, value_in, UnlessMemory};
+ghost use Rattle.wasm_binary.specs.View.{Gives, at, value_in, UnlessMemory};
 
 use crate::fields::exactly;
 use crate::rest::{Counts, Rest};

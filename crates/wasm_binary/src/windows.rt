@@ -1,5 +1,5 @@
 // Windows: a size, and so many bytes (WebAssembly Core 1.0, 5.5.2).
-ghost use Rattle.std.specs.Prelude.{◌≡◌, ◌+◌, drop, take};
+ghost use Rattle.std.specs.Prelude.{◌≡◌, ◌+◌};
 ghost use Rattle.wasm_binary.specs.Windows.{window_of, end_of};
 ghost use Rattle.wasm_binary.specs.View.{Gives, at};
 

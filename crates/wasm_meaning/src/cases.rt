@@ -6,7 +6,7 @@ ghost use Rattle.w2c_base.specs.declared.value.Value.TheVariants.{I32, I64};
 ghost use Rattle.w2c_base.specs.Run.{Gave, HostTrapped, Asked, CallEnded, Init, values_in, Call as CallPhase};
 ghost use Rattle.wasm_tree.specs.Instructions.{Return, Select, If, BrIf, Call, LocalGet, LocalSet, Load, Store, I64Const, else_code, Unreachable, Drop, Nop, Block, Loop, Br, I32Const, Binary, MemoryCopy, MemoryFill, Extend};
 ghost use Rattle.wasm_tree.specs.declared.operators.UnaryOp.TheVariants.{Clz, Ctz, Popcnt};
-ghost use Rattle.wasm_tree.specs.declared.operators.BinaryOp.TheVariants.{Add, Sub, DivS, DivU, RemS, Shl, ShrS, Rotl, Rotr};
+ghost use Rattle.wasm_tree.specs.declared.operators.BinaryOp.TheVariants.{Add, Sub, DivS, RemS, Shl, ShrS, Rotl, Rotr};
 ghost use Rattle.wasm_tree.specs.declared.operators.CompareOp.TheVariants.{LtS, LtU};
 ghost use Rattle.wasm_tree.specs.declared.operators.LoadOp.TheVariants.{I32Load8U, I32Load, I32Load8S, I64Load32S};
 ghost use Rattle.wasm_tree.specs.declared.operators.StoreOp.TheVariants.{I32Store, I32Store8, I64Store16};

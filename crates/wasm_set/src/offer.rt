@@ -1,5 +1,5 @@
 // What a module offers under a name.
-use c_scope::NameTable;
+use name_table::NameTable;
 use w2c_base::ValType;
 
 /// What an export is of: a function by its type's index in the module, a table, a memory, or a global by its type and

@@ -4,7 +4,7 @@ ghost use Rattle.wasm_set.specs.Tables.{Tells};
 
 use crate::offer::OfferTable;
 use crate::spaces::Spaces;
-use c_scope::{NameTable, Salted};
+use name_table::{NameTable, Salted};
 use std::alloc::Global;
 use w2c_base::Memory;
 use wasm_tree::Module;

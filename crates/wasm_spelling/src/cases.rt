@@ -1,5 +1,5 @@
 // Files of a few bytes, and what the definitions say of them.
-ghost use Rattle.std.specs.Prelude.{◌≡◌, List, [], ◌∷◌, ◌++◌};
+ghost use Rattle.std.specs.Prelude.{◌≡◌, [], ◌∷◌, ◌++◌};
 ghost use Rattle.wasm_spelling.specs.declared.fault.ReadFault.TheVariants.{Malformed, Float, Limit};
 ghost use Rattle.wasm_spelling.specs.declared.fault.Cause.TheVariants as cause;
 ghost use Rattle.wasm_spelling.specs.declared.fault.Which.TheVariants as which;

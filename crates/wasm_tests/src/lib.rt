@@ -7,12 +7,6 @@ mod generating;
 #[cfg(test)]
 mod helpers;
 #[cfg(test)]
-mod operators;
-#[cfg(test)]
-mod reading;
-#[cfg(test)]
-mod symbols;
+mod index_spaces;
 #[cfg(test)]
 mod units;
-#[cfg(test)]
-mod writing;

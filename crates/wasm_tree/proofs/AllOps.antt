@@ -145,13 +145,15 @@ no_lower (o ∷ p ∷ ops) e d zero (suc zero) next below =
     leb-true (op_opcode o) (op_opcode p) (left_holds (leb (op_opcode o) (op_opcode p)) (rises (p ∷ ops)) e)
 no_lower (o ∷ p ∷ ops) e d zero (suc (suc j)) next below = absurd (omega (arith, next))
 no_lower (o ∷ p ∷ ops) e d (suc k) (suc j) next below =
-    no_lower (p ∷ ops) (right_holds (leb (op_opcode o) (op_opcode p)) (rises (p ∷ ops)) e) d k j (omega (arith, next)) (omega (arith, below))
+    no_lower (p ∷ ops) (right_holds (leb (op_opcode o) (op_opcode p)) (rises (p ∷ ops)) e) d k j
+    (omega (arith, next)) (omega (arith, below))
 
 pub opcodes_rise : IsNonDecreasingBy op_opcode OPS
 unfolding rises
 opcodes_rise = IsNonDecreasingBy-from_all_adjacent op_opcode OPS (λ k d below. no_lower OPS refl d k (k + 1) refl below)
 
-comparisons_rise : (n : ℕ) (ops : List Op) → IsNonDecreasingBy op_opcode ops → IsNonDecreasingBy (λ o. ordering_index (nat_cmp (op_opcode o) n)) ops
+comparisons_rise : (n : ℕ) (ops : List Op) → IsNonDecreasingBy op_opcode ops
+    → IsNonDecreasingBy (λ o. ordering_index (nat_cmp (op_opcode o) n)) ops
 comparisons_rise n ops rise i j d le in_range = grind (arith, nat_tests, rise i j d le in_range)
 
 pub has_it : (opcode : ℕ) (ops : List Op) (i : ℕ) → HoldsAt (λ o. nat_cmp (op_opcode o) opcode ≡ Equal) ops i → (d : Op)

@@ -1,17 +1,16 @@
 // Small bodies and modules, and what the definitions say of them.
-ghost use Rattle.std.specs.Prelude.{◌≡◌, ℤ, pos, ℕ, List, [], ◌∷◌, codes, Option, Some, None};
+ghost use Rattle.std.specs.Prelude.{◌≡◌, ℤ, pos, ℕ, [], ◌∷◌, codes, Some, None};
 ghost use Rattle.w2c_base.specs.declared.value.ValType.TheVariants as ty;
-ghost use Rattle.wasm_tree.specs.Instructions.{end_code, no_else, else_code, Block, Br, Drop as Dropped, If, I32Const, I64Const, Binary, LocalGet, Load, Unreachable};
+ghost use Rattle.wasm_tree.specs.Instructions.{no_else, Block, Br, Drop as Dropped, If, I32Const, Binary, Load};
 ghost use Rattle.wasm_tree.specs.declared.operators.BinaryOp.TheVariants.{Add};
 ghost use Rattle.wasm_tree.specs.declared.operators.LoadOp.TheVariants.{I32Load};
 ghost use Rattle.wasm_tree.specs.declared.entries.ExportKind.TheVariants as kind;
 ghost use Rattle.wasm_valid.specs.declared.fault.ValidCause.TheVariants as cause;
 ghost use Rattle.wasm_valid.specs.Typing.{BodyHasType};
-ghost use Rattle.wasm_valid.specs.Completion.{completed};
-ghost use Rattle.wasm_valid.specs.BodyFault.{FirstBodyFault, body_tokens};
+ghost use Rattle.wasm_valid.specs.BodyFault.{FirstBodyFault};
 ghost use Rattle.wasm_valid.specs.ModuleFaults.{module_faults};
-ghost use Rattle.wasm_valid.specs.Verdict.{Verdict, Accepted, Invalid, first_fault};
-ghost use Rattle.wasm_valid.specs.Samples.{code_from, context, body, no_module, one_function, memories_and_exports};
+ghost use Rattle.wasm_valid.specs.Verdict.{Verdict, Accepted, first_fault};
+ghost use Rattle.wasm_valid.specs.Samples.{code_from, context, body, no_module, memories_and_exports};
 
 /// Bodies and their first faults.
 pub fn body_cases()

@@ -1,5 +1,5 @@
 // Functions' bodies with their locals (WebAssembly Core 1.0, 5.5.13).
-ghost use Rattle.std.specs.Prelude.{◌≡◌, ◌+◌, ◌≤◌, length, IfSome, IfNone};
+ghost use Rattle.std.specs.Prelude.{◌≡◌, ◌+◌, ◌≤◌, IfSome, IfNone};
 ghost use Rattle.wasm_spelling.specs.Fields.{finished, window};
 ghost use Rattle.wasm_spelling.specs.ModuleFields.{runs as runs_fields, locals_of, bodies as bodies_fields};
 ghost use Rattle.wasm_writing.specs.Drafts.{Puts, HasStopped};

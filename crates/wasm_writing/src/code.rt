@@ -1,6 +1,6 @@
 // Instructions and expressions (WebAssembly Core 1.0, 5.4; Core 2.0, 5.4.6).
 ghost use Rattle.std.specs.Prelude.{◌≡◌, ℕ};
-ghost use Rattle.wasm_tree.specs.Views.{kind_tree, otherwise_tree};
+ghost use Rattle.wasm_tree.specs.Views.{kind_tree};
 ghost use Rattle.wasm_tree.specs.Parts.{parts_of};
 ghost use Rattle.wasm_tree.specs.declared.operators.Parts.TheVariants.{Other};
 ghost use Rattle.wasm_spelling.specs.ModuleFields.{code_fields, instr_fields, expression as expression_fields};

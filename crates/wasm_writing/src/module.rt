@@ -1,6 +1,5 @@
 // A module's file (WebAssembly Core 1.0, 5.5.15).
 ghost use Rattle.std.specs.Prelude.{◌≡◌, ◌≤◌, ◌↔◌, List, ℕ, IsTrue, IfOk, length};
-ghost use Rattle.wasm_tree.specs.declared.tree.Module.{Module as Tree};
 ghost use Rattle.wasm_writing.specs.Drafts.{Puts};
 ghost use Rattle.wasm_spelling.specs.Places.{IsFormed, SpellsAside};
 ghost use Rattle.wasm_spelling.specs.ModuleFields.{magic as magic_fields, version as version_fields};

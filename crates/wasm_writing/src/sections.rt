@@ -1,6 +1,5 @@
 // Sections (WebAssembly Core 1.0, 5.5.2 to 5.5.14; Core 2.0, 5.5.15).
-ghost use Rattle.std.specs.Prelude.{◌≡◌, length};
-ghost use Rattle.wasm_spelling.specs.Fields.{finished, window};
+ghost use Rattle.std.specs.Prelude.{◌≡◌};
 ghost use Rattle.wasm_spelling.specs.ModuleFields.{each as each_fields, content as content_fields, is_empty as is_empty_of, id_of, start_content, data_count_content, table_entry, memory_entry};
 ghost use Rattle.wasm_writing.specs.Drafts.{Puts};
 ghost use Rattle.wasm_writing.specs.Parts.{part_of};

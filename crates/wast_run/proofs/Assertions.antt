@@ -1,5 +1,5 @@
 -- What a run says of an assertion.
-use Rattle.std.proofs.Common.{◌≡◌, ℕ, suc, inl, inr, List, [], ◌∷◌, ◌++◌, length, length-append, Option, Some, refl, sym, ap}
+use Rattle.std.proofs.Common.{◌≡◌, ℕ, suc, inl, inr, List, [], ◌∷◌, ◌++◌, length, length-append, Option, Some, sym, ap}
 use Rattle.std.proofs.Common.{◌∙◌, arith}
 use Rattle.w2c_base.specs.declared.value.Value.{Value}
 use Rattle.w2c_base.specs.declared.trap.TrapKind.{TrapKind}
@@ -14,7 +14,7 @@ use Rattle.wast_run.specs.declared.stage.Stage.{Stage}
 use Rattle.wast_run.specs.declared.word.Word.{Word}
 use Rattle.wast_run.specs.declared.word.Word.TheVariants as word
 use Rattle.wast_run.specs.Runs.{HasCome, IsLong}
-use Rattle.wast_run.specs.Report.{Asserts, EndsWith, IsTimely, Runs, TrapsIn, calls_with, set_at}
+use Rattle.wast_run.specs.Report.{Asserts, EndsWith, IsTimely, Runs, Setting, TrapsIn, calls_with, set_at}
 use Rattle.wast_run.specs.Stages.{HasRun, IsEndWord, IsTrapWord, setting_of}
 
 not_empty : {A : Type 0} (xs : List A) (x : A) → [] ≡ xs ++ x ∷ [] → ⊥
@@ -88,17 +88,18 @@ one_more : (kept : List ListedCall) (call : ListedCall) → suc (length kept) �
 one_more kept call = omega (arith, length-append kept (call ∷ []))
 
 module _ (stage : Stage) (call : script.Call) (steps : ℕ) where
-  pub asserts_end : (expected : Option Value) (c : Came) (w : Word) → HasRun stage call steps (Some c) → IsEndWord expected c w
-      → Asserts (setting_of stage) call steps (EndsWith expected) w (setting_of stage)
-  asserts_end expected c w (fits, come) is =
-      (refl, inl (fits, end_runs (set_at (setting_of stage)) (calls_with (setting_of stage) call) steps expected c w come is))
+  pub asserts_end : (expected : Option Value) (c : Came) (w : Word) (after : Setting) → after ≡ setting_of stage
+      → HasRun stage call steps (Some c) → IsEndWord expected c w → Asserts (setting_of stage) call steps (EndsWith expected) w after
+  asserts_end expected c w after same (fits, come) is =
+      (same, inl (fits, end_runs (set_at (setting_of stage)) (calls_with (setting_of stage) call) steps expected c w come is))
 
-  pub asserts_trap : (cause : TrapKind) (c : Came) (w : Word) → HasRun stage call steps (Some c) → IsTrapWord cause c w
-      → Asserts (setting_of stage) call steps (TrapsIn (length (setting_of stage).kept) cause) w (setting_of stage)
-  asserts_trap cause c w (fits, come) is =
+  pub asserts_trap : (cause : TrapKind) (c : Came) (w : Word) (after : Setting) → after ≡ setting_of stage
+      → HasRun stage call steps (Some c) → IsTrapWord cause c w
+      → Asserts (setting_of stage) call steps (TrapsIn (length (setting_of stage).kept) cause) w after
+  asserts_trap cause c w after same (fits, come) is =
       let before = length (setting_of stage).kept in
       let last : suc before ≡ length (calls_with (setting_of stage) call) = one_more (setting_of stage).kept _ in
-      (refl, inl (fits, trap_runs (set_at (setting_of stage)) (calls_with (setting_of stage) call) steps before cause c w last come is))
+      (same, inl (fits, trap_runs (set_at (setting_of stage)) (calls_with (setting_of stage) call) steps before cause c w last come is))
 
   pub timely_end : (expected : Option Value) (c : Came) (w : Word) → HasRun stage call steps (Some c) → IsEndWord expected c w
       → IsTimely steps (setting_of stage) (script.AssertReturn call expected) w

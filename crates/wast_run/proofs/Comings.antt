@@ -138,7 +138,7 @@ module _ (contents : Contents) (at after : Setting) where
 -- ---- calls
 
 pub keeps_call : (stage after : Stage) (call : Bor Call) → Fits (set_at (setting_of stage)) (listed_call call.now)
-    → after.set ≡ stage.set → after.kept.items ≡ stage.kept.items ++ call ∷ []
+    → after.joined.set ≡ stage.joined.set → after.kept.items ≡ stage.kept.items ++ call ∷ []
     → Keeps (setting_of stage) (seen_call call.now) word.Ok (setting_of after)
 keeps_call stage after call fits same more =
     inl (fits, (refl, keeping_is))
@@ -154,9 +154,9 @@ pub keeps_not : (at : Setting) (call : script.Call) → (Fits (set_at at) (liste
 keeps_not at call not = inr (not, (refl, refl))
 
 module _ (stage : Stage) (call : script.Call) (steps : ℕ) (not : HasRun stage call steps None) where
-  pub asserts_none : (IsRight : WasmRun → Type 0)
-      → Asserts (setting_of stage) call steps IsRight word.NoSuchCall (setting_of stage)
-  asserts_none IsRight = (refl, inr (not, refl))
+  pub asserts_none : (IsRight : WasmRun → Type 0) (after : Setting) → after ≡ setting_of stage
+      → Asserts (setting_of stage) call steps IsRight word.NoSuchCall after
+  asserts_none IsRight after same = (same, inr (not, refl))
 
 no_call_differs : word.NoSuchCall ≡ word.OutOfSteps → ⊥
 no_call_differs e = absurd cc

@@ -20,7 +20,7 @@ use Rattle.wast_script.specs.declared.fault.ScriptFault.TheVariants as fault
 use Rattle.wast_script.specs.CommandLine.{Line, line_of}
 use Rattle.wast_script.specs.Commands as script
 use Rattle.wast_script.specs.Commands.{Command}
-use Rattle.wast_script.specs.Lines.{Reason, Usage, Unwritten, WantOfMemory, Refused, Unread, error_line, fault_status, status_of}
+use Rattle.wast_script.specs.Lines.{Reason, Usage, Unwritten, WantOfMemory, Refused, Unread, error_line, status_of}
 use Rattle.wast_script.specs.Scripts.{most_script_bytes}
 use Rattle.wast_run.specs.declared.word.Word.{Word}
 use Rattle.wast_run.specs.Report.{Comes, IsFile, LeadInTime, Setting, at_first, ok_count, report_of}

@@ -23,11 +23,6 @@ module _ {A B : Type 0} (f : A → B) where
   all_at P (y ∷ xs) zero d less of_all = of_all.0
   all_at P (y ∷ xs) (suc k) d less of_all = all_at P xs k d (omega (arith, less)) of_all.1
 
--- of one more
-pub all_joined : {A : Type 0} (P : A → Type 0) (xs : List A) (x : A) → AllByRecursion P xs → P x → AllByRecursion P (xs ++ x ∷ [])
-all_joined P [] x of_all one = (one, tt)
-all_joined P (y ∷ xs) x (first, of_all) one = (first, all_joined P xs x of_all one)
-
 -- of calls and a last one
 module _ {B : Type 0} (P : B → Type 0) where
   pub all_before : (ys : List B) (y : B) → AllByRecursion P (ys ++ y ∷ []) → AllByRecursion P ys

@@ -15,6 +15,7 @@ pub mod Growing
 pub mod Kept
 pub mod Sessions
 pub mod Comes
+pub mod JoinedUnits
 pub mod Units
 -- What a run says of an assertion
 pub mod Assertions

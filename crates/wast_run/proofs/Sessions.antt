@@ -129,6 +129,7 @@ nothing_asked {H} m before after old new asks no_hosts none_asked asked =
 
 pub runs_further : {H : Type 0} (m : HostModule H) (a b c : State H) → RunsTheSame m a b → RunsTheSame m b c → RunsTheSame m a c
 runs_further m a b c first second = record {
+  linked = second.linked ∙ first.linked;
   program = second.program ∙ first.program;
   steps = second.steps ∙ first.steps;
 }

@@ -1,6 +1,5 @@
 -- A module that joins, and a call that is kept.
 use Rattle.std.proofs.Common.{◌≡◌, ℕ, inl, inr, List, [], ◌∷◌, ◌++◌, map, Some, refl, sym, ap, ◌∙◌, subst}
-use Rattle.std.specs.List.{AllByRecursion}
 use Rattle.std.specs.Borrow.{Bor}
 use Rattle.std.proofs.lemmas.List.{map-append}
 use Rattle.wasm_tree.specs.declared.tree.Module.{Module}
@@ -10,15 +9,12 @@ use Rattle.wasm_set.specs.declared.set_module.SetModule.{SetModule}
 use Rattle.wasm_set.specs.Sets.{named_of, set_of}
 use Rattle.wast_script.specs.declared.command.Call.{Call}
 use Rattle.wast_run.specs.declared.word.Word.TheVariants as word
-use Rattle.wast_run.specs.Runs.{listed_call, listed_calls, AreNamed}
+use Rattle.wast_run.specs.Runs.{listed_call, listed_calls}
 use Rattle.wast_run.specs.Report.{Joins, Setting, joined, set_at, set_with}
-use Rattle.wast_run.specs.Stages.{HasName, IsReady}
+use Rattle.wast_run.specs.declared.stage.Stage.{Stage}
+use Rattle.wast_run.specs.Stages.{IsReady, IsSound, setting_of}
 use Rattle.wast_run.proofs.Lists.{all_more}
 use Rattle.wast_run.proofs.Growing.{all_fit_more}
-
-pub names_of_modules : (modules : List SetModule) → AllByRecursion HasName (map named_of modules) → AreNamed modules
-names_of_modules [] all = tt
-names_of_modules (m ∷ modules) all = (all.0, names_of_modules modules all.1)
 
 abbrev pub at_with : List SetModule → List ListedCall → Setting
 at_with set kept = record { modules = map named_of set; kept = kept }
@@ -51,11 +47,10 @@ module _ (set : List SetModule) (kept : List ListedCall) (name copy : List ℕ) 
   )
 
   pub ready_more : (new : List SetModule) → new ≡ set_more → IsLinked (set_of set_more)
-      → HasName (record { name = name; tree = tree }) → IsReady (at_with set kept) → IsReady (at_with new kept)
-  ready_more new is linked named ready =
+      → IsReady (at_with set kept) → IsReady (at_with new kept)
+  ready_more new is linked ready =
       subst IsReady (sym (joined_is new is)) (record {
         linked = linked_more linked;
-        names = all_more HasName (map named_of set) (record { name = name; tree = tree }) ready.names named;
         fit = all_fit_more (map named_of set) (record { name = name; tree = tree }) kept ready.fit;
       })
 
@@ -69,6 +64,14 @@ module _ (modules : List NamedModule) (kept new : List (Bor Call)) (call : Bor C
   ready_kept fits ready =
       subst (λ calls. IsReady (record { modules = modules; kept = calls })) (sym kept_more) (record {
         linked = ready.linked;
-        names = ready.names;
         fit = all_more (Fits (set_with modules)) (listed_calls kept) (listed_call call.now) ready.fit fits;
       })
+
+-- the stage is sound behind a call that is kept, and behind a run
+pub sound_kept : (stage after : Stage) (call : Bor Call) → after.joined ≡ stage.joined → after.kept.items ≡ stage.kept.items ++ call ∷ []
+    → Fits (set_at (setting_of stage)) (listed_call call.now) → IsSound stage → IsSound after
+sound_kept stage after call same more fits sound =
+    subst IsSound (λ i. record { joined = (sym same) i; kept = after.kept }) (record {
+      ready = ready_kept (setting_of stage).modules stage.kept.items after.kept.items call more fits sound.ready;
+      units = sound.units;
+    })

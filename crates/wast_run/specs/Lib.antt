@@ -11,6 +11,7 @@ pub mod Samples
 -- of the code alone
 pub mod Stopping
 pub mod Judging
+pub mod Joined
 pub mod Stages
 pub mod Telling
 pub mod Ran

@@ -86,6 +86,7 @@ came_in (ran.Before outcome.OutOfSteps) = Some came.OutOfSteps
 
 -- the session still runs the same program
 pub record RunsTheSame {H : Type 0} (m : HostModule H) (before after : State H) : Type 0 where
+  pub linked : after.linked ≡ before.linked
   pub program : program_of m after ≡ program_of m before
   pub steps : after.steps ≡ before.steps
 

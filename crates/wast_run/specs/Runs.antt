@@ -1,7 +1,6 @@
 -- What a call of an export comes to behind other calls, as the units of a linked set run them from fresh objects within so many
 -- statements, and the set itself (WebAssembly Core 1.0, 4.5.5; C11, 5.1.2.3).
 use Rattle.std.specs.Prelude.{◌≡◌, ◌≢◌, ◌+◌, ◌*◌, ◌≤◌, ℕ, suc, List, [], ◌∷◌, ◌++◌, length, map, string_bytes, Option}
-use Rattle.std.specs.List.{AllByRecursion}
 use Rattle.std.specs.Borrow.{Bor}
 use Rattle.w2c_base.specs.declared.value.Value.{Value}
 use Rattle.w2c_base.specs.declared.trap.TrapKind.{TrapKind}
@@ -12,7 +11,6 @@ use Rattle.wasm_meaning.specs.Run.{Ended, ListedCall, Stopped, WasmRun, wasm_run
 use Rattle.c_meaning.specs.Run as c
 use Rattle.alike.specs.Alike.{Alike}
 use Rattle.c_unit.specs.Sets.{IsAcceptedSet, IsListing, c_run_of, program_of}
-use Rattle.wasm_set.specs.declared.set_module.SetModule.{SetModule}
 use Rattle.wast_script.specs.declared.command.Call.{Call}
 use Rattle.wast_run.specs.declared.runs.Came.{Came}
 use Rattle.wast_run.specs.declared.runs.Came.TheVariants as came
@@ -34,13 +32,6 @@ listed_call call = record {
 
 abbrev pub listed_calls : List (Bor Call) → List ListedCall
 listed_calls calls = map (λ call. listed_call call.now) calls
-
--- the name is one that a unit may have: of 1 to 1,024 bytes
-abbrev pub HasUnitName : SetModule → Type 0
-HasUnitName m = (1 ≤ length m.name) × (length m.name ≤ 1024)
-
-abbrev pub AreNamed : List SetModule → Type 0
-AreNamed modules = AllByRecursion HasUnitName modules
 
 -- the run of the units is over
 abbrev pub IsOver : LinkedSet → List ListedCall → ℕ → Type 0

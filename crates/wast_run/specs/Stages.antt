@@ -4,7 +4,7 @@ use Rattle.std.specs.List.{AllByRecursion}
 use Rattle.w2c_io.specs.Contents.{Contents}
 use Rattle.w2c_base.specs.declared.value.Value.{Value}
 use Rattle.w2c_base.specs.declared.trap.TrapKind.{TrapKind}
-use Rattle.wasm_meaning.specs.LinkedSet.{NamedModule, IsLinked}
+use Rattle.wasm_meaning.specs.LinkedSet.{IsLinked}
 use Rattle.wasm_meaning.specs.Run.{Fits}
 use Rattle.wasm_set.specs.Sets.{named_of}
 use Rattle.wast_script.specs.Commands as script
@@ -13,24 +13,21 @@ use Rattle.wast_run.specs.declared.runs.Came.TheVariants as came
 use Rattle.wast_run.specs.declared.stage.Stage.{Stage}
 use Rattle.wast_run.specs.declared.word.Word.{Word}
 use Rattle.wast_run.specs.declared.word.Word.TheVariants as word
+use Rattle.wast_run.specs.Joined.{HaveUnits}
 use Rattle.wast_run.specs.Runs.{HasCome, listed_calls}
 use Rattle.wast_run.specs.Report.{Comes, Setting, Where, calls_with, listed, set_at}
 
 abbrev pub setting_of : Stage → Setting
-setting_of stage = record { modules = map named_of stage.set; kept = listed_calls stage.kept.items }
+setting_of stage = record { modules = map named_of stage.joined.set; kept = listed_calls stage.kept.items }
 
--- a module's name has 1 to 1,024 bytes
-abbrev pub HasName : NamedModule → Type 0
-HasName m = (1 ≤ length m.name) × (length m.name ≤ 1024)
-
--- the modules are a linked set under names that units may have, and the kept calls fit it
+-- the modules are a linked set, and the kept calls fit it
 pub record IsReady (at : Setting) : Type 0 where
   pub linked : IsLinked (set_at at)
-  pub names : AllByRecursion HasName at.modules
   pub fit : AllByRecursion (Fits (set_at at)) at.kept
 
-abbrev pub IsSound : Stage → Type 0
-IsSound stage = IsReady (setting_of stage)
+pub record IsSound (stage : Stage) : Type 0 where
+  pub ready : IsReady (setting_of stage)
+  pub units : HaveUnits stage.joined
 
 -- the name that a command gives to a module is such a one
 abbrev pub HasModuleName : script.Command → Type 0

@@ -6,6 +6,8 @@ mod commands;
 mod example;
 mod judging;
 mod law;
+mod linked_modules;
+mod module_units;
 mod reporting;
 mod runs;
 mod session_runs;

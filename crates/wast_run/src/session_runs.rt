@@ -24,25 +24,27 @@ pub(crate) enum Ran {
     Before(Outcome),
 }
 
-/// Runs linked units without hosts, with at most so many statements.
+/// Runs linked units without hosts, with at most so many statements, from fresh objects, and gives the units back.
 pub(crate) fn run_linked<H: HostModule>(
     alloc: Global,
     linked: Linked,
     kept: &[&Call],
     last: &Call,
     steps: u64,
-) -> Result<Ran, Memory>
+) -> Result<(Ran, Linked), Memory>
     requires no_hosts { linked.1 ≡ [] }
     requires fit { AllFit (alone (map unit_of linked.0)) (symbols_of kept.now last.now) }
-    ensures { IfOk result (HasRan (c_run (alone (map unit_of linked.0)) (symbols_of kept.now last.now) steps []) (length kept.now)) }
+    ensures ran { IfOk result (λ r. HasRan (c_run (alone (map unit_of linked.0)) (symbols_of kept.now last.now) steps []) (length kept.now) r.0) }
+    ensures same { IfOk result (λ r. r.1 ≡ linked) }
 {
     let mut session: Session<H> = match Session::start(alloc, linked, Vec::new(alloc), steps) {
         Ok(session) => session,
         Err(Memory) => return Err(Memory),
     };
-    let ran = run_all(alloc, &mut session, kept, last);
-    session.close();
-    ran
+    match run_all(alloc, &mut session, kept, last) {
+        Ok(ran) => Ok((ran, session.into_linked())),
+        Err(Memory) => Err(Memory),
+    }
 }
 
 // The same with a session that has run nothing.
@@ -56,7 +58,8 @@ fn run_all<H: HostModule>(
     requires no_hosts { session.old.hosts ≡ [] }
     requires none_asked { session.old.journal ≡ [] }
     requires fit { AllFit (program_of H.HostModule session.old) (symbols_of kept.now last.now) }
-    ensures { IfOk result (HasRan (run_of H.HostModule session.old (symbols_of kept.now last.now)) (length kept.now)) }
+    ensures ran { IfOk result (HasRan (run_of H.HostModule session.old (symbols_of kept.now last.now)) (length kept.now)) }
+    ensures same { session.new.linked ≡ session.old.linked }
 {
     match run_inits(session) {
         Ok(None) => {}

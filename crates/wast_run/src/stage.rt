@@ -11,19 +11,19 @@ ghost use Rattle.wast_run.specs.Reading.{ModuleComesOver, StopsRead};
 ghost use Rattle.wast_run.specs.Stopping.{StopsFile};
 
 use crate::judging::{Judged, judge_file};
-use crate::runs::{Came, run_last};
+use crate::linked_modules::LinkedModules;
+use crate::runs::Came;
 use crate::word::Word;
 use std::alloc::Global;
 use w2c_base::{Bytes, Memory, TrapKind, Value};
 use w2c_io::Files;
-use wasm_set::ModuleSet;
 use wasm_valid::ValidModule;
 use wast_script::{Call, ModuleFile, Stop};
 
 /// The modules that joined, in order, and the calls that are kept.
 #[derive(Drop)]
 pub(crate) struct Stage<'a> {
-    set: ModuleSet,
+    joined: LinkedModules,
     kept: Vec<&'a Call>,
 }
 
@@ -33,7 +33,7 @@ impl<'a> Stage<'a> {
         ensures sound { IsSound result }
     {
         Stage {
-            set: ModuleSet::new(alloc),
+            joined: LinkedModules::new(alloc),
             kept: Vec::new(alloc),
         }
     }
@@ -82,7 +82,7 @@ impl<'a> Stage<'a> {
     {
         let mut owned = Bytes::new(alloc);
         owned.extend(name)?;
-        match self.set.join(alloc, owned, module) {
+        match self.joined.join(alloc, owned, module) {
             Ok(true) => Ok(Word::Ok),
             Ok(false) => Ok(Word::Unlinked),
             Err(Memory) => Err(Memory),
@@ -90,7 +90,7 @@ impl<'a> Stage<'a> {
     }
 
     /// The call is kept, where it fits.
-    #[tactic(auto, using(crate::proofs::Comings::keeps_call, crate::proofs::Comings::keeps_not, crate::proofs::StageLaws::ready_kept))]
+    #[tactic(auto, using(crate::proofs::Comings::keeps_call, crate::proofs::Comings::keeps_not, crate::proofs::StageLaws::sound_kept))]
     pub(crate) fn keep(&mut self, call: &'a Call) -> Result<Word, Memory>
         requires sound { IsSound self.old }
         ensures keeps { IfOk result (λ word. Keeps (setting_of self.old) (seen_call call.now) word (setting_of self.new)) }
@@ -106,16 +106,17 @@ impl<'a> Stage<'a> {
     /// Whether the call, behind those that are kept, ends with this value, or with none.
     #[tactic(auto, using(crate::proofs::Assertions::asserts_end, crate::proofs::Assertions::timely_end, crate::proofs::Comings::asserts_none, crate::proofs::Comings::timely_end_none))]
     pub(crate) fn assert_return(
-        &self,
+        &mut self,
         alloc: Global,
         call: &Call,
         expected: Option<Value>,
         steps: u64,
     ) -> Result<Word, Memory>
-        requires sound { IsSound self.now }
-        ensures asserts { IfOk result (λ word. Asserts (setting_of self.now) (seen_call call.now) steps
-            (EndsWith expected) word (setting_of self.now)) }
-        ensures timely { IfOk result (λ word. IsTimely steps (setting_of self.now) (AssertReturn (seen_call call.now) expected) word) }
+        requires sound { IsSound self.old }
+        ensures asserts { IfOk result (λ word. Asserts (setting_of self.old) (seen_call call.now) steps
+            (EndsWith expected) word (setting_of self.new)) }
+        ensures timely { IfOk result (λ word. IsTimely steps (setting_of self.old) (AssertReturn (seen_call call.now) expected) word) }
+        ensures sound { OnOk result (IsSound self.new) }
     {
         match self.run(alloc, call, steps) {
             Ok(Some(came)) => Ok(word_of_end(came, expected)),
@@ -127,16 +128,17 @@ impl<'a> Stage<'a> {
     /// Whether the call, behind those that are kept, traps for this cause.
     #[tactic(auto, using(crate::proofs::Assertions::timely_trap, crate::proofs::Comings::asserts_none, crate::proofs::Comings::timely_trap_none))]
     pub(crate) fn assert_trap(
-        &self,
+        &mut self,
         alloc: Global,
         call: &Call,
         cause: TrapKind,
         steps: u64,
     ) -> Result<Word, Memory>
-        requires sound { IsSound self.now }
-        ensures asserts { IfOk result (λ word. Asserts (setting_of self.now) (seen_call call.now) steps
-            (TrapsIn (length (setting_of self.now).kept) cause) word (setting_of self.now)) }
-        ensures timely { IfOk result (λ word. IsTimely steps (setting_of self.now) (AssertTrap (seen_call call.now) cause) word) }
+        requires sound { IsSound self.old }
+        ensures asserts { IfOk result (λ word. Asserts (setting_of self.old) (seen_call call.now) steps
+            (TrapsIn (length (setting_of self.old).kept) cause) word (setting_of self.new)) }
+        ensures timely { IfOk result (λ word. IsTimely steps (setting_of self.old) (AssertTrap (seen_call call.now) cause) word) }
+        ensures sound { OnOk result (IsSound self.new) }
     {
         match self.run(alloc, call, steps) {
             Ok(Some(came)) => Ok(word_of_trap(came, cause)),
@@ -146,15 +148,20 @@ impl<'a> Stage<'a> {
     }
 
     // What the run of the calls that are kept and of this one comes to; none where it does not fit.
-    #[tactic(auto, using(crate::proofs::StageLaws::names_of_modules, crate::proofs::Lists::all_more))]
-    fn run(&self, alloc: Global, call: &Call, steps: u64) -> Result<Option<Came>, Memory>
-        requires sound { IsSound self.now }
-        ensures { IfOk result (HasRun self.now (seen_call call.now) steps) }
+    #[tactic(auto, using(crate::proofs::Lists::all_more))]
+    fn run(&mut self, alloc: Global, call: &Call, steps: u64) -> Result<Option<Came>, Memory>
+        requires sound { IsSound self.old }
+        ensures came { IfOk result (HasRun self.old (seen_call call.now) steps) }
+        ensures same { OnOk result (setting_of self.new ≡ setting_of self.old) }
+        ensures sound { OnOk result (IsSound self.new) }
     {
         if !self.fits(call) {
             return Ok(None);
         }
-        match run_last(alloc, self.set.modules(), self.kept.as_slice(), call, steps) {
+        match self
+            .joined
+            .run_last(alloc, self.kept.as_slice(), call, steps)
+        {
             Ok(came) => Ok(Some(came)),
             Err(Memory) => Err(Memory),
         }
@@ -164,7 +171,7 @@ impl<'a> Stage<'a> {
         ensures fits { result ≡ true → Fits (set_at (setting_of self.now)) (listed (seen_call call.now)) }
         ensures misfits { result ≡ false → Fits (set_at (setting_of self.now)) (listed (seen_call call.now)) → ⊥ }
     {
-        self.set.fits(
+        self.joined.fits(
             call.module_name.as_bytes(),
             call.field_name.as_bytes(),
             call.args.as_slice(),

@@ -1,5 +1,5 @@
 // Which command an object is, and for which cause a call is to trap, by their texts.
-ghost use Rattle.std.specs.Prelude.{◌≡◌, option_copied};
+ghost use Rattle.std.specs.Prelude.{◌≡◌};
 ghost use Rattle.std.specs.List.{find};
 ghost use Rattle.std.specs.Str.{bytes_eq};
 ghost use Rattle.w2c_base.specs.Trap.{text_of};

@@ -1,5 +1,5 @@
 // The values in a script.
-ghost use Rattle.std.specs.Prelude.{◌≡◌, ◌^◌, nat_lt, if◌then◌else◌, Some, None, map, option_map, option_and_then, IfOk};
+ghost use Rattle.std.specs.Prelude.{◌≡◌, ◌^◌, nat_lt, if◌then◌else◌, Some, None, map, option_map, IfOk};
 ghost use Rattle.w2c_base.specs.declared.value.Value.TheVariants.{I32};
 ghost use Rattle.serde_json.specs.View.{view};
 ghost use Rattle.wast_script.specs.Lists.{all_given};

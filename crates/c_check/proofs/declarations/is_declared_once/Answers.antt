@@ -8,8 +8,8 @@ use Rattle.c_tree.specs.View.{item_of}
 use Rattle.c_tree.specs.Scope.{name_of}
 use Rattle.c_tree.specs.Rules.{are_alike, has_body}
 use Rattle.c_scope.specs.FileItems.{declared}
-use Rattle.c_check.specs.UnitNames.{by_names, defined_of}
-use Rattle.c_check.proofs.Clashes.{none_named, first_named}
+use Rattle.c_rules.specs.UnitNames.{by_names, defined_of}
+use Rattle.c_rules.proofs.Clashes.{none_named, first_named}
 use Rattle.c_check.proofs.declarations.is_declared_once.Goals as goal
 
 pub returns-in-Some : goal.returns-in-Some

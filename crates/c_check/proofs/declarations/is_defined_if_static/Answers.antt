@@ -5,7 +5,7 @@ use Rattle.w2c_base.specs.Lookup.{named}
 use Rattle.c_tree.specs.View.{item_of}
 use Rattle.c_tree.specs.Rules.{defines, is_defined_if_static}
 use Rattle.c_check.specs.Places.{item_place}
-use Rattle.c_check.proofs.Sets.{defines_among}
+use Rattle.c_rules.proofs.Defined.{defines_among}
 use Rattle.c_check.proofs.declarations.is_defined_if_static.Goals as goal
 
 pub returns-else-not-f : goal.returns-else-not-f

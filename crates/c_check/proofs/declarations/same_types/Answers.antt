@@ -1,7 +1,7 @@
 use Rattle.std.proofs.Common.{◌<◌, length, sym, ap, ◌∙◌, arith}
 use Rattle.c_tree.specs.Tree as tree
 use Rattle.c_tree.specs.Runtime.{same_type}
-use Rattle.c_check.proofs.SameTypes.{same_never, same_end, same_more, same_stops}
+use Rattle.c_rules.proofs.SameTypes.{same_never, same_end, same_more, same_stops}
 use Rattle.c_check.proofs.declarations.same_types.Goals as goal
 
 pub returns-then-a-b : goal.returns-then-a-b

@@ -1,6 +1,6 @@
 use Rattle.std.proofs.Common.{map, take}
 use Rattle.c_tree.specs.View.{item_of}
-use Rattle.c_check.specs.UnitNames.{names_of}
+use Rattle.c_rules.specs.UnitNames.{names_of}
 use Rattle.c_scope.specs.Tables.{Knows}
 use Rattle.c_check.proofs.names.declared_names.Given as goal
 

@@ -1,6 +1,6 @@
 use Rattle.std.proofs.Common.{map, take}
 use Rattle.c_tree.specs.View.{item_of}
-use Rattle.c_check.specs.UnitNames.{defined_of}
+use Rattle.c_rules.specs.UnitNames.{defined_of}
 use Rattle.c_scope.specs.Tables.{Knows}
 use Rattle.c_check.proofs.names.defined_names.Given as goal
 

@@ -5,7 +5,7 @@ use Rattle.w2c_base.specs.Lookup.{named}
 use Rattle.std.proofs.lemmas.List.{drop_all, length-map}
 use Rattle.c_scope.specs.declared.own.Variable.{Variable}
 use Rattle.c_tree.specs.Rules.{are_distinct}
-use Rattle.c_check.proofs.Distinct.{distinct_more, distinct_stops, knows_before}
+use Rattle.c_rules.proofs.Distinct.{distinct_more, distinct_stops, knows_before}
 use Rattle.c_check.proofs.ours.are_distinct.Goals as goal
 
 pub loop-i-init : goal.loop-i-init

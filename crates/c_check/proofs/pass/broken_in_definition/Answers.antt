@@ -4,8 +4,8 @@ use Rattle.c_tree.specs.declared.tree.Body.{Body}
 use Rattle.c_tree.specs.View.{item_of, func_of, body_of, maybe_body_of}
 use Rattle.c_tree.specs.Rules.{body_variables}
 use Rattle.c_scope.specs.Own.{variable_pair}
-use Rattle.c_check.specs.FirstRule.{first_in_stmts}
-use Rattle.c_check.proofs.Onward.{body_some}
+use Rattle.c_rules.specs.FirstRule.{first_in_stmts}
+use Rattle.c_rules.proofs.Onward.{body_some}
 use Rattle.c_check.proofs.pass.broken_in_definition.Goals as goal
 
 pub new-scope-requires : goal.new-scope-requires

@@ -3,8 +3,8 @@ use Rattle.std.specs.Prelude.{option_map}
 use Rattle.c_tree.specs.Tree as tree
 use Rattle.c_tree.specs.View.{item_of, func_of}
 use Rattle.c_check.specs.Broken.{broken_at}
-use Rattle.c_check.specs.FirstRule.{first_in_body}
-use Rattle.c_check.proofs.Onward.{no_body, is_function}
+use Rattle.c_rules.specs.FirstRule.{first_in_body}
+use Rattle.c_rules.proofs.Onward.{no_body, is_function}
 use Rattle.c_check.proofs.pass.broken_in_item_body.Goals as goal
 
 pub broken_in_function-requires : goal.broken_in_function-requires

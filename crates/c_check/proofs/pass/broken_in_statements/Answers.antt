@@ -6,7 +6,7 @@ use Rattle.c_tree.specs.View.{stmt_of}
 use Rattle.c_tree.specs.Rules.{label_of, labels_of}
 use Rattle.c_scope.specs.ScopeOf.{scope_of}
 use Rattle.c_check.proofs.Sets.{knows_put}
-use Rattle.c_check.proofs.Onward.{stmts_end, stmts_more, stmts_stop}
+use Rattle.c_rules.proofs.Onward.{stmts_end, stmts_more, stmts_stop}
 use Rattle.c_check.proofs.pass.broken_in_statements.Goals as goal
 
 pub stmt_rule-requires-clause-labels : goal.stmt_rule-requires-clause-labels

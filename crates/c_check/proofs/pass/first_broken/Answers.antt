@@ -4,9 +4,9 @@ use Rattle.std.proofs.lemmas.List.{length-map}
 use Rattle.c_tree.specs.declared.tree.Item.{Item}
 use Rattle.c_tree.specs.View.{item_of}
 use Rattle.c_check.specs.Broken.{broken_at}
-use Rattle.c_check.specs.FirstRule.{first_in_body}
+use Rattle.c_rules.specs.FirstRule.{first_in_body}
 use Rattle.c_check.proofs.Behind.{breaks_there}
-use Rattle.c_check.proofs.Onward.{items_end, items_more, items_stop, items_stop_inside}
+use Rattle.c_rules.proofs.Onward.{items_end, items_more, items_stop, items_stop_inside}
 use Rattle.c_check.proofs.pass.first_broken.Goals as goal
 
 pub returns : goal.returns

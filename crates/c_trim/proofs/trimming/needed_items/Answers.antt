@@ -3,7 +3,7 @@ use Rattle.c_tree.specs.View.{unit_of}
 use Rattle.c_trim.specs.Trim.{IsTrimmed, kept}
 use Rattle.c_trim.specs.Marks.{is_reached, reached_by}
 use Rattle.c_trim.proofs.Exact.{needed_kept}
-use Rattle.c_trim.proofs.Refused.{carried}
+use Rattle.c_trim.proofs.Carried.{carried}
 use Rattle.c_trim.proofs.trimming.needed_items.Goals as goal
 
 pub returns : goal.returns

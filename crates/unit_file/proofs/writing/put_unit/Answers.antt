@@ -43,7 +43,8 @@ returns-in_err-put-clause-tried g c =
     let files = g.F.Files in
     let p = err_from_is_err_and c.from_residual.result c.from_residual.ensures.1 in
     rw (p.1, p.2) (fails_at_include (files.trace c.args.files.now) (files.trace c.put.new.self) (unit_of c.args.unit.now)
-    c.in_err-put.field-0.0 (vain_passed (files.trace c.args.files.now) (files.trace c.put.new.self) c.text.result.now (fixed_text tok.Include)
+    c.in_err-put.field-0.0 (vain_passed (files.trace c.args.files.now) (files.trace c.put.new.self) c.text.result.now
+    (fixed_text tok.Include)
     (Err c.in_err-put.field-0.0) c.text.ensures c.in_err-put.ensures.traced))
 
 pub loop-item-init : goal.loop-item-init

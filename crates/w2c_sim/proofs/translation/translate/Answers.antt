@@ -8,4 +8,5 @@ returns-clause-accepted c = accepted_is_given c.args.bytes.now c.translation.res
 
 pub returns-clause-given : goal.returns-clause-given
 returns-clause-given c = refused_is_given c.args.bytes.now c.translation.result (IsTranslation c.args.bytes.now c.args.name.now)
-    (λ texts made. (made.0, verdict_on c.args.bytes.now c.args.name.now made.0 made.1)) c.translation.ensures.texts c.translation.ensures.refused
+    (λ texts made. (made.0, verdict_on c.args.bytes.now c.args.name.now made.0 made.1))
+    c.translation.ensures.texts c.translation.ensures.refused

@@ -32,7 +32,8 @@ returns-in_err-put-clause-tried g c =
     let files = g.F.Files in
     let p = err_from_is_err_and c.from_residual.result c.from_residual.ensures.1 in
     rw (p.1, p.2) (fails_at_include (files.trace c.args.files.now) (files.trace c.put.new.self) (left_of c.args.items.now)
-    c.in_err-put.field-0.0 (vain_passed (files.trace c.args.files.now) (files.trace c.put.new.self) c.text.result.now (fixed_text tok.Include)
+    c.in_err-put.field-0.0 (vain_passed (files.trace c.args.files.now) (files.trace c.put.new.self) c.text.result.now
+    (fixed_text tok.Include)
     (Err c.in_err-put.field-0.0) c.text.ensures c.in_err-put.ensures.traced))
 
 pub more-init : goal.more-init
@@ -70,7 +71,8 @@ pub returns-in_err-item-clause-cause : goal.returns-in_err-item-clause-cause
 returns-in_err-item-clause-cause g c =
     let files = g.F.Files in
     let p = err_from_is_err_and c.from_residual-in_err-item.result c.from_residual-in_err-item.ensures.1 in
-    rw (p.1, p.2) (memory_cause (files.write_faults c.args.files.now) (files.write_faults c.more.files) (omega (arith, c.more.invariant.kept)))
+    rw (p.1, p.2) (memory_cause (files.write_faults c.args.files.now) (files.write_faults c.more.files)
+    (omega (arith, c.more.invariant.kept)))
 
 pub returns-in_err-item-clause-fault : goal.returns-in_err-item-clause-fault
 returns-in_err-item-clause-fault g c =
@@ -162,7 +164,8 @@ returns-clause-written g c =
 pub returns-clause-passed : goal.returns-clause-passed
 returns-clause-passed g c =
     let files = g.F.Files in
-    put_all (files.trace c.args.files.now) (files.trace c.more.files) (left_of c.args.items.now) (left_of c.more.items) c.more.invariant.passed
+    put_all (files.trace c.args.files.now) (files.trace c.more.files) (left_of c.args.items.now) (left_of c.more.items)
+    c.more.invariant.passed
     (none_left c.in_ok-item.field-0 (left_of c.more.items) (left_of c.next.new.self) c.in_default.not-Some c.in_ok-item.ensures.given)
 
 pub more-smaller : goal.more-smaller

@@ -52,12 +52,14 @@ pub returns-clause-passed : goal.returns-clause-passed
 returns-clause-passed g c =
     let files = g.F.Files in
     finished (files.trace c.args.files.now) (files.trace c.begin.new.self) (files.trace c.write_unit.new.files)
-    (files.trace c.finish.new.self) c.args.file.now (text_of c.args.module.now c.args.module_name.now) c.finish.result c.in_ok-begin.ensures.traced
+    (files.trace c.finish.new.self) c.args.file.now (text_of c.args.module.now c.args.module_name.now) c.finish.result
+    c.in_ok-begin.ensures.traced
     c.in_default.ensures.passed c.finish.ensures.traced
 
 pub returns-clause-tried : goal.returns-clause-tried
 returns-clause-tried g c =
     let files = g.F.Files in
     not_finished (files.trace c.args.files.now) (files.trace c.begin.new.self) (files.trace c.write_unit.new.files)
-    (files.trace c.finish.new.self) c.args.file.now (text_of c.args.module.now c.args.module_name.now) c.finish.result c.in_ok-begin.ensures.traced
+    (files.trace c.finish.new.self) c.args.file.now (text_of c.args.module.now c.args.module_name.now) c.finish.result
+    c.in_ok-begin.ensures.traced
     c.in_default.ensures.passed c.finish.ensures.traced

@@ -22,9 +22,10 @@ pub returns-in-Ok-assert_trap-clause-passed : goal.returns-in-Ok-assert_trap-cla
 returns-in-Ok-assert_trap-clause-passed g c =
     let trace = g.F.Files.trace c.args.files.now in
     let at = setting_of c.args.stage.now in
-    subst (λ command. Passes trace trace (λ events. ComesOver events c.args.steps at (seen_command command) c.in-Ok-assert_trap.word at))
+    let after = setting_of c.assert_trap.new.self in
+    subst (λ command. Passes trace trace (λ events. ComesOver events c.args.steps at (seen_command command) c.in-Ok-assert_trap.word after))
     (sym c.in-AssertTrap.is)
-    (trap_over trace at at c.args.steps (seen_call c.in-AssertTrap.call) c.in-Ok-assert_trap.word c.in-AssertTrap.cause
+    (trap_over trace at after c.args.steps (seen_call c.in-AssertTrap.call) c.in-Ok-assert_trap.word c.in-AssertTrap.cause
     c.in-Ok-assert_trap.ensures.asserts)
 
 pub returns-in-Ok-assert_malformed-clause-comes : goal.returns-in-Ok-assert_malformed-clause-comes

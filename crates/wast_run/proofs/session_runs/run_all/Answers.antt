@@ -1,4 +1,4 @@
-use Rattle.std.proofs.Common.{◌≡◌, true, [], ◌∷◌, ◌++◌, List, length, IfSome, sym, subst, arith}
+use Rattle.std.proofs.Common.{◌≡◌, true, [], ◌∷◌, ◌++◌, ◌∙◌, List, length, IfSome, sym, subst, arith}
 use Rattle.c_meaning.specs.Linking.{SymbolCall, fits}
 use Rattle.c_sound.specs.NeverStuck.{AllFit}
 use Rattle.crun.specs.Sessions.{program_of}
@@ -7,8 +7,8 @@ use Rattle.wast_run.proofs.Kept.{all_before, all_last}
 use Rattle.wast_run.proofs.Sessions.{last_came, of_first, runs_further, stops_later}
 use Rattle.wast_run.proofs.session_runs.run_all.Goals as goal
 
-pub returns-in-Ok-Some : goal.returns-in-Ok-Some
-returns-in-Ok-Some g c =
+pub returns-in-Ok-Some-clause-ran : goal.returns-in-Ok-Some-clause-ran
+returns-in-Ok-Some-clause-ran g c =
     let s = c.args.session.now in
     let stopped = subst (λ o. IfSome o (λ stop. (rest : List SymbolCall)
     → StopsAt stop 0 (run_of g.H.HostModule s rest))) c.in-Ok-Some.field-0-is c.in-Ok-Some.ensures.stopped in
@@ -20,8 +20,8 @@ run_kept-requires-clause-fit g c =
     subst (λ p. AllFit p kept) (sym c.run_inits.ensures.same.program)
     (all_before (λ x. fits (program_of g.H.HostModule c.args.session.now) x ≡ true) kept (symbol_of c.args.last.now) c.requires.fit)
 
-pub returns-in-Ok-Some-run_kept : goal.returns-in-Ok-Some-run_kept
-returns-in-Ok-Some-run_kept g c =
+pub returns-in-Ok-Some-run_kept-clause-ran : goal.returns-in-Ok-Some-run_kept-clause-ran
+returns-in-Ok-Some-run_kept-clause-ran g c =
     let s = c.run_inits.new.session in
     let kept = c.args.kept.now in
     let stopped = subst (λ o. IfSome o (λ stop. (rest : List SymbolCall)
@@ -38,9 +38,13 @@ run_call-requires-clause-fits g c =
     (all_last (λ x. fits (program_of g.H.HostModule c.args.session.now) x ≡ true) (symbols_in c.args.kept.now) (symbol_of c.args.last.now)
     c.requires.fit)
 
-pub returns-in-Ok : goal.returns-in-Ok
-returns-in-Ok g c =
+pub returns-in-Ok-clause-ran : goal.returns-in-Ok-clause-ran
+returns-in-Ok-clause-ran g c =
     let same = runs_further g.H.HostModule c.args.session.now c.run_inits.new.session c.run_kept.new.session c.run_inits.ensures.same
     c.run_kept.ensures.same in
     last_came g.H.HostModule c.args.session.now c.run_kept.new.session same c.args.kept.now c.args.last.now c.in-Ok.outcome
     (c.in-Ok-None-run_kept.ensures.behind c.in-Ok-None-run_kept.field-0-is) c.in-Ok.ensures.came
+
+pub returns-in-Ok-clause-same : goal.returns-in-Ok-clause-same
+returns-in-Ok-clause-same g c =
+    c.run_call.ensures.same.linked ∙ c.run_kept.ensures.same.linked ∙ c.run_inits.ensures.same.linked

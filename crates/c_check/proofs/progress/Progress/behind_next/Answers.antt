@@ -6,7 +6,7 @@ use Rattle.c_tree.specs.declared.tree.Item.{Item}
 use Rattle.c_tree.specs.Tree as tree
 use Rattle.c_tree.specs.View.{item_of}
 use Rattle.c_scope.proofs.NextItem.{finds_next}
-use Rattle.c_check.specs.UnitNames.{by_name, by_names, defined_name, defined_of, names_of, none_clash}
+use Rattle.c_rules.specs.UnitNames.{by_name, by_names, defined_name, defined_of, names_of, none_clash}
 use Rattle.c_check.proofs.Behind.{taken, none_clash_next}
 use Rattle.c_check.proofs.Sets.{knows_put}
 use Rattle.c_check.proofs.progress.Progress.behind_next.Goals as goal

@@ -6,7 +6,7 @@ use Rattle.c_tree.specs.View.{func_of, body_of}
 use Rattle.c_tree.specs.Scope.{param_variables, local_variables}
 use Rattle.c_scope.specs.FileItems.{declared}
 use Rattle.c_scope.specs.Tables.{variables_of}
-use Rattle.c_scope.proofs.Lookups.{found_of_four}
+use Rattle.name_table.proofs.Lookups.{found_of_four}
 use Rattle.c_scope.proofs.scope.Scope.variable.Goals as goal
 
 pub returns : goal.returns

@@ -9,8 +9,8 @@ returns-in-Ok-true-clause-joins c =
     let name = c.args.name.now in
     let same : c.extend.new.self ≡ name = c.in_ok-extend.ensures.ok ∙ ap (λ l. l ++ name) c.new-owned.ensures in
     let is = c.in-Ok-true.field-0-test in
-    joins_set stage.set (listed_calls stage.kept.items) name c.extend.new.self c.args.«module» same
-    c.join.new.self (c.in-Ok-true.ensures.joined is) (c.in-Ok-true.ensures.linked is)
+    joins_set stage.joined.set (listed_calls stage.kept.items) name c.extend.new.self c.args.«module» same
+    c.join.new.self.set (c.in-Ok-true.ensures.joined is) (c.in-Ok-true.ensures.linked is)
 
 pub returns-in-Ok-true-clause-sound : goal.returns-in-Ok-true-clause-sound
 returns-in-Ok-true-clause-sound c =
@@ -18,8 +18,9 @@ returns-in-Ok-true-clause-sound c =
     let name = c.args.name.now in
     let same : c.extend.new.self ≡ name = c.in_ok-extend.ensures.ok ∙ ap (λ l. l ++ name) c.new-owned.ensures in
     let is = c.in-Ok-true.field-0-test in
-    ready_more stage.set (listed_calls stage.kept.items) name c.extend.new.self c.args.«module» same
-    c.join.new.self (c.in-Ok-true.ensures.joined is) (c.in-Ok-true.ensures.linked is) c.requires.named c.requires.sound
+    let ready = ready_more stage.joined.set (listed_calls stage.kept.items) name c.extend.new.self c.args.«module» same
+    c.join.new.self.set (c.in-Ok-true.ensures.joined is) (c.in-Ok-true.ensures.linked is) c.requires.sound.ready in
+    record { ready = ready; units = c.in-Ok-true.ensures.units }
 
 pub returns-in-Ok-false-clause-joins : goal.returns-in-Ok-false-clause-joins
 returns-in-Ok-false-clause-joins c =
@@ -27,5 +28,5 @@ returns-in-Ok-false-clause-joins c =
     let name = c.args.name.now in
     let same : c.extend.new.self ≡ name = c.in_ok-extend.ensures.ok ∙ ap (λ l. l ++ name) c.new-owned.ensures in
     let is = c.in-Ok-false.field-0-test in
-    joins_not stage.set (listed_calls stage.kept.items) name c.extend.new.self c.args.«module» same
-    c.join.new.self (c.in-Ok-false.ensures.unchanged is) (c.in-Ok-false.ensures.unlinked is)
+    joins_not stage.joined.set (listed_calls stage.kept.items) name c.extend.new.self c.args.«module» same
+    c.join.new.self.set (c.in-Ok-false.ensures.unchanged is) (c.in-Ok-false.ensures.unlinked is)

@@ -1,0 +1,29 @@
+-- What a unit defines, item by item.
+use Rattle.std.proofs.Common.{◌≡◌, ℕ, Bool, true, false, ◌&&◌, ◌||◌, if◌then◌else◌, List, [], ◌∷◌, bytes_eq, Some, None, refl, ap, ◌∙◌}
+use Rattle.std.specs.List.{list_any, cons_option}
+use Rattle.c_tree.specs.Tree as tree
+use Rattle.c_tree.specs.Scope.{name_of}
+use Rattle.c_tree.specs.Rules.{has_body, defines}
+use Rattle.name_table.proofs.NameTables.{either_way}
+use Rattle.c_rules.specs.UnitNames.{defined_of}
+
+pub defined_front : (q : List ℕ) (x : tree.Item) (items : List tree.Item)
+    → list_any (bytes_eq q) (defined_of (x ∷ items))
+    ≡ ((bytes_eq (name_of x) q && has_body x) || list_any (bytes_eq q) (defined_of items))
+defined_front q x items = go (has_body x) (bytes_eq (name_of x) q) (either_way q (name_of x))
+  where
+    front : (b : Bool) → bytes_eq q (name_of x) ≡ b
+        → (bytes_eq q (name_of x) || list_any (bytes_eq q) (defined_of items)) ≡ ((b && true) || list_any (bytes_eq q) (defined_of items))
+    front true e = ap (λ c. c || list_any (bytes_eq q) (defined_of items)) e
+    front false e = ap (λ c. c || list_any (bytes_eq q) (defined_of items)) e
+
+    go : (h b : Bool) → bytes_eq q (name_of x) ≡ b
+        → list_any (bytes_eq q) (cons_option (if h then Some (name_of x) else None) (defined_of items))
+        ≡ ((b && h) || list_any (bytes_eq q) (defined_of items))
+    go true b e = front b e
+    go false true e = refl
+    go false false e = refl
+
+pub defines_among : (q : List ℕ) (items : List tree.Item) → list_any (bytes_eq q) (defined_of items) ≡ list_any (defines q) items
+defines_among q [] = refl
+defines_among q (x ∷ items) = defined_front q x items ∙ ap (λ b. (bytes_eq (name_of x) q && has_body x) || b) (defines_among q items)

@@ -1,0 +1,2 @@
+pub mod FirstRule
+pub mod UnitNames

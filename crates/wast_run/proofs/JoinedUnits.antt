@@ -1,0 +1,44 @@
+-- The units of the modules that joined, with one module more.
+use Rattle.std.proofs.Common.{◌≡◌, List, [], ◌∷◌, ◌++◌, map, Option, None, sym, ap, ◌∙◌, subst}
+use Rattle.std.specs.List.{AllByRecursion}
+use Rattle.std.proofs.lemmas.List.{map-append}
+use Rattle.c_tree.specs.Tree as tree
+use Rattle.c_meaning.specs.Linking.{link_refusal}
+use Rattle.wasm_meaning.specs.LinkedSet.{IsLinked}
+use Rattle.wasm_meaning.specs.Run.{Fits, ListedCall}
+use Rattle.c_unit.specs.Items.{items}
+use Rattle.c_unit.specs.Sets.{IsAccepted, IsAcceptedSet, UnitsLink, program_of}
+use Rattle.wasm_set.specs.declared.set_module.SetModule.{SetModule}
+use Rattle.wasm_set.specs.Sets.{named_of, set_of}
+use Rattle.wast_run.specs.Joined.{Linked, units_in}
+use Rattle.wast_run.specs.Ran.{alone}
+use Rattle.wast_run.proofs.Lists.{all_more}
+
+module _ (modules : List SetModule) (m : SetModule) where
+  pub set_more : IsAcceptedSet (set_of modules) → IsAccepted (named_of m) → IsLinked (set_of (modules ++ m ∷ []))
+      → IsAcceptedSet (set_of (modules ++ m ∷ []))
+  set_more before one linked = record {
+    linked = linked;
+    accepted = subst (AllByRecursion IsAccepted) (sym (map-append named_of modules (m ∷ [])))
+        (all_more IsAccepted (map named_of modules) (named_of m) before.accepted one);
+    host_bytes = tt;
+  }
+
+  pub units_more : (before : List (List tree.Item)) (one : List tree.Item) → before ≡ (program_of (set_of modules)).units
+      → one ≡ items (named_of m) → before ++ one ∷ [] ≡ (program_of (set_of (modules ++ m ∷ []))).units
+  units_more before one are is =
+      (λ i. are i ++ is i ∷ []) ∙ sym (map-append items (map named_of modules) (named_of m ∷ []))
+      ∙ ap (map items) (sym (map-append named_of modules (m ∷ [])))
+
+  -- they link
+  pub links_more : UnitsLink → (before : List (List tree.Item)) (one : List tree.Item) → before ≡ (program_of (set_of modules)).units
+      → one ≡ items (named_of m) → IsAcceptedSet (set_of (modules ++ m ∷ [])) → link_refusal (alone (before ++ one ∷ [])) ≡ None
+  links_more link before one are is accepted =
+      subst (λ us. link_refusal (alone us) ≡ None) (sym (units_more before one are is)) (link _ accepted)
+
+-- where there are no units, no call fits
+pub none_fits : (modules : List SetModule) (units : Option Linked) → units_in units ≡ (program_of (set_of modules)).units → units ≡ None
+    → (call : ListedCall) → Fits (set_of modules) call → ⊥
+none_fits [] units are none call (f, ty, called, typed, params, numbers) = absurd cc
+none_fits (m ∷ modules) units are none call fits =
+    let nothing : [] ≡ items (named_of m) ∷ map items (map named_of modules) = sym (ap units_in none) ∙ are in absurd cc

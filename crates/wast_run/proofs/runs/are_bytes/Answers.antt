@@ -1,6 +1,0 @@
-use Rattle.std.proofs.Common.{arith}
-use Rattle.std.proofs.lemmas.List.{get_or_default}
-use Rattle.wast_run.proofs.runs.are_bytes.Goals as goal
-
-pub returns : goal.returns
-returns c = λ k d less. omega (arith, c.type_inv.text k, get_or_default c.args.text.now k d 0 less)
