@@ -30,6 +30,13 @@ counts_are {H} m hosts counts is = go hosts ∙ sym is
     go (h ∷ hosts) = ap (λ n. n ∷ map (λ (h : Host). length h.functions) (hosts_of m hosts)) (length-map (m.functions_of h) function_of)
         ∙ ap (λ ns. length (m.functions_of h) ∷ ns) (go hosts)
 
+-- the objects of program startup are typed, whatever is told behind
+pub first_typed : {H : Type 0} (m : HostModule H) (e : Engine H) → TypedProgram (program_in m e)
+    → ((replies : List Reply) → machine_at e (trail_of replies []) ≡ fresh (program_in m e) replies)
+    → (trail : Trail) → TypedMachine (program_in m e) (machine_at e trail)
+first_typed m e typed first trail = trail_keeps (program_in m e) (machine_at e (trail_of [] [])) trail
+    (subst (TypedMachine (program_in m e)) (sym (first [])) (typed.start []))
+
 module _ {H : Type 0} (m : HostModule H) (e : Engine H) (same : e.linked.1 ≡ symbols_of_hosts (hosts_of m e.hosts.list.items)) where
   abbrev p : Program
   p = program_in m e
@@ -43,8 +50,3 @@ module _ {H : Type 0} (m : HostModule H) (e : Engine H) (same : e.linked.1 ≡ s
       → ((p : Program) → IsProgramOf p (map unit_of e.linked.0) e.linked.1 → link_refusal p ≡ None)
       → TypedProgram p
   is_typed checked links = typed_program p (all_from KeepsRules p.units (λ i items at. (checked i items at).1)) (links p is_program)
-
-  pub first_typed : TypedProgram p → ((replies : List Reply) → machine_at e (trail_of replies []) ≡ fresh p replies)
-      → (trail : Trail) → TypedMachine p (machine_at e trail)
-  first_typed typed first trail = trail_keeps p (machine_at e (trail_of [] [])) trail
-      (subst (TypedMachine p) (sym (first [])) (typed.start []))

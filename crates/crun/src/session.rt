@@ -84,6 +84,27 @@ impl<H: HostModule> Session<H> {
         })
     }
 
+    /// The session as at its start, with so many statements in all: its objects are made again, and what is made of its units alone
+    /// is kept. The hosts stay in the states in which they are. After want of memory units and hosts are dropped.
+    pub fn restart(self, steps: u64) -> Result<Session<H>, Memory>
+        ensures linked { IfOk result (λ s. s.linked ≡ self.linked) }
+        ensures hosts { IfOk result (λ s. s.hosts ≡ self.hosts) }
+        ensures steps { IfOk result (λ s. s.steps ≡ steps) }
+        ensures standing { IfOk result (λ s. s.standing ≡ standing.Fresh) }
+        ensures journal { IfOk result (λ s. s.journal ≡ []) }
+        ensures inits { IfOk result (λ s. s.inits_run ≡ 0) }
+    {
+        let alloc = self.alloc;
+        let engine = self.engine.restart(alloc, steps)?;
+        Ok(Session {
+            alloc,
+            engine,
+            steps,
+            inits_run: 0,
+            standing: Standing::Fresh,
+        })
+    }
+
     /// Where the session stands: Fresh until `init` is called, then Ready exactly where every
     /// outcome so far was an end and memory was not wanting, else Over.
     pub fn phase(&self) -> Phase

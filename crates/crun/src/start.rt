@@ -3,11 +3,11 @@ ghost use Rattle.std.specs.Prelude.{◌≡◌, ◌-◌, [], IfOk};
 ghost use Rattle.c_hosts.specs.Asking.{hosts_of};
 ghost use Rattle.crun.specs.Entries.{HaveCounts};
 ghost use Rattle.crun.specs.HostSymbols.{symbols_of_hosts};
-ghost use Rattle.crun.specs.Engines.{IsReady};
+ghost use Rattle.crun.specs.Engines.{IsReady, IsStarted};
 ghost use Rattle.crun.specs.Sessions.{IsFirst};
 
 use crate::engine::Engine;
-use crate::startup::start_up;
+use crate::startup::{Startup, fresh_store, start_up};
 use c_hosts::{HostModule, Hosts, Journal};
 use c_link::Linked;
 use lin_mem::LinMem;
@@ -41,6 +41,51 @@ impl<H: HostModule> Engine<H> {
             depth: 0,
             hosts: Hosts {
                 list: hosts,
+                journal: Journal::new(alloc),
+            },
+            left,
+            not_made,
+        })
+    }
+
+    /// The same before its first statement: the objects are made again, and what is made of the units alone is kept. The hosts
+    /// stay in the states in which they are.
+    pub fn restart(self, alloc: Global, left: u64) -> Result<Engine<H>, Memory>
+        requires { IsStarted H.HostModule self }
+        ensures linked { IfOk result (λ e. e.linked ≡ self.linked) }
+        ensures hosts { IfOk result (λ e. e.hosts.list.items ≡ self.hosts.list.items) }
+        ensures left { IfOk result (λ e. e.left ≡ left) }
+        ensures depth { IfOk result (λ e. e.depth ≡ 0) }
+        ensures ready { IfOk result (λ e. IsReady H.HostModule e) }
+        ensures first { IfOk result (λ e. IsFirst H.HostModule e) }
+    {
+        let Engine {
+            linked,
+            startup,
+            depth: _,
+            hosts,
+            left: _,
+            not_made,
+        } = self;
+        let Startup {
+            units,
+            symbols,
+            types,
+            store: _,
+        } = startup;
+        let Hosts { list, journal: _ } = hosts;
+        let store = fresh_store(alloc, &linked)?;
+        Ok(Engine {
+            linked,
+            startup: Startup {
+                units,
+                symbols,
+                types,
+                store,
+            },
+            depth: 0,
+            hosts: Hosts {
+                list,
                 journal: Journal::new(alloc),
             },
             left,

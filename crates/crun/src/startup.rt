@@ -52,7 +52,7 @@ pub fn start_up(alloc: Global, linked: &Linked, counts: &[usize]) -> Result<Star
     let seen = shared(alloc, symbols(alloc, linked, counts)?)?;
     let units = linked_units(alloc, linked, &seen)?;
     let types = func_types(alloc, linked, counts)?;
-    let store = first_store(alloc, linked)?;
+    let store = fresh_store(alloc, linked)?;
     Ok(Startup {
         units,
         symbols: seen,
@@ -121,6 +121,18 @@ fn object_tables(
         functions: function_numbers(alloc, items)?,
         symbols: Rc::clone(symbols)?,
     })
+}
+
+/// The objects of linked units before the first statement.
+pub fn fresh_store(alloc: Global, linked: &Linked) -> Result<Store, Memory>
+    ensures stored { IfOk result (λ s. AreStored (naming_of (map unit_of linked.now.0)) s.units.items) }
+    ensures fresh { IfOk result (λ s. (p : Program) (replies : List Reply) → p.units ≡ map unit_of linked.now.0
+        → machine_of (naming_of p.units) 0 (record { replies = replies; events = [] }) s.units.items ≡ fresh p replies) }
+{
+    // That each unit keeps the rules is a clause of this.
+    let _ = linked.unit_count();
+    let store = first_store(alloc, linked)?;
+    Ok(store)
 }
 
 fn first_store(alloc: Global, linked: &Linked) -> Result<Store, Memory>

@@ -10,7 +10,8 @@ use Rattle.c_unit.specs.Items.{items}
 use Rattle.c_unit.specs.Sets.{IsAccepted, IsAcceptedSet, UnitsLink, program_of}
 use Rattle.wasm_set.specs.declared.set_module.SetModule.{SetModule}
 use Rattle.wasm_set.specs.Sets.{named_of, set_of}
-use Rattle.wast_run.specs.Joined.{Linked, units_in}
+use Rattle.crun.specs.Sessions.{State}
+use Rattle.wast_run.specs.Joined.{units_in}
 use Rattle.wast_run.specs.Ran.{alone}
 use Rattle.wast_run.proofs.Lists.{all_more}
 
@@ -37,8 +38,8 @@ module _ (modules : List SetModule) (m : SetModule) where
       subst (λ us. link_refusal (alone us) ≡ None) (sym (units_more before one are is)) (link _ accepted)
 
 -- where there are no units, no call fits
-pub none_fits : (modules : List SetModule) (units : Option Linked) → units_in units ≡ (program_of (set_of modules)).units → units ≡ None
-    → (call : ListedCall) → Fits (set_of modules) call → ⊥
-none_fits [] units are none call (f, ty, called, typed, params, numbers) = absurd cc
-none_fits (m ∷ modules) units are none call fits =
+pub none_fits : {H : Type 0} (modules : List SetModule) (session : Option (State H))
+    → units_in session ≡ (program_of (set_of modules)).units → session ≡ None → (call : ListedCall) → Fits (set_of modules) call → ⊥
+none_fits [] session are none call (f, ty, called, typed, params, numbers) = absurd cc
+none_fits (m ∷ modules) session are none call fits =
     let nothing : [] ≡ items (named_of m) ∷ map items (map named_of modules) = sym (ap units_in none) ∙ are in absurd cc

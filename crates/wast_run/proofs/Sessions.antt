@@ -130,6 +130,7 @@ nothing_asked {H} m before after old new asks no_hosts none_asked asked =
 pub runs_further : {H : Type 0} (m : HostModule H) (a b c : State H) → RunsTheSame m a b → RunsTheSame m b c → RunsTheSame m a c
 runs_further m a b c first second = record {
   linked = second.linked ∙ first.linked;
+  hosts = second.hosts ∙ first.hosts;
   program = second.program ∙ first.program;
   steps = second.steps ∙ first.steps;
 }
@@ -247,3 +248,10 @@ module _ {H : Type 0} (m : HostModule H) (start now : State H) (same : RunsTheSa
 pub program_is : {H : Type 0} (m : HostModule H) (s : State H) (linked : List (List Item) × List HostSymbol) → s.linked ≡ linked
     → s.hosts ≡ [] → program_of m s ≡ alone (map unit_of linked.0)
 program_is m s linked is no_hosts = (λ i. record { units = map unit_of (is i).0; hosts = hosts_of m (no_hosts i) })
+
+-- where no symbols are offered there are no hosts
+pub no_hosts_left : {H : Type 0} (m : HostModule H) (hosts before : List H) → hosts_of m hosts ≡ hosts_of m before → before ≡ []
+    → hosts ≡ []
+no_hosts_left m [] before same none = refl
+no_hosts_left m (h ∷ hosts) before same none =
+    let nothing : hosts_of m (h ∷ hosts) ≡ [] = same ∙ ap (hosts_of m) none in absurd cc

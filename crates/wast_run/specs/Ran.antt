@@ -9,6 +9,7 @@ use Rattle.c_tree.specs.Tree as tree
 use Rattle.c_meaning.specs.Linking.{Program, SymbolCall}
 use Rattle.c_meaning.specs.State.{Trapped, Undefined}
 use Rattle.c_meaning.specs.Run.{CRun, Ended, OutOfSteps, Stopped, c_run}
+use Rattle.c_hosts.specs.Asking.{hosts_of}
 use Rattle.c_hosts.specs.declared.host.HostModule.{Ghosts as HostModule}
 use Rattle.crun.specs.declared.outcome.Outcome.{Outcome}
 use Rattle.crun.specs.declared.outcome.Outcome.TheVariants as outcome
@@ -87,6 +88,7 @@ came_in (ran.Before outcome.OutOfSteps) = Some came.OutOfSteps
 -- the session still runs the same program
 pub record RunsTheSame {H : Type 0} (m : HostModule H) (before after : State H) : Type 0 where
   pub linked : after.linked ≡ before.linked
+  pub hosts : hosts_of m after.hosts ≡ hosts_of m before.hosts
   pub program : program_of m after ≡ program_of m before
   pub steps : after.steps ≡ before.steps
 

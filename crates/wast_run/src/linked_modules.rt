@@ -11,24 +11,24 @@ ghost use Rattle.wast_run.specs.Runs.{listed_call, listed_calls, HasCome};
 ghost use Rattle.wast_run.specs.Joined.{units_in, HaveUnits};
 
 use crate::module_units::{checked_unit, linked_alone};
+use crate::no_host::NoHost;
 use crate::runs::{Came, came_of, units_come_to_what_modules_come_to};
-use crate::session_runs::run_linked;
-use c_hosts::BoxedHost;
-use c_link::Linked;
+use crate::session_runs::run_again;
 use c_rules::CheckedUnit;
 use c_unit::{units_do_what_modules_do, units_of_a_linked_set_link};
+use crun::Session;
 use std::alloc::Global;
 use w2c_base::{Bytes, Memory, Value};
 use wasm_set::ModuleSet;
 use wasm_valid::ValidModule;
 use wast_script::Call;
 
-/// The modules that joined, in order, and their units: each was translated once, when its module joined, and they are linked.
-/// None where no module joined; after want of memory the units may be gone.
+/// The modules that joined, in order, and a session of their units, which were translated once, each when its module joined,
+/// and are linked. No session where no module joined; after want of memory it may be gone.
 #[derive(Drop)]
 pub(crate) struct LinkedModules {
     set: ModuleSet,
-    units: Option<Linked>,
+    session: Option<Session<NoHost>>,
 }
 
 impl LinkedModules {
@@ -39,7 +39,7 @@ impl LinkedModules {
     {
         LinkedModules {
             set: ModuleSet::new(alloc),
-            units: None,
+            session: None,
         }
     }
 
@@ -73,11 +73,11 @@ impl LinkedModules {
         };
         match self.set.join(alloc, name, module) {
             Ok(true) => {
-                let linked = match linked_with(alloc, self.units.take(), unit) {
-                    Ok(linked) => linked,
+                let session = match session_with(alloc, self.session.take(), unit) {
+                    Ok(session) => session,
                     Err(Memory) => return Err(Memory),
                 };
-                self.units = Some(linked);
+                self.session = Some(session);
                 Ok(true)
             }
             Ok(false) => Ok(false),
@@ -116,15 +116,15 @@ impl LinkedModules {
     {
         units_do_what_modules_do();
         units_come_to_what_modules_come_to();
-        let linked = match self.units.take() {
-            Some(linked) => linked,
+        let session = match self.session.take() {
+            Some(session) => session,
             None => unreachable!(),
         };
-        let (ran, linked) = match run_linked::<BoxedHost>(alloc, linked, kept, last, steps) {
+        let (ran, session) = match run_again(alloc, session, kept, last, steps) {
             Ok(ran) => ran,
             Err(Memory) => return Err(Memory),
         };
-        self.units = Some(linked);
+        self.session = Some(session);
         match came_of(ran) {
             Some(came) => Ok(came),
             None => unreachable!(),
@@ -132,11 +132,15 @@ impl LinkedModules {
     }
 }
 
-// The units that were linked before, if any, and one more, linked.
-fn linked_with(alloc: Global, before: Option<Linked>, unit: CheckedUnit) -> Result<Linked, Memory>
+// A session of the units that were linked before, if any, and of one more.
+fn session_with(
+    alloc: Global,
+    before: Option<Session<NoHost>>,
+    unit: CheckedUnit,
+) -> Result<Session<NoHost>, Memory>
     requires { link_refusal (alone (units_in before ++ unit_of unit ∷ [])) ≡ None }
-    ensures units { IfOk result (λ linked. map unit_of linked.0 ≡ units_in before ++ unit_of unit ∷ []) }
-    ensures no_hosts { IfOk result (λ linked. linked.1 ≡ []) }
+    ensures units { IfOk result (λ s. map unit_of s.linked.0 ≡ units_in before ++ unit_of unit ∷ []) }
+    ensures no_hosts { IfOk result (λ s. s.hosts ≡ []) }
 {
     let mut units = units_of(alloc, before);
     units.push(unit)?;
@@ -144,14 +148,18 @@ fn linked_with(alloc: Global, before: Option<Linked>, unit: CheckedUnit) -> Resu
         Ok(linked) => linked,
         Err(Memory) => return Err(Memory),
     };
-    Ok(linked)
+    let session = match Session::start(alloc, linked, Vec::new(alloc), 0) {
+        Ok(session) => session,
+        Err(Memory) => return Err(Memory),
+    };
+    Ok(session)
 }
 
-fn units_of(alloc: Global, before: Option<Linked>) -> Vec<CheckedUnit>
+fn units_of(alloc: Global, before: Option<Session<NoHost>>) -> Vec<CheckedUnit>
     ensures { map unit_of result.items ≡ units_in before }
 {
     match before {
-        Some(linked) => linked.into_units(),
+        Some(session) => session.into_linked().into_units(),
         None => Vec::new(alloc),
     }
 }

@@ -8,6 +8,7 @@ mod judging;
 mod law;
 mod linked_modules;
 mod module_units;
+mod no_host;
 mod reporting;
 mod runs;
 mod session_runs;

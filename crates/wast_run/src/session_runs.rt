@@ -6,11 +6,11 @@ ghost use Rattle.c_meaning.specs.Linking.{SymbolCall, fits};
 ghost use Rattle.c_meaning.specs.Run.{c_run};
 ghost use Rattle.c_sound.specs.NeverStuck.{AllFit};
 ghost use Rattle.crun.specs.declared.outcome.Standing.TheVariants as standing;
+ghost use Rattle.c_hosts.specs.Asking.{hosts_of};
 ghost use Rattle.crun.specs.Sessions.{program_of, IsLast};
 ghost use Rattle.wast_run.specs.Ran.{alone, run_of, symbol_of, stop_in, symbols_in, symbols_of, CameTo, HasRan, IsBehind, RunsTheSame, StopsAt};
 
 use c_hosts::HostModule;
-use c_link::Linked;
 use crun::{Outcome, Session, Stop};
 use std::alloc::Global;
 use w2c_base::{Bytes, Memory};
@@ -24,25 +24,27 @@ pub(crate) enum Ran {
     Before(Outcome),
 }
 
-/// Runs linked units without hosts, with at most so many statements, from fresh objects, and gives the units back.
-pub(crate) fn run_linked<H: HostModule>(
+/// Runs the units of a session without hosts, from fresh objects and with at most so many statements, and gives the session
+/// back.
+pub(crate) fn run_again<H: HostModule>(
     alloc: Global,
-    linked: Linked,
+    session: Session<H>,
     kept: &[&Call],
     last: &Call,
     steps: u64,
-) -> Result<(Ran, Linked), Memory>
-    requires no_hosts { linked.1 ≡ [] }
-    requires fit { AllFit (alone (map unit_of linked.0)) (symbols_of kept.now last.now) }
-    ensures ran { IfOk result (λ r. HasRan (c_run (alone (map unit_of linked.0)) (symbols_of kept.now last.now) steps []) (length kept.now) r.0) }
-    ensures same { IfOk result (λ r. r.1 ≡ linked) }
+) -> Result<(Ran, Session<H>), Memory>
+    requires no_hosts { session.hosts ≡ [] }
+    requires fit { AllFit (alone (map unit_of session.linked.0)) (symbols_of kept.now last.now) }
+    ensures ran { IfOk result (λ r. HasRan (c_run (alone (map unit_of session.linked.0)) (symbols_of kept.now last.now) steps []) (length kept.now) r.0) }
+    ensures linked { IfOk result (λ r. r.1.linked ≡ session.linked) }
+    ensures hosts { IfOk result (λ r. r.1.hosts ≡ []) }
 {
-    let mut session: Session<H> = match Session::start(alloc, linked, Vec::new(alloc), steps) {
+    let mut session = match session.restart(steps) {
         Ok(session) => session,
         Err(Memory) => return Err(Memory),
     };
     match run_all(alloc, &mut session, kept, last) {
-        Ok(ran) => Ok((ran, session.into_linked())),
+        Ok(ran) => Ok((ran, session)),
         Err(Memory) => Err(Memory),
     }
 }
@@ -59,7 +61,8 @@ fn run_all<H: HostModule>(
     requires none_asked { session.old.journal ≡ [] }
     requires fit { AllFit (program_of H.HostModule session.old) (symbols_of kept.now last.now) }
     ensures ran { IfOk result (HasRan (run_of H.HostModule session.old (symbols_of kept.now last.now)) (length kept.now)) }
-    ensures same { session.new.linked ≡ session.old.linked }
+    ensures linked { session.new.linked ≡ session.old.linked }
+    ensures hosts { hosts_of H.HostModule session.new.hosts ≡ hosts_of H.HostModule session.old.hosts }
 {
     match run_inits(session) {
         Ok(None) => {}

@@ -5,7 +5,6 @@ use Rattle.crun.specs.Called.{AreSymbols}
 use Rattle.crun.specs.Names.{naming_of}
 use Rattle.crun.specs.Units.{AreUnits}
 use Rattle.crun.proofs.CalledFound.{symbols_are}
-use Rattle.crun.proofs.First.{are_stored, is_fresh}
 use Rattle.crun.proofs.TablesFound.{linked, unit_tables}
 use Rattle.crun.proofs.TypesFound.{types_are}
 use Rattle.crun.proofs.startup.start_up.Goals as goal
@@ -25,12 +24,6 @@ returns-clause-types c p is have =
     types_are p (map unit_of c.args.linked.now.0) c.args.linked.now.1 c.args.counts.now is have c.in_ok-units.ensures.checked
     c.in_ok-types.types
     c.in_ok-types.ensures.units c.in_ok-types.ensures.hosts
-
-pub returns-clause-stored : goal.returns-clause-stored
-returns-clause-stored c = are_stored _ _ c.in_ok-units.ensures.checked c.in_ok-store.ensures
-
-pub returns-clause-fresh : goal.returns-clause-fresh
-returns-clause-fresh c p replies same = is_fresh p _ _ c.in_ok-store.ensures same replies
 
 pub returns-clause-symbols : goal.returns-clause-symbols
 returns-clause-symbols c p is have =

@@ -45,6 +45,10 @@ returns-in-Ok-clause-ran g c =
     last_came g.H.HostModule c.args.session.now c.run_kept.new.session same c.args.kept.now c.args.last.now c.in-Ok.outcome
     (c.in-Ok-None-run_kept.ensures.behind c.in-Ok-None-run_kept.field-0-is) c.in-Ok.ensures.came
 
-pub returns-in-Ok-clause-same : goal.returns-in-Ok-clause-same
-returns-in-Ok-clause-same g c =
+pub returns-in-Ok-clause-linked : goal.returns-in-Ok-clause-linked
+returns-in-Ok-clause-linked g c =
     c.run_call.ensures.same.linked ∙ c.run_kept.ensures.same.linked ∙ c.run_inits.ensures.same.linked
+
+pub returns-in-Ok-clause-hosts : goal.returns-in-Ok-clause-hosts
+returns-in-Ok-clause-hosts g c =
+    c.run_call.ensures.same.hosts ∙ c.run_kept.ensures.same.hosts ∙ c.run_inits.ensures.same.hosts

@@ -33,7 +33,7 @@ returns-clause-ready g c =
         not_made = c.in_ok-not_made.ensures;
       };
       stored = c.in_ok-startup.ensures.stored;
-      typed = first_typed g.H.HostModule e c.requires typed
+      typed = first_typed g.H.HostModule e typed
           (λ replies. c.in_ok-startup.ensures.fresh (program_in g.H.HostModule e) replies refl);
     }
 

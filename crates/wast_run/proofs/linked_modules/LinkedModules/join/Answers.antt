@@ -8,8 +8,8 @@ use Rattle.wast_run.specs.Joined.{units_in}
 use Rattle.wast_run.proofs.JoinedUnits.{links_more, set_more, units_more}
 use Rattle.wast_run.proofs.linked_modules.LinkedModules.join.Goals as goal
 
-pub linked_with-requires : goal.linked_with-requires
-linked_with-requires c =
+pub session_with-requires : goal.session_with-requires
+session_with-requires c =
     let set = c.args.self.now.set in
     let m : SetModule = record { name = c.args.name; «module» = c.args.«module» } in
     let accepted = subst (λ (n : List ℕ). IsAccepted (record { name = n; tree = c.args.«module» })) c.as_slice.ensures
@@ -19,11 +19,11 @@ linked_with-requires c =
     (ap units_in c.take.ensures.value ∙ c.requires.units.units) is
     (set_more set m c.requires.units.accepted accepted (c.in-Ok-true.ensures.linked c.in-Ok-true.field-0-test))
 
-pub returns-in-Ok-linked_with-clause-linked : goal.returns-in-Ok-linked_with-clause-linked
-returns-in-Ok-linked_with-clause-linked c = λ t. c.in-Ok-true.ensures.linked c.in-Ok-true.field-0-test
+pub returns-in-Ok-session_with-clause-linked : goal.returns-in-Ok-session_with-clause-linked
+returns-in-Ok-session_with-clause-linked c = λ t. c.in-Ok-true.ensures.linked c.in-Ok-true.field-0-test
 
-pub returns-in-Ok-linked_with-clause-units : goal.returns-in-Ok-linked_with-clause-units
-returns-in-Ok-linked_with-clause-units c =
+pub returns-in-Ok-session_with-clause-units : goal.returns-in-Ok-session_with-clause-units
+returns-in-Ok-session_with-clause-units c =
     let set = c.args.self.now.set in
     let m : SetModule = record { name = c.args.name; «module» = c.args.«module» } in
     let accepted = subst (λ (n : List ℕ). IsAccepted (record { name = n; tree = c.args.«module» })) c.as_slice.ensures
@@ -31,10 +31,10 @@ returns-in-Ok-linked_with-clause-units c =
     let is = c.in-Ok.ensures.unit ∙ ap (λ (n : List ℕ). items (record { name = n; tree = c.args.«module» })) c.as_slice.ensures in
     let new = c.in-Ok-true.ensures.joined c.in-Ok-true.field-0-test in
     record {
-      units = c.in-Ok-linked_with.ensures.units
+      units = c.in-Ok-session_with.ensures.units
           ∙ units_more set m (units_in c.take.result) (unit_of c.in-Ok.unit) (ap units_in c.take.ensures.value ∙ c.requires.units.units) is
           ∙ ap (λ ms. (program_of (set_of ms)).units) (sym new);
-      no_hosts = c.in-Ok-linked_with.ensures.no_hosts;
+      no_hosts = c.in-Ok-session_with.ensures.no_hosts;
       accepted = subst (λ ms. IsAcceptedSet (set_of ms)) (sym new)
           (set_more set m c.requires.units.accepted accepted (c.in-Ok-true.ensures.linked c.in-Ok-true.field-0-test));
     }

@@ -4,7 +4,7 @@ use Rattle.c_unit.specs.Sets.{program_of}
 use Rattle.wasm_meaning.specs.Run.{Fits}
 use Rattle.wasm_set.specs.Sets.{set_of}
 use Rattle.w2c_sim.proofs.Wiring.{calls_fit}
-use Rattle.wast_run.specs.Joined.{HaveNoHosts, units_in}
+use Rattle.wast_run.specs.Joined.{HasNoHosts, units_in}
 use Rattle.wast_run.specs.Ran.{alone, symbols_of}
 use Rattle.wast_run.specs.Runs.{listed_call, listed_calls}
 use Rattle.wast_run.proofs.Comes.{all_fit, came_to_something, count_is, has_come, is_long, ran_by_set, symbols_are}
@@ -16,14 +16,14 @@ pub unreachable-requires : goal.unreachable-requires
 unreachable-requires c =
     let joined = c.args.self.now in
     let kept = listed_calls c.args.kept.now in
-    none_fits joined.set joined.units c.requires.units.units (sym c.take.ensures.value ∙ c.in-None.is) (listed_call c.args.last.now)
+    none_fits joined.set joined.session c.requires.units.units (sym c.take.ensures.value ∙ c.in-None.is) (listed_call c.args.last.now)
     (all_last (Fits (set_of joined.set)) kept (listed_call c.args.last.now) c.requires.fit)
 
-pub run_linked-requires-clause-no_hosts : goal.run_linked-requires-clause-no_hosts
-run_linked-requires-clause-no_hosts c = subst HaveNoHosts (sym c.take.ensures.value ∙ c.in-Some.is) c.requires.units.no_hosts
+pub run_again-requires-clause-no_hosts : goal.run_again-requires-clause-no_hosts
+run_again-requires-clause-no_hosts c = subst HasNoHosts (sym c.take.ensures.value ∙ c.in-Some.is) c.requires.units.no_hosts
 
-pub run_linked-requires-clause-fit : goal.run_linked-requires-clause-fit
-run_linked-requires-clause-fit c =
+pub run_again-requires-clause-fit : goal.run_again-requires-clause-fit
+run_again-requires-clause-fit c =
     let s = set_of c.args.self.now.set in
     let calls = listed_calls c.args.kept.now ++ listed_call c.args.last.now ∷ [] in
     let units = ap units_in (sym c.in-Some.is ∙ c.take.ensures.value) ∙ c.requires.units.units in
