@@ -1,9 +1,11 @@
 #!/usr/bin/env python3
 """modules.py [FILE]: says of each row of modules what the tables of the binary format and of the typing rules say, without
-the product, and of an accepted one its shortest file where the row is not that. It prints what crates/module_rows/stdout
-should hold. Written from WebAssembly Core 1.0, chapters 3 and 5, from Core 2.0 for sign extension, memory.copy, memory.fill and the
+the product, and of an accepted one its shortest file where the row is not that. It prints what crates/rows/stdout
+should hold of them. Written from WebAssembly Core 1.0, chapters 3 and 5, from Core 2.0 for sign extension, memory.copy, memory.fill and the
 data count section, and from the limits and causes of this project."""
 import sys
+
+from part import rows
 
 MODULE_BYTES, PARAMETERS, RESULTS, NAME_LENGTH, FUNCTIONS = 8388608, 60, 1, 1024, 100000
 LOCALS, ALL_LOCALS, BLOCK_DEPTH, MEMORY_PAGES, TABLE_LENGTH = 50000, 1000000, 500, 16384, 1000000
@@ -610,12 +612,10 @@ def verdict(data):
 
 
 def main():
-    with open(sys.argv[1]) if len(sys.argv) > 1 else sys.stdin as rows:
-        for line in rows:
-            line = line.rstrip('\n')
-            if line and not line.startswith('#'):
-                name, digits = line.split(':', 1)
-                print(f'{name}: {verdict(bytes.fromhex(digits))}')
+    with open(sys.argv[1]) if len(sys.argv) > 1 else sys.stdin as lines:
+        for line in rows('modules', lines):
+            name, digits = line.split(':', 1)
+            print(f'{name}: {verdict(bytes.fromhex(digits))}')
 
 
 if __name__ == '__main__':

@@ -1,24 +1,20 @@
 #!/usr/bin/env python3
 """mutated.py modules|units COUNT SEED: writes rows like those of the gate with a few bytes or tokens changed, for a comparison
 of the program with modules.py or units.py on inputs that nobody chose."""
-import pathlib
 import random
 import re
 import sys
 
+import part
 import units
 from modules import LOADS, NUMERIC, STORES, verdict
 
 CODES = [0x00, 0x02, 0x03, 0x04, 0x05, 0x0b, 0x0c, 0x0d, 0x0e, 0x0f, 0x10, 0x11, 0x1a, 0x1b, 0x20, 0x21, 0x22, 0x23, 0x24, 0x41, 0x42, 0xfc,
          *LOADS, *STORES, *NUMERIC]
 
-crates = pathlib.Path(__file__).resolve().parents[2] / "crates"
 
-
-def rows(crate):
-    for line in (crates / crate / "stdin").read_text().splitlines():
-        if line and not line.startswith("# "):
-            yield line
+def rows(kind):
+    return part.rows(kind, part.stored("stdin"))
 
 
 def mutated_bytes(data):
@@ -41,7 +37,7 @@ def mutated_bytes(data):
 
 
 def modules(count):
-    files = [bytes.fromhex(line.split(":", 1)[1]) for line in rows("module_rows")]
+    files = [bytes.fromhex(line.split(":", 1)[1]) for line in rows("modules")]
     files = [file for file in files if 12 < len(file) < 400 and not verdict(file).startswith(("malformed", "limit", "float"))]
     for number in range(count):
         yield f"{number}: {mutated_bytes(random.choice(files)).hex(' ')}"
@@ -58,7 +54,7 @@ def tokens_of(text):
 
 def units_mutated(count):
     texts, front, back = [], "", ""
-    for line in rows("unit_rows"):
+    for line in rows("units"):
         if line[0] in "<>":
             front, back = (line[1:], back) if line[0] == "<" else (front, line[1:])
         else:
@@ -89,7 +85,7 @@ def units_mutated(count):
 def main():
     random.seed(int(sys.argv[3]))
     make = {"modules": modules, "units": units_mutated}[sys.argv[1]]
-    print("\n".join(make(int(sys.argv[2]))))
+    print("\n".join([f"[{sys.argv[1]}]", *make(int(sys.argv[2]))]))
 
 
 main()

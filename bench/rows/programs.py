@@ -2,12 +2,13 @@
 # crates/program_rows. A row stands where the features that it needs are named: `linked` (crun runs units of any module, one
 # or several), `state`, `words` (options in any order), `set` (--dir), `gen`, `wast` (scripts of assertions), `large` (what takes a
 # minute or more). What must be said is written here by hand, or computed as the standard has it. The programs have no part in it, but
-# for the texts of two units, which are those that crates/translation_rows has.
+# for the texts of two units, which are those that crates/rows has.
 import json
 import subprocess
 import sys
 import pathlib
 
+import part
 import units
 from wat import (body, call, element, exported, func_type, global_type, i32, imported, limits, local, module, segment, signed,
                  unsigned)
@@ -114,11 +115,11 @@ TWO = bytes.fromhex("0061736d010000000105016000017f030201000705010166" "00000a09
 FRONT = TWO[:26]
 ADD_H = ["/* made by wasm2c; int has 32 bits and every character of a name counts */", "#ifndef W2CZ_addZ_H", "#define W2CZ_addZ_H",
          '#include "w2c_rt.h"', "void w2cZ_addZ_i(void);", "u32 w2cZ_addZ_fZ_add(u32, u32);", "#endif"]
-TRANSLATED = (HERE.parents[1] / "crates/translation_rows/stdout").read_text().splitlines()
+TRANSLATED = list(part.part("translations", part.stored("stdout")))
 
 
 def translated(name):
-    """The lines of a unit and of its header, as crates/translation_rows has them from `translate` itself."""
+    """The lines of a unit and of its header, as crates/rows has them from `translate` itself."""
     at = TRANSLATED.index(f"{name}: ") + 1
     end = TRANSLATED.index(ADD_H[0], at)
     return TRANSLATED[at:end], TRANSLATED[end:TRANSLATED.index("#endif", end) + 1]

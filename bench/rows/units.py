@@ -1,8 +1,10 @@
 #!/usr/bin/env python3
 """units.py [FILE]: says of each row of units what the grammar and the rules of the C subset say, without the product. It
-prints what crates/unit_rows/stdout should hold. Written from the tables of the grammar and of the rules, not from the code."""
+prints what crates/rows/stdout should hold of them. Written from the tables of the grammar and of the rules, not from the code."""
 import re
 import sys
+
+from part import rows
 
 sys.setrecursionlimit(100000)
 INCLUDE = '#include "w2c_rt.h"\n'
@@ -531,11 +533,8 @@ def plain(text):
 
 def main():
     front = back = ''
-    with open(sys.argv[1]) if len(sys.argv) > 1 else sys.stdin as rows:
-        for line in rows:
-            line = line.rstrip('\n')
-            if not line or line.startswith('# '):
-                continue
+    with open(sys.argv[1]) if len(sys.argv) > 1 else sys.stdin as lines:
+        for line in rows('units', lines):
             if line[0] == '<':
                 front = plain(line[1:])
             elif line[0] == '>':

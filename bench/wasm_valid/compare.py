@@ -6,6 +6,9 @@ import subprocess
 import sys
 import tempfile
 
+sys.path.insert(0, str(pathlib.Path(__file__).resolve().parents[1] / "rows"))
+import part
+
 OPTIONS = ["--disable-reference-types", "--disable-multi-value", "--disable-saturating-float-to-int", "--disable-simd"]
 # Core 1.0 validates offsets in the whole context (3.4.5, 3.4.6); WABT lets them get imported globals alone.
 KNOWN = {"initializer expression can only reference an imported global", "call_indirect reserved value must be 0"}
@@ -16,15 +19,11 @@ ACCEPTED = {"a global, without end", "a body that ends inside a block", "a data 
             "opcode 1c in dead code", "data count 1 and no data section", "data count 1, and the file ends behind a body",
             "data count of 4294967295"}
 
-rows = pathlib.Path(__file__).resolve().parents[2] / "crates/module_rows"
-verdicts = dict(line.split(": ", 1)
-                for line in (rows / "stdout").read_text().splitlines())
+verdicts = dict(line.split(": ", 1) for line in part.part("modules", part.stored("stdout")))
 count = unlike = known = passed = 0
 with tempfile.TemporaryDirectory() as folder:
     path = pathlib.Path(folder) / "row.wasm"
-    for line in (rows / "stdin").read_text().splitlines():
-        if not line or line.startswith("#"):
-            continue
+    for line in part.rows("modules", part.stored("stdin")):
         name, digits = line.split(":", 1)
         verdict = verdicts[name]
         if verdict.startswith(("float", "limit")):

@@ -11,7 +11,7 @@ use Rattle.c_sound.proofs.Changes.{trail_keeps}
 use Rattle.c_sound.proofs.Lists.{all_from}
 use Rattle.c_sound.proofs.Units.{typed_program}
 use Rattle.c_link.specs.Programs.{AllChecked, IsProgramOf}
-use Rattle.crun.specs.Entries.{HaveCounts}
+use Rattle.crun_startup.specs.Entries.{HaveCounts}
 use Rattle.crun.specs.HostSymbols.{symbols_of_hosts}
 use Rattle.crun.proofs.HostSymbols.{symbols_mean}
 use Rattle.c_hosts.specs.declared.host.HostModule.{Ghosts as HostModule}

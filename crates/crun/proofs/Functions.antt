@@ -24,8 +24,8 @@ use Rattle.c_thread.specs.declared.control.LinkedUnit.{LinkedUnit}
 use Rattle.c_thread.specs.declared.linked.LinkedFrame.{LinkedFrame}
 use Rattle.c_thread.specs.declared.linked.LinkedThread.{LinkedThread}
 use Rattle.c_thread.specs.FuncTypes.{AreFuncTypes}
-use Rattle.crun.specs.Called.{AreSymbols}
-use Rattle.crun.specs.Names.{naming_of}
+use Rattle.crun_startup.specs.Called.{AreSymbols}
+use Rattle.crun_startup.specs.Names.{naming_of}
 use Rattle.c_thread.specs.Linked.{below_in, begun_in, items_at, machine_in, running_in, state_in, HaveUnitTables, IsLinked}
 use Rattle.c_hosts.specs.declared.host.HostModule.{Ghosts as HostModule}
 use Rattle.c_hosts.specs.declared.running.Ending.{Ending}

@@ -47,8 +47,8 @@ use Rattle.c_sound.proofs.Lists.{all_at}
 use Rattle.c_sound.proofs.Runs.{all_inits_begin}
 use Rattle.c_objects.specs.Views.{Naming, item_name}
 use Rattle.c_link.proofs.Walks.{numbered_at, take_next}
-use Rattle.crun.specs.Inits.{UnitItem, address_in}
-use Rattle.crun.specs.Names.{naming_of}
+use Rattle.crun_startup.specs.Inits.{UnitItem, address_in}
+use Rattle.crun_startup.specs.Names.{naming_of}
 use Rattle.c_hosts.specs.declared.host.HostModule.{Ghosts as HostModule}
 use Rattle.c_hosts.specs.declared.journal.Asked.{Asked}
 use Rattle.c_hosts.specs.Journals.{ask_of, event_in, events_in, replies_in}

@@ -13,7 +13,7 @@ use Rattle.c_tree.specs.Tree as tree
 use Rattle.c_tree.specs.View.{unit_of}
 use Rattle.c_thread.specs.declared.control.LinkedUnit.{LinkedUnit}
 use Rattle.c_thread.specs.declared.scope.ObjectTables.{ObjectTables}
-use Rattle.crun.specs.Names.{unit_names}
+use Rattle.crun_startup.specs.Names.{unit_names}
 use Rattle.c_hosts.specs.declared.host.HostModule.{Ghosts as HostModule}
 use Rattle.crun.specs.declared.engine.Engine.{Engine}
 use Rattle.crun.specs.Engines.{naming_in, units_at, IsStarted}

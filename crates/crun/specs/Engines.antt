@@ -15,8 +15,8 @@ use Rattle.c_objects.specs.Views.{item_name, Naming}
 use Rattle.c_thread.specs.declared.linked.LinkedFrame.{LinkedFrame}
 use Rattle.c_thread.specs.FuncTypes.{AreFuncTypes}
 use Rattle.c_thread.specs.Linked.{running_in, HaveUnitTables, IsLinked}
-use Rattle.crun.specs.Called.{AreSymbols}
-use Rattle.crun.specs.Names.{naming_of}
+use Rattle.crun_startup.specs.Called.{AreSymbols}
+use Rattle.crun_startup.specs.Names.{naming_of}
 use Rattle.c_hosts.specs.declared.host.HostModule.{Ghosts as HostModule}
 use Rattle.c_hosts.specs.declared.journal.Asked.{Asked}
 use Rattle.c_hosts.specs.declared.running.Ending.{Ending}

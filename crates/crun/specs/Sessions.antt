@@ -12,7 +12,7 @@ use Rattle.c_link.specs.declared.host_symbol.HostSymbol.{HostSymbol}
 use Rattle.c_objects.specs.declared.store.UnitObjects.{UnitObjects}
 use Rattle.c_objects.specs.Stores.{units_of}
 use Rattle.c_objects.specs.Views.{item_name}
-use Rattle.crun.specs.Names.{naming_of}
+use Rattle.crun_startup.specs.Names.{naming_of}
 use Rattle.c_hosts.specs.Asking.{hosts_of}
 use Rattle.c_hosts.specs.declared.host.HostModule.{Ghosts as HostModule}
 use Rattle.c_hosts.specs.declared.journal.Asked.{Asked}

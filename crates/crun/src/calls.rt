@@ -8,10 +8,10 @@ ghost use Rattle.crun.specs.declared.outcome.Outcome.TheVariants as outcomes;
 ghost use Rattle.crun.specs.Engines.{naming_in, program_in, IfEnded, IsReady, SameProgram};
 ghost use Rattle.crun.specs.Sessions.{SymbolCame, SymbolCamePart};
 
-use crate::called::called_function;
 use crate::engine::Engine;
 use crate::outcome::Outcome;
 use c_hosts::HostModule;
+use crun_startup::called_function;
 use std::alloc::Global;
 use w2c_base::{Memory, Value};
 

@@ -4,7 +4,7 @@ ghost use Rattle.w2c_base.specs.Run.{asks_in, Ask, Init};
 ghost use Rattle.c_meaning.specs.Linking.{init_functions as functions_of, SymbolCall};
 ghost use Rattle.c_meaning.specs.Run.{c_run, entries_of};
 ghost use Rattle.c_objects.specs.Stores.{AreStored};
-ghost use Rattle.crun.specs.Inits.{address_in};
+ghost use Rattle.crun_startup.specs.Inits.{address_in};
 ghost use Rattle.c_hosts.specs.declared.journal.Asked.{Asked};
 ghost use Rattle.c_hosts.specs.Journals.{ask_of, events_in, replies_in};
 ghost use Rattle.c_hosts.specs.Running.{Asks};

@@ -8,7 +8,7 @@ ghost use Rattle.c_meaning.specs.Linking.{fits, SymbolCall};
 ghost use Rattle.c_meaning.specs.Run.{c_run};
 ghost use Rattle.c_objects.specs.Stores.{AreStored};
 ghost use Rattle.crun.specs.HostSymbols.{symbols_of_hosts};
-ghost use Rattle.crun.specs.Names.{naming_of};
+ghost use Rattle.crun_startup.specs.Names.{naming_of};
 ghost use Rattle.c_hosts.specs.declared.journal.Asked.{Asked};
 ghost use Rattle.c_hosts.specs.Asking.{hosts_of};
 ghost use Rattle.c_hosts.specs.Journals.{ask_of, events_in, replies_in};
@@ -23,11 +23,11 @@ ghost use Rattle.crun.specs.Shown.{bytes_in, bytes_of, element_seen, elements_co
 ghost use Rattle.crun.specs.Sessions.{init_count, objects_of, phase_of, program_of, standing_of, told_by, AreBegun, IfOver, IsLast, IsOutcome, Stands};
 
 use crate::engine::Engine;
-use crate::inits::init_functions;
 use crate::outcome::{Kept, Outcome, Phase, Standing, Stop};
 use crate::shown::Element;
 use c_hosts::{HostModule, Hosts, Journal};
 use c_link::Linked;
+use crun_startup::init_functions;
 use lin_mem::LinMem;
 use std::alloc::Global;
 use std::marker::Model;

@@ -1,15 +1,15 @@
 // What a session begins with.
 ghost use Rattle.std.specs.Prelude.{◌≡◌, ◌-◌, [], IfOk};
 ghost use Rattle.c_hosts.specs.Asking.{hosts_of};
-ghost use Rattle.crun.specs.Entries.{HaveCounts};
+ghost use Rattle.crun_startup.specs.Entries.{HaveCounts};
 ghost use Rattle.crun.specs.HostSymbols.{symbols_of_hosts};
 ghost use Rattle.crun.specs.Engines.{IsReady, IsStarted};
 ghost use Rattle.crun.specs.Sessions.{IsFirst};
 
 use crate::engine::Engine;
-use crate::startup::{Startup, fresh_store, start_up};
 use c_hosts::{HostModule, Hosts, Journal};
 use c_link::Linked;
+use crun_startup::{Startup, fresh_store, start_up};
 use lin_mem::LinMem;
 use std::alloc::Global;
 use w2c_base::Memory;

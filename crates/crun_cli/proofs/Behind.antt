@@ -25,12 +25,12 @@ use Rattle.crun_lines.specs.StateLines.{state_lines}
 use Rattle.crun_lines.proofs.Events.{event_lines_append}
 use Rattle.crun_cli.specs.Playing.{lines_at, run_at, HasPlayed, IsBehind, IsLeft, IsSince, IsStored}
 use Rattle.host_replay.specs.Runs.{asked_events}
-use Rattle.crun_cli.specs.Recording.{HasAsked}
-use Rattle.crun_cli.specs.Runs.{HasPart, HasStatus}
+use Rattle.crun_cli.specs.Recording.{HasAsked, HasPartLeaving}
+use Rattle.crun_cli.specs.Runs.{HasStatus}
 use Rattle.crun_cli.specs.Views.{lines_behind, status_of_outcome}
 use Rattle.crun_cli.proofs.Lines.{asks_are, asks_are_asked, call_lines, came_out, end_is, inits_lines, status_is, told_asks}
 use Rattle.crun_cli.proofs.Sessions.{has_ended, told_in_front}
-use Rattle.crun_cli.proofs.Written.{part_behind, part_in_front, says_nothing, whole_behind}
+use Rattle.program_words.proofs.Written.{part_behind, part_in_front, says_nothing, whole_behind}
 
 -- hosts have answered these asks, and then those
 answered_append : {H : Type 0} (m : HostModule H) (before middle after : List H) (asks more : List Asked)
@@ -349,19 +349,22 @@ module _ {H : Type 0} (m : HostModule H) (e : State H) where
     all_lines shown = refl
 
     pub left_part : (shown : Bool) (now : Option (List ℕ)) → IsLeft m e s calls old now
-        → HasPart m e.hosts (map unit_of e.linked.0) calls e.steps shown old now
+        → HasPartLeaving m e.hosts (map unit_of e.linked.0) calls e.steps shown old now s.hosts
     left_part shown now left = record {
-      asks = s.journal;
-      after = s.hosts;
-      answered = left.since.answered;
-      more = left.more;
-      first = left.first;
-      part = subst (SaysPart old now) (all_lines shown)
-          (part_in_front old now (lines_at m e s calls) (if shown then state_lines hosts the_run.units else []) left.part);
+      part = record {
+        asks = s.journal;
+        after = s.hosts;
+        answered = left.since.answered;
+        more = left.more;
+        first = left.first;
+        part = subst (SaysPart old now) (all_lines shown)
+            (part_in_front old now (lines_at m e s calls) (if shown then state_lines hosts the_run.units else []) left.part);
+      };
+      hosts_are = refl;
     }
 
     module _ (middle : Option (List ℕ)) (status : ℕ) (played : HasPlayed m e s calls old middle status) where
-      pub ran_alone : HasAsked m e.hosts (map unit_of e.linked.0) calls e.steps false old middle status s.journal
+      pub ran_alone : HasAsked m e.hosts (map unit_of e.linked.0) calls e.steps false old middle status s.journal s.hosts
       ran_alone = record {
         run = record {
           asks = s.journal;
@@ -372,13 +375,14 @@ module _ {H : Type 0} (m : HostModule H) (e : State H) where
           lines = played.printed ∙ ap (extended old) (sym (append-nil (lines_at m e s calls)) ∙ all_lines false);
         };
         asks_are = refl;
+        hosts_are = refl;
       }
 
       state_is : state_lines (hosts_of m s.hosts) (objects_of s) ≡ state_lines hosts the_run.units
       state_is = ap (λ hs. state_lines hs (objects_of s)) played.since.hosts ∙ ap (state_lines hosts) (sym played.objects)
 
       pub ran_shown : (now : Option (List ℕ)) → now ≡ extended middle (state_lines (hosts_of m s.hosts) (objects_of s))
-          → HasAsked m e.hosts (map unit_of e.linked.0) calls e.steps true old now status s.journal
+          → HasAsked m e.hosts (map unit_of e.linked.0) calls e.steps true old now status s.journal s.hosts
       ran_shown now printed = record {
         run = record {
           asks = s.journal;
@@ -390,17 +394,21 @@ module _ {H : Type 0} (m : HostModule H) (e : State H) where
               (printed ∙ ap (extended middle) state_is) ∙ ap (extended old) (all_lines true);
         };
         asks_are = refl;
+        hosts_are = refl;
       }
 
       pub shown_part : (now : Option (List ℕ)) → SaysPart middle now (state_lines (hosts_of m s.hosts) (objects_of s))
-          → HasPart m e.hosts (map unit_of e.linked.0) calls e.steps true old now
+          → HasPartLeaving m e.hosts (map unit_of e.linked.0) calls e.steps true old now s.hosts
       shown_part now part = record {
-        asks = s.journal;
-        after = s.hosts;
-        answered = played.since.answered;
-        more = [];
-        first = asks_are the_run.events s.journal played.asks ∙ sym (append-nil (map ask_of s.journal));
-        part = subst (SaysPart old now) (all_lines true)
-            (part_behind old middle now (lines_at m e s calls) (state_lines hosts the_run.units) played.printed
-            (subst (SaysPart middle now) state_is part));
+        part = record {
+          asks = s.journal;
+          after = s.hosts;
+          answered = played.since.answered;
+          more = [];
+          first = asks_are the_run.events s.journal played.asks ∙ sym (append-nil (map ask_of s.journal));
+          part = subst (SaysPart old now) (all_lines true)
+              (part_behind old middle now (lines_at m e s calls) (state_lines hosts the_run.units) played.printed
+              (subst (SaysPart middle now) state_is part));
+        };
+        hosts_are = refl;
       }

@@ -3,7 +3,7 @@ use Rattle.std.proofs.Common.{◌≡◌, ℕ, ◌+◌, ◌<◌, List, [], ◌∷
 use Rattle.std.proofs.lemmas.List.{length-map, length-take-le}
 use Rattle.crun_job.specs.declared.calls_file.NamedCall.{NamedCall}
 use Rattle.crun_job.specs.Seen.{call_seen, calls_seen}
-use Rattle.crun_cli.proofs.Loops.{mapped_next, mapped_split}
+use Rattle.program_words.proofs.Loops.{mapped_next, mapped_split}
 
 pub calls_split : (calls : List NamedCall) (k : ℕ) (call : NamedCall) → k < length calls → call ≡ get_or calls k call
     → take k (calls_seen calls) ++ call_seen call ∷ drop (k + 1) (calls_seen calls) ≡ calls_seen calls

@@ -28,6 +28,7 @@ use Rattle.c_hosts.specs.Asking.{hosts_of}
 use Rattle.c_hosts.specs.Journals.{replies_in}
 use Rattle.crun_lines.specs.RunLines.{lines_of}
 use Rattle.crun_words.specs.CallLine.{Call, IsBytes, SaysCall}
+use Rattle.program_words.specs.Command.{rows_read}
 use Rattle.crun_words.specs.Command.{values_of}
 use Rattle.crun_words.specs.CommandLine.{Line, RunLine, line_of, runs}
 use Rattle.crun_words.specs.Inputs.{AllRead, IsReading, Reading, most_calls_bytes, most_unit_bytes, most_units_bytes}
@@ -57,7 +58,7 @@ two_line = record {
 }
 
 two_line_is : line_of two_words ≡ Some (runs two_line)
-unfolding values_of clap_on_literals
+unfolding values_of rows_read clap_on_literals
 two_line_is = refl
 
 same_line : (a b : RunLine) → ◌≡◌ {A = Option Line} (Some (runs a)) (Some (runs b)) → a ≡ b

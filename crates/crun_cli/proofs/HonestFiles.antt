@@ -1,5 +1,32 @@
 -- Over files that behave as files what passed says what a call comes to over what they hold.
-use Rattle.std.proofs.Common.{◌≡◌, ◌⊎◌, inl, inr, ℕ, ◌≤◌, Bool, true, false, List, [], ◌∷◌, ◌++◌, append_assoc, length, MatchOption, Option, Some, None, Err, refl, sym, ap, ◌∙◌, subst, arith}
+use Rattle.std.proofs.Common.{
+  ◌≡◌,
+  ◌⊎◌,
+  inl,
+  inr,
+  ℕ,
+  ◌≤◌,
+  Bool,
+  true,
+  false,
+  List,
+  [],
+  ◌∷◌,
+  ◌++◌,
+  append_assoc,
+  length,
+  MatchOption,
+  Option,
+  Some,
+  None,
+  Err,
+  refl,
+  sym,
+  ap,
+  ◌∙◌,
+  subst,
+  arith,
+}
 use Rattle.std.proofs.lemmas.List.{append-nil}
 use Rattle.std.specs.Prelude.{◌&&◌, if◌then◌else◌, option_and_then}
 use Rattle.w2c_base.specs.Run.{Host}
@@ -73,6 +100,8 @@ use Rattle.crun_job.specs.Lines.{
   Unwritten,
   WantOfMemory,
 }
+use Rattle.crun_units.specs.Jobs.{IsBehindUnits, IsMerged, IsTrimmedText, IsUnitsJob}
+use Rattle.crun_units.specs.Passing.{IsUnitsJobOver, PassesUnits, reason_for, WritesOutput}
 use Rattle.crun_cli.specs.Again.{RunsAgain}
 use Rattle.crun_cli.specs.Ends.{
   Begun,
@@ -92,36 +121,21 @@ use Rattle.crun_cli.specs.Ends.{
 }
 use Rattle.crun_cli.specs.Files.{IsToWrite}
 use Rattle.crun_cli.specs.HonestPassing.{PassesHonestly}
-use Rattle.crun_cli.specs.Jobs.{
-  symbols_of,
-  IsBehindUnits,
-  IsJob,
-  IsJobBy,
-  IsLineJob,
-  IsMerged,
-  IsReplayJob,
-  IsRunJob,
-  IsTrimmedText,
-  IsUnitsJob,
-}
+use Rattle.crun_cli.specs.Jobs.{symbols_of, IsJob, IsJobBy, IsLineJob, IsReplayJob, IsRunJob}
 use Rattle.crun_cli.specs.Outside.{IsUntouched, Outside}
 use Rattle.crun_cli.specs.Passing.{
   BreaksJournal,
   IsReadLast,
   IsRunJobOver,
-  IsUnitsJobOver,
   PassesFor,
   PassesLine,
   PassesRun,
-  PassesUnits,
   ReadsMore,
-  reason_for,
   run_reads,
   StopsFor,
   StopsQuietly,
   WritesJournal,
   WritesOfRun,
-  WritesOutput,
   WritesRun,
 }
 use Rattle.crun_cli.specs.Runs.{HasPart, HasRun}

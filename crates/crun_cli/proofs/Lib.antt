@@ -1,6 +1,4 @@
 -- lines, sessions and the run of a task
-pub mod Written
-pub mod Loops
 pub mod Lines
 pub mod Sessions
 pub mod Behind
@@ -18,8 +16,6 @@ pub mod ReplaysOffered
 -- what words ask for, form by form
 pub mod RunForm
 pub mod WriteForms
-pub mod WriteJobs
-pub mod WriteStops
 pub mod OneJob
 -- what passes through the files
 pub mod Passing

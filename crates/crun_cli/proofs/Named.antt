@@ -26,7 +26,7 @@ use Rattle.std.proofs.lemmas.Option.{slice_get-map}
 use Rattle.c_tree.specs.declared.tree.Item.{Item}
 use Rattle.c_tree.specs.View.{item_of, unit_of}
 use Rattle.c_objects.specs.Views.{item_name, UnitNames}
-use Rattle.crun.specs.Names.{function_name, naming_of, unit_names}
+use Rattle.crun_startup.specs.Names.{function_name, naming_of, unit_names}
 
 pub named_at : (items : List Item) (i : ℕ) (it : Item) → i < length items → it ≡ get_or items i it
     → get_or (map function_name (map item_of items)) i [] ≡ function_name (item_of it)

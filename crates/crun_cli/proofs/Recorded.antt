@@ -14,8 +14,8 @@ use Rattle.host_replay.specs.Runs.{run_with}
 use Rattle.host_replay.specs.Texts.{Recorded}
 use Rattle.host_replay.proofs.Fits.{answered_fit}
 use Rattle.crun_lines.specs.RunLines.{lines_of}
-use Rattle.crun_cli.specs.Recording.{AreToFill, HasTaken, IsBlank, IsFilled}
-use Rattle.crun_cli.specs.Runs.{HasPart, HasRun}
+use Rattle.crun_cli.specs.Recording.{AreToFill, HasPartLeaving, HasTaken, IsBlank, IsFilled}
+use Rattle.crun_cli.specs.Runs.{HasRun}
 use Rattle.crun_cli.proofs.Lines.{asks_are}
 
 -- calls that fit the hosts can be taken by a file that has their modules
@@ -38,15 +38,19 @@ module _ {H : Type 0} (m : HostModule H) (hosts : List H) (units : List (List tr
   asks_fit run = answered_fit m hosts units calls steps run.asks
       (record { after = run.after; answered = run.answered; told = run.told })
 
-  -- a whole run is a part of it
-  pub whole_part : HasRun m hosts units calls steps shown old new status → HasPart m hosts units calls steps shown old new
-  whole_part run = record {
-    asks = run.asks;
-    after = run.after;
-    answered = run.answered;
-    more = [];
-    first = asks_are (run_with m hosts units calls steps run.asks).events run.asks run.told ∙ sym (append-nil (map ask_of run.asks));
-    part = (lines, ([], sym (append-nil lines)), run.lines);
+  -- a whole run is a part of it, and leaves the same hosts
+  pub part_leaving : (run : HasRun m hosts units calls steps shown old new status) (left : List H) → run.after ≡ left
+      → HasPartLeaving m hosts units calls steps shown old new left
+  part_leaving run left is = record {
+    part = record {
+      asks = run.asks;
+      after = run.after;
+      answered = run.answered;
+      more = [];
+      first = asks_are (run_with m hosts units calls steps run.asks).events run.asks run.told ∙ sym (append-nil (map ask_of run.asks));
+      part = (lines, ([], sym (append-nil lines)), run.lines);
+    };
+    hosts_are = is;
   }
     where
       lines : List ℕ

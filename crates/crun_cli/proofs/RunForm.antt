@@ -48,10 +48,11 @@ use Rattle.crun_job.specs.Lines.{
 }
 use Rattle.crun_job.specs.Seen.{reason_of}
 use Rattle.crun_job.specs.Stopping.{stop_for}
+use Rattle.crun_units.specs.Files.{FilesSeen}
 use Rattle.crun_cli.specs.Ends.{HasPlayed, HasPlayedPart, IsJobWith, IsJournaled, IsUnwritten, Ran, RanPart, WithHosts}
 use Rattle.crun_cli.specs.Files.{HasReading, IsReadBy, IsToRead, IsToWrite, IsUnitFile}
 use Rattle.crun_cli.specs.Jobs.{symbols_of, HoldsJournal, IsJobOfTexts, IsLineJob, IsReplayJob, IsRunJob}
-use Rattle.crun_cli.specs.Outside.{FilesSeen, IsUntouched, Outside, SinkSeen}
+use Rattle.crun_cli.specs.Outside.{IsUntouched, Outside, SinkSeen}
 use Rattle.crun_cli.specs.Stopping.{IsRunUnwritten, IsTextsPart, IsTextsRun, StopsReplay, StopsRun, StopsWork}
 
 -- ---- what was done behind reading is done from the start

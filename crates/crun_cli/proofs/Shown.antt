@@ -22,7 +22,7 @@ use Rattle.c_objects.specs.declared.store.UnitObjects.{UnitObjects}
 use Rattle.c_objects.specs.Objects.{memory_of, table_of}
 use Rattle.c_objects.specs.Stores.{objects_of, units_of, AreNames, AreStored, Differ, IsStored}
 use Rattle.c_objects.specs.Views.{value_of, Naming, UnitNames}
-use Rattle.crun.specs.Names.{naming_of, unit_names}
+use Rattle.crun_startup.specs.Names.{naming_of, unit_names}
 use Rattle.c_hosts.specs.declared.host.HostModule.{Ghosts as HostModule}
 use Rattle.c_hosts.specs.Asking.{hosts_of}
 use Rattle.crun.specs.Shown.{memories_of, tables_of, vars_of}

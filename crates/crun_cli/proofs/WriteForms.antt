@@ -22,11 +22,14 @@ use Rattle.crun_job.specs.Lines.{
   Unwritten,
   WantOfMemory,
 }
+use Rattle.crun_units.specs.Jobs.{IsMergeJob, IsTrimJob}
+use Rattle.crun_units.specs.Files.{AreUntouched, FilesSeen}
+use Rattle.crun_units.specs.Stopping.{IsUnitPart, StopsWrite}
 use Rattle.crun_cli.specs.Ends.{BegunIfAny, Finished, IsJobWith, WrotePart}
 use Rattle.crun_cli.specs.Files.{HasReading, IsReadBy, IsToRead, IsToWrite, IsUnitFile, IsUnitOf, IsWrittenBy}
-use Rattle.crun_cli.specs.Jobs.{symbols_of, IsLineJob, IsMergeJob, IsTrimJob}
-use Rattle.crun_cli.specs.Outside.{AreUntouched, FilesSeen, IsUntouched, Outside, SinkSeen}
-use Rattle.crun_cli.specs.Stopping.{IsUnitPart, StopsWork, StopsWrite}
+use Rattle.crun_cli.specs.Jobs.{symbols_of, IsLineJob}
+use Rattle.crun_cli.specs.Outside.{IsUntouched, Outside, SinkSeen}
+use Rattle.crun_cli.specs.Stopping.{StopsWork}
 
 module _ {H : Type 0} (hm : HostModule H) (hosts : List H) (words : List Name) (form : Line) (is : line_of words ≡ Some form)
     (Asks : Contents → Job → Type 0) (jobs : (m : Contents) (job : Job) → Asks m job → IsLineJob (hosts_of hm hosts) m form job)

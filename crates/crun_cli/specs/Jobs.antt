@@ -1,24 +1,19 @@
 -- What a command line asks for, over what the files hold and the hosts that were handed in: a run, a unit to write, or the first
 -- refusal. The order is: the words, the units' files in their order, the calls file, the journal that is replayed, the texts of
 -- the units, the linker, and the lines of the calls file.
-use Rattle.std.specs.Prelude.{◌≡◌, ◌⊎◌, ℕ, List, [], ◌∷◌, MatchOption, slice_get, Some}
+use Rattle.std.specs.Prelude.{◌≡◌, ◌⊎◌, ℕ, List, MatchOption}
 use Rattle.w2c_base.specs.Run.{Host}
 use Rattle.w2c_io.specs.Contents.{Name, Contents}
-use Rattle.c_tree.specs.Tree as tree
 use Rattle.c_link.specs.Offers.{c_symbols}
-use Rattle.c_trim.specs.Trim.{IsTrimmed}
-use Rattle.c_merge.specs.Merge.{merged}
 use Rattle.crun.specs.HostSymbols.{symbols_of_hosts}
 use Rattle.host_replay.specs.Reading.{IsJournal, IsRefusedAt}
 use Rattle.host_replay.specs.Texts.{Recorded}
-use Rattle.crun_words.specs.CommandLine.{MergeLine, RunLine, TrimLine, Line, line_of, runs, merges, trims}
+use Rattle.crun_words.specs.CommandLine.{RunLine, Line, line_of, runs, merges, trims}
 use Rattle.crun_words.specs.Inputs.{
   IsJournalReading,
   IsReading,
-  IsUnitsReading,
   JournalReading,
   Reading,
-  UnitsReading,
   AllRead,
   NotThere,
   LongUnit,
@@ -26,16 +21,12 @@ use Rattle.crun_words.specs.Inputs.{
   Held,
   NoJournal,
   LongJournal,
-  UnitsRead,
-  NoUnit,
-  UnitTooLong,
 }
-use Rattle.crun_job.specs.declared.stop.Cause.{Cause}
 use Rattle.crun_job.specs.declared.stop.Cause.TheVariants.{TooLong}
-use Rattle.crun_job.specs.Job.{IsTextsJob, Job, Stops, Write}
+use Rattle.crun_job.specs.Job.{IsTextsJob, Job, Stops}
 use Rattle.crun_job.specs.Lines.{JournalLine, JournalTooLong, CallsTooLong, Refused, Unread, Usage}
-use Rattle.crun_job.specs.Links.{AreLinked, IsRefusedUnit, Symbols}
-use Rattle.crun_job.specs.Texts.{AreUnitTexts, IsFirstRefusedText}
+use Rattle.crun_job.specs.Links.{Symbols}
+use Rattle.crun_units.specs.Jobs.{IsMergeJob, IsTrimJob}
 
 -- the symbols of the hosts' functions, with their types
 abbrev pub symbols_of : List Host → Symbols
@@ -83,41 +74,6 @@ IsJobBehind line handed contents reading job = IsJobBy line handed (IsJournalRea
 abbrev pub IsRunJob : RunLine → List Host → Contents → Job → Type 0
 IsRunJob line handed contents job =
     (reading : Reading) × IsReading contents line.units line.calls reading × IsJobBehind line handed contents reading job
-
--- ---- the forms that write a unit
-
--- the texts are those of linked units, as one unit; or the first refusal
-abbrev pub IsMerged : MergeLine → Symbols → List (List ℕ) → Job → Type 0
-IsMerged line symbols texts job =
-    ((units : List (List tree.Item)) × AreLinked texts symbols units × (job ≡ Write line.output (merged units)))
-    ⊎ ((number : ℕ) × (file : Name) × (why : Cause) × (slice_get line.units number ≡ Some file)
-    × IsRefusedUnit texts symbols number why × (job ≡ Stops (Refused file why)))
-
--- the text is that of a unit, which is trimmed; or the refusal
-abbrev pub IsTrimmedText : TrimLine → List (List ℕ) → Job → Type 0
-IsTrimmedText line texts job =
-    ((unit : List tree.Item) × (trimmed : List tree.Item) × AreUnitTexts texts (unit ∷ []) × IsTrimmed unit trimmed
-    × (job ≡ Write line.output trimmed))
-    ⊎ ((number : ℕ) × (why : Cause) × IsFirstRefusedText texts number why × (job ≡ Stops (Refused line.unit why)))
-
--- by what reading the units comes to
-abbrev pub IsBehindUnits : (List (List ℕ) → Job → Type 0) → UnitsReading → Job → Type 0
-IsBehindUnits IsOf (UnitsRead texts) job = IsOf texts job
-IsBehindUnits IsOf (NoUnit file) job = job ≡ Stops (Unread file)
-IsBehindUnits IsOf (UnitTooLong file) job = job ≡ Stops (Refused file TooLong)
-
-abbrev pub IsUnitsJobBy : (UnitsReading → Type 0) → (List (List ℕ) → Job → Type 0) → Job → Type 0
-IsUnitsJobBy Reads IsOf job = (reading : UnitsReading) × Reads reading × IsBehindUnits IsOf reading job
-
--- over what the files hold
-abbrev pub IsUnitsJob : Contents → List Name → (List (List ℕ) → Job → Type 0) → Job → Type 0
-IsUnitsJob contents units IsOf job = IsUnitsJobBy (IsUnitsReading contents units) IsOf job
-
-abbrev pub IsMergeJob : MergeLine → Symbols → Contents → Job → Type 0
-IsMergeJob line symbols contents job = IsUnitsJob contents line.units (IsMerged line symbols) job
-
-abbrev pub IsTrimJob : TrimLine → Contents → Job → Type 0
-IsTrimJob line contents job = IsUnitsJob contents (line.unit ∷ []) (IsTrimmedText line) job
 
 -- ---- what words ask for
 

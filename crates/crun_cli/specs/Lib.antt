@@ -8,15 +8,12 @@ pub mod Ends
 pub mod Passing
 pub mod HonestPassing
 pub mod Again
-pub mod EnvHost
 -- and README's run
 pub mod Example
 -- of the code alone
-pub mod Writing
 pub mod Views
 pub mod Playing
 pub mod Recording
 pub mod Showing
-pub mod Output
 pub mod Stopping
 pub mod Trying

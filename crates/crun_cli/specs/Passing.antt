@@ -8,11 +8,9 @@ use Rattle.w2c_io.specs.Events.{Event}
 use Rattle.w2c_io.specs.Passed.{WritesFile, BreaksOff}
 use Rattle.w2c_io.specs.declared.answers.WriteAnswer.{WriteAnswer}
 use Rattle.w2c_io.specs.declared.answers.WriteAnswer.TheVariants as answer
-use Rattle.w2c_files.specs.Passing.{limited, ReadsInOrder}
-use Rattle.c_tree.specs.Spelled.{CSpells}
+use Rattle.w2c_files.specs.Passing.{limited}
 use Rattle.c_tree.specs.Tree as tree
 use Rattle.c_meaning.specs.Linking.{SymbolCall}
-use Rattle.c_print.specs.Print.{print_of}
 use Rattle.c_hosts.specs.declared.host.HostModule.{Ghosts as HostModule}
 use Rattle.c_hosts.specs.Asking.{hosts_of}
 use Rattle.host_replay.specs.Reading.{IsJournal}
@@ -29,11 +27,13 @@ use Rattle.crun_words.specs.Inputs.{
   NotThere,
   Reading,
 }
-use Rattle.crun_words.specs.Passing.{GivesInputs, GivesJournal, GivesUnits}
+use Rattle.crun_words.specs.Passing.{GivesInputs, GivesJournal}
 use Rattle.crun_job.specs.Job.{Job, Run, Stops, Write}
 use Rattle.crun_job.specs.Lines.{error_line, status_of, Reason, Unwritten, Usage, WantOfMemory}
+use Rattle.crun_units.specs.Jobs.{IsMerged, IsTrimmedText}
+use Rattle.crun_units.specs.Passing.{PassesBy, PassesUnits, reason_for}
 use Rattle.crun_cli.specs.Ends.{journal_of, WithHostsBy}
-use Rattle.crun_cli.specs.Jobs.{symbols_of, IsJobBy, IsMerged, IsTrimmedText, IsUnitsJobBy}
+use Rattle.crun_cli.specs.Jobs.{symbols_of, IsJobBy}
 use Rattle.crun_cli.specs.Runs.{HasPart, HasRun}
 
 -- ---- which files are read
@@ -62,15 +62,7 @@ IsRunJobOver line handed given job =
     × GivesInputs line.units line.calls reading first × ReadsMore line.replayed reading last
     × IsJobBy line handed (λ name r. GivesJournal name r last) reading job
 
-abbrev pub IsUnitsJobOver : List Name → (List (List ℕ) → Job → Type 0) → List Event → Job → Type 0
-IsUnitsJobOver units IsOf given job = IsUnitsJobBy (λ reading. GivesUnits units reading given) IsOf job
-
 -- ---- what is written
-
--- why something is not written, as a reason
-abbrev pub reason_for : WriteAnswer → Reason
-reason_for answer.Failed = Unwritten
-reason_for answer.Memory = WantOfMemory
 
 -- Below, `Ends status` says that the call ends with a status of a run, and `Stopped why` that it stops for a reason. The stream
 -- was told `old`, and behind the call it was told `new`.
@@ -78,18 +70,6 @@ reason_for answer.Memory = WantOfMemory
 -- it stops, and the stream has gained nothing
 abbrev pub StopsQuietly : Option (List ℕ) → Option (List ℕ) → (Reason → Type 0) → Reason → Type 0
 StopsQuietly old new Stopped why = (new ≡ old) × Stopped why
-
--- a unit's text, which spells the unit, is written whole, or breaks off
-abbrev pub WritesUnit : (ℕ → Type 0) → (Reason → Type 0) → Name → List tree.Item → List Event → Type 0
-WritesUnit Ends Stopped output unit written =
-    (WritesFile output (print_of unit) written × CSpells unit (print_of unit) × Ends 0)
-    ⊎ ((why : WriteAnswer) × BreaksOff output (print_of unit) why written × Stopped (reason_for why))
-
--- nothing is written where the job is refused
-abbrev pub WritesOutput : (ℕ → Type 0) → (Reason → Type 0) → Job → List Event → Type 0
-WritesOutput Ends Stopped (Stops why) written = (written ≡ []) × Stopped why
-WritesOutput Ends Stopped (Write output unit) written = WritesUnit Ends Stopped output unit written
-WritesOutput Ends Stopped (Run units calls steps shown) written = ⊥
 
 -- the file that is named for a journal, if one is, gets its text, which is that of this journal alone
 abbrev pub WritesJournal : Option Name → Recorded → List Event → Type 0
@@ -132,23 +112,10 @@ WritesOfRun m hosts line old new Ends Stopped given (Write output unit) written 
 
 -- ---- what words ask for
 
--- These files are read in order, and then the job over what the reads gave decides; or memory is wanting, and nothing is written.
-pub record PassesBy (files : List (Name × ℕ)) (Asks : List Event → Job → Type 0) (Writes : List Event → Job → List Event → Type 0)
-    (Stopped : Reason → Type 0) (events : List Event) : Type 0 where
-  pub given : List Event
-  pub written : List Event
-  pub split : events ≡ given ++ written
-  pub reads : ReadsInOrder files given
-  pub follows : ((written ≡ []) × Stopped WantOfMemory) ⊎ ((job : Job) × Asks given job × Writes given job written)
-
 abbrev pub PassesRun : {H : Type 0} → HostModule H → List H → RunLine → Option (List ℕ) → Option (List ℕ) → (ℕ → Type 0)
     → (Reason → Type 0) → List Event → Type 0
 PassesRun m hosts line old new Ends Stopped events = PassesBy (run_reads line) (IsRunJobOver line (hosts_of m hosts))
     (WritesOfRun m hosts line old new Ends Stopped) (StopsQuietly old new Stopped) events
-
-abbrev pub PassesUnits : List Name → (List (List ℕ) → Job → Type 0) → (ℕ → Type 0) → (Reason → Type 0) → List Event → Type 0
-PassesUnits units IsOf Ends Stopped events = PassesBy (limited most_unit_bytes units) (IsUnitsJobOver units IsOf)
-    (λ given. WritesOutput Ends Stopped) Stopped events
 
 -- the stream gains nothing where a unit is asked for
 abbrev pub PassesLine : {H : Type 0} → HostModule H → List H → Line → Option (List ℕ) → Option (List ℕ) → (ℕ → Type 0)

@@ -13,7 +13,7 @@ use Rattle.c_hosts.specs.Journals.{ask_of, events_in}
 use Rattle.crun.specs.Sessions.{objects_of, Stands, State}
 use Rattle.crun_lines.specs.CallLines.{last_line}
 use Rattle.crun_lines.specs.RunLines.{event_lines}
-use Rattle.crun.specs.Names.{naming_of}
+use Rattle.crun_startup.specs.Names.{naming_of}
 use Rattle.c_objects.specs.Stores.{AreStored}
 use Rattle.host_replay.specs.Runs.{asked_events, run_with}
 use Rattle.crun_cli.specs.Runs.{HasStatus}

@@ -14,7 +14,7 @@ use Rattle.host_replay.specs.Recording.{recorded}
 use Rattle.host_replay.specs.Texts.{journal_text, Recorded}
 use Rattle.host_replay.specs.Writable.{AreDistinct}
 use Rattle.crun_cli.specs.Ends.{journal_of}
-use Rattle.crun_cli.specs.Runs.{HasRun}
+use Rattle.crun_cli.specs.Runs.{HasPart, HasRun}
 
 -- ---- a file for the journal of a run
 
@@ -49,17 +49,31 @@ HasTaken (Some file) asks (Some filled) =
 
 -- ---- a run
 
--- a whole run, in which this was asked
+-- a whole run, in which this was asked, and behind which the hosts are these
 pub record HasAsked {H : Type 0} (m : HostModule H) (hosts : List H) (units : List (List tree.Item)) (calls : List SymbolCall) (steps : ℕ)
-    (shown : Bool) (old new : Option (List ℕ)) (status : ℕ) (asks : List Asked) : Type 0 where
+    (shown : Bool) (old new : Option (List ℕ)) (status : ℕ) (asks : List Asked) (left : List H) : Type 0 where
   pub run : HasRun m hosts units calls steps shown old new status
   pub asks_are : run.asks ≡ asks
+  pub hosts_are : run.after ≡ left
 
 -- a whole run, and the file that was handed in for its journal
 pub record HasRecorded {H : Type 0} (m : HostModule H) (hosts : List H) (units : List (List tree.Item)) (calls : List SymbolCall)
     (steps : ℕ) (shown : Bool) (old new : Option (List ℕ)) (status : ℕ) (file filled : Option JournalFile) : Type 0 where
   pub run : HasRun m hosts units calls steps shown old new status
   pub filled_is : IsFilled m hosts run.asks file filled
+
+-- the same, and behind the run the hosts are these
+pub record HasRecordedLeaving {H : Type 0} (m : HostModule H) (hosts : List H) (units : List (List tree.Item)) (calls : List SymbolCall)
+    (steps : ℕ) (shown : Bool) (old new : Option (List ℕ)) (status : ℕ) (file filled : Option JournalFile) (left : List H)
+    : Type 0 where
+  pub recorded : HasRecorded m hosts units calls steps shown old new status file filled
+  pub hosts_are : recorded.run.after ≡ left
+
+-- a part of a run, behind which the hosts are these
+pub record HasPartLeaving {H : Type 0} (m : HostModule H) (hosts : List H) (units : List (List tree.Item)) (calls : List SymbolCall)
+    (steps : ℕ) (shown : Bool) (old new : Option (List ℕ)) (left : List H) : Type 0 where
+  pub part : HasPart m hosts units calls steps shown old new
+  pub hosts_are : part.after ≡ left
 
 -- ---- the file is written
 

@@ -1,19 +1,14 @@
 -- The lines of the state, object by object: those of each unit by the names that it declares, each object found by its name.
-use Rattle.std.specs.Prelude.{ℕ, Bool, is_some, List, [], ◌++◌, flat_map, get_or, map, slice_get, Option, Some, None}
+use Rattle.std.specs.Prelude.{ℕ, List, [], ◌++◌, flat_map, get_or, map, slice_get, Option, Some, None}
 use Rattle.std.specs.List.{range_with_len}
 use Rattle.w2c_base.specs.Lookup.{at_index, if_found}
 use Rattle.w2c_base.specs.Run.{Host}
-use Rattle.c_tree.specs.declared.tree.CType.{CType}
-use Rattle.c_tree.specs.declared.tree.CType.TheVariants as type
-use Rattle.c_tree.specs.declared.tree.Num.{Num}
-use Rattle.c_tree.specs.Runtime.{same_type}
 use Rattle.c_tree.specs.Tree as tree
 use Rattle.c_tree.specs.View.{unit_of}
 use Rattle.c_meaning.specs.State.{Element, Name, Objects}
-use Rattle.crun.specs.Names.{names_in}
-use Rattle.crun.specs.Objects.{first_of}
-use Rattle.crun.specs.declared.names.ObjectKind.{ObjectKind}
-use Rattle.crun.specs.declared.names.ObjectKind.TheVariants as object_kind
+use Rattle.crun_startup.specs.Names.{names_in}
+use Rattle.crun_startup.specs.declared.names.ObjectKind.{ObjectKind}
+use Rattle.crun_startup.specs.declared.names.ObjectKind.TheVariants as kind
 use Rattle.c_hosts.specs.declared.host.HostModule.{Ghosts as HostModule}
 use Rattle.c_hosts.specs.Asking.{hosts_of}
 use Rattle.crun.specs.Shown.{memories_of, object_in, tables_of, vars_of}
@@ -31,13 +26,6 @@ use Rattle.crun_lines.specs.StateLines.{
   table_lines,
   variable_lines,
 }
-use Rattle.crun_cli.specs.declared.names.Kind.{Kind}
-use Rattle.crun_cli.specs.declared.names.Kind.TheVariants as kind
-
-abbrev pub kind_of : Kind → ObjectKind
-kind_of kind.Variable = object_kind.Variable
-kind_of kind.Memory = object_kind.Memory
-kind_of kind.Table = object_kind.Table
 
 -- the lines of what was found; of nothing there are none
 abbrev pub lines_if_found : {A : Type 0} → (Name × A → List ℕ) → Name → Option A → List ℕ
@@ -53,17 +41,17 @@ lines_of_memory units u name = lines_if_found (memory_lines u) name (object_in u
 abbrev pub lines_of_table : List Host → List Objects → ℕ → Name → List ℕ
 lines_of_table hosts units u name = lines_if_found (table_lines hosts u) name (object_in units u tables_of name)
 
-abbrev pub lines_of_object : List Host → List Objects → ℕ → Kind → Name → List ℕ
+abbrev pub lines_of_object : List Host → List Objects → ℕ → ObjectKind → Name → List ℕ
 lines_of_object hosts units u kind.Variable name = lines_of_variable units u name
 lines_of_object hosts units u kind.Memory name = lines_of_memory units u name
 lines_of_object hosts units u kind.Table name = lines_of_table hosts units u name
 
 -- the same of a name with its number
-abbrev pub lines_of_named : List Host → List Objects → ℕ → Kind → Name × ℕ → List ℕ
+abbrev pub lines_of_named : List Host → List Objects → ℕ → ObjectKind → Name × ℕ → List ℕ
 lines_of_named hosts units u k e = lines_of_object hosts units u k e.0
 
-abbrev pub lines_of_kind : List Host → List Objects → ℕ → Kind → List tree.Item → List ℕ
-lines_of_kind hosts units u k items = flat_map (lines_of_named hosts units u k) (in_order (numbered_from 0 (names_in (kind_of k) items)))
+abbrev pub lines_of_kind : List Host → List Objects → ℕ → ObjectKind → List tree.Item → List ℕ
+lines_of_kind hosts units u k items = flat_map (lines_of_named hosts units u k) (in_order (numbered_from 0 (names_in k items)))
 
 -- a unit's variables, then its memories, then its tables
 abbrev pub lines_of_items : List Host → List Objects → ℕ → List tree.Item → List ℕ
@@ -94,12 +82,6 @@ lines_of_element hosts units u name at =
 abbrev pub length_and_elements : List Host → List Objects → ℕ → Name → ℕ → List ℕ
 length_and_elements hosts units u name count =
     length_line u name count ++ flat_map (lines_of_element hosts units u name) (range_with_len 0 count)
-
--- a variable of this type, with its initialiser or without one, is an object of a kind
-abbrev pub declares_kind : ObjectKind → CType → Option Num → Bool
-declares_kind object_kind.Variable ty number = is_some (first_of ty number)
-declares_kind object_kind.Memory ty number = same_type ty type.Mem
-declares_kind object_kind.Table ty number = same_type ty type.Tab
 
 -- the name with a number among names in order, with its number
 abbrev pub entry_at : List Numbered → ℕ → Name × ℕ

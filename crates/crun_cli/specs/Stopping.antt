@@ -3,16 +3,14 @@ use Rattle.std.specs.Prelude.{◌≡◌, ◌⊎◌, ℕ, List, Some}
 use Rattle.w2c_io.specs.Contents.{Name, Contents}
 use Rattle.w2c_io.specs.Causes.{Faulted, Rose}
 use Rattle.w2c_io.specs.Telling.{Tells}
-use Rattle.w2c_files.specs.Standing.{IsBegun, IsOneOf}
 use Rattle.c_tree.specs.Tree as tree
 use Rattle.c_meaning.specs.Linking.{SymbolCall}
-use Rattle.c_print.specs.Print.{print_of}
 use Rattle.c_hosts.specs.declared.host.HostModule.{Ghosts as HostModule}
 use Rattle.c_hosts.specs.Asking.{hosts_of}
 use Rattle.host_replay.specs.Reading.{IsRefusedAt}
 use Rattle.crun_words.specs.CommandLine.{RunLine}
 use Rattle.crun_words.specs.Inputs.{IsJournalReading, Held, LongJournal, NoJournal}
-use Rattle.crun_job.specs.Job.{IsTextsJob, Job, Run, Stops, Write}
+use Rattle.crun_job.specs.Job.{IsTextsJob, Run}
 use Rattle.crun_job.specs.Lines.{
   Reason,
   Usage,
@@ -26,10 +24,11 @@ use Rattle.crun_job.specs.Lines.{
   WantOfMemory,
 }
 use Rattle.crun_job.specs.Stopping.{StopsTexts}
+use Rattle.crun_units.specs.Files.{FilesSeen}
 use Rattle.crun_cli.specs.Ends.{Begun, BegunIfAny, HasPlayedPart, IsUnread, IsUnwritten, Refuses}
 use Rattle.crun_cli.specs.Files.{HasReading}
 use Rattle.crun_cli.specs.Jobs.{symbols_of}
-use Rattle.crun_cli.specs.Outside.{AreUntouched, FilesSeen, IsUntouched, Outside}
+use Rattle.crun_cli.specs.Outside.{IsUntouched, Outside}
 
 -- ---- a run, over the texts of its units and of the calls file, with these hosts
 
@@ -76,29 +75,6 @@ StopsReplay name old new CallsTooLong = ⊥
 StopsReplay name old new (CallsLine number) = ⊥
 StopsReplay name old new (Refused file why) = ⊥
 StopsReplay name old new Unwritten = ⊥
-
--- ---- a unit that is written, where this is what is asked for over what files hold
-
--- a unit is asked for, and of its text a part is written
-abbrev pub IsUnitPart : (Contents → Job → Type 0) → Name → Contents → FilesSeen → FilesSeen → Type 0
-IsUnitPart Asks output contents old new =
-    (unit : List tree.Item) × Asks contents (Write output unit) × IsBegun old.told new.told output (print_of unit)
-
-abbrev pub StopsWrite : (Contents → Job → Type 0) → List Name → Name → FilesSeen → FilesSeen → Reason → Type 0
-StopsWrite Asks units output old new (Unread file) = IsOneOf file units
-    × (Faulted file old.read_faults new.read_faults new.fault_name
-    ⊎ ((contents : Contents) × (old.told ≡ Some contents) × Asks contents (Stops (Unread file)))) × AreUntouched old new
-StopsWrite Asks units output old new (Refused file why) =
-    IsOneOf file units × Tells old.told (λ contents. Asks contents (Stops (Refused file why))) × AreUntouched old new
-StopsWrite Asks units output old new Unwritten = Faulted output old.write_faults new.write_faults new.fault_name
-    × Tells old.told (λ contents. IsUnitPart Asks output contents old new)
-StopsWrite Asks units output old new WantOfMemory =
-    Tells old.told (λ contents. AreUntouched old new ⊎ IsUnitPart Asks output contents old new)
-StopsWrite Asks units output old new Usage = ⊥
-StopsWrite Asks units output old new CallsTooLong = ⊥
-StopsWrite Asks units output old new (CallsLine number) = ⊥
-StopsWrite Asks units output old new JournalTooLong = ⊥
-StopsWrite Asks units output old new (JournalLine number) = ⊥
 
 -- ---- what words ask for
 

@@ -5,7 +5,6 @@ use Rattle.w2c_io.specs.Events.{Event}
 use Rattle.w2c_io.specs.Passed.{WritesFile, BreaksOff}
 use Rattle.w2c_io.specs.declared.answers.WriteAnswer.{WriteAnswer}
 use Rattle.w2c_io.specs.declared.answers.WriteAnswer.TheVariants as answer
-use Rattle.w2c_files.specs.Passing.{limited, ReadsInOrder}
 use Rattle.c_hosts.specs.declared.host.HostModule.{Ghosts as HostModule}
 use Rattle.c_hosts.specs.Asking.{hosts_of}
 use Rattle.host_replay.specs.declared.file.JournalFile.{JournalFile}
@@ -15,7 +14,7 @@ use Rattle.host_replay.specs.Recording.{recorded}
 use Rattle.host_replay.specs.Replayed.{AreReplays}
 use Rattle.host_replay.specs.Texts.{journal_text, Recorded}
 use Rattle.crun_words.specs.CommandLine.{RunLine}
-use Rattle.crun_words.specs.Inputs.{most_journal_bytes, most_unit_bytes, Held, LongJournal, NoJournal}
+use Rattle.crun_words.specs.Inputs.{most_journal_bytes, Held, LongJournal, NoJournal}
 use Rattle.crun_words.specs.Passing.{GivesJournal, ReadsFile}
 use Rattle.crun_job.specs.declared.stop.Stop.{Stop}
 use Rattle.crun_job.specs.Job.{IsTextsJob, Job, Run, Stops, Write}
@@ -31,31 +30,14 @@ use Rattle.crun_job.specs.Lines.{
   Unwritten,
   WantOfMemory,
 }
-use Rattle.crun_job.specs.Seen.{reason_of}
 use Rattle.crun_cli.specs.Jobs.{symbols_of, IsJournalBy}
-use Rattle.crun_cli.specs.Passing.{IsUnitsJobOver, StopsQuietly, WritesRun}
+use Rattle.crun_cli.specs.Passing.{StopsQuietly, WritesRun}
 
 -- ---- how a call ends
 
 abbrev pub ended_by : Result ℕ Stop → ℕ → Type 0
 ended_by (Ok status) s = status ≡ s
 ended_by (Err stop) s = ⊥
-
--- with 0, where it gives nothing
-abbrev pub done_by : Result (Unit {0}) Stop → ℕ → Type 0
-done_by (Ok u) s = 0 ≡ s
-done_by (Err stop) s = ⊥
-
-abbrev pub stopped_by : {A : Type 0} → Result A Stop → Reason → Type 0
-stopped_by (Ok x) why = ⊥
-stopped_by (Err stop) why = reason_of stop ≡ why
-
--- ---- the units of a line that has one written
-
--- they were read in order, and memory was wanting or the job is refused
-abbrev pub TriesUnit : List Name → (List (List ℕ) → Job → Type 0) → Reason → List Event → Type 0
-TriesUnit units IsOf why events = ReadsInOrder (limited most_unit_bytes units) events
-    × ((why ≡ WantOfMemory) ⊎ IsUnitsJobOver units IsOf events (Stops why))
 
 -- ---- the journal that is replayed
 

@@ -2,14 +2,11 @@
 #![tactic(auto)]
 
 mod cases;
-mod env;
 mod example;
 mod law;
-mod merging;
 mod names;
 mod naming;
 mod offering;
-mod output;
 mod play;
 mod recording;
 mod replaying;
@@ -20,15 +17,14 @@ mod telling;
 #[cfg(test)]
 mod tests;
 mod top;
-mod trimming;
 mod work;
-mod writing;
 
 use c_hosts::BoxedHost;
 pub use cases::{runs_with_a_host, runs_without_hosts};
-use env::Env;
+use env_host::Env;
 pub use example::two_c_is_run;
 pub use law::{honest_files, one_job};
+use program_words::exit_code;
 use std::boxed::Box;
 use std::process::ExitCode;
 pub use top::crun_top;
@@ -36,10 +32,7 @@ use w2c_base::Memory;
 use w2c_io::{StdFiles, StdSink, ToldSink, std_words};
 
 fn main(rt: HostRuntime) -> ExitCode {
-    match status(&rt) {
-        Ok(status) => ExitCode::from(status),
-        Err(Memory) => ExitCode::from(5),
-    }
+    exit_code(status(&rt))
 }
 
 // The hosts are `env` alone, in a box.

@@ -3,7 +3,7 @@ ghost use Rattle.std.specs.Prelude.{◌≡◌, [], get_or, map};
 ghost use Rattle.c_tree.specs.Tree as tree;
 ghost use Rattle.c_tree.specs.View.{func_of, item_of, unit_of};
 ghost use Rattle.c_objects.specs.Views.{item_name as item_name_in};
-ghost use Rattle.crun.specs.Names.{function_name as name_of_function, naming_of};
+ghost use Rattle.crun_startup.specs.Names.{function_name as name_of_function, naming_of};
 ghost use Rattle.c_hosts.specs.Asking.{function_of, hosts_of};
 ghost use Rattle.crun_lines.specs.HostLines.{function_name as function_name_in, host_name as host_name_in};
 ghost use Rattle.crun_cli.specs.Views.{name_among};

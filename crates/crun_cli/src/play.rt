@@ -1,22 +1,19 @@
-// Runs a task: its init functions, then its calls, and writes their lines while they run.
+// Runs a session: its init functions, then calls, and writes their lines while they run.
 ghost use Rattle.std.specs.Prelude.{◌≡◌, ◌≤◌, ◌<◌, ◌^◌, ◌∷◌, ◌++◌, [], true, List, ℕ, length, map, Option, None, IfOk, IfSome, OnErr};
 ghost use Rattle.w2c_io.specs.Causes.{WriteCause};
 ghost use Rattle.c_tree.specs.View.{unit_of};
 ghost use Rattle.c_meaning.specs.Linking.{fits, Program, SymbolCall};
-ghost use Rattle.crun.specs.HostSymbols.{symbols_of_hosts};
-ghost use Rattle.c_hosts.specs.Asking.{hosts_of};
 ghost use Rattle.crun.specs.declared.outcome.Standing.TheVariants as standing;
 ghost use Rattle.crun.specs.Sessions.{State};
 ghost use Rattle.crun_job.specs.Seen.{call_seen, calls_seen, AllFit};
 ghost use Rattle.crun_cli.specs.Playing.{HasPlayed, IsBehind, IsLeft};
-ghost use Rattle.crun_cli.specs.Recording.{AreToFill, HasAsked, HasRecorded, HasTaken, IsBlank};
-ghost use Rattle.crun_cli.specs.Runs.{HasPart};
+ghost use Rattle.crun_cli.specs.Recording.{AreToFill, HasAsked, HasPartLeaving, HasRecordedLeaving, HasTaken, IsBlank};
 
 use crate::show::show;
 use crate::telling::{status, tell};
 use c_hosts::{HostModule, Journal};
 use crun::{Session, Stop};
-use crun_job::{NamedCall, Task};
+use crun_job::NamedCall;
 use crun_lines::Phase;
 use host_replay::JournalFile;
 use std::alloc::Global;
@@ -30,46 +27,16 @@ pub struct Played {
     pub journal: Option<JournalFile>,
 }
 
-/// Runs the init functions of a task, then its calls in order, with these hosts, until one does not end. Writes while it runs a
-/// line for each call of a host, for each call that ended, and for what did not end, and at last the state where it is to be
-/// shown. Gives the status: 0 where all ended, 1 for a trap, 7 where the statements are spent, 8 where what is undefined came up.
-/// A journal file, which has the modules of the hosts and no calls, comes back as the journal of the run.
+/// Runs the init functions of a session that has run nothing, then these calls in order, until one does not end. Writes while it
+/// runs a line for each call of a host, for each call that ended, and for what did not end, and at last the state where it is to
+/// be shown. Gives the status: 0 where all ended, 1 for a trap, 7 where the statements are spent, 8 where what is undefined came
+/// up. A journal file, which has the modules of the hosts and no calls, comes back as the journal of the run. The session keeps
+/// its hosts as the run, or the part of it that was run, left them: none is asked behind it.
+///
+/// # Errors
+///
+/// `Failed` where the stream failed, `Memory` where memory was wanting; then a prefix of the lines is written.
 pub fn play<H: HostModule, O: Sink>(
-    alloc: Global,
-    task: Task,
-    hosts: Vec<H>,
-    journal: Option<JournalFile>,
-    out: &mut O,
-) -> Result<Played, WriteAnswer>
-    requires symbols { task.linked.1 ≡ symbols_of_hosts (hosts_of H.HostModule hosts.items) }
-    requires fit { AllFit (map unit_of task.linked.0) task.calls.items }
-    requires blank { IsBlank H.HostModule hosts.items journal }
-    ensures ran { IfOk result (λ played. HasRecorded H.HostModule hosts.items (map unit_of task.linked.0) (calls_seen task.calls.items) task.steps task.shows_state
-        (O.told out.old) (O.told out.new) played.status journal played.journal) }
-    ensures part { OnErr result (HasPart H.HostModule hosts.items (map unit_of task.linked.0) (calls_seen task.calls.items) task.steps task.shows_state
-        (O.told out.old) (O.told out.new)) }
-    ensures cause { WriteCause (O.faults out.old) (O.faults out.new) result }
-{
-    let calls = task.calls;
-    let shows_state = task.shows_state;
-    let mut session = match Session::start(alloc, task.linked, hosts, task.steps) {
-        Ok(session) => session,
-        Err(Memory) => return Err(WriteAnswer::Memory),
-    };
-    let came = play_and_record(
-        alloc,
-        &mut session,
-        calls.as_slice(),
-        shows_state,
-        journal,
-        out,
-    );
-    session.close();
-    came
-}
-
-// The same with a session that has run nothing.
-fn play_and_record<H: HostModule, O: Sink>(
     alloc: Global,
     session: &mut Session<H>,
     calls: &[NamedCall],
@@ -81,10 +48,10 @@ fn play_and_record<H: HostModule, O: Sink>(
     requires none_asked { session.old.journal ≡ [] }
     requires fit { AllFit (map unit_of session.old.linked.0) calls.now }
     requires blank { IsBlank H.HostModule session.old.hosts journal }
-    ensures ran { IfOk result (λ played. HasRecorded H.HostModule session.old.hosts (map unit_of session.old.linked.0) (calls_seen calls.now) session.old.steps shows_state
-        (O.told out.old) (O.told out.new) played.status journal played.journal) }
-    ensures part { OnErr result (HasPart H.HostModule session.old.hosts (map unit_of session.old.linked.0) (calls_seen calls.now) session.old.steps shows_state
-        (O.told out.old) (O.told out.new)) }
+    ensures ran { IfOk result (λ played. HasRecordedLeaving H.HostModule session.old.hosts (map unit_of session.old.linked.0) (calls_seen calls.now) session.old.steps
+        shows_state (O.told out.old) (O.told out.new) played.status journal played.journal session.new.hosts) }
+    ensures part { OnErr result (HasPartLeaving H.HostModule session.old.hosts (map unit_of session.old.linked.0) (calls_seen calls.now) session.old.steps
+        shows_state (O.told out.old) (O.told out.new) session.new.hosts) }
     ensures cause { WriteCause (O.faults out.old) (O.faults out.new) result }
 {
     let status = match play_and_show(alloc, session, calls, shows_state, out) {
@@ -121,9 +88,9 @@ fn play_and_show<H: HostModule, O: Sink>(
     requires none_asked { session.old.journal ≡ [] }
     requires fit { AllFit (map unit_of session.old.linked.0) calls.now }
     ensures ran { IfOk result (λ status. HasAsked H.HostModule session.old.hosts (map unit_of session.old.linked.0) (calls_seen calls.now) session.old.steps shows_state
-        (O.told out.old) (O.told out.new) status session.new.journal) }
-    ensures part { OnErr result (HasPart H.HostModule session.old.hosts (map unit_of session.old.linked.0) (calls_seen calls.now) session.old.steps shows_state
-        (O.told out.old) (O.told out.new)) }
+        (O.told out.old) (O.told out.new) status session.new.journal session.new.hosts) }
+    ensures part { OnErr result (HasPartLeaving H.HostModule session.old.hosts (map unit_of session.old.linked.0) (calls_seen calls.now) session.old.steps
+        shows_state (O.told out.old) (O.told out.new) session.new.hosts) }
     ensures cause { WriteCause (O.faults out.old) (O.faults out.new) result }
 {
     let status = match play_all(alloc, session, calls, out) {

@@ -9,19 +9,22 @@ ghost use Rattle.c_hosts.specs.Asking.{hosts_of};
 ghost use Rattle.crun.specs.HostSymbols.{symbols_of_hosts};
 ghost use Rattle.crun_words.specs.Seen.{seen_run};
 ghost use Rattle.crun_job.specs.Job.{IsTextsJob};
-ghost use Rattle.crun_job.specs.Seen.{reason_of, AllFit};
+ghost use Rattle.crun_job.specs.Seen.{calls_seen, reason_of, AllFit};
 ghost use Rattle.crun_job.specs.Stopping.{job_of, StopsTexts};
 ghost use Rattle.crun_job.specs.Texts.{AreShort};
+ghost use Rattle.crun_units.specs.Trying.{stopped_by};
 ghost use Rattle.crun_cli.specs.Ends.{AreOffered, HasPlayed, IsRunStatus};
 ghost use Rattle.crun_cli.specs.Jobs.{symbols_of};
 ghost use Rattle.crun_cli.specs.Outside.{outside};
-ghost use Rattle.crun_cli.specs.Recording.{IsBlankFor, IsNamed, IsWritten, IsWrittenPart};
+ghost use Rattle.crun_cli.specs.Recording.{HasRecorded, IsBlank, IsBlankFor, IsNamed, IsWritten, IsWrittenPart};
+ghost use Rattle.crun_cli.specs.Runs.{HasPart};
 ghost use Rattle.crun_cli.specs.Stopping.{IsTextsRun, StopsRun};
-ghost use Rattle.crun_cli.specs.Trying.{ended_by, stopped_by, PutsJournal, PutsJournalPart, WritesOfTexts};
+ghost use Rattle.crun_cli.specs.Trying.{ended_by, PutsJournal, PutsJournalPart, WritesOfTexts};
 
 use crate::offering::offered_symbols;
-use crate::play::play;
+use crate::play::{Played, play};
 use c_hosts::HostModule;
+use crun::Session;
 use crun_job::{Stop, Task};
 use crun_words::{Inputs, RunLine};
 use host_replay::JournalFile;
@@ -72,7 +75,7 @@ pub fn run_and_record<F: Files, O: Sink, H: HostModule>(
         Ok(journal) => journal,
         Err(Memory) => return Err(Stop::Memory),
     };
-    let played = match play(alloc, task, hosts, journal, out) {
+    let played = match run_task(alloc, task, hosts, journal, out) {
         Ok(played) => played,
         Err(WriteAnswer::Failed) => return Err(Stop::Unwritten),
         Err(WriteAnswer::Memory) => return Err(Stop::Memory),
@@ -122,6 +125,44 @@ fn blank_journal<H: HostModule>(
     match line.journal {
         None => Ok(None),
         Some(_) => Ok(Some(JournalFile::of_hosts(alloc, hosts)?)),
+    }
+}
+
+// Runs a task with these hosts, which are given up behind the run.
+fn run_task<H: HostModule, O: Sink>(
+    alloc: Global,
+    task: Task,
+    hosts: Vec<H>,
+    journal: Option<JournalFile>,
+    out: &mut O,
+) -> Result<Played, WriteAnswer>
+    requires symbols { task.linked.1 ≡ symbols_of_hosts (hosts_of H.HostModule hosts.items) }
+    requires fit { AllFit (map unit_of task.linked.0) task.calls.items }
+    requires blank { IsBlank H.HostModule hosts.items journal }
+    ensures ran { IfOk result (λ played. HasRecorded H.HostModule hosts.items (map unit_of task.linked.0) (calls_seen task.calls.items) task.steps task.shows_state
+        (O.told out.old) (O.told out.new) played.status journal played.journal) }
+    ensures part { OnErr result (HasPart H.HostModule hosts.items (map unit_of task.linked.0) (calls_seen task.calls.items) task.steps task.shows_state
+        (O.told out.old) (O.told out.new)) }
+    ensures cause { WriteCause (O.faults out.old) (O.faults out.new) result }
+{
+    let calls = task.calls;
+    let shows_state = task.shows_state;
+    let mut session = match Session::start(alloc, task.linked, hosts, task.steps) {
+        Ok(session) => session,
+        Err(Memory) => return Err(WriteAnswer::Memory),
+    };
+    let came = play(
+        alloc,
+        &mut session,
+        calls.as_slice(),
+        shows_state,
+        journal,
+        out,
+    );
+    session.close();
+    match came {
+        Ok(played) => Ok(played),
+        Err(answer) => Err(answer),
     }
 }
 

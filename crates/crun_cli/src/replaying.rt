@@ -5,9 +5,9 @@ ghost use Rattle.w2c_io.specs.Telling.{Tells};
 ghost use Rattle.host_replay.specs.Replayed.{AreReplays};
 ghost use Rattle.host_replay.specs.Texts.{Recorded};
 ghost use Rattle.crun_job.specs.Seen.{reason_of};
+ghost use Rattle.crun_units.specs.Files.{files_seen};
 ghost use Rattle.crun_cli.specs.Ends.{AreOffered};
 ghost use Rattle.crun_cli.specs.Jobs.{HoldsJournal};
-ghost use Rattle.crun_cli.specs.Outside.{files_seen};
 ghost use Rattle.crun_cli.specs.Stopping.{StopsReplay};
 ghost use Rattle.crun_cli.specs.Trying.{GivesReplays, TriesReplay};
 

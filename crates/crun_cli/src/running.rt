@@ -7,11 +7,12 @@ ghost use Rattle.w2c_io.specs.Telling.{Tells};
 ghost use Rattle.crun_words.specs.CommandLine.{line_of, runs};
 ghost use Rattle.crun_words.specs.Seen.{seen_run};
 ghost use Rattle.crun_job.specs.Seen.{reason_of};
+ghost use Rattle.crun_units.specs.Trying.{stopped_by};
 ghost use Rattle.crun_cli.specs.Ends.{AreOffered, IsRunStatus, Ran};
 ghost use Rattle.crun_cli.specs.Outside.{outside};
 ghost use Rattle.crun_cli.specs.Passing.{PassesRun};
 ghost use Rattle.crun_cli.specs.Stopping.{StopsWork};
-ghost use Rattle.crun_cli.specs.Trying.{ended_by, stopped_by};
+ghost use Rattle.crun_cli.specs.Trying.{ended_by};
 
 use crate::recording::run_and_record;
 use crate::replaying::replayed_hosts;

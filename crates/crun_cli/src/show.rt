@@ -7,14 +7,15 @@ ghost use Rattle.crun_lines.specs.StateLines.{state_lines};
 ghost use Rattle.crun_lines.specs.Views.{entry_of};
 ghost use Rattle.crun_cli.specs.Playing.{IsStored};
 ghost use Rattle.crun_cli.specs.Showing.{entry_at, lines_of_items, lines_of_kind, lines_of_named, lines_of_object};
-ghost use Rattle.crun_cli.specs.Writing.{Writes};
+ghost use Rattle.program_words.specs.Writing.{Writes};
 
-use crate::names::{Kind, ordered_names};
+use crate::names::ordered_names;
 use crate::show_objects::{show_memory, show_table, show_variable};
 use c_hosts::HostModule;
 use c_tree::Item;
 use crun::Session;
 use crun_lines::Numbered;
+use crun_startup::ObjectKind;
 use std::alloc::Global;
 use w2c_base::Memory;
 use w2c_io::{Sink, WriteAnswer};
@@ -50,15 +51,15 @@ fn show_unit<H: HostModule, O: Sink>(
     ensures { Writes (O.told out.old) (O.told out.new) (O.faults out.old) (O.faults out.new)
         (lines_of_items (hosts_of H.HostModule session.now.hosts) (objects_of session.now) unit (unit_of items.now)) result }
 {
-    match show_kind(alloc, session, unit, Kind::Variable, items, out) {
+    match show_kind(alloc, session, unit, ObjectKind::Variable, items, out) {
         Ok(()) => {}
         Err(answer) => return Err(answer),
     }
-    match show_kind(alloc, session, unit, Kind::Memory, items, out) {
+    match show_kind(alloc, session, unit, ObjectKind::Memory, items, out) {
         Ok(()) => {}
         Err(answer) => return Err(answer),
     }
-    match show_kind(alloc, session, unit, Kind::Table, items, out) {
+    match show_kind(alloc, session, unit, ObjectKind::Table, items, out) {
         Ok(()) => Ok(()),
         Err(answer) => Err(answer),
     }
@@ -69,7 +70,7 @@ fn show_kind<H: HostModule, O: Sink>(
     alloc: Global,
     session: &Session<H>,
     unit: usize,
-    kind: Kind,
+    kind: ObjectKind,
     items: &[Item],
     out: &mut O,
 ) -> Result<(), WriteAnswer>
@@ -89,7 +90,7 @@ fn show_names<H: HostModule, O: Sink>(
     alloc: Global,
     session: &Session<H>,
     unit: usize,
-    kind: Kind,
+    kind: ObjectKind,
     names: &[Numbered<'_>],
     out: &mut O,
 ) -> Result<(), WriteAnswer>
@@ -110,7 +111,7 @@ fn show_named<H: HostModule, O: Sink>(
     alloc: Global,
     session: &Session<H>,
     unit: usize,
-    kind: Kind,
+    kind: ObjectKind,
     names: &[Numbered<'_>],
     k: usize,
     out: &mut O,
@@ -126,7 +127,7 @@ fn show_object<H: HostModule, O: Sink>(
     alloc: Global,
     session: &Session<H>,
     unit: usize,
-    kind: Kind,
+    kind: ObjectKind,
     name: &[u8],
     out: &mut O,
 ) -> Result<(), WriteAnswer>
@@ -134,8 +135,8 @@ fn show_object<H: HostModule, O: Sink>(
         (lines_of_object (hosts_of H.HostModule session.now.hosts) (objects_of session.now) unit kind name.now) result }
 {
     match kind {
-        Kind::Variable => show_variable(alloc, session, unit, name, out),
-        Kind::Memory => show_memory(alloc, session, unit, name, out),
-        Kind::Table => show_table(alloc, session, unit, name, out),
+        ObjectKind::Variable => show_variable(alloc, session, unit, name, out),
+        ObjectKind::Memory => show_memory(alloc, session, unit, name, out),
+        ObjectKind::Table => show_table(alloc, session, unit, name, out),
     }
 }

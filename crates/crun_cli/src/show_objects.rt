@@ -2,23 +2,23 @@
 ghost use Rattle.std.specs.Prelude.{◌≡◌, flat_map, map};
 ghost use Rattle.std.specs.List.{range_with_len};
 ghost use Rattle.c_tree.specs.View.{unit_of};
-ghost use Rattle.crun.specs.Names.{naming_of};
+ghost use Rattle.crun_startup.specs.Names.{naming_of};
 ghost use Rattle.c_hosts.specs.Asking.{hosts_of};
 ghost use Rattle.crun.specs.Shown.{element_seen};
 ghost use Rattle.crun.specs.Sessions.{objects_of};
 ghost use Rattle.crun_lines.specs.StateLines.{function_text, row_lines};
 ghost use Rattle.crun_lines.specs.Views.{owned_text};
 ghost use Rattle.crun_cli.specs.Showing.{length_and_elements, lines_of_element, lines_of_memory, lines_of_table, lines_of_variable, pages_and_rows};
-ghost use Rattle.crun_cli.specs.Writing.{Writes};
+ghost use Rattle.program_words.specs.Writing.{Writes};
 
 use crate::naming::{function_name, item_name};
-use crate::writing::put_line;
 use c_hosts::HostModule;
 use crun::{Element, Owner, Session};
 use crun_lines::{
     Function, element_line, length_line, pages_line, row_count, row_line, variable_line,
 };
 use lin_mem::LinMem;
+use program_words::put_line;
 use std::alloc::Global;
 use w2c_io::{Sink, WriteAnswer};
 

@@ -5,13 +5,13 @@ ghost use Rattle.c_hosts.specs.Asking.{hosts_of};
 ghost use Rattle.c_hosts.specs.Journals.{reply_of as reply_in_run};
 ghost use Rattle.crun_lines.specs.Views.{phase_of, reply_of as reply_in_line, IsCounted};
 ghost use Rattle.crun_cli.specs.Views.{asked_line, asks_lines, end_line, lines_behind, outcome_line, status_of_outcome};
-ghost use Rattle.crun_cli.specs.Writing.{Writes};
+ghost use Rattle.program_words.specs.Writing.{Writes};
 
 use crate::naming::{function_name, host_name};
-use crate::writing::put_line;
 use c_hosts::{Asked, HostModule, HostReply};
 use crun::{Outcome, Session, UndefinedAt as Undefined};
 use crun_lines::{Phase, Reply, Stop, UndefinedAt, ended_line, host_line, last_line};
+use program_words::put_line;
 use std::alloc::Global;
 use w2c_base::Value;
 use w2c_io::{Sink, WriteAnswer};

@@ -2,9 +2,9 @@
 // ordinary input meets no want of memory is said here alone. More rows are in bench/rows.
 mod units;
 
-use crate::env::Env;
 use crate::top::crun_top;
 use c_hosts::{BoxedHost, HostFunction, HostModule, HostReply};
+use env_host::Env;
 use std::alloc::Global;
 use std::boxed::Box;
 use std::cell::Cell;
@@ -261,7 +261,7 @@ impl Drop for Watched {
 
 impl HostModule for Watched {
     ghost use Rattle.std.specs.Prelude.{◌∷◌, []};
-    ghost use Rattle.crun_cli.specs.EnvHost.{env_functions, env_name, MayAnswer};
+    ghost use Rattle.env_host.specs.EnvHost.{env_functions, env_name, MayAnswer};
 
     ghost name_of = { λ h. env_name };
 

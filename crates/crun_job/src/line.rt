@@ -1,6 +1,5 @@
 // The line on the error stream, and the status.
 ghost use Rattle.std.specs.Prelude.{◌≡◌, ◌⊎◌, ◌++◌, codes, IfOk, OnOk, string_bytes};
-ghost use Rattle.std.specs.Fmt.{decimal};
 ghost use Rattle.w2c_io.specs.Telling.{Says, SaysPart};
 ghost use Rattle.crun_job.specs.declared.stop.Cause.TheVariants as WhichCause;
 ghost use Rattle.crun_job.specs.Lines.{cause_text, error_line, part_text, reason_text, status_of, token_text, wanted_text};
@@ -8,10 +7,10 @@ ghost use Rattle.crun_job.specs.Seen.{reason_of};
 
 use crate::stop::{Cause, Stop};
 use c_tree::{Part, Tok, Wanted};
-use itoa::Buffer;
+use program_words::{put_counted, say};
 use std::alloc::Global;
 use w2c_base::{Bytes, Memory};
-use w2c_io::{Sink, WriteAnswer};
+use w2c_io::Sink;
 
 /// Says why the program stops, in one line, and gives the status. A line that is not written whole
 /// leaves the status; where memory is wanting for it, that is 5.
@@ -20,13 +19,7 @@ pub fn report<E: Sink>(alloc: Global, stop: &Stop, err: &mut E) -> u8
     ensures says { Says (E.told err.old) (E.told err.new) (E.faults err.old) (E.faults err.new) (error_line (reason_of stop.now)) ⊎ (result ≡ 5) }
     ensures part { SaysPart (E.told err.old) (E.told err.new) (error_line (reason_of stop.now)) }
 {
-    let Ok(line) = stop.line(alloc) else {
-        return 5;
-    };
-    match err.put(line.as_slice()) {
-        Ok(()) | Err(WriteAnswer::Failed) => stop.status(),
-        Err(WriteAnswer::Memory) => 5,
-    }
+    say(stop.line(alloc), stop.status(), err)
 }
 
 impl Stop {
@@ -120,14 +113,6 @@ fn put_two(line: &mut Bytes, first: &[u8], second: &[u8]) -> Result<(), Memory>
 {
     line.extend(first)?;
     line.extend(second)
-}
-
-fn put_counted(line: &mut Bytes, text: &[u8], number: u64) -> Result<(), Memory>
-    ensures { OnOk result (line.new ≡ line.old ++ (text.now ++ decimal number)) }
-{
-    let mut buffer = Buffer::new();
-    line.extend(text)?;
-    line.extend(buffer.format(number).as_bytes())
 }
 
 fn text_of_wanted(wanted: Wanted) -> &'static [u8]

@@ -31,22 +31,13 @@ pub enum CallsRefusal {
     Memory,
 }
 
-impl<T: Drop> From<AllocFailed<T>> for CallsRefusal {
+/// Want of memory, as whatever it comes.
+impl<E: Into<Memory> + Drop> From<E> for CallsRefusal {
     ghost use Rattle.crun_job.specs.declared.refusal.CallsRefusal.TheVariants as refusal;
 
     ghost from_gives = { λ _ e. e ≡ refusal.Memory };
 
-    fn from(_: AllocFailed<T>) -> Self {
-        CallsRefusal::Memory
-    }
-}
-
-impl From<Memory> for CallsRefusal {
-    ghost use Rattle.crun_job.specs.declared.refusal.CallsRefusal.TheVariants as refusal;
-
-    ghost from_gives = { λ _ e. e ≡ refusal.Memory };
-
-    fn from(_: Memory) -> Self {
+    fn from(_: E) -> Self {
         CallsRefusal::Memory
     }
 }

@@ -3,7 +3,6 @@ ghost use Rattle.std.specs.Prelude.{◌≡◌};
 ghost use Rattle.crun_job.specs.declared.stop.Stop.TheVariants.{Memory as WantOfMemory};
 
 use c_tree::Wanted;
-use std::alloc::{AllocError, AllocFailed};
 use w2c_base::{Bytes, Memory};
 
 /// Why a unit is refused. Places are byte offsets from 0.
@@ -46,26 +45,11 @@ pub enum Stop {
     Memory,
 }
 
-impl From<AllocError> for Stop {
+/// Want of memory, as whatever it comes.
+impl<E: Into<Memory> + Drop> From<E> for Stop {
     ghost from_gives = { λ _ e. e ≡ WantOfMemory };
 
-    fn from(_: AllocError) -> Self {
-        Stop::Memory
-    }
-}
-
-impl<T: Drop> From<AllocFailed<T>> for Stop {
-    ghost from_gives = { λ _ e. e ≡ WantOfMemory };
-
-    fn from(_: AllocFailed<T>) -> Self {
-        Stop::Memory
-    }
-}
-
-impl From<Memory> for Stop {
-    ghost from_gives = { λ _ e. e ≡ WantOfMemory };
-
-    fn from(_: Memory) -> Self {
+    fn from(_: E) -> Self {
         Stop::Memory
     }
 }

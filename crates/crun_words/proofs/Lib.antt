@@ -1,4 +1,3 @@
-pub mod Readings
 pub mod Lists
 pub mod Names
 pub mod Said

@@ -1,37 +1,23 @@
--- The command that `clap` reads the words as, and the values that it finds. Which words give which values is clap's own
--- definition for a command of this form (clap, specs/Simple, specs/Walk and specs/Faults).
-use Rattle.std.specs.Prelude.{ℕ, Bool, true, false, List, [], Option, Some, None, if◌then◌else◌, unwrap_or, codes}
+-- The command that `clap` reads the words as, and the values that it finds.
+use Rattle.std.specs.Prelude.{ℕ, Bool, false, List, Option, Some, None, option_map, codes}
 use Rattle.std.specs.Str.{bytes_eq}
-use Rattle.clap.specs.Words.{App, Row, Rule, all_of, fault_of, first_of, matches_of, new_app, new_rule, with_rule}
-use Rattle.clap.specs.Simple.{on_top}
-use Rattle.clap.specs.Walk.{is_empty}
-use Rattle.clap.specs.declared.builder.action.ArgAction.TheVariants.{Append, SetTrue}
+use Rattle.clap.specs.Words.{App, Row, Rule, first_of, new_rule, with_rule}
+use Rattle.clap.specs.declared.builder.action.ArgAction.TheVariants.{SetTrue}
 use Rattle.w2c_io.specs.Contents.{Name}
-
--- an option of a whole word, which takes one value
-abbrev pub word_option : List ℕ → Rule
-word_option id = record (new_rule id) { long = Some id }
+use Rattle.program_words.specs.Command.{bare, rows_read, word_option, words_in, words_left}
 
 -- a flag of a whole word: clap gives it the text true where it is used, and false where it is not
 abbrev pub word_flag : List ℕ → Rule
 word_flag id = record (new_rule id) { long = Some id; action = Some SetTrue }
 
--- the last positional, which takes each word that is left
-abbrev pub units_left : Rule
-units_left = record (new_rule (codes "units")) { action = Some Append }
-
--- no argument yet; the words leave out the program's name
-abbrev pub bare : App
-bare = on_top (λ top. record top { no_binary_name = true }) (new_app (codes "crun"))
-
 -- --steps N, --calls FILE, --state, --record J, --replay J, --merge OUT.c, --trim OUT.c and units
 abbrev pub crun : App
 crun =
-    with_rule (with_rule (with_rule (with_rule (with_rule (with_rule (with_rule (with_rule bare
+    with_rule (with_rule (with_rule (with_rule (with_rule (with_rule (with_rule (with_rule (bare (codes "crun"))
     (word_option (codes "steps"))) (word_option (codes "calls"))) (word_flag (codes "state")))
     (word_option (codes "record"))) (word_option (codes "replay")))
     (word_option (codes "merge"))) (word_option (codes "trim")))
-    units_left
+    (words_left (codes "units"))
 
 -- the values of the options, each where it was used, whether the flag was used, and the units in order
 pub record Values : Type 0 where
@@ -58,9 +44,9 @@ values_in rows = record {
   replayed = first_of (codes "replay") rows;
   merged = first_of (codes "merge") rows;
   trimmed = first_of (codes "trim") rows;
-  units = unwrap_or (all_of (codes "units") rows) [];
+  units = words_in (codes "units") rows;
 }
 
 -- the values that the words give; none where clap refuses them
 unfoldable pub values_of : List (List ℕ) → Option Values
-values_of words = if is_empty (fault_of crun words) then Some (values_in (matches_of crun words)) else None
+values_of words = option_map values_in (rows_read crun words)

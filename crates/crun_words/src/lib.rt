@@ -22,9 +22,8 @@ pub use cases::{
     call_lines_that_are_read, lines_that_are_read, lines_that_are_refused,
     merges_and_trims_that_are_refused,
 };
-pub use command::word_option;
 pub use inputs::{InputStop, Inputs, read_inputs, read_journal_file, read_units};
 pub use law::{one_call, one_journal_reading, one_reading, one_units_reading};
 pub use line::{Line, MergeLine, RunLine, TrimLine};
 pub use numbers::number;
-pub use read::{NoLine, read_words, refusal};
+pub use read::read_words;

@@ -5,6 +5,7 @@ ghost use Rattle.crun_words.specs.Command.{is_used as is_used_text, values_in};
 ghost use Rattle.crun_words.specs.Seen.{seen_values};
 
 use clap::ArgMatches;
+use program_words::{value_by, words_by};
 use std::alloc::{AllocError, Global};
 
 /// The values of the options, each where it was used, whether the flag was used, and the units in order.
@@ -25,18 +26,15 @@ impl<'a> Values<'a> {
     pub fn of(alloc: Global, matches: &ArgMatches<'a>) -> Result<Values<'a>, AllocError>
         ensures { IfOk result (λ values. seen_values values ≡ values_in (rows_of (found_of matches.now))) }
     {
-        let units = match matches.get_strs("units") {
-            Some(units) => Vec::from_slice(alloc, units)?,
-            None => Vec::new(alloc),
-        };
+        let units = words_by(alloc, matches, "units")?;
         Ok(Values {
-            steps: matches.get_str("steps"),
-            calls: matches.get_str("calls"),
-            shows_state: is_used(matches.get_str("state")),
-            journal: matches.get_str("record"),
-            replayed: matches.get_str("replay"),
-            merged: matches.get_str("merge"),
-            trimmed: matches.get_str("trim"),
+            steps: value_by(matches, "steps"),
+            calls: value_by(matches, "calls"),
+            shows_state: is_used(value_by(matches, "state")),
+            journal: value_by(matches, "record"),
+            replayed: value_by(matches, "replay"),
+            merged: value_by(matches, "merge"),
+            trimmed: value_by(matches, "trim"),
             units,
         })
     }

@@ -30,6 +30,7 @@ use Rattle.c_tree.specs.Tree as tree
 use Rattle.c_print.specs.Print.{print_of}
 use Rattle.c_unit.specs.Items.{items_of}
 use Rattle.w2c_sim.specs.Translation.{header_text_of, text_of}
+use Rattle.program_words.specs.Command.{rows_read}
 use Rattle.wasm2c_words.specs.Command.{values_of}
 use Rattle.wasm2c_words.specs.CommandLine.{Line, line_of, translate}
 use Rattle.wasm2c_cli.specs.Example.{two_c, two_files, two_h, two_wasm, two_words}
@@ -45,7 +46,7 @@ abbrev two_line : Line
 two_line = translate (record { input = codes "two.wasm"; output = codes "two.c"; module_name = codes "two" })
 
 two_line_is : line_of two_words ≡ Some two_line
-unfolding values_of clap_on_literals
+unfolding values_of rows_read clap_on_literals
 two_line_is = refl
 
 -- ---- the module

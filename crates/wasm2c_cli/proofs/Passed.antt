@@ -10,9 +10,10 @@ use Rattle.w2c_base.proofs.Conjunctions.{both_hold}
 use Rattle.w2c_io.specs.Contents.{Name}
 use Rattle.w2c_files.specs.Standing.{IsOneOf, AreDistinct, file_names}
 use Rattle.wasm2c_words.specs.Command.{Values, values_of}
-use Rattle.wasm2c_words.specs.CommandLine.{Line, Translation, FileSet, Generation, translate, set, generate, runtime, are_names, is_set, is_count, in_range, count_of, translation, generation, line_with_output, line_with_dir, line_with_count, line_with_runtime, line_by, line_of_values, line_of}
+use Rattle.program_words.specs.Tests.{is_decimal, is_module_name}
+use Rattle.wasm2c_words.specs.CommandLine.{Line, Translation, FileSet, Generation, translate, set, generate, runtime, are_names, is_set, in_range, count_of, translation, generation, line_with_output, line_with_dir, line_with_count, line_with_runtime, line_by, line_of_values, line_of}
 use Rattle.w2c_files.specs.CFile.{is_c_file}
-use Rattle.wasm2c_words.specs.Names.{are_distinct, header_name_of, is_module_name, module_name_of}
+use Rattle.wasm2c_words.specs.Names.{are_distinct, header_name_of, module_name_of}
 use Rattle.wasm2c_words.specs.SetFiles.{files_of}
 use Rattle.wasm2c_words.proofs.HeaderName.{is_apart}
 use Rattle.wasm2c_words.proofs.SetFiles.{files_are_distinct}
@@ -71,7 +72,7 @@ in_range_fits count n is =
     (omega (arith, some, passed.1), omega (arith, few, passed.1))
 
 count_fits : (text : List ℕ) (n : ℕ) → count_of text ≡ Some n → (1 ≤ n) × (n ≤ 20000)
-count_fits text n is = by_test (is_count text) is
+count_fits text n is = by_test (is_decimal 5 text) is
   where
     by_test : (b : Bool) → ◌≡◌ {A = Option ℕ} (if b then in_range (digits_value 10 text) else None) (Some n) → (1 ≤ n) × (n ≤ 20000)
     by_test true e = in_range_fits (digits_value 10 text) n e

@@ -8,7 +8,7 @@ use Rattle.wasm_valid.specs.Verdict.{Accepted}
 use Rattle.wasm_valid.specs.FileVerdict.{Read, IsVerdictOn}
 use Rattle.w2c_gen.specs.GeneratedFile.{IsGeneratedFile}
 use Rattle.w2c_sim.specs.Translation.{text_of, header_text_of}
-use Rattle.wasm2c_words.specs.CommandLine.{Line, translate, set, generate, runtime, line_of}
+use Rattle.wasm2c_words.specs.CommandLine.{Line, generate, runtime, line_of}
 use Rattle.wasm2c_cli.specs.declared.stop.Reason.{Reason}
 use Rattle.wasm2c_cli.specs.Plan.{Target, inputs_of, most_set_bytes, targets_of}
 use Rattle.wasm2c_cli.specs.Reasons.{IsFirstRefused, PassesLimitBy}
@@ -22,10 +22,9 @@ pub data Job : Type 0 where
 
 -- the bytes of each module: those of the files, of which Reads is so when all are read, or those that are generated
 abbrev pub AreSourcesBy : (List (List ℕ) → Type 0) → Line → List (List ℕ) → Type 0
-AreSourcesBy Reads (translate t) sources = Reads sources
-AreSourcesBy Reads (set s) sources = Reads sources
 AreSourcesBy Reads (generate g) sources = (bytes : List ℕ) × IsGeneratedFile g.count bytes × (sources ≡ bytes ∷ [])
 AreSourcesBy Reads (runtime dir) sources = sources ≡ []
+AreSourcesBy Reads line sources = Reads sources
 
 -- what the files of a line hold, when all can be read
 abbrev pub AreReadOf : Line → Contents → List (List ℕ) → Type 0

@@ -21,8 +21,6 @@ use Rattle.w2c_gen.specs.GeneratedFile.{IsGeneratedFile}
 use Rattle.wasm2c_words.specs.CommandLine.{Line, Generation, translate, set, generate, runtime, line_of}
 use Rattle.w2c_files.specs.CFile.{is_c_file}
 use Rattle.wasm2c_words.specs.Names.{are_distinct, module_name_of}
-use Rattle.wasm2c_words.specs.declared.read.NoLine.{NoLine}
-use Rattle.wasm2c_words.specs.declared.read.NoLine.TheVariants as no_line
 use Rattle.wasm2c_cli.specs.Plan as plan
 use Rattle.wasm2c_cli.specs.Plan.{most_set_bytes, names_of_targets, inputs_of, targets_of, target}
 use Rattle.wasm2c_cli.specs.declared.plan.Target.{Target}
@@ -44,11 +42,6 @@ seen_target t = record { module_name = t.module_name.now; c_file = string_bytes 
 
 abbrev pub seen_targets : List Target → List plan.Target
 seen_targets targets = map seen_target targets
-
--- the stop where no line was read
-abbrev pub stop_for : NoLine → Stop
-stop_for no_line.Usage = stops.Usage
-stop_for no_line.Memory = stops.Memory
 
 -- ---- what a line has passed
 

@@ -50,6 +50,4 @@ names_of_targets (t ∷ ts) = t.c_file ∷ t.header ∷ names_of_targets ts
 -- the files that are written, in order
 abbrev pub outputs_of : Line → List Name
 outputs_of (runtime dir) = file_names (runtime_files dir)
-outputs_of (translate t) = names_of_targets (targets_of (translate t))
-outputs_of (set s) = names_of_targets (targets_of (set s))
-outputs_of (generate g) = names_of_targets (targets_of (generate g))
+outputs_of line = names_of_targets (targets_of line)

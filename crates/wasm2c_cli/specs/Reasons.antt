@@ -20,9 +20,8 @@ abbrev pub reason_for : FileVerdict → Option Reason
 reason_for (Unread (fault.Malformed place cause)) = Some (Malformed place cause)
 reason_for (Unread (fault.Float place)) = Some (Float place)
 reason_for (Unread (fault.Limit place which)) = Some (Limit place which)
-reason_for (Unread fault.Memory) = None
-reason_for (Read tree Accepted) = None
 reason_for (Read tree (is_invalid f)) = Some (Invalid f.place f.cause)
+reason_for _ = None
 
 -- the bytes spell a valid module
 abbrev pub IsAccepted : List ℕ → Type 0

@@ -18,21 +18,21 @@ mod writing;
 
 pub use example::{two_c_gives_42, two_wasm_becomes_two_c};
 pub use law::{distinct_files, honest_files, one_job};
+use program_words::exit_code;
 use std::process::ExitCode;
 pub use top::{sure_top, wasm2c_top};
+use w2c_base::Memory;
 use w2c_io::{StdFiles, StdSink, ToldSink, std_words};
 
 fn main(rt: HostRuntime) -> ExitCode {
-    ExitCode::from(status(&rt))
+    exit_code(status(&rt))
 }
 
 // Over the files and the error stream of the system. Where memory is wanting for the words, it is for a line too.
-fn status(rt: &HostRuntime) -> u8 {
-    let Ok(words) = std_words(rt) else {
-        return 5;
-    };
+fn status(rt: &HostRuntime) -> Result<u8, Memory> {
+    let words = std_words(rt)?;
     let alloc = rt.alloc();
     let mut files = StdFiles::new(rt, alloc);
     let mut err = ToldSink::new(StdSink::err(rt));
-    wasm2c_top(alloc, words.as_slice(), &mut files, &mut err)
+    Ok(wasm2c_top(alloc, words.as_slice(), &mut files, &mut err))
 }

@@ -6,9 +6,10 @@ ghost use Rattle.wasm2c_cli.specs.Parts.{SumsUp, SumsUpPart};
 
 use crate::stop::{Reason, Stop};
 use crate::work::Finished;
-use itoa::Buffer;
-use std::alloc::{AllocError, Global};
-use w2c_io::{Sink, WriteAnswer};
+use program_words::{put_counted, say};
+use std::alloc::Global;
+use w2c_base::{Bytes, Memory};
+use w2c_io::Sink;
 
 /// Says why the work stopped, and gives the status.
 pub fn report<E: Sink>(alloc: Global, stop: Stop, err: &mut E) -> u8
@@ -16,14 +17,7 @@ pub fn report<E: Sink>(alloc: Global, stop: Stop, err: &mut E) -> u8
     ensures says { (result ≡ status_of stop) → Says (E.told err.old) (E.told err.new) (E.faults err.old) (E.faults err.new) (line_for stop) ⊎ (result ≡ 5) }
     ensures part { SaysPart (E.told err.old) (E.told err.new) (line_for stop) }
 {
-    let status = status(&stop);
-    let Ok(line) = line_text(alloc, stop) else {
-        return 5;
-    };
-    match err.put(line.as_bytes()) {
-        Ok(()) | Err(WriteAnswer::Failed) => status,
-        Err(WriteAnswer::Memory) => 5,
-    }
+    say(line_of(alloc, &stop), status(&stop), err)
 }
 
 /// Says what was generated, where a module was, and gives the status.
@@ -35,23 +29,17 @@ pub fn summarize<E: Sink>(alloc: Global, finished: Finished, err: &mut E) -> u8
     let Finished::Generated(count, bytes) = finished else {
         return 0;
     };
-    let Ok(line) = summary(alloc, count, bytes) else {
-        return 5;
-    };
-    match err.put(line.as_bytes()) {
-        Ok(()) | Err(WriteAnswer::Failed) => 0,
-        Err(WriteAnswer::Memory) => 5,
-    }
+    say(summary(alloc, count, bytes), 0, err)
 }
 
-fn summary(alloc: Global, count: u32, bytes: usize) -> Result<String, AllocError>
-    ensures { IfOk result (λ line. string_bytes line ≡ summary_line count bytes) }
+fn summary(alloc: Global, count: u32, bytes: usize) -> Result<Bytes, Memory>
+    ensures { IfOk result (λ line. line ≡ summary_line count bytes) }
 {
-    let mut buffer = Buffer::new();
-    let mut line = String::from_str(alloc, "wasm2c: ")?;
-    push_numbered(&mut line, "gen ", count, buffer.format(bytes))?;
-    push_number(&mut line, " bytes, ", count)?;
-    line.push_str(" functions\n")?;
+    let mut line = Bytes::new(alloc);
+    put_counted(&mut line, b"wasm2c: gen ", u64::from(count))?;
+    put_counted(&mut line, b": ", bytes as u64)?;
+    put_counted(&mut line, b" bytes, ", u64::from(count))?;
+    line.extend(b" functions\n")?;
     Ok(line)
 }
 
@@ -67,64 +55,57 @@ fn status(stop: &Stop) -> u8
     }
 }
 
-fn line_text(alloc: Global, stop: Stop) -> Result<String, AllocError>
-    ensures { IfOk result (λ line. string_bytes line ≡ line_for stop) }
+fn line_of(alloc: Global, stop: &Stop) -> Result<Bytes, Memory>
+    ensures { IfOk result (λ line. line ≡ line_for stop.now) }
+{
+    let mut line = Bytes::new(alloc);
+    put_stop(&mut line, stop)?;
+    Ok(line)
+}
+
+fn put_stop(line: &mut Bytes, stop: &Stop) -> Result<(), Memory>
+    ensures { OnOk result (line.new ≡ line.old ++ line_for stop.now) }
 {
     match stop {
-        Stop::Usage => String::from_str(alloc, "wasm2c: bad command line\n"),
-        Stop::Refused(name, reason) => refused_text(alloc, &name, reason),
-        Stop::Unread(name) => named_text(alloc, &name, ": read fault\n"),
-        Stop::Unwritten(name) => named_text(alloc, &name, ": write fault\n"),
-        Stop::Memory => String::from_str(alloc, "wasm2c: want of memory\n"),
+        Stop::Usage => line.extend(b"wasm2c: bad command line\n"),
+        Stop::Refused(name, reason) => put_refused(line, name, *reason),
+        Stop::Unread(name) => put_named(line, name, b": read fault\n"),
+        Stop::Unwritten(name) => put_named(line, name, b": write fault\n"),
+        Stop::Memory => line.extend(b"wasm2c: want of memory\n"),
     }
 }
 
-fn refused_text(alloc: Global, name: &String, reason: Reason) -> Result<String, AllocError>
-    ensures { IfOk result (λ line. string_bytes line ≡ refused_line (string_bytes name.now) reason) }
+fn put_refused(line: &mut Bytes, name: &String, reason: Reason) -> Result<(), Memory>
+    ensures { OnOk result (line.new ≡ line.old ++ refused_line (string_bytes name.now) reason) }
 {
-    let mut line = named_text(alloc, name, ": ")?;
-    push_reason(&mut line, reason)?;
-    line.push_str("\n")?;
-    Ok(line)
+    put_named(line, name, b": ")?;
+    put_reason(line, reason)?;
+    line.extend(b"\n")
 }
 
-fn push_reason(line: &mut String, reason: Reason) -> Result<(), AllocError>
-    ensures { OnOk result (string_bytes line.new ≡ string_bytes line.old ++ reason_text reason) }
+fn put_reason(line: &mut Bytes, reason: Reason) -> Result<(), Memory>
+    ensures { OnOk result (line.new ≡ line.old ++ reason_text reason) }
 {
     match reason {
-        Reason::Malformed(place, cause) => push_numbered(
-            line,
-            "malformed at ",
-            place,
-            cause.text(),
-        ),
-        Reason::Float(place) => push_number(line, "float at ", place),
-        Reason::Limit(place, which) => push_numbered(line, "limit at ", place, which.text()),
-        Reason::Invalid(place, cause) => push_numbered(line, "invalid at ", place, cause.text()),
+        Reason::Malformed(place, cause) => put_placed(line, b"malformed at ", place, cause.text()),
+        Reason::Float(place) => put_counted(line, b"float at ", u64::from(place)),
+        Reason::Limit(place, which) => put_placed(line, b"limit at ", place, which.text()),
+        Reason::Invalid(place, cause) => put_placed(line, b"invalid at ", place, cause.text()),
     }
 }
 
-fn push_numbered(line: &mut String, what: &str, number: u32, text: &str) -> Result<(), AllocError>
-    ensures { OnOk result (string_bytes line.new ≡ string_bytes line.old ++ (what.now ++ decimal number ++ codes ": " ++ text.now)) }
+fn put_placed(line: &mut Bytes, what: &[u8], place: u32, text: &str) -> Result<(), Memory>
+    ensures { OnOk result (line.new ≡ line.old ++ (what.now ++ decimal place ++ codes ": " ++ text.now)) }
 {
-    push_number(line, what, number)?;
-    line.push_str(": ")?;
-    line.push_str(text)
+    put_counted(line, what, u64::from(place))?;
+    line.extend(b": ")?;
+    line.extend(text.as_bytes())
 }
 
-fn push_number(line: &mut String, what: &str, number: u32) -> Result<(), AllocError>
-    ensures { OnOk result (string_bytes line.new ≡ string_bytes line.old ++ (what.now ++ decimal number)) }
+fn put_named(line: &mut Bytes, name: &String, end: &[u8]) -> Result<(), Memory>
+    ensures { OnOk result (line.new ≡ line.old ++ (codes "wasm2c: " ++ string_bytes name.now ++ end.now)) }
 {
-    let mut buffer = Buffer::new();
-    line.push_str(what)?;
-    line.push_str(buffer.format(number))
-}
-
-fn named_text(alloc: Global, name: &String, end: &str) -> Result<String, AllocError>
-    ensures { IfOk result (λ line. string_bytes line ≡ codes "wasm2c: " ++ string_bytes name.now ++ end.now) }
-{
-    let mut line = String::from_str(alloc, "wasm2c: ")?;
-    line.push_str(name.as_str())?;
-    line.push_str(end)?;
-    Ok(line)
+    line.extend(b"wasm2c: ")?;
+    line.extend(name.as_bytes())?;
+    line.extend(end)
 }

@@ -1,15 +1,12 @@
 // Why the work stopped.
 ghost use Rattle.std.specs.Prelude.{◌≡◌};
 ghost use Rattle.wasm2c_cli.specs.declared.stop.Stop.TheVariants.{Memory as WantOfMemory};
-ghost use Rattle.wasm2c_cli.specs.Parts.{stop_for};
 ghost use Rattle.wasm2c_cli.specs.Reasons.{reason_of};
 
-use std::alloc::{AllocError, AllocFailed};
 use w2c_base::Memory;
 use w2c_sim::Refusal;
 use wasm_spelling::{Cause, Which};
 use wasm_valid::ValidCause;
-use wasm2c_words::NoLine;
 
 /// Why a file is refused.
 #[derive(Clone, Copy)]
@@ -49,37 +46,11 @@ pub enum Stop {
     Memory,
 }
 
-impl From<AllocError> for Stop {
+/// Want of memory, as whatever it comes.
+impl<E: Into<Memory> + Drop> From<E> for Stop {
     ghost from_gives = { λ _ e. e ≡ WantOfMemory };
 
-    fn from(_: AllocError) -> Self {
+    fn from(_: E) -> Self {
         Stop::Memory
-    }
-}
-
-impl<T: Drop> From<AllocFailed<T>> for Stop {
-    ghost from_gives = { λ _ e. e ≡ WantOfMemory };
-
-    fn from(_: AllocFailed<T>) -> Self {
-        Stop::Memory
-    }
-}
-
-impl From<Memory> for Stop {
-    ghost from_gives = { λ _ e. e ≡ WantOfMemory };
-
-    fn from(_: Memory) -> Self {
-        Stop::Memory
-    }
-}
-
-impl From<NoLine> for Stop {
-    ghost from_gives = { λ why e. e ≡ stop_for why };
-
-    fn from(why: NoLine) -> Self {
-        match why {
-            NoLine::Usage => Stop::Usage,
-            NoLine::Memory => Stop::Memory,
-        }
     }
 }

@@ -11,6 +11,7 @@ use crate::plan::{Target, set_targets};
 use crate::runtime::write_runtime;
 use crate::stop::Stop;
 use crate::translating::{generate_module, translate};
+use program_words::NoLine;
 use std::alloc::Global;
 use w2c_io::Files;
 use wasm2c_words::{Line, read_words};
@@ -38,7 +39,11 @@ pub fn work<F: Files>(alloc: Global, words: &[String], files: &mut F) -> Result<
     ensures passed { OnOk result (Passes (F.trace files.old) (F.trace files.new) (PassesWork (texts words.now))) }
     ensures tried { IfErr result (λ stop. Passes (F.trace files.old) (F.trace files.new) (TriesWork (texts words.now) stop)) }
 {
-    let line = read_words(alloc, words)?;
+    let line = match read_words(alloc, words) {
+        Ok(line) => line,
+        Err(NoLine::Usage) => return Err(Stop::Usage),
+        Err(NoLine::Memory) => return Err(Stop::Memory),
+    };
     work_on(alloc, line, files)
 }
 

@@ -7,14 +7,14 @@ use Rattle.std.specs.Str.Parse.{ParsesUnsigned, digits_value}
 use Rattle.std.proofs.lemmas.Str.Parse.{digits_value_short, numerals_by_value, parse_gives, tells_all_ascii_digits}
 use Rattle.std.proofs.lemmas.Bool.{leb-true}
 use Rattle.w2c_base.proofs.Conjunctions.{left_holds, right_holds}
-use Rattle.wasm2c_words.specs.CommandLine.{is_count}
+use Rattle.program_words.specs.Tests.{is_decimal}
 
 all_digits : (text : List ℕ) → list_all is_ascii_digit text ≡ all_ascii_digits text
 all_digits [] = refl
 all_digits (c ∷ cs) = ap (λ b. is_ascii_digit c && b) (all_digits cs)
 
 -- such a text is read as the number that its digits write
-pub count_parsed : {E : Type 0} (text : List ℕ) (r : Result ℕ E) → is_count text ≡ true → ParsesUnsigned 32 10 text r
+pub count_parsed : {E : Type 0} (text : List ℕ) (r : Result ℕ E) → is_decimal 5 text ≡ true → ParsesUnsigned 32 10 text r
     → r ≡ Ok (digits_value 10 text)
 count_parsed text r is parsed =
     let lengths = left_holds _ _ is in
@@ -26,6 +26,6 @@ count_parsed text r is parsed =
     let fits : digits_value 10 text < 2 ^ 32 = omega (arith, small) in
     parse_gives own 32 text r parsed digits some fits
 
-pub never_refused : {E : Type 0} (text : List ℕ) (e : E) (r : Result ℕ E) → r ≡ Err e → is_count text ≡ true
+pub never_refused : {E : Type 0} (text : List ℕ) (e : E) (r : Result ℕ E) → r ≡ Err e → is_decimal 5 text ≡ true
     → ParsesUnsigned 32 10 text r → ⊥
 never_refused text e r fails is parsed = let no : Err e ≡ Ok (digits_value 10 text) = sym fails ∙ count_parsed text r is parsed in cc

@@ -2,5 +2,4 @@ pub mod Counts
 pub mod HeaderName
 pub mod Mapped
 pub mod ModuleName
-pub mod Readings
 pub mod SetFiles

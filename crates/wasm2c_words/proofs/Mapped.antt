@@ -3,8 +3,9 @@ use Rattle.std.proofs.Common.{◌≡◌, ◌&&◌, ◌||◌, ◌∙◌, ◌<◌,
 use Rattle.std.specs.List.{list_all, list_any}
 use Rattle.std.specs.Str.{bytes_eq}
 use Rattle.std.specs.Borrow.{Bor}
-use Rattle.wasm2c_words.specs.Names.{are_distinct, is_module_name, module_name_of}
+use Rattle.wasm2c_words.specs.Names.{are_distinct, module_name_of}
 use Rattle.w2c_files.specs.Words.{names_of}
+use Rattle.program_words.specs.Tests.{is_module_name}
 
 abbrev pub modules : List (Bor (List ℕ)) → List (List ℕ)
 modules files = map module_name_of (names_of files)

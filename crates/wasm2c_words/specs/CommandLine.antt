@@ -1,12 +1,12 @@
 -- The readings of a command line: FILE -o OUT.c [-n NAME], --dir DIR FILE .., --gen N -o OUT.c [-n NAME] and --runtime DIR.
 use Rattle.std.specs.Prelude.{ℕ, ◌&&◌, nat_le, Bool, List, [], ◌∷◌, length, map, Option, Some, None, if◌then◌else◌, unwrap_or, option_and_then, codes}
 use Rattle.std.specs.List.{list_all}
-use Rattle.std.specs.Char.{is_ascii_digit}
 use Rattle.std.specs.Str.Parse.{digits_value}
 use Rattle.w2c_io.specs.Contents.{Name}
 use Rattle.w2c_files.specs.CFile.{is_c_file}
+use Rattle.program_words.specs.Tests.{is_decimal, is_module_name}
 use Rattle.wasm2c_words.specs.Command.{Values, values_of}
-use Rattle.wasm2c_words.specs.Names.{are_distinct, is_module_name, module_name_of}
+use Rattle.wasm2c_words.specs.Names.{are_distinct, module_name_of}
 
 -- FILE -o OUT.c [-n NAME]: the file to read, the file to write, and the module's name
 pub record Translation : Type 0 where
@@ -43,16 +43,12 @@ abbrev pub is_set : List Name → Bool
 is_set inputs = (nat_le 1 (length inputs) && nat_le (length inputs) 16)
     && (list_all is_module_name (map module_name_of inputs) && are_distinct (map module_name_of inputs))
 
--- 1 to 5 decimal digits
-abbrev pub is_count : List ℕ → Bool
-is_count text = (nat_le 1 (length text) && nat_le (length text) 5) && list_all is_ascii_digit text
-
 abbrev pub in_range : ℕ → Option ℕ
 in_range count = if nat_le 1 count && nat_le count 20000 then Some count else None
 
--- the number that such digits write, where it is 1 to 20,000
+-- the number that 1 to 5 decimal digits write, where it is 1 to 20,000
 abbrev pub count_of : List ℕ → Option ℕ
-count_of text = if is_count text then in_range (digits_value 10 text) else None
+count_of text = if is_decimal 5 text then in_range (digits_value 10 text) else None
 
 -- ---- the forms
 

@@ -1,5 +1,5 @@
 -- Names of modules and of files.
-use Rattle.std.specs.Prelude.{ℕ, ◌-◌, ◌==◌, ◌&&◌, nat_le, Bool, true, not, List, [], ◌∷◌, ◌++◌, length, take, codes}
+use Rattle.std.specs.Prelude.{ℕ, ◌-◌, ◌==◌, ◌&&◌, Bool, true, not, List, [], ◌∷◌, ◌++◌, length, take, codes}
 use Rattle.std.specs.Str.{bytes_eq}
 use Rattle.std.specs.List.{after_last, before_last, list_any}
 use Rattle.w2c_io.specs.Contents.{Name}
@@ -22,10 +22,6 @@ without_ending name = or_else (before_last is_dot name) name
 -- a module's name by its file's: the part of that name after its last `/`, without its ending
 abbrev pub module_name_of : Name → List ℕ
 module_name_of file = without_ending (after_last is_slash file)
-
--- it has 1 to 1,024 bytes
-abbrev pub is_module_name : List ℕ → Bool
-is_module_name name = nat_le 1 (length name) && nat_le (length name) 1024
 
 -- the header's name, beside a C file: .h in place of .c
 abbrev pub header_name_of : Name → Name

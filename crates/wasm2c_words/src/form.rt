@@ -7,8 +7,9 @@ ghost use Rattle.wasm2c_words.specs.Seen.{seen_line, seen_values};
 use crate::count::count_of;
 use crate::file_name::module_name;
 use crate::line::{FileSet, Generation, Line, Translation};
-use crate::names::{are_distinct, are_module_names, is_module_name};
+use crate::names::{are_distinct, are_module_names};
 use crate::values::Values;
+use program_words::is_module_name;
 use w2c_files::is_c_file;
 
 /// The line of values that fit one of the forms and pass its tests.

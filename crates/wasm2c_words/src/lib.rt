@@ -17,5 +17,5 @@ pub use cases::{lines_that_are_read, lines_that_are_refused};
 pub use file_name::module_name;
 pub use line::{FileSet, Generation, Line, Translation};
 pub use names::header_name;
-pub use read::{NoLine, read_words};
+pub use read::read_words;
 pub use set_files::{c_file_in, files_of_a_set_are_distinct, header_in};

@@ -2,11 +2,13 @@
 ghost use Rattle.std.specs.Prelude.{◌≡◌, IfOk, IsTrue, map, string_bytes};
 ghost use Rattle.std.specs.List.{list_all, list_any};
 ghost use Rattle.std.specs.Str.{bytes_eq};
-ghost use Rattle.wasm2c_words.specs.Names.{are_distinct as are_distinct_names, header_name_of, is_module_name as is_module_name_of, module_name_of};
+ghost use Rattle.wasm2c_words.specs.Names.{are_distinct as are_distinct_names, header_name_of, module_name_of};
 ghost use Rattle.w2c_files.specs.CFile.{is_c_file};
 ghost use Rattle.w2c_files.specs.Words.{names_of};
+ghost use Rattle.program_words.specs.Tests.{is_module_name as is_module_name_of};
 
 use crate::file_name::module_name;
+use program_words::is_module_name;
 use std::alloc::{AllocError, Global};
 
 /// The name of the header beside a C file: `.h` in place of `.c`. An error where memory is wanting.
@@ -18,12 +20,6 @@ pub fn header_name(alloc: Global, output: &str) -> Result<String, AllocError>
     name.pop();
     name.push('h')?;
     Ok(name)
-}
-
-pub(crate) fn is_module_name(name: &[u8]) -> bool
-    ensures { result ≡ is_module_name_of name.now }
-{
-    !name.is_empty() && name.len() <= 1024
 }
 
 /// Whether the modules of the files have names that a module may have.

@@ -1,37 +1,19 @@
 // The reading of the words.
 ghost use Rattle.std.specs.Prelude.{◌≡◌, None, Some, IfOk, IsErrOf};
-ghost use Rattle.clap.specs.Words.{found_of, kind_of, rows_of};
+ghost use Rattle.clap.specs.Words.{found_of, rows_of};
 ghost use Rattle.w2c_files.specs.Words.{texts};
+ghost use Rattle.program_words.specs.declared.no_line.NoLine.{NoLine};
 ghost use Rattle.wasm2c_words.specs.Command.{values_in};
 ghost use Rattle.wasm2c_words.specs.CommandLine.{line_of, line_of_values as line_by_values};
 ghost use Rattle.wasm2c_words.specs.Seen.{seen_line};
-ghost use Rattle.wasm2c_words.specs.declared.read.NoLine.{NoLine};
-ghost use Rattle.wasm2c_words.specs.declared.read.NoLine.TheVariants as no_line;
 
 use crate::command::command;
 use crate::form::line_of_values;
 use crate::line::Line;
 use crate::values::Values;
-use clap::error::ErrorKind;
-use clap::{ArgMatches, Error};
-use std::alloc::{AllocError, Global};
-
-/// Why no line was read.
-#[derive(Clone, Copy, Debug, PartialEq, Eq)]
-pub enum NoLine {
-    /// The words have no reading.
-    Usage,
-    /// An allocation failed.
-    Memory,
-}
-
-impl From<AllocError> for NoLine {
-    ghost from_gives = { λ _ e. e ≡ no_line.Memory };
-
-    fn from(_: AllocError) -> Self {
-        NoLine::Memory
-    }
-}
+use clap::ArgMatches;
+use program_words::{NoLine, read_matches};
+use std::alloc::Global;
 
 /// The line of the words, which leave out the program's name. Usage exactly where they have no reading, unless memory is
 /// wanting.
@@ -40,9 +22,9 @@ pub fn read_words(alloc: Global, words: &[String]) -> Result<Line<'_>, NoLine>
     ensures usage { IsErrOf result NoLine.Usage → line_of (texts words.now) ≡ None }
 {
     let command = command(alloc)?;
-    match command.try_get_matches_from(words) {
+    match read_matches(command, words) {
         Ok(matches) => line_of_matches(alloc, &matches),
-        Err(error) => Err(refusal(&error)),
+        Err(why) => Err(why),
     }
 }
 
@@ -54,15 +36,5 @@ fn line_of_matches<'a>(alloc: Global, matches: &ArgMatches<'a>) -> Result<Line<'
     match line_of_values(values) {
         Some(line) => Ok(line),
         None => Err(NoLine::Usage),
-    }
-}
-
-fn refusal(error: &Error) -> NoLine
-    ensures { result ≡ NoLine.Usage → kind_of error.now ≡ ErrorKind.OutOfMemory → ⊥ }
-{
-    if error.kind() == ErrorKind::OutOfMemory {
-        NoLine::Memory
-    } else {
-        NoLine::Usage
     }
 }

@@ -5,6 +5,7 @@ ghost use Rattle.wasm2c_words.specs.Command.{values_in};
 ghost use Rattle.wasm2c_words.specs.Seen.{seen_values};
 
 use clap::ArgMatches;
+use program_words::{value_by, words_by};
 use std::alloc::{AllocError, Global};
 
 /// The values of the options, each where it was used, and the files in order.
@@ -23,16 +24,13 @@ impl<'a> Values<'a> {
     pub fn of(alloc: Global, matches: &ArgMatches<'a>) -> Result<Values<'a>, AllocError>
         ensures { IfOk result (λ values. seen_values values ≡ values_in (rows_of (found_of matches.now))) }
     {
-        let files = match matches.get_strs("files") {
-            Some(files) => Vec::from_slice(alloc, files)?,
-            None => Vec::new(alloc),
-        };
+        let files = words_by(alloc, matches, "files")?;
         Ok(Values {
-            output: matches.get_str("output"),
-            module_name: matches.get_str("name"),
-            dir: matches.get_str("dir"),
-            count: matches.get_str("gen"),
-            runtime: matches.get_str("runtime"),
+            output: value_by(matches, "output"),
+            module_name: value_by(matches, "name"),
+            dir: value_by(matches, "dir"),
+            count: value_by(matches, "gen"),
+            runtime: value_by(matches, "runtime"),
             files,
         })
     }

@@ -32,6 +32,7 @@ use Rattle.wasm_valid.specs.Verdict.{Accepted}
 use Rattle.wasm_meaning.specs.LinkedSet.{IsLinked, ModuleFunc, NamedModule, Resolves, module_at as numbered}
 use Rattle.wasm_meaning.specs.Run.{Fits}
 use Rattle.c_meaning.specs.Run as c
+use Rattle.program_words.specs.Command.{rows_read}
 use Rattle.wast_script.specs.CommandLine.{Line, line_of}
 use Rattle.wast_script.specs.Commands as script
 use Rattle.wast_script.specs.Commands.{Command}
@@ -53,7 +54,7 @@ abbrev two_line : Line
 two_line = record { steps = 100; script = codes "examples/two.json" }
 
 two_line_is : line_of two_words ≡ Some two_line
-unfolding line_of clap_on_literals
+unfolding line_of rows_read clap_on_literals
 two_line_is = refl
 
 abbrev two_file : script.ModuleFile

@@ -1,6 +1,5 @@
 -- Lists, and what was written: pieces behind one another, and parts of them
 pub mod Lists
-pub mod Written
 -- Words, and their lines
 pub mod WordLines
 -- Commands one behind another, and parts of a report

@@ -18,7 +18,7 @@ use Rattle.wast_run.specs.Report.{AreWords, Asserts, Comes, EndsWith, IsFile, Is
 use Rattle.wast_run.specs.Report.{Where, at_first, calls_with, set_at}
 use Rattle.wast_run.specs.Parts.{lines_before, IsPart}
 use Rattle.wast_run.proofs.Leads.{lead_plain}
-use Rattle.wast_run.proofs.Written.{prefix_in_front}
+use Rattle.program_words.proofs.Written.{prefix_in_front}
 
 -- two things that are said by one choice are said in the same case of it
 same_case : (P A B C D G : Type 0) → (A → C → G) → (B → D → G) → Where P A B → Where P C D → G

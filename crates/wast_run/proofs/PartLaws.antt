@@ -13,7 +13,7 @@ use Rattle.wast_run.specs.Report.{LeadInTime, Setting, at_first, command_line, i
 use Rattle.wast_run.specs.Parts.{file_of, lines_before, HasItsFile, IsPart, IsPartOfLines}
 use Rattle.wast_run.specs.Stopping.{HasGained}
 use Rattle.wast_run.specs.Telling.{HasReported, IsBehind, TellsCommand, TellsPart}
-use Rattle.wast_run.proofs.Written.{none_written, extended_twice, prefix_behind, prefix_in_front, prefix_of_itself, whole_behind}
+use Rattle.program_words.proofs.Written.{none_written, extended_twice, prefix_behind, prefix_in_front, prefix_of_itself, whole_behind}
 use Rattle.wast_run.proofs.WordLines.{count_more, line_more, lines_in_front}
 use Rattle.wast_run.proofs.Leads.{lead_length, lead_more, lead_plain, lead_there}
 

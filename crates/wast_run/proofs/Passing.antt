@@ -34,7 +34,7 @@ use Rattle.wast_run.specs.Passing.{LastLines, LastReads, LeadOver, PassesFor, Re
 use Rattle.wast_run.specs.Reading.{HasReportedOver, IsBehindOver, IsFaultBy, IsOfLine, IsStopBy, JudgesFile, JudgesSo}
 use Rattle.wast_run.specs.Reading.{ReadsScript, StopsOver, StopsRead, StopsScriptOver, StopsTellingOver, TellsOver}
 use Rattle.wast_run.proofs.Comings.{IsSaid}
-use Rattle.wast_run.proofs.Written.{none_written, extended_twice, prefix_behind, prefix_in_front, prefix_of_itself, whole_behind}
+use Rattle.program_words.proofs.Written.{none_written, extended_twice, prefix_behind, prefix_in_front, prefix_of_itself, whole_behind}
 use Rattle.wast_run.proofs.WordLines.{count_more, line_more, lines_in_front}
 
 -- ---- the file of a module

@@ -8,9 +8,10 @@ use Rattle.std.proofs.lemmas.Option.{none-some, same_Some}
 use Rattle.w2c_base.specs.declared.value.Value.{Value}
 use Rattle.w2c_base.specs.declared.trap.TrapKind.{TrapKind}
 use Rattle.serde_json.specs.Data.{Data}
+use Rattle.program_words.specs.Tests.{is_module_name}
 use Rattle.wast_script.specs.Commands as script
 use Rattle.wast_script.specs.Commands.{Call, Command}
-use Rattle.wast_script.specs.Forms.{call_in, cause_in, command_by, command_of, expected_in, is_module_name, kind_named, kind_text, kinds}
+use Rattle.wast_script.specs.Forms.{call_in, cause_in, command_by, command_of, expected_in, kind_named, kind_text, kinds}
 use Rattle.wast_script.specs.Forms.{module_with, return_with, trap_with}
 use Rattle.wast_script.specs.Values.{text_in}
 use Rattle.wast_script.specs.Lists.{all_given}

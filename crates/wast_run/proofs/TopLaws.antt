@@ -26,7 +26,7 @@ use Rattle.wast_run.proofs.JobLaws.{AreApart, IsOneScript, job_apart, one_list, 
 use Rattle.wast_run.proofs.Leads.{lead_plain, lead_there, there_at}
 use Rattle.wast_run.proofs.OneReport.{part_is_prefix}
 use Rattle.wast_run.proofs.PartLaws.{part_before}
-use Rattle.wast_run.proofs.Written.{none_written, prefix_of_itself}
+use Rattle.program_words.proofs.Written.{none_written, prefix_of_itself}
 
 -- the whole report is a part of it
 pub whole_part : (m : Contents) (steps : ℕ) (commands : List Command) (all : List Word) (after : Setting)

@@ -23,23 +23,23 @@ mod writing;
 pub use cases::{commands_come_to_words, reports_of_words};
 pub use example::two_json_is_reported;
 pub use law::{honest_files, one_report};
+use program_words::exit_code;
 pub use runs::units_come_to_what_modules_come_to;
 use std::process::ExitCode;
 pub use top::wast_run_top;
+use w2c_base::Memory;
 use w2c_io::{StdFiles, StdSink, ToldSink, std_words};
 
 fn main(rt: HostRuntime) -> ExitCode {
-    ExitCode::from(status(&rt))
+    exit_code(status(&rt))
 }
 
 // Over the files and the streams of the system. Where memory is wanting for the words, it is for a line too.
-fn status(rt: &HostRuntime) -> u8 {
-    let Ok(words) = std_words(rt) else {
-        return 5;
-    };
+fn status(rt: &HostRuntime) -> Result<u8, Memory> {
+    let words = std_words(rt)?;
     let alloc = rt.alloc();
     let mut files = StdFiles::new(rt, alloc);
     let mut out = ToldSink::new(StdSink::out(rt));
     let mut err = ToldSink::new(StdSink::err(rt));
-    wast_run_top(alloc, words.as_slice(), &mut files, &mut out, &mut err)
+    Ok(wast_run_top(alloc, words.as_slice(), &mut files, &mut out, &mut err))
 }

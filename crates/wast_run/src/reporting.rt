@@ -14,7 +14,7 @@ ghost use Rattle.wast_run.specs.Stopping.{StopsReport};
 use crate::commands::run_command;
 use crate::stage::Stage;
 use crate::word::{Word, command_line, total_line};
-use crate::writing::put_line;
+use crate::writing::write_line;
 use std::alloc::Global;
 use w2c_io::{Files, Sink};
 use wast_script::{Command, Stop};
@@ -49,7 +49,7 @@ pub(crate) fn report_commands<F: Files, O: Sink>(
         Ok(ok) => ok,
         Err(stop) => return Err(stop),
     };
-    match put_line(total_line(alloc, commands.len(), ok), out) {
+    match write_line(total_line(alloc, commands.len(), ok), out) {
         Ok(()) => Ok(ok == commands.len()),
         Err(stop) => Err(stop),
     }
@@ -128,7 +128,7 @@ fn tell_command<'a, F: Files, O: Sink>(
         Ok(word) => word,
         Err(stop) => return Err(stop),
     };
-    match put_line(command_line(alloc, index + 1, word), out) {
+    match write_line(command_line(alloc, index + 1, word), out) {
         Ok(()) => Ok(word),
         Err(stop) => Err(stop),
     }

@@ -1,9 +1,8 @@
 // What is said of a command, and the lines of a report.
-ghost use Rattle.std.specs.Prelude.{◌≡◌, ◌++◌, IfOk, OnOk};
-ghost use Rattle.std.specs.Fmt.{decimal};
+ghost use Rattle.std.specs.Prelude.{◌≡◌, IfOk};
 ghost use Rattle.wast_run.specs.Report.{command_line, is_ok, total_line, word_text};
 
-use itoa::Buffer;
+use program_words::put_counted;
 use std::alloc::Global;
 use w2c_base::{Bytes, Memory};
 
@@ -55,8 +54,7 @@ pub(crate) fn command_line(alloc: Global, number: usize, word: Word) -> Result<B
     ensures { IfOk result (λ line. line ≡ command_line number word) }
 {
     let mut line = Bytes::new(alloc);
-    line.extend(b"command ")?;
-    put_number(&mut line, number)?;
+    put_counted(&mut line, b"command ", number as u64)?;
     line.extend(b" ")?;
     line.extend(word.text().as_bytes())?;
     line.extend(b"\n")?;
@@ -68,17 +66,8 @@ pub(crate) fn total_line(alloc: Global, total: usize, ok: usize) -> Result<Bytes
     ensures { IfOk result (λ line. line ≡ total_line total ok) }
 {
     let mut line = Bytes::new(alloc);
-    line.extend(b"total ")?;
-    put_number(&mut line, total)?;
-    line.extend(b" ok ")?;
-    put_number(&mut line, ok)?;
+    put_counted(&mut line, b"total ", total as u64)?;
+    put_counted(&mut line, b" ok ", ok as u64)?;
     line.extend(b"\n")?;
     Ok(line)
-}
-
-fn put_number(line: &mut Bytes, number: usize) -> Result<(), Memory>
-    ensures { OnOk result (line.new ≡ line.old ++ decimal number) }
-{
-    let mut buffer = Buffer::new();
-    line.extend(buffer.format(number as u64).as_bytes())
 }

@@ -15,7 +15,7 @@ ghost use Rattle.wast_run.specs.Stages.{HasModuleName};
 ghost use Rattle.wast_run.specs.Stopping.{StopsScript, StopsWords, StopsWork};
 
 use crate::reporting::report_commands;
-use crun_words::NoLine;
+use program_words::NoLine;
 use std::alloc::Global;
 use w2c_io::{Files, ReadAnswer, Sink};
 use wast_script::{Line, Script, ScriptFault, Stop, read_script, read_words};

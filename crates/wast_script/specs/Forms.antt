@@ -1,6 +1,6 @@
 -- The JSON value of a command: an object whose `type` says which command it is. Other members than those of the command are
 -- ignored.
-use Rattle.std.specs.Prelude.{ℕ, ◌&&◌, Bool, nat_le, List, [], ◌∷◌, length, codes}
+use Rattle.std.specs.Prelude.{ℕ, List, [], ◌∷◌, codes}
 use Rattle.std.specs.Prelude.{Option, Some, None, if◌then◌else◌, option_map, option_and_then}
 use Rattle.std.specs.List.{find}
 use Rattle.std.specs.Str.{bytes_eq}
@@ -10,6 +10,7 @@ use Rattle.w2c_base.specs.declared.trap.TrapKind.{TrapKind}
 use Rattle.w2c_base.specs.declared.trap.TrapKind.TheVariants as trap
 use Rattle.w2c_base.specs.Trap.{text_of}
 use Rattle.serde_json.specs.Data.{Data}
+use Rattle.program_words.specs.Tests.{is_module_name}
 use Rattle.wast_script.specs.declared.kind.Kind.{Kind}
 use Rattle.wast_script.specs.declared.kind.Kind.TheVariants as kind
 use Rattle.wast_script.specs.Commands.{Call, Command, Module, Invoke, AssertReturn, AssertTrap, AssertInvalid, AssertMalformed, ModuleFile}
@@ -42,10 +43,6 @@ abbrev pub cause_named : List ℕ → Option TrapKind
 cause_named text = find (λ cause. bytes_eq (text_of cause) text) causes
 
 -- ---- the members of a command
-
--- a module's name has 1 to 1,024 bytes
-abbrev pub is_module_name : List ℕ → Bool
-is_module_name name = nat_le 1 (length name) && nat_le (length name) 1024
 
 abbrev pub module_with : Option (List ℕ) → Option Name → Option ModuleFile
 module_with (Some name) (Some filename) = if is_module_name name then Some (record { name = name; filename = filename }) else None

@@ -2,7 +2,6 @@
 ghost use Rattle.std.specs.Prelude.{◌≡◌};
 ghost use Rattle.wast_script.specs.declared.fault.ScriptFault.TheVariants.{Memory as WantOfMemory};
 
-use std::alloc::{AllocError, AllocFailed};
 use w2c_base::Memory;
 
 /// Why no script was read.
@@ -21,26 +20,11 @@ pub enum ScriptFault {
     Memory,
 }
 
-impl From<AllocError> for ScriptFault {
+/// Want of memory, as whatever it comes.
+impl<E: Into<Memory> + Drop> From<E> for ScriptFault {
     ghost from_gives = { λ _ e. e ≡ WantOfMemory };
 
-    fn from(_: AllocError) -> Self {
-        ScriptFault::Memory
-    }
-}
-
-impl<T: Drop> From<AllocFailed<T>> for ScriptFault {
-    ghost from_gives = { λ _ e. e ≡ WantOfMemory };
-
-    fn from(_: AllocFailed<T>) -> Self {
-        ScriptFault::Memory
-    }
-}
-
-impl From<Memory> for ScriptFault {
-    ghost from_gives = { λ _ e. e ≡ WantOfMemory };
-
-    fn from(_: Memory) -> Self {
+    fn from(_: E) -> Self {
         ScriptFault::Memory
     }
 }

@@ -2,7 +2,7 @@
 ghost use Rattle.std.specs.Prelude.{◌≡◌, option_map, string_bytes, IfOk};
 ghost use Rattle.serde_json.specs.View.{view};
 ghost use Rattle.wast_script.specs.Forms.{call_in, call_with, cause_in, command_by, command_of};
-ghost use Rattle.wast_script.specs.Forms.{expected_in, expected_of, is_module_name, module_in, module_with};
+ghost use Rattle.wast_script.specs.Forms.{expected_in, expected_of, module_in, module_with};
 ghost use Rattle.wast_script.specs.declared.kind.Kind.TheVariants as TheKind;
 ghost use Rattle.wast_script.specs.Seen.{seen_call, seen_command, seen_module};
 
@@ -10,9 +10,10 @@ use crate::command::{Call, Command, ModuleFile};
 use crate::kind::{Kind, cause_named};
 use crate::members::{own_text, text};
 use crate::value::values;
+use program_words::is_module_name;
 use serde_json::Value as Json;
 use std::alloc::Global;
-use w2c_base::{Memory, NAME_LENGTH, TrapKind, Value, Values};
+use w2c_base::{Memory, TrapKind, Value, Values};
 
 /// The command that an object stands for. None exactly where it is not of the form of one.
 pub(crate) fn command(alloc: Global, object: &Json) -> Result<Option<Command>, Memory>
@@ -61,16 +62,10 @@ fn module_by(name: Option<String>, filename: Option<String>) -> Option<ModuleFil
     let Some(filename) = filename else {
         return None;
     };
-    if !is_module_name(name.as_str()) {
+    if !is_module_name(name.as_bytes()) {
         return None;
     }
     Some(ModuleFile { name, filename })
-}
-
-fn is_module_name(name: &str) -> bool
-    ensures { result ≡ is_module_name name.now }
-{
-    !name.is_empty() && name.len() <= NAME_LENGTH as usize
 }
 
 fn call(alloc: Global, object: &Json) -> Result<Option<Call>, Memory>

@@ -1,16 +1,15 @@
 // The line on the error stream, and the status.
 ghost use Rattle.std.specs.Prelude.{◌≡◌, ◌⊎◌, ◌++◌, IfOk, OnOk};
-ghost use Rattle.std.specs.Fmt.{decimal};
 ghost use Rattle.w2c_io.specs.Telling.{Says, SaysPart};
 ghost use Rattle.wast_script.specs.Lines.{error_line, fault_status, fault_text, reason_text, status_of};
 ghost use Rattle.wast_script.specs.Seen.{reason_of};
 
 use crate::fault::ScriptFault;
 use crate::stop::Stop;
-use itoa::Buffer;
+use program_words::{put_counted, say};
 use std::alloc::Global;
 use w2c_base::{Bytes, Memory};
-use w2c_io::{Sink, WriteAnswer};
+use w2c_io::Sink;
 
 /// Says why the program stops, in one line, and gives the status. A line that is not written whole
 /// leaves the status; where memory is wanting for it, that is 5.
@@ -19,13 +18,7 @@ pub fn report<E: Sink>(alloc: Global, stop: &Stop, err: &mut E) -> u8
     ensures says { Says (E.told err.old) (E.told err.new) (E.faults err.old) (E.faults err.new) (error_line (reason_of stop.now)) ⊎ (result ≡ 5) }
     ensures part { SaysPart (E.told err.old) (E.told err.new) (error_line (reason_of stop.now)) }
 {
-    let Ok(line) = stop.line(alloc) else {
-        return 5;
-    };
-    match err.put(line.as_slice()) {
-        Ok(()) | Err(WriteAnswer::Failed) => stop.status(),
-        Err(WriteAnswer::Memory) => 5,
-    }
+    say(stop.line(alloc), stop.status(), err)
 }
 
 impl Stop {
@@ -92,15 +85,7 @@ fn put_fault(line: &mut Bytes, fault: ScriptFault) -> Result<(), Memory>
         ScriptFault::TooLong => line.extend(b"script too long"),
         ScriptFault::NotJson => line.extend(b"script is not JSON"),
         ScriptFault::NoCommands => line.extend(b"no commands"),
-        ScriptFault::Command(number) => put_number(line, b"command ", number as u64),
+        ScriptFault::Command(number) => put_counted(line, b"command ", number as u64),
         ScriptFault::Memory => line.extend(b"want of memory"),
     }
-}
-
-fn put_number(line: &mut Bytes, text: &[u8], number: u64) -> Result<(), Memory>
-    ensures { OnOk result (line.new ≡ line.old ++ (text.now ++ decimal number)) }
-{
-    let mut buffer = Buffer::new();
-    line.extend(text)?;
-    line.extend(buffer.format(number).as_bytes())
 }

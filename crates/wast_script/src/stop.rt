@@ -1,9 +1,8 @@
 // Why the program stops before its report is whole.
 ghost use Rattle.std.specs.Prelude.{◌≡◌};
-ghost use Rattle.wast_script.specs.declared.stop.Stop.TheVariants.{Memory as WantOfMemory, Refused};
+ghost use Rattle.wast_script.specs.declared.stop.Stop.TheVariants.{Memory as WantOfMemory};
 
 use crate::fault::ScriptFault;
-use std::alloc::{AllocError, AllocFailed};
 use w2c_base::Memory;
 
 /// Why the program stops, with the file's name or the script's fault.
@@ -20,34 +19,11 @@ pub enum Stop {
     Memory,
 }
 
-impl From<AllocError> for Stop {
+/// Want of memory, as whatever it comes.
+impl<E: Into<Memory> + Drop> From<E> for Stop {
     ghost from_gives = { λ _ e. e ≡ WantOfMemory };
 
-    fn from(_: AllocError) -> Self {
+    fn from(_: E) -> Self {
         Stop::Memory
-    }
-}
-
-impl<T: Drop> From<AllocFailed<T>> for Stop {
-    ghost from_gives = { λ _ e. e ≡ WantOfMemory };
-
-    fn from(_: AllocFailed<T>) -> Self {
-        Stop::Memory
-    }
-}
-
-impl From<Memory> for Stop {
-    ghost from_gives = { λ _ e. e ≡ WantOfMemory };
-
-    fn from(_: Memory) -> Self {
-        Stop::Memory
-    }
-}
-
-impl From<ScriptFault> for Stop {
-    ghost from_gives = { λ fault e. e ≡ Refused fault };
-
-    fn from(fault: ScriptFault) -> Self {
-        Stop::Refused(fault)
     }
 }

@@ -1,15 +1,15 @@
 // The words of the command line.
-ghost use Rattle.std.specs.Prelude.{◌≡◌, false, Some, None, IfOk, IsErrOf, ◌^◌, option_and_then, option_map};
-ghost use Rattle.clap.specs.Words.{app_of, found_of, rows_of, rule_of};
+ghost use Rattle.std.specs.Prelude.{◌≡◌, Some, None, IfOk, IsErrOf, ◌^◌, option_and_then, option_map};
+ghost use Rattle.clap.specs.Words.{app_of, found_of, rows_of, with_rule};
 ghost use Rattle.w2c_files.specs.Words.{texts};
+ghost use Rattle.program_words.specs.declared.no_line.NoLine.{NoLine};
 ghost use Rattle.crun_words.specs.Numbers.{number_below};
-ghost use Rattle.crun_words.specs.declared.read.NoLine.{NoLine};
-ghost use Rattle.wast_script.specs.CommandLine.{bare as bare_app, script_word as script_rule, wast_run};
-ghost use Rattle.wast_script.specs.CommandLine.{line_in, line_of, line_with};
+ghost use Rattle.wast_script.specs.CommandLine.{line_in, line_of, line_with, script_word, wast_run};
 ghost use Rattle.wast_script.specs.Seen.{seen_line};
 
 use clap::{Arg, ArgMatches, Command};
-use crun_words::{NoLine, number, refusal, word_option};
+use crun_words::number;
+use program_words::{NoLine, bare, read_matches, value_by, with_option};
 use std::alloc::{AllocError, Global};
 
 /// `--steps N SCRIPT.json`: how many statements are run for each assertion, and the script's file.
@@ -27,19 +27,19 @@ pub fn read_words(alloc: Global, words: &[String]) -> Result<Line<'_>, NoLine>
     ensures usage { IsErrOf result NoLine.Usage → line_of (texts words.now) ≡ None }
 {
     let command = command(alloc)?;
-    match command.try_get_matches_from(words) {
+    match read_matches(command, words) {
         Ok(matches) => match line_of_matches(&matches) {
             Some(line) => Ok(line),
             None => Err(NoLine::Usage),
         },
-        Err(error) => Err(refusal(&error)),
+        Err(why) => Err(why),
     }
 }
 
 fn line_of_matches<'a>(matches: &ArgMatches<'a>) -> Option<Line<'a>>
     ensures { option_map seen_line result ≡ line_in (rows_of (found_of matches.now)) }
 {
-    line_by(matches.get_str("steps"), matches.get_str("script"))
+    line_by(value_by(matches, "steps"), value_by(matches, "script"))
 }
 
 fn line_by<'a>(steps: Option<&'a str>, script: Option<&'a str>) -> Option<Line<'a>>
@@ -62,22 +62,12 @@ fn line_by<'a>(steps: Option<&'a str>, script: Option<&'a str>) -> Option<Line<'
 fn command<'a>(alloc: Global) -> Result<Command<'a>, AllocError>
     ensures { IfOk result (λ command. app_of command ≡ wast_run) }
 {
-    let steps = word_option(alloc, "steps");
-    let script = script_word(alloc);
-    let command = bare(alloc).arg(steps)?;
-    let command = command.arg(script)?;
-    Ok(command)
+    let command = with_option(alloc, bare(alloc, "wast_run"), "steps")?;
+    with_script(alloc, command)
 }
 
-fn bare<'a>(alloc: Global) -> Command<'a>
-    ensures { app_of result ≡ bare_app }
+fn with_script<'a>(alloc: Global, command: Command<'a>) -> Result<Command<'a>, AllocError>
+    ensures { IfOk result (λ more. app_of more ≡ with_rule (app_of command.entry) script_word) }
 {
-    Command::new(alloc, "wast_run").no_binary_name(true)
-}
-
-fn script_word<'a>(alloc: Global) -> Arg<'a>
-    ensures rule { rule_of result ≡ script_rule }
-    ensures local { result.global ≡ false }
-{
-    Arg::new(alloc, "script")
+    command.arg(Arg::new(alloc, "script"))
 }

@@ -1,7 +1,7 @@
 use Rattle.std.proofs.Common.{◌≡◌, ◌∙◌, ap, map, get_or, [], rules, Some}
 use Rattle.std.specs.Prelude.{slice_get}
 use Rattle.c_tree.specs.View.{item_of}
-use Rattle.crun.specs.Names.{function_name}
+use Rattle.crun_startup.specs.Names.{function_name}
 use Rattle.crun_cli.proofs.Named.{item_named, none_named}
 use Rattle.crun_cli.proofs.naming.item_name.Goals as goal
 

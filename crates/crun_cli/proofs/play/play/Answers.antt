@@ -1,13 +1,44 @@
-use Rattle.std.proofs.Common.{[], refl}
-use Rattle.crun_cli.proofs.Written.{says_nothing}
+use Rattle.std.proofs.Common.{◌∙◌, sym, ap, subst, map}
+use Rattle.std.specs.List.{list_all}
+use Rattle.c_tree.specs.View.{unit_of}
+use Rattle.c_hosts.specs.Asking.{hosts_of}
+use Rattle.host_replay.specs.Fitting.{fits}
+use Rattle.crun_job.specs.Seen.{calls_seen}
+use Rattle.crun_cli.specs.Recording.{IsFilled}
+use Rattle.crun_cli.proofs.Recorded.{asks_fit, is_filled, part_leaving, to_fill}
 use Rattle.crun_cli.proofs.play.play.Goals as goal
 
-pub returns-in-Err-clause-part : goal.returns-in-Err-clause-part
-returns-in-Err-clause-part g c = record {
-  asks = [];
-  after = c.args.hosts.items;
-  answered = refl;
-  more = _;
-  first = refl;
-  part = says_nothing (g.O.Sink.told c.args.out.now) _;
-}
+pub filled-requires : goal.filled-requires
+filled-requires g c =
+    let e = c.args.session.now in
+    let ran = c.in-Ok.ensures.ran in
+    record {
+      fit = to_fill g.H.HostModule e.hosts c.args.journal c.journal.result.now c.requires.blank
+          (ap (λ asks. list_all (fits (hosts_of g.H.HostModule e.hosts)) asks) (c.journal.ensures ∙ sym ran.asks_are)
+          ∙ asks_fit g.H.HostModule e.hosts (map unit_of e.linked.0) (calls_seen c.args.calls.now) e.steps c.args.shows_state
+          (g.O.Sink.told c.args.out.now) (g.O.Sink.told c.play_and_show.new.out) c.in-Ok.status ran.run);
+    }
+
+pub returns-in-Ok-filled-clause-ran : goal.returns-in-Ok-filled-clause-ran
+returns-in-Ok-filled-clause-ran g c =
+    let e = c.args.session.now in
+    let ran = c.in-Ok.ensures.ran in
+    record {
+      recorded = record {
+        run = ran.run;
+        filled_is =
+            subst (λ asks. IsFilled g.H.HostModule e.hosts asks c.args.journal c.in-Ok-filled.journal)
+            (c.journal.ensures ∙ sym ran.asks_are)
+            (is_filled g.H.HostModule e.hosts c.args.journal c.in-Ok-filled.journal c.journal.result.now c.requires.blank
+            c.in-Ok-filled.ensures);
+      };
+      hosts_are = ran.hosts_are;
+    }
+
+pub returns-in-Err-filled-clause-part : goal.returns-in-Err-filled-clause-part
+returns-in-Err-filled-clause-part g c =
+    let e = c.args.session.now in
+    let ran = c.in-Ok.ensures.ran in
+    part_leaving g.H.HostModule e.hosts (map unit_of e.linked.0) (calls_seen c.args.calls.now) e.steps c.args.shows_state
+    (g.O.Sink.told c.args.out.now) (g.O.Sink.told c.play_and_show.new.out) c.in-Ok.status ran.run c.play_and_show.new.session.hosts
+    ran.hosts_are

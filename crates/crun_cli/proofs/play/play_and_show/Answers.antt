@@ -1,8 +1,7 @@
 use Rattle.std.proofs.Common.{◌≡◌, true, false, subst, map, rules}
 use Rattle.c_tree.specs.View.{unit_of}
 use Rattle.crun_job.specs.Seen.{calls_seen}
-use Rattle.crun_cli.specs.Runs.{HasPart}
-use Rattle.crun_cli.specs.Recording.{HasAsked}
+use Rattle.crun_cli.specs.Recording.{HasAsked, HasPartLeaving}
 use Rattle.crun_cli.proofs.Behind.{left_part, ran_alone, ran_shown, shown_part}
 use Rattle.crun_cli.proofs.play.play_and_show.Goals as goal
 
@@ -16,8 +15,8 @@ returns-in-Err-show-clause-part g c =
     let e = c.args.session.now in
     let calls = calls_seen c.args.calls.now in
     let shown : true ≡ c.args.shows_state = search rules in
-    subst (λ b. HasPart g.H.HostModule e.hosts (map unit_of e.linked.0) calls e.steps b (g.O.Sink.told c.args.out.now)
-    (g.O.Sink.told c.show.new.out))
+    subst (λ b. HasPartLeaving g.H.HostModule e.hosts (map unit_of e.linked.0) calls e.steps b (g.O.Sink.told c.args.out.now)
+    (g.O.Sink.told c.show.new.out) c.play_all.new.session.hosts)
     shown (shown_part g.H.HostModule e c.play_all.new.session calls (g.O.Sink.told c.args.out.now) (g.O.Sink.told c.play_all.new.out)
     c.in-Ok.status
     c.in-Ok.ensures.played (g.O.Sink.told c.show.new.out) c.in-Err-show.ensures.part)
@@ -29,7 +28,7 @@ returns-then-not-shows_state-clause-ran g c =
     let calls = calls_seen c.args.calls.now in
     let shown : false ≡ c.args.shows_state = search rules in
     subst (λ b. HasAsked g.H.HostModule e.hosts (map unit_of e.linked.0) calls e.steps b (g.O.Sink.told c.args.out.now)
-    (g.O.Sink.told c.play_all.new.out) c.in-Ok.status s.journal)
+    (g.O.Sink.told c.play_all.new.out) c.in-Ok.status s.journal s.hosts)
     shown (ran_alone g.H.HostModule e s calls (g.O.Sink.told c.args.out.now) (g.O.Sink.told c.play_all.new.out) c.in-Ok.status
     c.in-Ok.ensures.played)
 
@@ -40,6 +39,6 @@ returns-in-Ok-show-clause-ran g c =
     let calls = calls_seen c.args.calls.now in
     let shown : true ≡ c.args.shows_state = search rules in
     subst (λ b. HasAsked g.H.HostModule e.hosts (map unit_of e.linked.0) calls e.steps b (g.O.Sink.told c.args.out.now)
-    (g.O.Sink.told c.show.new.out) c.in-Ok.status s.journal)
+    (g.O.Sink.told c.show.new.out) c.in-Ok.status s.journal s.hosts)
     shown (ran_shown g.H.HostModule e s calls (g.O.Sink.told c.args.out.now) (g.O.Sink.told c.play_all.new.out) c.in-Ok.status
     c.in-Ok.ensures.played (g.O.Sink.told c.show.new.out) c.in-Ok-show.ensures.whole)

@@ -8,11 +8,12 @@ use Rattle.crun_job.specs.declared.stop.Stop.TheVariants as stop
 use Rattle.crun_job.specs.Job.{IsTextsJob}
 use Rattle.crun_job.specs.Seen.{calls_seen, reason_of}
 use Rattle.crun_job.specs.Stopping.{job_of, StopsTexts}
+use Rattle.crun_units.specs.Passing.{reason_for}
+use Rattle.crun_units.specs.Trying.{stopped_by}
 use Rattle.crun_cli.specs.Jobs.{symbols_of}
 use Rattle.crun_cli.specs.Outside.{outside}
-use Rattle.crun_cli.specs.Passing.{reason_for}
 use Rattle.crun_cli.specs.Recording.{IsBlankFor}
-use Rattle.crun_cli.specs.Trying.{ended_by, stopped_by, PutsJournal, PutsJournalPart, WritesOfTexts}
+use Rattle.crun_cli.specs.Trying.{ended_by, PutsJournal, PutsJournalPart, WritesOfTexts}
 use Rattle.crun_cli.proofs.Passing.{run_broken, run_left, run_written, texts_stopped}
 use Rattle.crun_cli.proofs.RecordLaws.{journal_part, kept_part, kept_whole, offered_distinct, whole_run}
 use Rattle.crun_cli.proofs.recording.run_and_record.Goals as goal
@@ -30,9 +31,9 @@ returns-in-Ok-write_journal-clause-ran g c =
     let blank =
     subst (λ hs. IsBlankFor m hs line.journal c.in-Ok-blank_journal.journal) c.as_slice-2.ensures.value c.in-Ok-blank_journal.ensures in
     whole_run m hosts line texts text (outside g.F.Files g.O.Sink c.args.files.now c.args.out.now)
-    (outside g.F.Files g.O.Sink c.write_journal.new.files c.play.new.out) (map unit_of task.linked.0) (calls_seen task.calls.items)
-    task.steps task.shows_state job c.in-Ok-play.played.status c.in-Ok-blank_journal.journal c.in-Ok-play.played.journal
-    c.in-Ok-play.ensures.ran blank (offered_distinct m hosts c.requires.offered) c.in-Ok-write_journal.ensures.written
+    (outside g.F.Files g.O.Sink c.write_journal.new.files c.run_task.new.out) (map unit_of task.linked.0) (calls_seen task.calls.items)
+    task.steps task.shows_state job c.in-Ok-run_task.played.status c.in-Ok-blank_journal.journal c.in-Ok-run_task.played.journal
+    c.in-Ok-run_task.ensures.ran blank (offered_distinct m hosts c.requires.offered) c.in-Ok-write_journal.ensures.written
 
 pub returns-in-Err-Failed-write_journal-clause-stop : goal.returns-in-Err-Failed-write_journal-clause-stop
 returns-in-Err-Failed-write_journal-clause-stop g c =
@@ -47,9 +48,9 @@ returns-in-Err-Failed-write_journal-clause-stop g c =
     let blank =
     subst (λ hs. IsBlankFor m hs line.journal c.in-Ok-blank_journal.journal) c.as_slice-2.ensures.value c.in-Ok-blank_journal.ensures in
     let part = journal_part m hosts line texts text (outside g.F.Files g.O.Sink c.args.files.now c.args.out.now)
-    (outside g.F.Files g.O.Sink c.write_journal.new.files c.play.new.out) (map unit_of task.linked.0) (calls_seen task.calls.items)
-    task.steps task.shows_state job c.in-Ok-play.played.status c.in-Ok-blank_journal.journal c.in-Ok-play.played.journal
-    c.in-Ok-play.ensures.ran blank c.in-Err-Failed-write_journal.ensures.part in
+    (outside g.F.Files g.O.Sink c.write_journal.new.files c.run_task.new.out) (map unit_of task.linked.0) (calls_seen task.calls.items)
+    task.steps task.shows_state job c.in-Ok-run_task.played.status c.in-Ok-blank_journal.journal c.in-Ok-run_task.played.journal
+    c.in-Ok-run_task.ensures.ran blank c.in-Err-Failed-write_journal.ensures.part in
     (inr (c.in-Err-Failed-write_journal.ensures.failed (ap Err c.in-Err-Failed-write_journal.field-0-is)), part)
 
 pub returns-in-Err-Memory-write_journal-clause-stop : goal.returns-in-Err-Memory-write_journal-clause-stop
@@ -65,13 +66,13 @@ returns-in-Err-Memory-write_journal-clause-stop g c =
     let blank =
     subst (λ hs. IsBlankFor m hs line.journal c.in-Ok-blank_journal.journal) c.as_slice-2.ensures.value c.in-Ok-blank_journal.ensures in
     inr (journal_part m hosts line texts text (outside g.F.Files g.O.Sink c.args.files.now c.args.out.now)
-    (outside g.F.Files g.O.Sink c.write_journal.new.files c.play.new.out) (map unit_of task.linked.0) (calls_seen task.calls.items)
-    task.steps task.shows_state job c.in-Ok-play.played.status c.in-Ok-blank_journal.journal c.in-Ok-play.played.journal
-    c.in-Ok-play.ensures.ran blank c.in-Err-Memory-write_journal.ensures.part)
+    (outside g.F.Files g.O.Sink c.write_journal.new.files c.run_task.new.out) (map unit_of task.linked.0) (calls_seen task.calls.items)
+    task.steps task.shows_state job c.in-Ok-run_task.played.status c.in-Ok-blank_journal.journal c.in-Ok-run_task.played.journal
+    c.in-Ok-run_task.ensures.ran blank c.in-Err-Memory-write_journal.ensures.part)
 
 pub returns-in-Err-Memory-write_journal-clause-kept : goal.returns-in-Err-Memory-write_journal-clause-kept
 returns-in-Err-Memory-write_journal-clause-kept g c =
-    kept_part (seen_run c.args.line.now).journal c.in-Ok-play.played.journal (g.F.Files.told c.args.files.now)
+    kept_part (seen_run c.args.line.now).journal c.in-Ok-run_task.played.journal (g.F.Files.told c.args.files.now)
     (g.F.Files.told c.write_journal.new.files) c.in-Err-Memory-write_journal.ensures.part
 
 pub returns-in-Err-clause-passed : goal.returns-in-Err-clause-passed
@@ -108,7 +109,7 @@ returns-in-Err-Failed-clause-passed g c =
     let m = g.H.HostModule in
     let hosts = c.args.hosts.items in
     let told = g.O.Sink.told c.args.out.now in
-    let told' = g.O.Sink.told c.play.new.out in
+    let told' = g.O.Sink.told c.run_task.new.out in
     let line = seen_run c.args.line.now in
     let texts = c.args.inputs.units.items in
     let text = c.args.inputs.calls in
@@ -127,7 +128,7 @@ returns-in-Err-Memory-clause-passed g c =
     let m = g.H.HostModule in
     let hosts = c.args.hosts.items in
     let told = g.O.Sink.told c.args.out.now in
-    let told' = g.O.Sink.told c.play.new.out in
+    let told' = g.O.Sink.told c.run_task.new.out in
     let line = seen_run c.args.line.now in
     let texts = c.args.inputs.units.items in
     let text = c.args.inputs.calls in
@@ -146,7 +147,7 @@ returns-in-Ok-write_journal-clause-passed g c =
     let m = g.H.HostModule in
     let hosts = c.args.hosts.items in
     let told = g.O.Sink.told c.args.out.now in
-    let told' = g.O.Sink.told c.play.new.out in
+    let told' = g.O.Sink.told c.run_task.new.out in
     let line = seen_run c.args.line.now in
     let texts = c.args.inputs.units.items in
     let text = c.args.inputs.calls in
@@ -156,14 +157,15 @@ returns-in-Ok-write_journal-clause-passed g c =
     subst (λ hs. IsTextsJob line (symbols_of (hosts_of m hs)) texts text (job_of task)) c.as_slice.ensures.value c.in-Ok.ensures.task in
     let blank =
     subst (λ hs. IsBlankFor m hs line.journal c.in-Ok-blank_journal.journal) c.as_slice-2.ensures.value c.in-Ok-blank_journal.ensures in
-    let status = c.in-Ok-play.played.status in
+    let status = c.in-Ok-run_task.played.status in
     let ends = ended_by (Ok status) in
     let stopped = stopped_by {A = ℕ} (Ok status) in
-    passed_so (files.trace c.args.files.now) (files.trace c.write_journal.new.files) (PutsJournal line.journal c.in-Ok-play.played.journal)
+    passed_so (files.trace c.args.files.now) (files.trace c.write_journal.new.files)
+    (PutsJournal line.journal c.in-Ok-run_task.played.journal)
     (WritesOfTexts m hosts line texts text told told' ends stopped)
     (λ events puts. run_written m hosts line texts text told told' ends stopped (map unit_of task.linked.0)
-    (calls_seen task.calls.items) task.steps task.shows_state job status c.in-Ok-blank_journal.journal c.in-Ok-play.played.journal
-    c.in-Ok-play.ensures.ran blank (files.told c.args.files.now) (files.told c.write_journal.new.files) events
+    (calls_seen task.calls.items) task.steps task.shows_state job status c.in-Ok-blank_journal.journal c.in-Ok-run_task.played.journal
+    c.in-Ok-run_task.ensures.ran blank (files.told c.args.files.now) (files.told c.write_journal.new.files) events
     (offered_distinct m hosts c.requires.offered) c.in-Ok-write_journal.ensures.written puts refl)
     c.in-Ok-write_journal.ensures.passed
 
@@ -172,7 +174,7 @@ returns-in-Err-Failed-write_journal-clause-passed g c =
     let m = g.H.HostModule in
     let hosts = c.args.hosts.items in
     let told = g.O.Sink.told c.args.out.now in
-    let told' = g.O.Sink.told c.play.new.out in
+    let told' = g.O.Sink.told c.run_task.new.out in
     let line = seen_run c.args.line.now in
     let texts = c.args.inputs.units.items in
     let text = c.args.inputs.calls in
@@ -186,11 +188,11 @@ returns-in-Err-Failed-write_journal-clause-passed g c =
     let ends = ended_by (Err stop.Unwritten) in
     let stopped = stopped_by {A = ℕ} (Err stop.Unwritten) in
     passed_so (files.trace c.args.files.now) (files.trace c.write_journal.new.files)
-    (PutsJournalPart line.journal c.in-Ok-play.played.journal why)
+    (PutsJournalPart line.journal c.in-Ok-run_task.played.journal why)
     (WritesOfTexts m hosts line texts text told told' ends stopped)
     (λ events part. run_broken m hosts line texts text told told' ends stopped (map unit_of task.linked.0)
-    (calls_seen task.calls.items) task.steps task.shows_state job c.in-Ok-play.played.status c.in-Ok-blank_journal.journal
-    c.in-Ok-play.played.journal c.in-Ok-play.ensures.ran blank why events part
+    (calls_seen task.calls.items) task.steps task.shows_state job c.in-Ok-run_task.played.status c.in-Ok-blank_journal.journal
+    c.in-Ok-run_task.played.journal c.in-Ok-run_task.ensures.ran blank why events part
     (ap reason_for (sym c.in-Err-Failed-write_journal.field-0-is)))
     c.in-Err-Failed-write_journal.ensures.tried
 
@@ -199,7 +201,7 @@ returns-in-Err-Memory-write_journal-clause-passed g c =
     let m = g.H.HostModule in
     let hosts = c.args.hosts.items in
     let told = g.O.Sink.told c.args.out.now in
-    let told' = g.O.Sink.told c.play.new.out in
+    let told' = g.O.Sink.told c.run_task.new.out in
     let line = seen_run c.args.line.now in
     let texts = c.args.inputs.units.items in
     let text = c.args.inputs.calls in
@@ -213,15 +215,15 @@ returns-in-Err-Memory-write_journal-clause-passed g c =
     let ends = ended_by (Err stop.Memory) in
     let stopped = stopped_by {A = ℕ} (Err stop.Memory) in
     passed_so (files.trace c.args.files.now) (files.trace c.write_journal.new.files)
-    (PutsJournalPart line.journal c.in-Ok-play.played.journal why)
+    (PutsJournalPart line.journal c.in-Ok-run_task.played.journal why)
     (WritesOfTexts m hosts line texts text told told' ends stopped)
     (λ events part. run_broken m hosts line texts text told told' ends stopped (map unit_of task.linked.0)
-    (calls_seen task.calls.items) task.steps task.shows_state job c.in-Ok-play.played.status c.in-Ok-blank_journal.journal
-    c.in-Ok-play.played.journal c.in-Ok-play.ensures.ran blank why events part
+    (calls_seen task.calls.items) task.steps task.shows_state job c.in-Ok-run_task.played.status c.in-Ok-blank_journal.journal
+    c.in-Ok-run_task.played.journal c.in-Ok-run_task.ensures.ran blank why events part
     (ap reason_for (sym c.in-Err-Memory-write_journal.field-0-is)))
     c.in-Err-Memory-write_journal.ensures.tried
 
 pub returns-in-Ok-write_journal-clause-kept : goal.returns-in-Ok-write_journal-clause-kept
 returns-in-Ok-write_journal-clause-kept g c =
-    kept_whole (seen_run c.args.line.now).journal c.in-Ok-play.played.journal (g.F.Files.told c.args.files.now)
+    kept_whole (seen_run c.args.line.now).journal c.in-Ok-run_task.played.journal (g.F.Files.told c.args.files.now)
     (g.F.Files.told c.write_journal.new.files) c.in-Ok-write_journal.ensures.written

@@ -13,11 +13,13 @@ use Rattle.crun_words.specs.Passing.{GivesInputs, TriesInputs}
 use Rattle.crun_words.specs.Seen.{seen_run}
 use Rattle.crun_job.specs.Seen.{reason_of}
 use Rattle.crun_job.specs.Stopping.{stop_for}
+use Rattle.crun_units.specs.Files.{files_seen, FilesSeen}
+use Rattle.crun_units.specs.Trying.{stopped_by}
 use Rattle.crun_cli.specs.Jobs.{HoldsJournal}
-use Rattle.crun_cli.specs.Outside.{files_seen, outside, sink_seen, FilesSeen, Outside, SinkSeen}
+use Rattle.crun_cli.specs.Outside.{outside, sink_seen, Outside, SinkSeen}
 use Rattle.crun_cli.specs.Passing.{PassesRun}
 use Rattle.crun_cli.specs.Stopping.{StopsWork}
-use Rattle.crun_cli.specs.Trying.{ended_by, stopped_by, GivesReplays, TriesReplay, WritesOfTexts}
+use Rattle.crun_cli.specs.Trying.{ended_by, GivesReplays, TriesReplay, WritesOfTexts}
 use Rattle.crun_cli.proofs.Passing.{handed_passed, inputs_stopped, replay_stopped, replayed_both, ReadsBoth}
 use Rattle.crun_cli.proofs.RunForm.{
   handed_ran,

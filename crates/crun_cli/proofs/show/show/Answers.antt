@@ -5,9 +5,9 @@ use Rattle.c_hosts.specs.Asking.{hosts_of}
 use Rattle.crun.specs.Sessions.{objects_of}
 use Rattle.c_tree.specs.View.{unit_of}
 use Rattle.crun_cli.specs.Showing.{lines_of_items, lines_of_unit}
-use Rattle.crun_cli.proofs.Loops.{all_written, one_more, range_next, range_split, stopped_at, AreWritten}
+use Rattle.program_words.proofs.Loops.{all_written, one_more, range_next, range_split, stopped_at, AreWritten}
 use Rattle.crun_cli.proofs.Shown.{all_shown, items_there}
-use Rattle.crun_cli.proofs.Written.{writes_text}
+use Rattle.program_words.proofs.Written.{writes_text}
 use Rattle.crun_cli.proofs.show.show.Goals as goal
 
 pub returns-in-Err : goal.returns-in-Err

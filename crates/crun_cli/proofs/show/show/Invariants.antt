@@ -1,6 +1,6 @@
 use Rattle.std.specs.List.{range_with_len}
 use Rattle.crun_cli.specs.Showing.{lines_of_unit}
-use Rattle.crun_cli.proofs.Loops.{AreWritten}
+use Rattle.program_words.proofs.Loops.{AreWritten}
 use Rattle.crun_cli.proofs.show.show.Given as goal
 
 abbrev pub invariant-loop-unit : goal.invariant-loop-unit

@@ -3,8 +3,8 @@ use Rattle.c_hosts.specs.Asking.{hosts_of}
 use Rattle.crun.specs.Sessions.{objects_of}
 use Rattle.crun_lines.specs.Views.{entry_of}
 use Rattle.crun_cli.specs.Showing.{lines_of_named}
-use Rattle.crun_cli.proofs.Loops.{mapped_get}
-use Rattle.crun_cli.proofs.Written.{writes_text}
+use Rattle.program_words.proofs.Loops.{mapped_get}
+use Rattle.program_words.proofs.Written.{writes_text}
 use Rattle.crun_cli.proofs.show.show_named.Goals as goal
 
 pub returns : goal.returns

@@ -4,7 +4,7 @@ use Rattle.c_hosts.specs.Asking.{hosts_of}
 use Rattle.crun.specs.Sessions.{objects_of}
 use Rattle.crun_lines.specs.Views.{entry_of}
 use Rattle.crun_cli.specs.Showing.{entry_at, lines_of_named}
-use Rattle.crun_cli.proofs.Loops.{front_next, front_split, one_more, same_at, stopped_at, AreWritten}
+use Rattle.program_words.proofs.Loops.{front_next, front_split, one_more, same_at, stopped_at, AreWritten}
 use Rattle.crun_cli.proofs.show.show_names.Goals as goal
 
 pub returns-in-Err : goal.returns-in-Err

@@ -3,7 +3,7 @@ use Rattle.c_hosts.specs.Asking.{hosts_of}
 use Rattle.crun.specs.Sessions.{objects_of}
 use Rattle.crun_lines.specs.Views.{entry_of}
 use Rattle.crun_cli.specs.Showing.{lines_of_named}
-use Rattle.crun_cli.proofs.Loops.{AreWritten}
+use Rattle.program_words.proofs.Loops.{AreWritten}
 use Rattle.crun_cli.proofs.show.show_names.Given as goal
 
 abbrev pub invariant-loop-k : goal.invariant-loop-k

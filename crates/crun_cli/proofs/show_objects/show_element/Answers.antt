@@ -3,11 +3,11 @@ use Rattle.std.specs.Prelude.{option_map}
 use Rattle.c_hosts.specs.Asking.{hosts_of}
 use Rattle.crun.specs.Sessions.{objects_of}
 use Rattle.c_tree.specs.View.{unit_of}
-use Rattle.crun.specs.Names.{naming_of}
+use Rattle.crun_startup.specs.Names.{naming_of}
 use Rattle.crun.specs.Shown.{element_seen}
 use Rattle.crun_lines.specs.StateLines.{element_line}
 use Rattle.crun_cli.specs.Showing.{line_of_element, lines_of_element}
-use Rattle.crun_cli.proofs.Written.{line_as}
+use Rattle.program_words.proofs.Written.{line_as}
 use Rattle.crun_cli.proofs.show_objects.show_element.Goals as goal
 
 pub returns-in-Some : goal.returns-in-Some

@@ -3,7 +3,7 @@ use Rattle.std.specs.List.{range_with_len}
 use Rattle.c_hosts.specs.Asking.{hosts_of}
 use Rattle.crun.specs.Sessions.{objects_of}
 use Rattle.crun_cli.specs.Showing.{lines_of_element}
-use Rattle.crun_cli.proofs.Loops.{one_more, range_next, range_split, stopped_at, AreWritten}
+use Rattle.program_words.proofs.Loops.{one_more, range_next, range_split, stopped_at, AreWritten}
 use Rattle.crun_cli.proofs.show_objects.show_elements.Goals as goal
 
 pub returns-in-Err : goal.returns-in-Err

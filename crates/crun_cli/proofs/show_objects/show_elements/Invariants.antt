@@ -2,7 +2,7 @@ use Rattle.std.specs.List.{range_with_len}
 use Rattle.c_hosts.specs.Asking.{hosts_of}
 use Rattle.crun.specs.Sessions.{objects_of}
 use Rattle.crun_cli.specs.Showing.{lines_of_element}
-use Rattle.crun_cli.proofs.Loops.{AreWritten}
+use Rattle.program_words.proofs.Loops.{AreWritten}
 use Rattle.crun_cli.proofs.show_objects.show_elements.Given as goal
 
 abbrev pub invariant-loop-at : goal.invariant-loop-at

@@ -4,7 +4,7 @@ use Rattle.c_hosts.specs.Asking.{hosts_of}
 use Rattle.crun.specs.Sessions.{objects_of}
 use Rattle.crun_lines.specs.StateLines.{length_line}
 use Rattle.crun_cli.specs.Showing.{lines_of_element}
-use Rattle.crun_cli.proofs.Written.{stops_writing, then_writes}
+use Rattle.program_words.proofs.Written.{stops_writing, then_writes}
 use Rattle.crun_cli.proofs.show_objects.show_length.Goals as goal
 
 pub returns-in-Ok-show_elements : goal.returns-in-Ok-show_elements

@@ -3,7 +3,7 @@ use Rattle.std.specs.Prelude.{option_map, option_copied}
 use Rattle.crun.specs.Sessions.{objects_of}
 use Rattle.crun.specs.Shown.{bytes_in}
 use Rattle.crun_cli.proofs.Objects.{memory_there}
-use Rattle.crun_cli.proofs.Written.{writes_text}
+use Rattle.program_words.proofs.Written.{writes_text}
 use Rattle.crun_cli.proofs.show_objects.show_memory.Goals as goal
 
 pub returns-in-Some : goal.returns-in-Some

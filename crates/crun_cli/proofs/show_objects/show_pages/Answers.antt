@@ -1,6 +1,6 @@
 use Rattle.std.specs.Prelude.{Ok, Err}
 use Rattle.crun_lines.specs.StateLines.{pages_line, row_lines}
-use Rattle.crun_cli.proofs.Written.{stops_writing, then_writes}
+use Rattle.program_words.proofs.Written.{stops_writing, then_writes}
 use Rattle.crun_cli.proofs.show_objects.show_pages.Goals as goal
 
 pub returns-in-Ok-show_rows : goal.returns-in-Ok-show_rows

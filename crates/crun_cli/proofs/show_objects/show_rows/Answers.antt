@@ -2,7 +2,7 @@ use Rattle.std.proofs.Common.{◌+◌, ◌-◌, sym, subst, arith, length}
 use Rattle.std.specs.List.{range_with_len}
 use Rattle.std.specs.Prelude.{◌/◌}
 use Rattle.crun_lines.specs.StateLines.{row_line}
-use Rattle.crun_cli.proofs.Loops.{one_more, range_next, range_split, stopped_at, AreWritten}
+use Rattle.program_words.proofs.Loops.{one_more, range_next, range_split, stopped_at, AreWritten}
 use Rattle.crun_cli.proofs.show_objects.show_rows.Goals as goal
 
 pub returns-in-Err : goal.returns-in-Err

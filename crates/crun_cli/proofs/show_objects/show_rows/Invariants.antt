@@ -1,6 +1,6 @@
 use Rattle.std.specs.List.{range_with_len}
 use Rattle.crun_lines.specs.StateLines.{row_line}
-use Rattle.crun_cli.proofs.Loops.{AreWritten}
+use Rattle.program_words.proofs.Loops.{AreWritten}
 use Rattle.crun_cli.proofs.show_objects.show_rows.Given as goal
 
 abbrev pub invariant-loop-row : goal.invariant-loop-row

@@ -2,7 +2,7 @@ use Rattle.std.proofs.Common.{◌∙◌, sym}
 use Rattle.c_hosts.specs.Asking.{hosts_of}
 use Rattle.crun.specs.Sessions.{objects_of}
 use Rattle.crun_cli.proofs.Objects.{table_there}
-use Rattle.crun_cli.proofs.Written.{writes_text}
+use Rattle.program_words.proofs.Written.{writes_text}
 use Rattle.crun_cli.proofs.show_objects.show_table.Goals as goal
 
 pub returns-in-Some : goal.returns-in-Some

@@ -1,7 +1,7 @@
 use Rattle.crun.specs.Sessions.{objects_of}
 use Rattle.crun_cli.specs.Showing.{lines_of_variable}
 use Rattle.crun_cli.proofs.Objects.{variable_there}
-use Rattle.crun_cli.proofs.Written.{line_as}
+use Rattle.program_words.proofs.Written.{line_as}
 use Rattle.crun_cli.proofs.show_objects.show_variable.Goals as goal
 
 pub returns-in-Some : goal.returns-in-Some

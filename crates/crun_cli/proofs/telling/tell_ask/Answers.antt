@@ -1,7 +1,7 @@
 use Rattle.c_hosts.specs.Asking.{hosts_of}
 use Rattle.crun_lines.specs.HostLines.{replied_line}
 use Rattle.crun_cli.specs.Views.{asked_line}
-use Rattle.crun_cli.proofs.Written.{line_as}
+use Rattle.program_words.proofs.Written.{line_as}
 use Rattle.crun_cli.proofs.telling.tell_ask.Goals as goal
 
 pub returns : goal.returns

@@ -3,7 +3,7 @@ use Rattle.crun_lines.specs.CallLines.{last_line}
 use Rattle.crun_lines.specs.Views.{phase_of, outcome_of}
 use Rattle.crun_lines.specs.declared.calls.Stop.TheVariants as stop
 use Rattle.crun_cli.specs.Views.{outcome_line}
-use Rattle.crun_cli.proofs.Written.{line_as}
+use Rattle.program_words.proofs.Written.{line_as}
 use Rattle.crun_cli.proofs.telling.tell_outcome.Goals as goal
 
 pub returns-in-Trapped : goal.returns-in-Trapped

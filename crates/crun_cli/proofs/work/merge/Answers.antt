@@ -5,12 +5,12 @@ use Rattle.c_link.specs.Offers.{c_symbols}
 use Rattle.crun_words.specs.Seen.{seen_merge}
 use Rattle.crun_job.specs.declared.stop.Stop.TheVariants as stop
 use Rattle.crun_job.specs.Seen.{reason_of}
-use Rattle.crun_cli.specs.Jobs.{IsMerged, IsMergeJob}
-use Rattle.crun_cli.specs.Outside.{files_seen}
-use Rattle.crun_cli.specs.Passing.{PassesUnits}
-use Rattle.crun_cli.specs.Stopping.{StopsWrite}
-use Rattle.crun_cli.specs.Trying.{done_by, stopped_by}
-use Rattle.crun_cli.proofs.Passing.{units_wanting}
+use Rattle.crun_units.specs.Jobs.{IsMerged, IsMergeJob}
+use Rattle.crun_units.specs.Files.{files_seen}
+use Rattle.crun_units.specs.Passing.{PassesUnits}
+use Rattle.crun_units.specs.Stopping.{StopsWrite}
+use Rattle.crun_units.specs.Trying.{done_by, stopped_by}
+use Rattle.crun_units.proofs.Passing.{units_wanting}
 use Rattle.crun_cli.proofs.work.merge.Goals as goal
 
 pub returns-clause-stop : goal.returns-clause-stop

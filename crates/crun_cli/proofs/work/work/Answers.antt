@@ -7,10 +7,14 @@ use Rattle.crun_words.specs.CommandLine.{merges, runs, trims}
 use Rattle.crun_words.specs.Seen.{seen_line, seen_merge, seen_run, seen_trim}
 use Rattle.crun_job.specs.declared.stop.Stop.TheVariants as stop
 use Rattle.crun_job.specs.Seen.{reason_of}
-use Rattle.crun_cli.specs.Jobs.{symbols_of, IsMerged, IsTrimmedText}
-use Rattle.crun_cli.specs.Outside.{files_seen, sink_seen}
-use Rattle.crun_cli.specs.Passing.{PassesRun, PassesUnits, PassesWords}
-use Rattle.crun_cli.specs.Trying.{done_by, ended_by, stopped_by}
+use Rattle.crun_units.specs.Jobs.{IsMerged, IsTrimmedText}
+use Rattle.crun_units.specs.Files.{files_seen}
+use Rattle.crun_units.specs.Passing.{PassesUnits}
+use Rattle.crun_units.specs.Trying.{done_by, stopped_by}
+use Rattle.crun_cli.specs.Jobs.{symbols_of}
+use Rattle.crun_cli.specs.Outside.{sink_seen}
+use Rattle.crun_cli.specs.Passing.{PassesRun, PassesWords}
+use Rattle.crun_cli.specs.Trying.{ended_by}
 use Rattle.crun_cli.proofs.Passing.{line_passed, line_so, usage_passed, words_wanting}
 use Rattle.crun_cli.proofs.WriteForms.{merge_done, merge_stop, trim_stop}
 use Rattle.crun_cli.proofs.work.work.Goals as goal

@@ -1,5 +1,6 @@
 use Rattle.std.proofs.Common.{refl, codes, [], ◌∷◌, ◌≡◌, None, Some, true, false}
 use Rattle.clap.proofs.OnLiterals.{clap_on_literals}
+use Rattle.program_words.specs.Command.{rows_read}
 use Rattle.crun_words.specs.Command.{values_of}
 use Rattle.crun_words.specs.CommandLine.{line_of, merges, runs, trims}
 use Rattle.crun_words.proofs.cases.lines_that_are_read.Goals as goal
@@ -13,7 +14,7 @@ in_order_is : line_of (codes "--steps" ∷ codes "100" ∷ codes "--calls" ∷ c
       replayed = None;
       units = codes "u.c" ∷ [];
     }))
-unfolding values_of clap_on_literals
+unfolding values_of rows_read clap_on_literals
 in_order_is = refl
 
 other_order_is : line_of (codes "a.c" ∷ codes "--state" ∷ codes "--calls=-c" ∷ codes "--steps=007" ∷ codes "--" ∷ codes "-b.c" ∷ [])
@@ -25,7 +26,7 @@ other_order_is : line_of (codes "a.c" ∷ codes "--state" ∷ codes "--calls=-c"
       replayed = None;
       units = codes "a.c" ∷ codes "-b.c" ∷ [];
     }))
-unfolding values_of clap_on_literals
+unfolding values_of rows_read clap_on_literals
 other_order_is = refl
 
 most_steps_is : line_of (codes "--steps" ∷ codes "18446744073709551615" ∷ codes "--calls" ∷ codes "c" ∷ codes "u.c" ∷ [])
@@ -37,7 +38,7 @@ most_steps_is : line_of (codes "--steps" ∷ codes "18446744073709551615" ∷ co
       replayed = None;
       units = codes "u.c" ∷ [];
     }))
-unfolding values_of clap_on_literals
+unfolding values_of rows_read clap_on_literals
 most_steps_is = refl
 
 with_journals_is : line_of (codes "--record" ∷ codes "new" ∷ codes "--steps=1" ∷ codes "u.c" ∷ codes "--replay=old" ∷ codes "--calls=c"
@@ -50,22 +51,22 @@ with_journals_is : line_of (codes "--record" ∷ codes "new" ∷ codes "--steps=
       replayed = Some (codes "old");
       units = codes "u.c" ∷ [];
     }))
-unfolding values_of clap_on_literals
+unfolding values_of rows_read clap_on_literals
 with_journals_is = refl
 
 two_merged_is : line_of (codes "--merge" ∷ codes "o.c" ∷ codes "b.c" ∷ codes "a.c" ∷ [])
     ≡ Some (merges (record { output = codes "o.c"; units = codes "b.c" ∷ codes "a.c" ∷ [] }))
-unfolding values_of clap_on_literals
+unfolding values_of rows_read clap_on_literals
 two_merged_is = refl
 
 one_merged_is : line_of (codes "u.c" ∷ codes "--merge=a.c" ∷ [])
     ≡ Some (merges (record { output = codes "a.c"; units = codes "u.c" ∷ [] }))
-unfolding values_of clap_on_literals
+unfolding values_of rows_read clap_on_literals
 one_merged_is = refl
 
 trimmed_is : line_of (codes "u.c" ∷ codes "--trim" ∷ codes "d/o.c" ∷ [])
     ≡ Some (trims (record { output = codes "d/o.c"; unit = codes "u.c" }))
-unfolding values_of clap_on_literals
+unfolding values_of rows_read clap_on_literals
 trimmed_is = refl
 
 pub returns : goal.returns

@@ -1,6 +1,7 @@
 use Rattle.std.proofs.Common.{◌≡◌, ◌∙◌, ap, codes, Result, Ok, Err, IfOk}
 use Rattle.clap.specs.Words.{App, app_of, with_rule}
-use Rattle.crun_words.specs.Command.{units_left, word_flag, word_option}
+use Rattle.program_words.specs.Command.{word_option, words_left}
+use Rattle.crun_words.specs.Command.{word_flag}
 use Rattle.crun_words.proofs.command.command.Goals as goal
 
 pub returns : goal.returns
@@ -12,9 +13,10 @@ returns c =
     let with_replay = c.in_ok-command-5.ensures ∙ ap (λ (app : App). with_rule app (word_option (codes "replay"))) with_record in
     let with_merge = c.in_ok-command-6.ensures ∙ ap (λ (app : App). with_rule app (word_option (codes "merge"))) with_replay in
     let with_trim = c.in_ok-command-7.ensures ∙ ap (λ (app : App). with_rule app (word_option (codes "trim"))) with_merge in
-    last c.with_units.result app_of _ _ with_trim c.with_units.ensures
+    last c.with_words_left.result app_of _ _ with_trim c.with_words_left.ensures
   where
     last : {C E : Type 0} (r : Result C E) (app : C → App) (before after : App) → before ≡ after
-        → IfOk r (λ command. app command ≡ with_rule before units_left) → IfOk r (λ command. app command ≡ with_rule after units_left)
-    last (Ok command) app before after same is = is ∙ ap (λ (a : App). with_rule a units_left) same
+        → IfOk r (λ command. app command ≡ with_rule before (words_left (codes "units")))
+        → IfOk r (λ command. app command ≡ with_rule after (words_left (codes "units")))
+    last (Ok command) app before after same is = is ∙ ap (λ (a : App). with_rule a (words_left (codes "units"))) same
     last (Err e) app before after same is = tt

@@ -3,7 +3,7 @@ use Rattle.w2c_base.specs.Run.{Init}
 use Rattle.c_tree.specs.View.{unit_of}
 use Rattle.c_meaning.specs.Run.{c_run, entries_of}
 use Rattle.c_objects.specs.Stores.{AreStored}
-use Rattle.crun.specs.Names.{naming_of}
+use Rattle.crun_startup.specs.Names.{naming_of}
 use Rattle.c_hosts.specs.Journals.{events_in, replies_in}
 use Rattle.crun.specs.declared.outcome.Outcome.TheVariants as outcome
 use Rattle.crun.specs.Engines.{naming_in, program_in, units_at, FunctionCame, IfEnded, IsReady}

@@ -2,7 +2,7 @@ use Rattle.std.proofs.Common.{sym, subst}
 use Rattle.w2c_base.specs.Run.{Call}
 use Rattle.c_sound.specs.Typed.{Begins}
 use Rattle.c_sound.proofs.Runs.{call_fits}
-use Rattle.crun.specs.Called.{AreSymbols}
+use Rattle.crun_startup.specs.Called.{AreSymbols}
 use Rattle.crun.specs.Engines.{naming_in, program_in}
 use Rattle.crun.proofs.engine.Engine.run_symbol.Goals as goal
 

@@ -1,6 +1,6 @@
 use Rattle.std.proofs.Common.{map, refl, sym, subst}
 use Rattle.c_tree.specs.View.{unit_of}
-use Rattle.crun.specs.Entries.{HaveCounts}
+use Rattle.crun_startup.specs.Entries.{HaveCounts}
 use Rattle.c_hosts.specs.Asking.{hosts_of}
 use Rattle.crun.specs.declared.engine.Engine.{Engine}
 use Rattle.crun.specs.Engines.{program_in}

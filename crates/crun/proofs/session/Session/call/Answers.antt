@@ -6,7 +6,7 @@ use Rattle.c_hosts.specs.Asking.{hosts_of}
 use Rattle.c_hosts.specs.Journals.{ask_of, replies_in}
 use Rattle.c_hosts.specs.Running.{Asks}
 use Rattle.c_objects.specs.Stores.{AreStored}
-use Rattle.crun.specs.Names.{naming_of}
+use Rattle.crun_startup.specs.Names.{naming_of}
 use Rattle.crun.specs.declared.outcome.Kept.TheVariants as kept
 use Rattle.crun.specs.Engines.{units_at}
 use Rattle.crun.specs.Sessions.{program_of, told_by, IsOutcome, Stands}

@@ -1,7 +1,7 @@
 use Rattle.std.proofs.Common.{◌≡◌, ◌-◌, ◌≤◌, List, ◌++◌, [], length, map, refl, sym, ap, ◌∙◌, subst, arith}
 use Rattle.w2c_base.specs.Run.{Ask, Init, asks_in}
 use Rattle.c_meaning.specs.Run.{c_run, entries_of}
-use Rattle.crun.specs.Inits.{address_in}
+use Rattle.crun_startup.specs.Inits.{address_in}
 use Rattle.c_hosts.specs.Journals.{ask_of, events_in, replies_in}
 use Rattle.crun.specs.declared.outcome.Kept.TheVariants as kept
 use Rattle.crun.specs.Engines.{machine_with, naming_in, program_in, units_at}

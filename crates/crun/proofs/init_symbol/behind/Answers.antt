@@ -1,7 +1,0 @@
-use Rattle.std.proofs.Common.{nat_eq}
-use Rattle.std.proofs.lemmas.Bool.Decides.{Decides-eqb}
-use Rattle.std.proofs.lemmas.Slice.Eq.{strip_prefix_is}
-use Rattle.crun.proofs.init_symbol.behind.Goals as goal
-
-pub returns : goal.returns
-returns c = strip_prefix_is {E = nat_eq} Decides-eqb c.args.text.now c.args.front.now c.strip_prefix.result c.strip_prefix.ensures.cases

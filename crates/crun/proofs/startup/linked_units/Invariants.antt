@@ -1,7 +1,0 @@
-use Rattle.std.proofs.Common.{◌≡◌, length, map, take}
-use Rattle.c_tree.specs.View.{unit_of}
-use Rattle.crun.specs.Units.{AreUnits}
-use Rattle.crun.proofs.startup.linked_units.Given as goal
-
-abbrev pub invariant-loop-k : goal.invariant-loop-k
-invariant-loop-k l = (length l.units.items ≡ l.k) × AreUnits l.symbols.value (take l.k (map unit_of l.linked.0)) l.units.items

@@ -1,7 +1,0 @@
-use Rattle.std.proofs.Common.{◌≡◌, Some, map, take}
-use Rattle.c_machine.proofs.NameTables.{Enters}
-use Rattle.crun.specs.Entries.{func_in, name_in}
-use Rattle.crun.proofs.symbols.numbered.Given as goal
-
-abbrev pub invariant-loop-i : goal.invariant-loop-i
-invariant-loop-i l = Enters l.numbers l.i (map Some (map name_in l.seen)) × (l.funcs.items ≡ take l.i (map func_in l.seen))

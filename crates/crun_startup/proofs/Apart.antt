@@ -1,0 +1,211 @@
+-- In a checked unit the names of objects have letters, and no two of them are equal, within a kind and
+-- between kinds.
+use Rattle.std.proofs.Common.{
+  ◌≡◌,
+  Bool,
+  true,
+  false,
+  ◌&&◌,
+  ◌||◌,
+  if◌then◌else◌,
+  List,
+  [],
+  ◌∷◌,
+  bytes_eq,
+  is_some,
+  Option,
+  Some,
+  None,
+  refl,
+  sym,
+  ◌∙◌,
+}
+use Rattle.std.specs.Prelude.{not}
+use Rattle.std.specs.List.{AllByRecursion, cons_option, list_all}
+use Rattle.std.proofs.lemmas.Slice.Eq.{bytes_eq-Decides}
+use Rattle.w2c_base.proofs.Conjunctions.{left_holds, right_holds}
+use Rattle.c_tree.specs.declared.tree.CType.{CType}
+use Rattle.c_tree.specs.declared.tree.CType.TheVariants as type
+use Rattle.c_tree.specs.declared.tree.Num.{Num}
+use Rattle.c_tree.specs.declared.tree.Num.TheVariants.{N32, N64, Plain}
+use Rattle.c_tree.specs.Tree as tree
+use Rattle.c_tree.specs.Runtime.{same_type}
+use Rattle.c_tree.specs.Scope.{Name, name_of}
+use Rattle.c_tree.specs.WellFormed.{IsName, NamedItem}
+use Rattle.c_rules.specs.UnitNames.{none_clash, stands_behind}
+use Rattle.c_objects.specs.Stores.{AreApart, AreNames, Differ}
+use Rattle.crun_startup.specs.declared.names.ObjectKind.{ObjectKind}
+use Rattle.crun_startup.specs.declared.names.ObjectKind.TheVariants as kind
+use Rattle.crun_startup.specs.Names.{has_object, names_in}
+use Rattle.crun_startup.specs.Objects.{var_value}
+
+not_equal : (x y : Name) → bytes_eq x y ≡ false → bytes_eq y x ≡ false
+not_equal x y e = go (bytes_eq y x) refl
+  where
+    go : (b : Bool) → bytes_eq y x ≡ b → bytes_eq y x ≡ false
+    go false is = is
+    go true is = absurd (impossible (sym e ∙ (bytes_eq-Decides x y).1 (sym ((bytes_eq-Decides y x).0 is))))
+      where
+        impossible : false ≡ true → ⊥
+        impossible e = cc
+
+-- an item that declares an object is no function
+module _ (k : ObjectKind) where
+  clash_function : (f : tree.Func) → has_object k (tree.Function f) ≡ true → ⊥
+  clash_function f e = go k e
+    where
+      go : (k : ObjectKind) → has_object k (tree.Function f) ≡ true → ⊥
+      go kind.Variable e = cc
+      go kind.Memory e = cc
+      go kind.Table e = cc
+
+  -- behind an item of this name no object has it
+  clash_here : (x item : tree.Item) → has_object k item ≡ true → stands_behind x item ≡ true → bytes_eq (name_of x) (name_of item) ≡ false
+  clash_here x (tree.Array name count bytes) has e = absurd (no_array k has)
+    where
+      no_array : (k : ObjectKind) → has_object k (tree.Array name count bytes) ≡ true → ⊥
+      no_array kind.Variable e = cc
+      no_array kind.Memory e = cc
+      no_array kind.Table e = cc
+  clash_here x (tree.Function f) has e = absurd (clash_function f has)
+  clash_here (tree.Array name count bytes) (tree.Var ty y number) has e = differ (bytes_eq name y) e
+    where
+      differ : (b : Bool) → (not b || (false && not (false && false))) ≡ true → b ≡ false
+      differ true e = cc
+      differ false e = refl
+  clash_here (tree.Var t name n) (tree.Var ty y number) has e = differ (bytes_eq name y) e
+    where
+      differ : (b : Bool) → (not b || (false && not (false && false))) ≡ true → b ≡ false
+      differ true e = cc
+      differ false e = refl
+  clash_here (tree.Function f) (tree.Var ty y number) has e = differ (bytes_eq f.name y) (is_some f.body) e
+    where
+      differ : (b m : Bool) → (not b || (false && not (m && false))) ≡ true → b ≡ false
+      differ true m e = cc
+      differ false m e = refl
+
+  differs_later : (x : tree.Item) (items : List tree.Item) → list_all (stands_behind x) items ≡ true
+      → AllByRecursion (Differ (name_of x)) (names_in k items)
+  differs_later x [] e = tt
+  differs_later x (item ∷ items) e =
+      by_test (has_object k item) refl (differs_later x items (right_holds (stands_behind x item) (list_all (stands_behind x) items) e))
+    where
+      by_test : (b : Bool) → has_object k item ≡ b → AllByRecursion (Differ (name_of x)) (names_in k items)
+          → AllByRecursion (Differ (name_of x)) (cons_option (if b then Some (name_of item) else None) (names_in k items))
+      by_test false has rest = rest
+      by_test true has rest =
+          let one = clash_here x item has (left_holds (stands_behind x item) (list_all (stands_behind x) items) e) in
+          ((one, not_equal (name_of x) (name_of item) one), rest)
+
+has_letters : (name : Name) → IsName name → Differ [] name
+has_letters [] is = absurd (impossible is)
+  where
+    impossible : false ≡ true → ⊥
+    impossible e = cc
+has_letters (b ∷ bs) is = (refl, refl)
+
+letters : (item : tree.Item) → NamedItem item → Differ [] (name_of item)
+letters (tree.Array name count bytes) named = has_letters name named
+letters (tree.Var ty name number) named = has_letters name named
+letters (tree.Function f) named = has_letters f.name named.0
+
+-- ---- names of a kind
+
+pub are_names : (k : ObjectKind) (items : List tree.Item) → none_clash items ≡ true → AllByRecursion NamedItem items
+    → AreNames (names_in k items)
+are_names k [] kept named = tt
+are_names k (item ∷ items) kept named =
+    by_test (has_object k item) (are_names k items (right_holds (list_all (stands_behind item) items) (none_clash items) kept) named.1)
+  where
+    by_test : (b : Bool) → AreNames (names_in k items) → AreNames (cons_option (if b then Some (name_of item) else None) (names_in k items))
+    by_test false rest = rest
+    by_test true rest =
+        (letters item named.0, differs_later k item items (left_holds (list_all (stands_behind item) items) (none_clash items) kept), rest)
+
+-- ---- names of two kinds
+
+apart_more : (xs : List Name) (y : Name) (ys : List Name) → AllByRecursion (Differ y) xs → AreApart xs ys → AreApart xs (y ∷ ys)
+apart_more [] y ys all are = tt
+apart_more (x ∷ xs) y ys all are = (((all.0.1, all.0.0), are.0), apart_more xs y ys all.1 are.1)
+
+module _ (k l : ObjectKind) (only : (item : tree.Item) → has_object k item ≡ true → has_object l item ≡ false) where
+  pub are_apart : (items : List tree.Item) → none_clash items ≡ true → AreApart (names_in k items) (names_in l items)
+  are_apart [] kept = tt
+  are_apart (item ∷ items) kept =
+      by_tests (has_object k item) (has_object l item) refl refl
+      (are_apart items (right_holds (list_all (stands_behind item) items) (none_clash items) kept))
+    where
+      stands : list_all (stands_behind item) items ≡ true
+      stands = left_holds (list_all (stands_behind item) items) (none_clash items) kept
+
+      by_tests : (b c : Bool) → has_object k item ≡ b → has_object l item ≡ c → AreApart (names_in k items) (names_in l items)
+          → AreApart (cons_option (if b then Some (name_of item) else None) (names_in k items))
+          (cons_option (if c then Some (name_of item) else None) (names_in l items))
+      by_tests false false e f rest = rest
+      by_tests true false e f rest = (differs_later l item items stands, rest)
+      by_tests false true e f rest =
+          apart_more (names_in k items) (name_of item) (names_in l items) (differs_later k item items stands) rest
+      by_tests true true e f rest = absurd (impossible (sym f ∙ only item e))
+        where
+          impossible : true ≡ false → ⊥
+          impossible e = cc
+
+-- an item declares an object of one kind
+no_memory_value : (ty : CType) (n : Option Num) (name : Name) → is_some (var_value (tree.Var ty name n)) ≡ true
+    → same_type ty type.Mem ≡ false
+no_memory_value type.Void n name e = refl
+no_memory_value type.U32 n name e = refl
+no_memory_value type.U64 n name e = refl
+no_memory_value type.PtrU32 n name e = refl
+no_memory_value type.PtrU64 n name e = refl
+no_memory_value type.PtrMem n name e = refl
+no_memory_value type.Tab n name e = refl
+no_memory_value type.PtrTab n name e = refl
+no_memory_value type.FnPtr n name e = refl
+no_memory_value type.Mem None name e = cc
+no_memory_value type.Mem (Some (N32 n)) name e = cc
+no_memory_value type.Mem (Some (N64 n)) name e = cc
+no_memory_value type.Mem (Some (Plain n)) name e = cc
+
+no_table_value : (ty : CType) (n : Option Num) (name : Name) → is_some (var_value (tree.Var ty name n)) ≡ true
+    → same_type ty type.Tab ≡ false
+no_table_value type.Void n name e = refl
+no_table_value type.U32 n name e = refl
+no_table_value type.U64 n name e = refl
+no_table_value type.PtrU32 n name e = refl
+no_table_value type.PtrU64 n name e = refl
+no_table_value type.PtrMem n name e = refl
+no_table_value type.Mem n name e = refl
+no_table_value type.PtrTab n name e = refl
+no_table_value type.FnPtr n name e = refl
+no_table_value type.Tab None name e = cc
+no_table_value type.Tab (Some (N32 n)) name e = cc
+no_table_value type.Tab (Some (N64 n)) name e = cc
+no_table_value type.Tab (Some (Plain n)) name e = cc
+
+pub no_memory : (item : tree.Item) → has_object kind.Variable item ≡ true → has_object kind.Memory item ≡ false
+no_memory (tree.Array name count bytes) e = refl
+no_memory (tree.Var ty name n) e = no_memory_value ty n name e
+no_memory (tree.Function f) e = refl
+
+pub no_table : (item : tree.Item) → has_object kind.Variable item ≡ true → has_object kind.Table item ≡ false
+no_table (tree.Array name count bytes) e = refl
+no_table (tree.Var ty name n) e = no_table_value ty n name e
+no_table (tree.Function f) e = refl
+
+memory_no_table : (ty : CType) → same_type ty type.Mem ≡ true → same_type ty type.Tab ≡ false
+memory_no_table type.Void e = refl
+memory_no_table type.U32 e = refl
+memory_no_table type.U64 e = refl
+memory_no_table type.PtrU32 e = refl
+memory_no_table type.PtrU64 e = refl
+memory_no_table type.PtrMem e = refl
+memory_no_table type.Mem e = refl
+memory_no_table type.Tab e = cc
+memory_no_table type.PtrTab e = refl
+memory_no_table type.FnPtr e = refl
+
+pub memory_or_table : (item : tree.Item) → has_object kind.Memory item ≡ true → has_object kind.Table item ≡ false
+memory_or_table (tree.Array name count bytes) e = refl
+memory_or_table (tree.Var ty name n) e = memory_no_table ty e
+memory_or_table (tree.Function f) e = refl

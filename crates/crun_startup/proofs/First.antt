@@ -1,0 +1,223 @@
+-- The first objects of units are those of the meaning of C.
+use Rattle.std.proofs.Common.{
+  ◌≡◌,
+  zero,
+  suc,
+  Bool,
+  true,
+  false,
+  if◌then◌else◌,
+  List,
+  [],
+  ◌∷◌,
+  ◌++◌,
+  length,
+  map,
+  is_some,
+  Option,
+  Some,
+  None,
+  refl,
+  sym,
+  ap,
+  ◌∙◌,
+}
+use Rattle.std.specs.Prelude.{zip, filter_map, option_map}
+use Rattle.std.specs.List.{cons_option}
+use Rattle.std.proofs.lemmas.List.{length-map}
+use Rattle.w2c_base.specs.Run.{Reply}
+use Rattle.c_tree.specs.declared.tree.CType.{CType}
+use Rattle.c_tree.specs.declared.tree.CType.TheVariants as type
+use Rattle.c_tree.specs.declared.tree.Num.{Num}
+use Rattle.c_tree.specs.Tree as tree
+use Rattle.c_tree.specs.Scope.{Name, name_of}
+use Rattle.c_tree.proofs.WellFormedUnits.{well_formed}
+use Rattle.c_meaning.specs.State.{CValue, Memory, Objects, Table}
+use Rattle.c_meaning.specs.Linking.{Program}
+use Rattle.c_meaning.specs.Machine.{file_memory, file_table, file_var, fresh, initial_of, no_memory, no_table, zero_of}
+use Rattle.c_meaning.specs.Machine.{objects_of as c_objects_of}
+use Rattle.c_link.specs.Programs.{AllChecked, IsChecked}
+use Rattle.c_link.proofs.Rules.{clash_none}
+use Rattle.c_objects.specs.declared.store.UnitObjects.{UnitObjects}
+use Rattle.c_objects.specs.Objects.{memory_of, table_of}
+use Rattle.c_objects.specs.Stores.{AreStored, IsStored, machine_of, objects_of, units_of}
+use Rattle.c_objects.specs.Views.{Naming, value_of}
+use Rattle.crun_startup.specs.declared.names.ObjectKind.TheVariants as kind
+use Rattle.crun_startup.specs.Names.{has_object, names_in, naming_of, unit_names}
+use Rattle.crun_startup.specs.Objects.{AreFirst, memory_value, table_value, var_value}
+use Rattle.crun_startup.specs.Units.{AreAllFirst}
+use Rattle.crun_startup.proofs.Apart.{are_apart, are_names, memory_or_table, no_memory as var_no_memory, no_table as var_no_table}
+
+-- ---- one unit by its items
+
+vars_at : (ty : CType) (name : Name) (n : Option Num) (names : List Name) (values : List CValue) (rest : List (Name × CValue))
+    → zip names values ≡ rest
+    → zip (cons_option (if is_some (var_value (tree.Var ty name n)) then Some name else None) names)
+    (cons_option (var_value (tree.Var ty name n)) values)
+    ≡ cons_option (file_var (tree.Var ty name n)) rest
+vars_at ty name None names values rest e = go (zero_of ty)
+  where
+    go : (o : Option CValue) → zip (cons_option (if is_some o then Some name else None) names) (cons_option o values)
+        ≡ cons_option (option_map (λ v. (name, v)) o) rest
+    go None = e
+    go (Some v) = ap (λ l. (name, v) ∷ l) e
+vars_at ty name (Some n) names values rest e = go (initial_of ty n)
+  where
+    go : (o : Option CValue) → zip (cons_option (if is_some o then Some name else None) names) (cons_option o values)
+        ≡ cons_option (option_map (λ v. (name, v)) o) rest
+    go None = e
+    go (Some v) = ap (λ l. (name, v) ∷ l) e
+
+vars_are : (items : List tree.Item) → zip (names_in kind.Variable items) (filter_map var_value items) ≡ filter_map file_var items
+vars_are [] = refl
+vars_are (tree.Array name count bytes ∷ items) = vars_are items
+vars_are (tree.Var ty name n ∷ items) =
+    vars_at ty name n (names_in kind.Variable items) (filter_map var_value items) (filter_map file_var items) (vars_are items)
+vars_are (tree.Function f ∷ items) = vars_are items
+
+memories_at : (ty : CType) (name : Name) (n : Option Num) (names : List Name) (values : List Memory) (rest : List (Name × Memory))
+    → zip names values ≡ rest
+    → zip (cons_option (if has_object kind.Memory (tree.Var ty name n) then Some name else None) names)
+    (cons_option (memory_value (tree.Var ty name n)) values)
+    ≡ cons_option (file_memory (tree.Var ty name n)) rest
+memories_at type.Void name n names values rest e = e
+memories_at type.U32 name n names values rest e = e
+memories_at type.U64 name n names values rest e = e
+memories_at type.PtrU32 name n names values rest e = e
+memories_at type.PtrU64 name n names values rest e = e
+memories_at type.Mem name n names values rest e = ap (λ l. (name, no_memory) ∷ l) e
+memories_at type.PtrMem name n names values rest e = e
+memories_at type.Tab name n names values rest e = e
+memories_at type.PtrTab name n names values rest e = e
+memories_at type.FnPtr name n names values rest e = e
+
+memories_are : (items : List tree.Item) → zip (names_in kind.Memory items) (filter_map memory_value items) ≡ filter_map file_memory items
+memories_are [] = refl
+memories_are (tree.Array name count bytes ∷ items) = memories_are items
+memories_are (tree.Var ty name n ∷ items) =
+    memories_at ty name n (names_in kind.Memory items) (filter_map memory_value items) (filter_map file_memory items) (memories_are items)
+memories_are (tree.Function f ∷ items) = memories_are items
+
+tables_at : (ty : CType) (name : Name) (n : Option Num) (names : List Name) (values : List Table) (rest : List (Name × Table))
+    → zip names values ≡ rest
+    → zip (cons_option (if has_object kind.Table (tree.Var ty name n) then Some name else None) names)
+    (cons_option (table_value (tree.Var ty name n)) values)
+    ≡ cons_option (file_table (tree.Var ty name n)) rest
+tables_at type.Void name n names values rest e = e
+tables_at type.U32 name n names values rest e = e
+tables_at type.U64 name n names values rest e = e
+tables_at type.PtrU32 name n names values rest e = e
+tables_at type.PtrU64 name n names values rest e = e
+tables_at type.Mem name n names values rest e = e
+tables_at type.PtrMem name n names values rest e = e
+tables_at type.Tab name n names values rest e = ap (λ l. (name, no_table) ∷ l) e
+tables_at type.PtrTab name n names values rest e = e
+tables_at type.FnPtr name n names values rest e = e
+
+tables_are : (items : List tree.Item) → zip (names_in kind.Table items) (filter_map table_value items) ≡ filter_map file_table items
+tables_are [] = refl
+tables_are (tree.Array name count bytes ∷ items) = tables_are items
+tables_are (tree.Var ty name n ∷ items) =
+    tables_at ty name n (names_in kind.Table items) (filter_map table_value items) (filter_map file_table items) (tables_are items)
+tables_are (tree.Function f ∷ items) = tables_are items
+
+objects_are : (names : Naming) (items : List tree.Item) (o : UnitObjects) → AreFirst items o
+    → objects_of names (unit_names items) o ≡ c_objects_of items
+objects_are names items o are =
+    three (zip (names_in kind.Variable items) (map (value_of names) o.vars.items)) (filter_map file_var items)
+    (zip (names_in kind.Memory items) (map memory_of o.memories.items)) (filter_map file_memory items)
+    (zip (names_in kind.Table items) (map (table_of names) o.tables.items)) (filter_map file_table items)
+    (ap (zip (names_in kind.Variable items)) (are.vars names) ∙ vars_are items)
+    (ap (zip (names_in kind.Memory items)) are.memories ∙ memories_are items)
+    (ap (zip (names_in kind.Table items)) (are.tables names) ∙ tables_are items)
+  where
+    three : (vs ws : List (Name × CValue)) (ms ns : List (Name × Memory)) (ts us : List (Name × Table)) → vs ≡ ws → ms ≡ ns → ts ≡ us
+        → ◌≡◌ {A = Objects} (record { vars = vs; memories = ms; tables = ts }) (record { vars = ws; memories = ns; tables = us })
+    three vs ws ms ns ts us e f g = ap (λ l. record { vars = l; memories = ms; tables = ts }) e
+        ∙ ap (λ l. record { vars = ws; memories = l; tables = ts }) f ∙ ap (λ l. record { vars = ws; memories = ns; tables = l }) g
+
+-- ---- all units
+
+units_are : (names : Naming) (units : List (List tree.Item)) (os : List UnitObjects) → AreAllFirst units os
+    → units_of names (naming_of units) os ≡ map c_objects_of units
+units_are names [] [] are = refl
+units_are names [] (o ∷ os) are = absurd are
+units_are names (items ∷ units) [] are = absurd are
+units_are names (items ∷ units) (o ∷ os) are =
+    ap (λ x. x ∷ units_of names (naming_of units) os) (objects_are names items o are.0)
+    ∙ ap (λ l. c_objects_of items ∷ l) (units_are names units os are.1)
+
+-- the machine before the first statement
+pub is_fresh : (p : Program) (units : List (List tree.Item)) (os : List UnitObjects) → AreAllFirst units os → p.units ≡ units
+    → (replies : List Reply)
+    → machine_of (naming_of p.units) 0 (record { replies = replies; events = [] }) os ≡ fresh p replies
+is_fresh p units os are same replies =
+    ap (λ us. machine_of (naming_of us) 0 (record { replies = replies; events = [] }) os) same
+    ∙ ap (λ l. record { depth = 0; units = l; trail = record { replies = replies; events = [] } })
+    (units_are (naming_of units) units os are)
+    ∙ ap (λ us. record { depth = 0; units = map c_objects_of us; trail = record { replies = replies; events = [] } }) (sym same)
+
+-- ---- names for each object
+
+count_at : {A : Type 0} (b : Bool) (name : Name) (x : A) (names : List Name) (xs : List A) → length names ≡ length xs
+    → length (cons_option (if b then Some name else None) names) ≡ length (cons_option (if b then Some x else None) xs)
+count_at true name x names xs e = ap suc e
+count_at false name x names xs e = e
+
+value_count : (o : Option CValue) (name : Name) (names : List Name) (xs : List CValue) → length names ≡ length xs
+    → length (cons_option (if is_some o then Some name else None) names) ≡ length (cons_option o xs)
+value_count None name names xs e = e
+value_count (Some v) name names xs e = ap suc e
+
+vars_count : (items : List tree.Item) → length (names_in kind.Variable items) ≡ length (filter_map var_value items)
+vars_count [] = refl
+vars_count (item ∷ items) =
+    value_count (var_value item) (name_of item) (names_in kind.Variable items) (filter_map var_value items) (vars_count items)
+
+memories_count : (items : List tree.Item) → length (names_in kind.Memory items) ≡ length (filter_map memory_value items)
+memories_count [] = refl
+memories_count (item ∷ items) =
+    count_at (has_object kind.Memory item) (name_of item) no_memory (names_in kind.Memory items) (filter_map memory_value items)
+    (memories_count items)
+
+tables_count : (items : List tree.Item) → length (names_in kind.Table items) ≡ length (filter_map table_value items)
+tables_count [] = refl
+tables_count (item ∷ items) =
+    count_at (has_object kind.Table item) (name_of item) no_table (names_in kind.Table items) (filter_map table_value items)
+    (tables_count items)
+
+stored_one : (items : List tree.Item) (o : UnitObjects) → IsChecked items → AreFirst items o → IsStored (unit_names items) o
+stored_one items o checked are =
+    let kept = clash_none items checked.1 in
+    let named = (well_formed items checked.0).named in
+    let none : Naming = [] in
+    let vars : length (map (value_of none) o.vars.items) ≡ length o.vars.items = simp length-map in
+    let memories : length (map memory_of o.memories.items) ≡ length o.memories.items = simp length-map in
+    let tables : length (map (table_of none) o.tables.items) ≡ length o.tables.items = simp length-map in
+    record {
+      vars = are_names kind.Variable items kept named;
+      memories = are_names kind.Memory items kept named;
+      tables = are_names kind.Table items kept named;
+      vars_memories = are_apart kind.Variable kind.Memory var_no_memory items kept;
+      vars_tables = are_apart kind.Variable kind.Table var_no_table items kept;
+      memories_tables = are_apart kind.Memory kind.Table memory_or_table items kept;
+      vars_count = vars_count items ∙ ap length (sym (are.vars none)) ∙ vars;
+      memories_count = memories_count items ∙ ap length (sym are.memories) ∙ memories;
+      tables_count = tables_count items ∙ ap length (sym (are.tables none)) ∙ tables;
+    }
+
+pub are_stored : (units : List (List tree.Item)) (os : List UnitObjects) → AllChecked units → AreAllFirst units os
+    → AreStored (naming_of units) os
+are_stored [] [] checked are = tt
+are_stored [] (o ∷ os) checked are = absurd are
+are_stored (items ∷ units) [] checked are = absurd are
+are_stored (items ∷ units) (o ∷ os) checked are =
+    (stored_one items o (checked zero items refl) are.0, are_stored units os (λ k. checked (suc k)) are.1)
+
+-- one unit more
+pub first_push : (units : List (List tree.Item)) (items : List tree.Item) (os : List UnitObjects) (o : UnitObjects) → AreAllFirst units os
+    → AreFirst items o → AreAllFirst (units ++ items ∷ []) (os ++ o ∷ [])
+first_push [] items [] o are one = (one, tt)
+first_push [] items (x ∷ os) o are one = absurd are
+first_push (y ∷ units) items [] o are one = absurd are
+first_push (y ∷ units) items (x ∷ os) o are one = (are.0, first_push units items os o are.1 one)

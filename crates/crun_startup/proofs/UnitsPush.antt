@@ -1,0 +1,34 @@
+-- Units that get their tables one by one.
+use Rattle.std.proofs.Common.{◌≡◌, ℕ, zero, suc, ◌+◌, List, [], ◌∷◌, ◌++◌, length, Some, sym, ap, ◌∙◌, subst, arith}
+use Rattle.std.specs.Prelude.{slice_get}
+use Rattle.std.proofs.lemmas.List.{map-append}
+use Rattle.c_tree.specs.Tree as tree
+use Rattle.c_tree.specs.View.{unit_of}
+use Rattle.c_thread.specs.declared.control.LinkedUnit.{LinkedUnit}
+use Rattle.c_thread.specs.declared.scope.Symbols.{Symbols}
+use Rattle.crun_startup.specs.Units.{AreUnits, IsUnit}
+
+each_push : {A : Type 0} (P : ℕ → A → Type 0) (k : ℕ) (made : List A) (l : A) → ((u : ℕ) (x : A) → slice_get made u ≡ Some x → P (k + u) x)
+    → P (k + length made) l → (u : ℕ) (x : A) → slice_get (made ++ l ∷ []) u ≡ Some x → P (k + u) x
+each_push P k [] l each one zero x at = let same : l ≡ x = cc in subst (P (k + 0)) same one
+each_push P k [] l each one (suc u) x at = absurd cc
+each_push P k (y ∷ made) l each one zero x at = each zero x at
+each_push P k (y ∷ made) l each one (suc u) x at =
+    let move : (n : ℕ) → (k + 1) + n ≡ k + suc n = λ n. omega arith in
+    subst (λ n. P n x) (move u)
+    (each_push P (k + 1) made l (λ v z e. subst (λ n. P n z) (sym (move v)) (each (suc v) z e))
+    (subst (λ n. P n l) (sym (move (length made))) one) u x at)
+
+pub units_push : (symbols : Symbols) (units : List (List tree.Item)) (items : List tree.Item) (made : List LinkedUnit) (l : LinkedUnit)
+    → unit_of l.items.value ≡ items → IsUnit symbols (length made) l → AreUnits symbols units made
+    → AreUnits symbols (units ++ items ∷ []) (made ++ l ∷ [])
+units_push symbols units items made l is one are = record {
+  items = map-append (λ (l : LinkedUnit). unit_of l.items.value) made (l ∷ [])
+      ∙ ap (λ us. us ++ unit_of l.items.value ∷ []) are.items ∙ ap (λ x. units ++ x ∷ []) is;
+  each = λ u x at. subst (λ n. IsUnit symbols n x) (front u)
+      (each_push (IsUnit symbols) 0 made l (λ v z e. subst (λ n. IsUnit symbols n z) (sym (front v)) (are.each v z e))
+      (subst (λ n. IsUnit symbols n l) (sym (front (length made))) one) u x at);
+}
+  where
+    front : (n : ℕ) → 0 + n ≡ n
+    front n = omega arith

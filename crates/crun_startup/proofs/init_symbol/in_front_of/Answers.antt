@@ -1,0 +1,7 @@
+use Rattle.std.proofs.Common.{nat_eq}
+use Rattle.std.proofs.lemmas.Bool.Decides.{Decides-eqb}
+use Rattle.std.proofs.lemmas.Slice.Eq.{strip_suffix_is}
+use Rattle.crun_startup.proofs.init_symbol.in_front_of.Goals as goal
+
+pub returns : goal.returns
+returns c = strip_suffix_is {E = nat_eq} Decides-eqb c.args.text.now c.args.end.now c.strip_suffix.result c.strip_suffix.ensures.cases

@@ -1,0 +1,11 @@
+use Rattle.std.proofs.Common.{[], map}
+use Rattle.std.specs.Prelude.{filter_map}
+use Rattle.c_tree.specs.View.{item_of}
+use Rattle.c_machine.specs.Names.{texts}
+use Rattle.crun_startup.specs.Names.{object_name}
+use Rattle.crun_startup.proofs.Collected.{Gathered, filters}
+use Rattle.crun_startup.proofs.names.object_names.Given as goal
+
+abbrev pub invariant-loop-item : goal.invariant-loop-item
+invariant-loop-item l =
+    Gathered (filter_map (object_name l.kind)) (filters (object_name l.kind)) (map item_of l.items) [] (texts l.names.items) l.item-index

@@ -1,0 +1,12 @@
+use Rattle.std.proofs.Common.{Some, None, if◌then◌else◌, sym, ap, ◌∙◌}
+use Rattle.c_tree.specs.View.{item_of}
+use Rattle.c_meaning.specs.Machine.{no_table}
+use Rattle.c_objects.specs.Objects.{table_of}
+use Rattle.crun_startup.specs.Objects.{table_value}
+use Rattle.crun_startup.proofs.Collected.{put_some}
+use Rattle.crun_startup.proofs.objects.put_table.Goals as goal
+
+pub returns-in_ok-push : goal.returns-in_ok-push
+returns-in_ok-push c names =
+    put_some table_value (table_of names) (item_of c.args.item.now) c.not_made.result c.args.tables.now.items _ c.in_ok-push.ensures.items
+    (ap Some (c.not_made.ensures names) ∙ sym (ap (λ b. if b then Some no_table else None) (sym c.is_of.ensures ∙ c.if-is_of.true)))

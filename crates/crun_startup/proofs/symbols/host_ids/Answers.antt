@@ -1,0 +1,22 @@
+use Rattle.std.proofs.Common.{◌++◌, [], sym, ap, ◌∙◌}
+use Rattle.std.specs.Prelude.{flat_map}
+use Rattle.std.proofs.lemmas.List.{append-nil}
+use Rattle.std.proofs.lemmas.Option.{slice_get-get_or}
+use Rattle.w2c_base.specs.Lookup.{numbered}
+use Rattle.c_link.proofs.Walks.{numbered_at, numbered_past}
+use Rattle.crun_startup.specs.Entries.{ids_of}
+use Rattle.crun_startup.proofs.Collected.{flats, gathered_all, gathered_next}
+use Rattle.crun_startup.proofs.symbols.host_ids.Goals as goal
+
+pub loop-host-preserved : goal.loop-host-preserved
+loop-host-preserved c =
+    let counts = c.args.counts.now in
+    let h = c.loop-host.host in
+    gathered_next (flat_map ids_of) (flats ids_of) (numbered counts) [] c.loop-host.ids.items _ h _
+    (numbered_at counts h _ (slice_get-get_or counts h _ c.loop-host-test.true))
+    (c.in_ok-put_ids.ensures ∙ ap (λ l. c.loop-host.ids.items ++ l) (sym (append-nil _))) c.loop-host.invariant
+
+pub returns : goal.returns
+returns c =
+    gathered_all (flat_map ids_of) (flats ids_of) (numbered c.args.counts.now) [] c.loop-host.ids.items c.loop-host.host
+    (numbered_past 0 c.args.counts.now c.loop-host.host c.loop-host-test.false) c.loop-host.invariant

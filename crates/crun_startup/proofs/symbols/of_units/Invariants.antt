@@ -1,0 +1,11 @@
+use Rattle.std.proofs.Common.{[], map}
+use Rattle.std.specs.Prelude.{flat_map}
+use Rattle.w2c_base.specs.Lookup.{numbered}
+use Rattle.c_tree.specs.View.{unit_of}
+use Rattle.crun_startup.specs.Entries.{entry_of, unit_entries}
+use Rattle.crun_startup.proofs.Collected.{Gathered, flats}
+use Rattle.crun_startup.proofs.symbols.of_units.Given as goal
+
+abbrev pub invariant-loop-unit : goal.invariant-loop-unit
+invariant-loop-unit l =
+    Gathered (flat_map unit_entries) (flats unit_entries) (numbered (map unit_of l.linked.0)) [] (map entry_of l.seen.items) l.unit

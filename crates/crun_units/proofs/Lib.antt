@@ -1,0 +1,6 @@
+-- what lines ask for
+pub mod WriteJobs
+-- why a unit is not written
+pub mod WriteStops
+-- what passes through the files
+pub mod Passing

@@ -1,0 +1,2 @@
+-- what units see of a host like `env`
+pub mod Seen

@@ -1,0 +1,2 @@
+-- promised: what `env` offers, and what its functions may answer
+pub mod EnvHost

@@ -1,0 +1,3 @@
+pub mod Parses
+pub mod Written
+pub mod Loops
