@@ -1,4 +1,5 @@
 pub mod NameTables
+mod FewNames
 pub mod Labels
 pub mod Tabled
 pub mod Arguments

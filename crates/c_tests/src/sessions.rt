@@ -197,6 +197,7 @@ fn a_call_ends(rt: HostRuntime) -> Result<(), Fail> {
         begun = session.init()?;
     }
     let ended = call_f(&mut session, 5);
+    let (hosts, objects) = session.hosts_and_objects();
     assert!(rt;
         begun == Outcome::Ended(None)
             && ended == Some(Ok(Outcome::Ended(Some(Value::I64(1)))))
@@ -204,6 +205,8 @@ fn a_call_ends(rt: HostRuntime) -> Result<(), Fail> {
             && session.journal().len() == 1
             && session.inits_run() == 0
             && session.host_count() == 1
+            && hosts.len() == 1
+            && objects.len() == 1
             && session.variable(0, b"g") == None
     );
     Ok(())

@@ -16,7 +16,7 @@ ghost use Rattle.c_machine.specs.Threads.{definition_in, names_at, stmts_at, tar
 use crate::linked::{LinkedFrame, LinkedStep, LinkedThread};
 use crate::scope::ObjectTables;
 use crate::types::is_returned;
-use c_machine::{Function, Numbers, Tables, definition};
+use c_machine::{Function, NumberedNames, Tables, definition};
 use c_objects::{Done, Held, Primitive};
 use c_tree::{Body, CType, Func, Stmt, Unit};
 use std::alloc::Global;
@@ -62,7 +62,7 @@ impl LinkedUnit {
 #[derive(Clone, Copy)]
 struct Receiver<'a> {
     name: &'a [u8],
-    locals: &'a Numbers,
+    locals: &'a NumberedNames,
     objects: &'a ObjectTables,
 }
 

@@ -13,7 +13,7 @@ ghost use Rattle.c_machine.specs.Threads.{names_at};
 
 use crate::scope::ObjectTables;
 use crate::types::are_of_one_type;
-use c_machine::{Numbers, is_depth};
+use c_machine::{NumberedNames, is_depth};
 use c_objects::{Held, Object, ObjectId, Store};
 use w2c_base::{TrapKind, Value};
 
@@ -70,7 +70,7 @@ impl LinkedThread {
     /// hold a value of the same type.
     pub fn assign(
         &mut self,
-        names: &Numbers,
+        names: &NumberedNames,
         objects: &ObjectTables,
         name: &[u8],
         value: Held,
@@ -171,7 +171,7 @@ impl LinkedThread {
 }
 
 // The number of a parameter or local with its value.
-fn place_of(names: &Numbers, values: &[Held], name: &[u8]) -> Option<usize>
+fn place_of(names: &NumberedNames, values: &[Held], name: &[u8]) -> Option<usize>
     ensures { MatchOption result (if_found (named name.now names.now) (λ i. slice_get values.now i) ≡ None) (λ i. (named name.now names.now ≡ Some i) × (i < length values.now)) }
 {
     let place = names.find(name)?;

@@ -3,7 +3,7 @@ ghost use Rattle.std.specs.Prelude.{◌≡◌, option_copied};
 ghost use Rattle.c_objects.specs.Stores.{var_at};
 ghost use Rattle.c_thread.specs.Sights.{bytes_in, func_at, func_in, held_in, object_in, symbol_in};
 
-use c_machine::{Numbers, is_depth};
+use c_machine::{NumberedNames, Numbers, is_depth};
 use c_objects::{FuncId, Held, Object, ObjectId, Store};
 use c_tree::{Item, Unit};
 use std::rc::Rc;
@@ -30,9 +30,9 @@ impl Symbols {
 #[derive(Drop)]
 pub struct ObjectTables {
     pub unit: usize,
-    pub vars: Numbers,
-    pub memories: Numbers,
-    pub tables: Numbers,
+    pub vars: NumberedNames,
+    pub memories: NumberedNames,
+    pub tables: NumberedNames,
     pub arrays: Numbers,
     pub functions: Numbers,
     pub symbols: Rc<Symbols>,
@@ -57,7 +57,7 @@ pub struct UnitScope<'a> {
     pub unit: usize,
     pub items: &'a Unit,
     pub objects: &'a ObjectTables,
-    pub locals: &'a Numbers,
+    pub locals: &'a NumberedNames,
     pub values: &'a [Held],
     pub store: &'a Store,
 }

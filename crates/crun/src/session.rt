@@ -27,6 +27,7 @@ use crate::outcome::{Kept, Outcome, Phase, Standing, Stop};
 use crate::shown::Element;
 use c_hosts::{HostModule, Hosts, Journal};
 use c_link::Linked;
+use c_objects::UnitObjects;
 use crun_startup::init_functions;
 use lin_mem::LinMem;
 use std::alloc::Global;
@@ -144,6 +145,17 @@ impl<H: HostModule> Session<H> {
         ensures { slice_get self.now.hosts k ≡ Some result.now }
     {
         &self.engine.hosts.list[k]
+    }
+
+    /// The hosts in their present state, and the objects of the units, each kind in the order of the declarations.
+    pub fn hosts_and_objects(&self) -> (&[H], &[UnitObjects])
+        ensures hosts { result.0.now ≡ self.now.hosts }
+        ensures objects { result.1.now ≡ self.now.objects }
+    {
+        (
+            self.engine.hosts.list.as_slice(),
+            self.engine.startup.store.units.as_slice(),
+        )
     }
 
     /// What hosts were asked and replied, in order.

@@ -6,9 +6,6 @@ pub mod Steps
 pub mod Recorded
 pub mod RecordLaws
 pub mod CallLists
-pub mod Shown
-pub mod Named
-pub mod Objects
 -- hosts
 pub mod Offered
 pub mod EnvOffered

@@ -74,8 +74,8 @@ use Rattle.crun_job.specs.Lines.{
   Unwritten,
   WantOfMemory,
 }
-use Rattle.crun_job.specs.Seen.{reason_of}
-use Rattle.crun_job.specs.Stopping.{stop_for, StopsTexts}
+use Rattle.crun_job.specs.Seen.{reason_of, stop_for}
+use Rattle.crun_job.specs.Stopping.{StopsTexts}
 use Rattle.crun_units.specs.Jobs.{IsMerged, IsTrimmedText}
 use Rattle.crun_units.specs.Passing.{reason_for}
 use Rattle.crun_units.proofs.Passing.{by_so, units_so}
@@ -106,10 +106,9 @@ use Rattle.crun_cli.specs.Trying.{GivesReplays, PutsJournal, PutsJournalPart, Tr
 pub replay_tried : (journal : Name) (stop : InputStop) (events : List Event) → TriesJournal journal stop events
     → TriesReplay journal (reason_of (stop_for stop)) events
 replay_tried journal (input.Unread name) events (same, answer, away, is) = (same, (answer, away, is))
-replay_tried journal (input.UnitTooLong name) events tried = absurd tried
-replay_tried journal input.CallsTooLong events tried = absurd tried
 replay_tried journal input.JournalTooLong events tried = tried
 replay_tried journal input.Memory events tried = tried
+replay_tried journal _ events tried = absurd tried
 
 -- ---- the journal of a run
 
@@ -146,12 +145,7 @@ module _ {H : Type 0} (m : HostModule H) (hosts : List H) where
     texts_stopped (Refused file cause) stop stopped = inr (Stops (Refused file cause), stop, (refl, stopped))
     texts_stopped (CallsLine number) stop stopped = inr (Stops (CallsLine number), stop, (refl, stopped))
     texts_stopped WantOfMemory stop stopped = inl (refl, stopped)
-    texts_stopped Usage stop stopped = absurd stop
-    texts_stopped CallsTooLong stop stopped = absurd stop
-    texts_stopped JournalTooLong stop stopped = absurd stop
-    texts_stopped (JournalLine number) stop stopped = absurd stop
-    texts_stopped (Unread file) stop stopped = absurd stop
-    texts_stopped Unwritten stop stopped = absurd stop
+    texts_stopped _ stop stopped = absurd stop
 
     module _ (units : List (List tree.Item)) (calls : List SymbolCall) (steps : ℕ) (shown : Bool)
         (job : IsTextsJob line (symbols_of (hosts_of m hosts)) texts text (Run units calls steps shown)) where
@@ -230,7 +224,6 @@ module _ {H : Type 0} (m : HostModule H) (hosts : List H) (line : RunLine) (old 
   inputs_stopped (input.UnitTooLong name) events gave stopped =
       refused_input (LongUnit (string_bytes name)) (Refused (string_bytes name) cause.TooLong) events gave refl stopped
   inputs_stopped input.CallsTooLong events gave stopped = refused_input LongCalls CallsTooLong events gave refl stopped
-  inputs_stopped input.JournalTooLong events gave stopped = absurd gave
   inputs_stopped input.Memory events reads stopped = record {
     given = events;
     written = [];
@@ -240,6 +233,7 @@ module _ {H : Type 0} (m : HostModule H) (hosts : List H) (line : RunLine) (old 
         (longer (limited most_unit_bytes line.units ++ (line.calls, most_calls_bytes) ∷ []) (journal_to_read line.replayed) events reads);
     follows = inl (refl, stopped);
   }
+  inputs_stopped _ events gave stopped = absurd gave
 
   -- all are read
   module _ (texts : List (List ℕ)) (text : List ℕ) (first : List Event)
@@ -326,11 +320,7 @@ module _ {H : Type 0} (m : HostModule H) (hosts : List H) (line : RunLine) (old 
         reads = in_order read;
         follows = inl (refl, stopped);
       }
-      replay_stopped Usage tried stopped = absurd tried
-      replay_stopped CallsTooLong tried stopped = absurd tried
-      replay_stopped (CallsLine number) tried stopped = absurd tried
-      replay_stopped (Refused file why) tried stopped = absurd tried
-      replay_stopped Unwritten tried stopped = absurd tried
+      replay_stopped _ tried stopped = absurd tried
 
       -- hosts that reply again what it says
       pub replayed_passed : (replays : List ReplayHost) → GivesReplays name replays middle → (last : List Event)

@@ -23,18 +23,7 @@ use Rattle.host_replay.specs.Writable.{symbols_of as symbols_of_modules, AreDist
 use Rattle.host_replay.proofs.Distinct.{symbols_distinct}
 use Rattle.crun_words.specs.CommandLine.{RunLine}
 use Rattle.crun_job.specs.Job.{IsTextsJob, Run}
-use Rattle.crun_job.specs.Lines.{
-  Reason,
-  Usage,
-  CallsTooLong,
-  CallsLine,
-  JournalTooLong,
-  JournalLine,
-  Refused,
-  Unread,
-  Unwritten,
-  WantOfMemory,
-}
+use Rattle.crun_job.specs.Lines.{Reason, CallsLine, Refused, WantOfMemory}
 use Rattle.crun_job.specs.Stopping.{StopsTexts}
 use Rattle.crun_cli.specs.Ends.{journal_of, AreOffered, HasPlayed, HasPlayedPart, IsJournaled, IsRunStatus}
 use Rattle.crun_cli.specs.Jobs.{symbols_of}
@@ -179,9 +168,4 @@ module _ {H : Type 0} (m : HostModule H) (hosts : List H) (line : RunLine) (text
   texts_stop untouched (Refused file cause) stop = (stop, untouched)
   texts_stop untouched (CallsLine number) stop = (stop, untouched)
   texts_stop untouched WantOfMemory stop = inl untouched
-  texts_stop untouched Usage stop = absurd stop
-  texts_stop untouched CallsTooLong stop = absurd stop
-  texts_stop untouched JournalTooLong stop = absurd stop
-  texts_stop untouched (JournalLine number) stop = absurd stop
-  texts_stop untouched (Unread file) stop = absurd stop
-  texts_stop untouched Unwritten stop = absurd stop
+  texts_stop untouched _ stop = absurd stop

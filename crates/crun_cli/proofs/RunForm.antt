@@ -46,8 +46,7 @@ use Rattle.crun_job.specs.Lines.{
   Unwritten,
   WantOfMemory,
 }
-use Rattle.crun_job.specs.Seen.{reason_of}
-use Rattle.crun_job.specs.Stopping.{stop_for}
+use Rattle.crun_job.specs.Seen.{reason_of, stop_for}
 use Rattle.crun_units.specs.Files.{FilesSeen}
 use Rattle.crun_cli.specs.Ends.{HasPlayed, HasPlayedPart, IsJobWith, IsJournaled, IsUnwritten, Ran, RanPart, WithHosts}
 use Rattle.crun_cli.specs.Files.{HasReading, IsReadBy, IsToRead, IsToWrite, IsUnitFile}
@@ -113,11 +112,7 @@ module _ {G : Type 0} (n : HostModule G) (gs : List G) (line : RunLine) (start m
     stop_from texts text Unwritten stop = (unwritten_from stop.0, texts_part_from texts text stop.1)
     stop_from texts text WantOfMemory (inl untouched) = inl (untouched_from untouched)
     stop_from texts text WantOfMemory (inr part) = inr (texts_part_from texts text part)
-    stop_from texts text Usage stop = absurd stop
-    stop_from texts text CallsTooLong stop = absurd stop
-    stop_from texts text JournalTooLong stop = absurd stop
-    stop_from texts text (JournalLine number) stop = absurd stop
-    stop_from texts text (Unread file) stop = absurd stop
+    stop_from texts text _ stop = absurd stop
 
 -- ---- the journal is read behind the other files
 
@@ -131,11 +126,7 @@ replay_from name start middle new told later (Unread file) (file_is, inr (m, tel
 replay_from name start middle new told later JournalTooLong stop = λ m tells. stop m (told ∙ tells)
 replay_from name start middle new told later (JournalLine number) stop = λ m tells. stop m (told ∙ tells)
 replay_from name start middle new told later WantOfMemory stop = stop
-replay_from name start middle new told later Usage stop = absurd stop
-replay_from name start middle new told later CallsTooLong stop = absurd stop
-replay_from name start middle new told later (CallsLine number) stop = absurd stop
-replay_from name start middle new told later (Refused file cause) stop = absurd stop
-replay_from name start middle new told later Unwritten stop = absurd stop
+replay_from name start middle new told later _ stop = absurd stop
 
 -- ---- words that ask for a run
 
@@ -183,8 +174,8 @@ module _ {H : Type 0} (hm : HostModule H) (hosts : List H) (line : RunLine) (wor
       (has_reading, λ m tells. job_there m (Stops CallsTooLong) (LongCalls, long m tells, refl)),
       untouched,
     )
-    inputs_stop input.JournalTooLong stops = absurd stops
     inputs_stop input.Memory stops = λ m tells. inl untouched
+    inputs_stop _ stops = absurd stops
 
   -- all are read
   module _ (told : Told) (texts : List (List ℕ)) (text : List ℕ) (read : Tells told (λ m. AreInputs m line.units line.calls texts text))
@@ -233,11 +224,7 @@ module _ {H : Type 0} (hm : HostModule H) (hosts : List H) (line : RunLine) (wor
         untouched,
       )
       replay_stop name named old new same untouched WantOfMemory stop = λ m tells. inl untouched
-      replay_stop name named old new same untouched Usage stop = absurd stop
-      replay_stop name named old new same untouched CallsTooLong stop = absurd stop
-      replay_stop name named old new same untouched (CallsLine number) stop = absurd stop
-      replay_stop name named old new same untouched (Refused file why) stop = absurd stop
-      replay_stop name named old new same untouched Unwritten stop = absurd stop
+      replay_stop name named old new same untouched _ stop = absurd stop
 
       -- a run with hosts, which are those that the line's runs are with
       module _ {G : Type 0} (n : HostModule G) (gs : List G)
@@ -280,11 +267,7 @@ module _ {H : Type 0} (hm : HostModule H) (hosts : List H) (line : RunLine) (wor
             cause (inr (file, named, faulted)) = inr (file, subst (IsToWrite file) (sym is) named, faulted)
         run_stop old new same WantOfMemory (inl untouched) = λ m tells. inl untouched
         run_stop old new same WantOfMemory (inr part) = λ m tells. inr (inl (run_part old new part m (sym same ∙ tells)))
-        run_stop old new same Usage stop = absurd stop
-        run_stop old new same CallsTooLong stop = absurd stop
-        run_stop old new same JournalTooLong stop = absurd stop
-        run_stop old new same (JournalLine number) stop = absurd stop
-        run_stop old new same (Unread file) stop = absurd stop
+        run_stop old new same _ stop = absurd stop
 
       -- the hosts that were handed in
       module _ (none : line.replayed ≡ None) where

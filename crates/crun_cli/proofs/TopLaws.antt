@@ -20,24 +20,12 @@ use Rattle.crun_words.specs.Inputs.{
   NotThere,
 }
 use Rattle.crun_job.specs.Job.{IsTextsJob, Job, Run, Stops, Write}
-use Rattle.crun_job.specs.Lines.{
-  status_of,
-  Reason,
-  Usage,
-  CallsTooLong,
-  CallsLine,
-  JournalTooLong,
-  JournalLine,
-  Refused,
-  Unread,
-  Unwritten,
-  WantOfMemory,
-}
+use Rattle.crun_job.specs.Lines.{status_of, Reason, Usage, Refused, Unread, Unwritten, WantOfMemory}
 use Rattle.crun_cli.proofs.AgainLaws.{runs_again}
 use Rattle.crun_cli.proofs.OneJob.{one_job}
 use Rattle.crun_cli.specs.Again.{RunsAgain}
 use Rattle.crun_cli.specs.Ends.{Begun, BegunIfAny, By_refusal, By_run, By_unit, Finished, HasAnswer, HasPlayed, IsAnswered, IsJobWith, IsRunStatus, IsUnread, IsUnwritten, Refuses, WithHosts}
-use Rattle.crun_cli.specs.Files.{IsToRead, IsUnitFile}
+use Rattle.crun_cli.specs.Files.{HasReading, IsToRead, IsUnitFile}
 use Rattle.crun_cli.specs.Jobs.{symbols_of, IsLineJob, IsReplayJob, IsRunJob}
 use Rattle.crun_cli.specs.Outside.{IsUntouched, Outside}
 use Rattle.crun_cli.specs.Stopping.{StopsWork}
@@ -52,51 +40,25 @@ run_small status run = omega (arith, run)
 abbrev IsStatus : ℕ → Reason → Type 0
 IsStatus status why = (status ≡ status_of why) ⊎ (status ≡ 5)
 
+stop_range : (why : Reason) → (2 ≤ status_of why) × (status_of why ≤ 6)
+stop_range Usage = (omega arith, omega arith)
+stop_range _ = (omega arith, omega arith)
+
 -- it is no status of a run
 pub stop_apart : (status : ℕ) (why : Reason) → IsStatus status why → IsRunStatus status → ⊥
-stop_apart status Usage is run = omega (arith, is, run)
-stop_apart status CallsTooLong is run = omega (arith, is, run)
-stop_apart status (CallsLine number) is run = omega (arith, is, run)
-stop_apart status JournalTooLong is run = omega (arith, is, run)
-stop_apart status (JournalLine number) is run = omega (arith, is, run)
-stop_apart status (Refused file cause) is run = omega (arith, is, run)
-stop_apart status (Unread file) is run = omega (arith, is, run)
-stop_apart status Unwritten is run = omega (arith, is, run)
-stop_apart status WantOfMemory is run = omega (arith, is, run)
+stop_apart status why is run = let range = stop_range why in omega (arith, is, run, range.0, range.1)
+
+pub stop_small : (status : ℕ) (why : Reason) → IsStatus status why → status ≤ 8
+stop_small status why is = let range = stop_range why in omega (arith, is, range.1)
 
 -- the reason of a status that has one
 pub of_status_3 : (why : Reason) → status_of why ≡ 3 → (file : Name) × (why ≡ Unread file)
 of_status_3 (Unread file) is = (file, refl)
-of_status_3 Usage is = absurd (omega (arith, is))
-of_status_3 CallsTooLong is = absurd (omega (arith, is))
-of_status_3 (CallsLine number) is = absurd (omega (arith, is))
-of_status_3 JournalTooLong is = absurd (omega (arith, is))
-of_status_3 (JournalLine number) is = absurd (omega (arith, is))
-of_status_3 (Refused file why) is = absurd (omega (arith, is))
-of_status_3 Unwritten is = absurd (omega (arith, is))
-of_status_3 WantOfMemory is = absurd (omega (arith, is))
+of_status_3 _ is = absurd (omega (arith, is))
 
 pub of_status_4 : (why : Reason) → status_of why ≡ 4 → why ≡ Unwritten
 of_status_4 Unwritten is = refl
-of_status_4 Usage is = absurd (omega (arith, is))
-of_status_4 CallsTooLong is = absurd (omega (arith, is))
-of_status_4 (CallsLine number) is = absurd (omega (arith, is))
-of_status_4 JournalTooLong is = absurd (omega (arith, is))
-of_status_4 (JournalLine number) is = absurd (omega (arith, is))
-of_status_4 (Refused file why) is = absurd (omega (arith, is))
-of_status_4 (Unread file) is = absurd (omega (arith, is))
-of_status_4 WantOfMemory is = absurd (omega (arith, is))
-
-pub stop_small : (status : ℕ) (why : Reason) → IsStatus status why → status ≤ 8
-stop_small status Usage is = omega (arith, is)
-stop_small status CallsTooLong is = omega (arith, is)
-stop_small status (CallsLine number) is = omega (arith, is)
-stop_small status JournalTooLong is = omega (arith, is)
-stop_small status (JournalLine number) is = omega (arith, is)
-stop_small status (Refused file cause) is = omega (arith, is)
-stop_small status (Unread file) is = omega (arith, is)
-stop_small status Unwritten is = omega (arith, is)
-stop_small status WantOfMemory is = omega (arith, is)
+of_status_4 _ is = absurd (omega (arith, is))
 
 -- a line of the run form asks for no unit
 pub written_by_no_run : {H : Type 0} (hm : HostModule H) (hosts : List H)
@@ -237,141 +199,155 @@ module _ {H : Type 0} (hm : HostModule H) (hosts : List H) (words : List Name) w
     unwritten_apart files out (inl rose) = out rose
     unwritten_apart files out (inr (file, named, faulted)) = files faulted.rose
 
-    pub stop_complete : (why : Reason) (status : ℕ) → Stopped why → IsStatus status why
-        → Tells old.files.told (λ m. (Rose old.files.read_faults new.files.read_faults → ⊥)
-        → (Rose old.files.write_faults new.files.write_faults → ⊥) → (Rose old.out.faults new.out.faults → ⊥)
-        → (status ≡ 5) ⊎ Answered m status)
-    stop_complete Usage status stop is m tells read write out = answered m Usage status is (usage_job m stop.0)
-    stop_complete CallsTooLong status stop is m tells read write out = answered m CallsTooLong status is (stop.0.1 m tells)
-    stop_complete (CallsLine number) status stop is m tells read write out = answered m (CallsLine number) status is (stop.0.1 m tells)
-    stop_complete JournalTooLong status stop is m tells read write out = answered m JournalTooLong status is (stop.0.1 m tells)
-    stop_complete (JournalLine number) status stop is m tells read write out = answered m (JournalLine number) status is (stop.0.1 m tells)
-    stop_complete (Refused file cause) status stop is m tells read write out = answered m (Refused file cause) status is (stop.0.1 m tells)
-    stop_complete (Unread file) status stop is m tells read write out = unread_answer m file status stop.0 is tells read
-    stop_complete Unwritten status stop is m tells read write out = absurd (unwritten_apart write out stop.0)
-    stop_complete WantOfMemory status stop is m tells read write out = inl (omega (arith, is))
+    -- a refusal is the first, and of words without a reading it is a bad command line
+    refused_job : (why : Reason) → Refuses hm hosts words old.files.told why → Tells old.files.told (λ m. Asks m (Stops why))
+    refused_job Usage none = λ m tells. usage_job m none
+    refused_job (Refused file cause) refuses = refuses.1
+    refused_job (Unread file) refuses = absurd refuses
+    refused_job Unwritten refuses = absurd refuses
+    refused_job WantOfMemory refuses = absurd refuses
+    refused_job _ refuses = refuses.1
 
-    -- a job that is refused is answered so, where no file failed
-    pub stop_always : (why : Reason) (status : ℕ) → Stopped why → IsStatus status why
-        → Tells old.files.told (λ m. (Rose old.files.read_faults new.files.read_faults → ⊥)
-        → (first : Reason) → Asks m (Stops first) → (status ≡ status_of first) ⊎ (status ≡ 5))
-    stop_always why status stop is m tells read first refused = by_reason why stop is
-      where
-        answer : (status ≡ 5) ⊎ Answered m status → (status ≡ status_of first) ⊎ (status ≡ 5)
-        answer (inl five) = inr five
-        answer (inr of) = inl (decided m status first of refused)
+    usage_alone : (why : Reason) → Refuses hm hosts words old.files.told why → line_of words ≡ None → status_of why ≡ 2
+    usage_alone (Refused file cause) refuses none = absurd (subst (IsUnitFile file) none refuses.0)
+    usage_alone (Unread file) refuses none = absurd refuses
+    usage_alone Unwritten refuses none = absurd refuses
+    usage_alone WantOfMemory refuses none = absurd refuses
+    usage_alone _ refuses none = refl
 
-        by_reason : (why : Reason) → Stopped why → IsStatus status why → (status ≡ status_of first) ⊎ (status ≡ 5)
-        by_reason Unwritten stop is = absurd (begun_apart m old new first (stop.2 m tells) refused)
-        by_reason WantOfMemory stop is = inr (omega (arith, is))
-        by_reason Usage stop is = answer (answered m Usage status is (usage_job m stop.0))
-        by_reason CallsTooLong stop is = answer (answered m CallsTooLong status is (stop.0.1 m tells))
-        by_reason (CallsLine number) stop is = answer (answered m (CallsLine number) status is (stop.0.1 m tells))
-        by_reason JournalTooLong stop is = answer (answered m JournalTooLong status is (stop.0.1 m tells))
-        by_reason (JournalLine number) stop is = answer (answered m (JournalLine number) status is (stop.0.1 m tells))
-        by_reason (Refused file cause) stop is = answer (answered m (Refused file cause) status is (stop.0.1 m tells))
-        by_reason (Unread file) stop is = answer (unread_answer m file status stop.0 is tells read)
+    -- what a reason says of the work: a refusal, a file that is not read or not written, or want of memory
+    data IsStopped (why : Reason) : Type 0 where
+      Is_refused : (status_of why ≡ 2) ⊎ (status_of why ≡ 6) → Refuses hm hosts words old.files.told why → IsUntouched old new
+          → IsStopped why
+      Not_read : (file : Name) → why ≡ Unread file → IsUnread hm hosts words old new file → IsUntouched old new → IsStopped why
+      Not_written : why ≡ Unwritten → IsUnwritten words old new → HasReading words
+          → Tells old.files.told (λ m. Begun hm hosts words m old new) → IsStopped why
+      Wants_memory : why ≡ WantOfMemory → Tells old.files.told (λ m. BegunIfAny hm hosts words m old new) → IsStopped why
 
-    pub stop_refused : (why : Reason) (status : ℕ) → Stopped why → IsStatus status why → (status ≡ 2) ⊎ (status ≡ 6)
-        → (status_of why ≡ status) × Refuses hm hosts words old.files.told why
-    stop_refused Usage status stop is came = (omega (arith, is, came), stop.0)
-    stop_refused CallsTooLong status stop is came = (omega (arith, is, came), stop.0)
-    stop_refused (CallsLine number) status stop is came = (omega (arith, is, came), stop.0)
-    stop_refused JournalTooLong status stop is came = (omega (arith, is, came), stop.0)
-    stop_refused (JournalLine number) status stop is came = (omega (arith, is, came), stop.0)
-    stop_refused (Refused file cause) status stop is came = (omega (arith, is, came), stop.0)
-    stop_refused (Unread file) status stop is came = absurd (omega (arith, is, came))
-    stop_refused Unwritten status stop is came = absurd (omega (arith, is, came))
-    stop_refused WantOfMemory status stop is came = absurd (omega (arith, is, came))
+    by_reason : (why : Reason) → Stopped why → IsStopped why
+    by_reason (Unread file) stop = Not_read file refl stop.0 stop.1
+    by_reason Unwritten stop = Not_written refl stop.0 stop.1 stop.2
+    by_reason WantOfMemory stop = Wants_memory refl stop
+    by_reason (Refused file cause) stop = Is_refused (inr refl) stop.0 stop.1
+    by_reason _ stop = Is_refused (inl refl) stop.0 stop.1
 
-    -- and the line says so
-    pub refused_line : (Says : Reason → Type 0) (why : Reason) (status : ℕ) → Stopped why → IsStatus status why
-        → Says why ⊎ (status ≡ 5) → (status ≡ 2) ⊎ (status ≡ 6)
-        → (first : Reason) × (status_of first ≡ status) × Refuses hm hosts words old.files.told first × Says first
-    refused_line Says why status stop is says came =
-        let found = stop_refused why status stop is came in
-        (why, found.0, found.1, said says)
-      where
-        said : Says why ⊎ (status ≡ 5) → Says why
-        said (inl line) = line
-        said (inr five) = absurd (omega (arith, five, came))
+    module _ (why : Reason) (status : ℕ) (stop : Stopped why) (is : IsStatus status why) where
+      -- the status of another reason, which it is
+      status_as : (other : Reason) → why ≡ other → IsStatus status other
+      status_as other same = subst (IsStatus status) same is
 
-    pub stop_usage : (why : Reason) (status : ℕ) → Stopped why → IsStatus status why → line_of words ≡ None → (status ≡ 2) ⊎ (status ≡ 5)
-    stop_usage Usage status stop is none = is
-    stop_usage CallsTooLong status stop is none = absurd (stop.0.0 none)
-    stop_usage (CallsLine number) status stop is none = absurd (stop.0.0 none)
-    stop_usage JournalTooLong status stop is none = absurd (stop.0.0 none)
-    stop_usage (JournalLine number) status stop is none = absurd (stop.0.0 none)
-    stop_usage (Refused file cause) status stop is none = absurd (subst (IsUnitFile file) none stop.0.0)
-    stop_usage (Unread file) status stop is none = absurd (subst (IsToRead file) none stop.0.to_read)
-    stop_usage Unwritten status stop is none = absurd (stop.1 none)
-    stop_usage WantOfMemory status stop is none = inr (omega (arith, is))
+      wanting : why ≡ WantOfMemory → status ≡ 5
+      wanting same = let five = status_as WantOfMemory same in omega (arith, five)
 
-    -- a file is not read, and the line says so
-    stop_unread : (why : Reason) (status : ℕ) → Stopped why → IsStatus status why → status ≡ 3
-        → (file : Name) × (why ≡ Unread file) × IsUnread hm hosts words old new file
-    stop_unread Usage status stop is came = absurd (omega (arith, is, came))
-    stop_unread CallsTooLong status stop is came = absurd (omega (arith, is, came))
-    stop_unread (CallsLine number) status stop is came = absurd (omega (arith, is, came))
-    stop_unread JournalTooLong status stop is came = absurd (omega (arith, is, came))
-    stop_unread (JournalLine number) status stop is came = absurd (omega (arith, is, came))
-    stop_unread (Refused file cause) status stop is came = absurd (omega (arith, is, came))
-    stop_unread (Unread file) status stop is came = (file, refl, stop.0)
-    stop_unread Unwritten status stop is came = absurd (omega (arith, is, came))
-    stop_unread WantOfMemory status stop is came = absurd (omega (arith, is, came))
+      pub stop_complete : Tells old.files.told (λ m. (Rose old.files.read_faults new.files.read_faults → ⊥)
+          → (Rose old.files.write_faults new.files.write_faults → ⊥) → (Rose old.out.faults new.out.faults → ⊥)
+          → (status ≡ 5) ⊎ Answered m status)
+      stop_complete m tells read write out = go (by_reason why stop)
+        where
+          go : IsStopped why → (status ≡ 5) ⊎ Answered m status
+          go (Is_refused of refuses same) = answered m why status is (refused_job why refuses m tells)
+          go (Not_read file reason unread same) = unread_answer m file status unread (status_as (Unread file) reason) tells read
+          go (Not_written reason unwritten has begun) = absurd (unwritten_apart write out unwritten)
+          go (Wants_memory reason begun) = inl (wanting reason)
 
-    pub read_fault : (Says : Reason → Type 0) (why : Reason) (status : ℕ) → Stopped why → IsStatus status why
-        → Says why ⊎ (status ≡ 5) → status ≡ 3 → (file : Name) × IsUnread hm hosts words old new file × Says (Unread file)
-    read_fault Says why status stop is says came =
-        let found = stop_unread why status stop is came in
-        (found.0, found.2, subst Says found.1 (said says))
-      where
-        said : Says why ⊎ (status ≡ 5) → Says why
-        said (inl line) = line
-        said (inr five) = absurd (omega (arith, five, came))
+      -- a job that is refused is answered so, where no file failed
+      pub stop_always : Tells old.files.told (λ m. (Rose old.files.read_faults new.files.read_faults → ⊥)
+          → (first : Reason) → Asks m (Stops first) → (status ≡ status_of first) ⊎ (status ≡ 5))
+      stop_always m tells read first refused = go (by_reason why stop)
+        where
+          answer : (status ≡ 5) ⊎ Answered m status → (status ≡ status_of first) ⊎ (status ≡ 5)
+          answer (inl five) = inr five
+          answer (inr of) = inl (decided m status first of refused)
 
-    stop_unwritten : (why : Reason) (status : ℕ) → Stopped why → IsStatus status why → status ≡ 4
-        → (why ≡ Unwritten) × IsUnwritten words old new × Tells old.files.told (λ m. Begun hm hosts words m old new)
-    stop_unwritten Usage status stop is came = absurd (omega (arith, is, came))
-    stop_unwritten CallsTooLong status stop is came = absurd (omega (arith, is, came))
-    stop_unwritten (CallsLine number) status stop is came = absurd (omega (arith, is, came))
-    stop_unwritten JournalTooLong status stop is came = absurd (omega (arith, is, came))
-    stop_unwritten (JournalLine number) status stop is came = absurd (omega (arith, is, came))
-    stop_unwritten (Refused file cause) status stop is came = absurd (omega (arith, is, came))
-    stop_unwritten (Unread file) status stop is came = absurd (omega (arith, is, came))
-    stop_unwritten Unwritten status stop is came = (refl, stop.0, stop.2)
-    stop_unwritten WantOfMemory status stop is came = absurd (omega (arith, is, came))
+          go : IsStopped why → (status ≡ status_of first) ⊎ (status ≡ 5)
+          go (Is_refused of refuses same) = answer (answered m why status is (refused_job why refuses m tells))
+          go (Not_read file reason unread same) = answer (unread_answer m file status unread (status_as (Unread file) reason) tells read)
+          go (Not_written reason unwritten has begun) = absurd (begun_apart m old new first (begun m tells) refused)
+          go (Wants_memory reason begun) = inr (wanting reason)
 
-    pub write_fault : (Says : Reason → Type 0) (why : Reason) (status : ℕ) → Stopped why → IsStatus status why
-        → Says why ⊎ (status ≡ 5) → status ≡ 4
-        → IsUnwritten words old new × Tells old.files.told (λ m. Begun hm hosts words m old new) × Says Unwritten
-    write_fault Says why status stop is says came =
-        let found = stop_unwritten why status stop is came in
-        (found.1, found.2, subst Says found.0 (said says))
-      where
-        said : Says why ⊎ (status ≡ 5) → Says why
-        said (inl line) = line
-        said (inr five) = absurd (omega (arith, five, came))
+      stop_refused : (status ≡ 2) ⊎ (status ≡ 6) → (status_of why ≡ status) × Refuses hm hosts words old.files.told why
+      stop_refused came = go (by_reason why stop)
+        where
+          go : IsStopped why → (status_of why ≡ status) × Refuses hm hosts words old.files.told why
+          go (Is_refused of refuses same) = (omega (arith, is, of, came), refuses)
+          go (Not_read file reason unread same) = absurd (let so = status_as (Unread file) reason in omega (arith, so, came))
+          go (Not_written reason unwritten has begun) = absurd (let so = status_as Unwritten reason in omega (arith, so, came))
+          go (Wants_memory reason begun) = absurd (let five = wanting reason in omega (arith, five, came))
 
-    pub stop_untouched : (why : Reason) (status : ℕ) → Stopped why → IsStatus status why → (status ≡ 2) ⊎ (status ≡ 3) ⊎ (status ≡ 6)
-        → IsUntouched old new
-    stop_untouched Usage status stop is came = stop.1
-    stop_untouched CallsTooLong status stop is came = stop.1
-    stop_untouched (CallsLine number) status stop is came = stop.1
-    stop_untouched JournalTooLong status stop is came = stop.1
-    stop_untouched (JournalLine number) status stop is came = stop.1
-    stop_untouched (Refused file cause) status stop is came = stop.1
-    stop_untouched (Unread file) status stop is came = stop.1
-    stop_untouched Unwritten status stop is came = absurd (omega (arith, is, came))
-    stop_untouched WantOfMemory status stop is came = absurd (omega (arith, is, came))
+      -- and the line says so
+      pub refused_line : (Says : Reason → Type 0) → Says why ⊎ (status ≡ 5) → (status ≡ 2) ⊎ (status ≡ 6)
+          → (first : Reason) × (status_of first ≡ status) × Refuses hm hosts words old.files.told first × Says first
+      refused_line Says says came =
+          let found = stop_refused came in
+          (why, found.0, found.1, said says)
+        where
+          said : Says why ⊎ (status ≡ 5) → Says why
+          said (inl line) = line
+          said (inr five) = absurd (omega (arith, five, came))
+
+      pub stop_usage : line_of words ≡ None → (status ≡ 2) ⊎ (status ≡ 5)
+      stop_usage none = go (by_reason why stop)
+        where
+          go : IsStopped why → (status ≡ 2) ⊎ (status ≡ 5)
+          go (Is_refused of refuses same) = subst (λ n. (status ≡ n) ⊎ (status ≡ 5)) (usage_alone why refuses none) is
+          go (Not_read file reason unread same) = absurd (subst (IsToRead file) none unread.to_read)
+          go (Not_written reason unwritten has begun) = absurd (has none)
+          go (Wants_memory reason begun) = inr (wanting reason)
+
+      -- a file is not read, and the line says so
+      stop_unread : status ≡ 3 → (file : Name) × (why ≡ Unread file) × IsUnread hm hosts words old new file
+      stop_unread came = go (by_reason why stop)
+        where
+          go : IsStopped why → (file : Name) × (why ≡ Unread file) × IsUnread hm hosts words old new file
+          go (Is_refused of refuses same) = absurd (omega (arith, is, of, came))
+          go (Not_read file reason unread same) = (file, reason, unread)
+          go (Not_written reason unwritten has begun) = absurd (let so = status_as Unwritten reason in omega (arith, so, came))
+          go (Wants_memory reason begun) = absurd (let five = wanting reason in omega (arith, five, came))
+
+      pub read_fault : (Says : Reason → Type 0) → Says why ⊎ (status ≡ 5) → status ≡ 3
+          → (file : Name) × IsUnread hm hosts words old new file × Says (Unread file)
+      read_fault Says says came =
+          let found = stop_unread came in
+          (found.0, found.2, subst Says found.1 (said says))
+        where
+          said : Says why ⊎ (status ≡ 5) → Says why
+          said (inl line) = line
+          said (inr five) = absurd (omega (arith, five, came))
+
+      stop_unwritten : status ≡ 4
+          → (why ≡ Unwritten) × IsUnwritten words old new × Tells old.files.told (λ m. Begun hm hosts words m old new)
+      stop_unwritten came = go (by_reason why stop)
+        where
+          go : IsStopped why → (why ≡ Unwritten) × IsUnwritten words old new × Tells old.files.told (λ m. Begun hm hosts words m old new)
+          go (Is_refused of refuses same) = absurd (omega (arith, is, of, came))
+          go (Not_read file reason unread same) = absurd (let so = status_as (Unread file) reason in omega (arith, so, came))
+          go (Not_written reason unwritten has begun) = (reason, unwritten, begun)
+          go (Wants_memory reason begun) = absurd (let five = wanting reason in omega (arith, five, came))
+
+      pub write_fault : (Says : Reason → Type 0) → Says why ⊎ (status ≡ 5) → status ≡ 4
+          → IsUnwritten words old new × Tells old.files.told (λ m. Begun hm hosts words m old new) × Says Unwritten
+      write_fault Says says came =
+          let found = stop_unwritten came in
+          (found.1, found.2, subst Says found.0 (said says))
+        where
+          said : Says why ⊎ (status ≡ 5) → Says why
+          said (inl line) = line
+          said (inr five) = absurd (omega (arith, five, came))
+
+      pub stop_untouched : (status ≡ 2) ⊎ (status ≡ 3) ⊎ (status ≡ 6) → IsUntouched old new
+      stop_untouched came = go (by_reason why stop)
+        where
+          go : IsStopped why → IsUntouched old new
+          go (Is_refused of refuses same) = same
+          go (Not_read file reason unread same) = same
+          go (Not_written reason unwritten has begun) = absurd (let so = status_as Unwritten reason in omega (arith, so, came))
+          go (Wants_memory reason begun) = absurd (let five = wanting reason in omega (arith, five, came))
 
     pub stop_part : (why : Reason) → Stopped why → Tells old.files.told (λ m. BegunIfAny hm hosts words m old new)
-    stop_part Usage stop m tells = inl stop.1
-    stop_part CallsTooLong stop m tells = inl stop.1
-    stop_part (CallsLine number) stop m tells = inl stop.1
-    stop_part JournalTooLong stop m tells = inl stop.1
-    stop_part (JournalLine number) stop m tells = inl stop.1
-    stop_part (Refused file cause) stop m tells = inl stop.1
-    stop_part (Unread file) stop m tells = inl stop.1
-    stop_part Unwritten stop m tells = inr (stop.2 m tells)
-    stop_part WantOfMemory stop m tells = stop m tells
+    stop_part why stop m tells = go (by_reason why stop)
+      where
+        go : IsStopped why → BegunIfAny hm hosts words m old new
+        go (Is_refused of refuses same) = inl same
+        go (Not_read file reason unread same) = inl same
+        go (Not_written reason unwritten has begun) = inr (begun m tells)
+        go (Wants_memory reason begun) = begun m tells

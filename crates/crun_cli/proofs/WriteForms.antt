@@ -10,18 +10,7 @@ use Rattle.c_hosts.specs.declared.host.HostModule.{Ghosts as HostModule}
 use Rattle.c_hosts.specs.Asking.{hosts_of}
 use Rattle.crun_words.specs.CommandLine.{Line, MergeLine, TrimLine, line_of, merges, trims}
 use Rattle.crun_job.specs.Job.{Job, Stops, Write}
-use Rattle.crun_job.specs.Lines.{
-  Reason,
-  Usage,
-  CallsTooLong,
-  CallsLine,
-  JournalTooLong,
-  JournalLine,
-  Refused,
-  Unread,
-  Unwritten,
-  WantOfMemory,
-}
+use Rattle.crun_job.specs.Lines.{Reason, Usage, Refused, Unread, Unwritten, WantOfMemory}
 use Rattle.crun_units.specs.Jobs.{IsMergeJob, IsTrimJob}
 use Rattle.crun_units.specs.Files.{AreUntouched, FilesSeen}
 use Rattle.crun_units.specs.Stopping.{IsUnitPart, StopsWrite}
@@ -100,11 +89,7 @@ module _ {H : Type 0} (hm : HostModule H) (hosts : List H) (words : List Name) (
       by : (m : Contents) → AreUntouched start new ⊎ IsUnitPart Asks output m start new → BegunIfAny hm hosts words m Old New
       by m (inl same) = inl (untouched same)
       by m (inr begun) = inr (inr (part m begun))
-  unit_stop Usage stop = absurd stop
-  unit_stop CallsTooLong stop = absurd stop
-  unit_stop (CallsLine number) stop = absurd stop
-  unit_stop JournalTooLong stop = absurd stop
-  unit_stop (JournalLine number) stop = absurd stop
+  unit_stop _ stop = absurd stop
 
 module _ {H : Type 0} (hm : HostModule H) (hosts : List H) (words : List Name) (out : SinkSeen) (start new : FilesSeen) where
   module _ (line : MergeLine) (is : line_of words ≡ Some (merges line)) where

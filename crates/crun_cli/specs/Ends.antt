@@ -24,19 +24,7 @@ use Rattle.host_replay.specs.Texts.{journal_text, Recorded}
 use Rattle.crun_words.specs.CommandLine.{RunLine, line_of, runs}
 use Rattle.crun_words.specs.Inputs.{IsJournalReading, JournalReading}
 use Rattle.crun_job.specs.Job.{Job, Run, Stops, Write}
-use Rattle.crun_job.specs.Lines.{
-  Reason,
-  Usage,
-  CallsTooLong,
-  CallsLine,
-  JournalTooLong,
-  JournalLine,
-  Refused,
-  Unread,
-  Unwritten,
-  WantOfMemory,
-  status_of,
-}
+use Rattle.crun_job.specs.Lines.{Reason, Usage, Refused, Unread, Unwritten, WantOfMemory, status_of}
 use Rattle.crun_cli.specs.Files.{HasReading, IsToRead, IsToWrite, IsUnitFile}
 use Rattle.crun_cli.specs.Jobs.{IsJob, IsJournalBy}
 use Rattle.crun_cli.specs.Outside.{IsUntouched, Outside}
@@ -172,17 +160,14 @@ pub data IsAnswered {H : Type 0} (m : HostModule H) (hosts : List H) (words : Li
 abbrev pub IsFirst : {H : Type 0} → HostModule H → List H → List Name → Told → Reason → Type 0
 IsFirst m hosts words told why = Tells told (λ contents. IsJobWith m hosts words contents (Stops why))
 
--- why the words, a unit, the calls file or the journal are refused
+-- why the words or a unit are refused, or else the calls file, the journal, or a line of either
 abbrev pub Refuses : {H : Type 0} → HostModule H → List H → List Name → Told → Reason → Type 0
 Refuses m hosts words told Usage = line_of words ≡ None
 Refuses m hosts words told (Refused file why) = IsUnitFile file (line_of words) × IsFirst m hosts words told (Refused file why)
-Refuses m hosts words told CallsTooLong = HasReading words × IsFirst m hosts words told CallsTooLong
-Refuses m hosts words told (CallsLine number) = HasReading words × IsFirst m hosts words told (CallsLine number)
-Refuses m hosts words told JournalTooLong = HasReading words × IsFirst m hosts words told JournalTooLong
-Refuses m hosts words told (JournalLine number) = HasReading words × IsFirst m hosts words told (JournalLine number)
 Refuses m hosts words told (Unread file) = ⊥
 Refuses m hosts words told Unwritten = ⊥
 Refuses m hosts words told WantOfMemory = ⊥
+Refuses m hosts words told why = HasReading words × IsFirst m hosts words told why
 
 -- a file is not read: one that the words say is to be read
 pub record IsUnread {H : Type 0} (m : HostModule H) (hosts : List H) (words : List Name) (old new : Outside) (file : Name) : Type 0 where

@@ -14,6 +14,5 @@ pub mod Example
 pub mod Views
 pub mod Playing
 pub mod Recording
-pub mod Showing
 pub mod Stopping
 pub mod Trying

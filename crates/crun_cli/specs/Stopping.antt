@@ -11,18 +11,7 @@ use Rattle.host_replay.specs.Reading.{IsRefusedAt}
 use Rattle.crun_words.specs.CommandLine.{RunLine}
 use Rattle.crun_words.specs.Inputs.{IsJournalReading, Held, LongJournal, NoJournal}
 use Rattle.crun_job.specs.Job.{IsTextsJob, Run}
-use Rattle.crun_job.specs.Lines.{
-  Reason,
-  Usage,
-  CallsTooLong,
-  CallsLine,
-  JournalTooLong,
-  JournalLine,
-  Refused,
-  Unread,
-  Unwritten,
-  WantOfMemory,
-}
+use Rattle.crun_job.specs.Lines.{Reason, CallsLine, JournalTooLong, JournalLine, Refused, Unread, Unwritten, WantOfMemory}
 use Rattle.crun_job.specs.Stopping.{StopsTexts}
 use Rattle.crun_units.specs.Files.{FilesSeen}
 use Rattle.crun_cli.specs.Ends.{Begun, BegunIfAny, HasPlayedPart, IsUnread, IsUnwritten, Refuses}
@@ -55,11 +44,7 @@ StopsRun m hosts line texts text old new (CallsLine number) =
     StopsTexts line (symbols_of (hosts_of m hosts)) texts text (CallsLine number) × IsUntouched old new
 StopsRun m hosts line texts text old new Unwritten = IsRunUnwritten line old new × IsTextsPart m hosts line texts text old new
 StopsRun m hosts line texts text old new WantOfMemory = IsUntouched old new ⊎ IsTextsPart m hosts line texts text old new
-StopsRun m hosts line texts text old new Usage = ⊥
-StopsRun m hosts line texts text old new CallsTooLong = ⊥
-StopsRun m hosts line texts text old new JournalTooLong = ⊥
-StopsRun m hosts line texts text old new (JournalLine number) = ⊥
-StopsRun m hosts line texts text old new (Unread file) = ⊥
+StopsRun m hosts line texts text old new _ = ⊥
 
 -- ---- the journal that is replayed, by its file's name
 
@@ -70,11 +55,7 @@ StopsReplay name old new JournalTooLong = Tells old.told (λ contents. IsJournal
 StopsReplay name old new (JournalLine number) =
     Tells old.told (λ contents. (text : List ℕ) × IsJournalReading contents name (Held text) × IsRefusedAt text number)
 StopsReplay name old new WantOfMemory = Unit {0}
-StopsReplay name old new Usage = ⊥
-StopsReplay name old new CallsTooLong = ⊥
-StopsReplay name old new (CallsLine number) = ⊥
-StopsReplay name old new (Refused file why) = ⊥
-StopsReplay name old new Unwritten = ⊥
+StopsReplay name old new _ = ⊥
 
 -- ---- what words ask for
 
@@ -83,9 +64,4 @@ StopsWork m hosts words old new Unwritten = IsUnwritten words old new × HasRead
     × Tells old.files.told (λ contents. Begun m hosts words contents old new)
 StopsWork m hosts words old new WantOfMemory = Tells old.files.told (λ contents. BegunIfAny m hosts words contents old new)
 StopsWork m hosts words old new (Unread file) = IsUnread m hosts words old new file × IsUntouched old new
-StopsWork m hosts words old new Usage = Refuses m hosts words old.files.told Usage × IsUntouched old new
-StopsWork m hosts words old new (Refused file why) = Refuses m hosts words old.files.told (Refused file why) × IsUntouched old new
-StopsWork m hosts words old new CallsTooLong = Refuses m hosts words old.files.told CallsTooLong × IsUntouched old new
-StopsWork m hosts words old new (CallsLine number) = Refuses m hosts words old.files.told (CallsLine number) × IsUntouched old new
-StopsWork m hosts words old new JournalTooLong = Refuses m hosts words old.files.told JournalTooLong × IsUntouched old new
-StopsWork m hosts words old new (JournalLine number) = Refuses m hosts words old.files.told (JournalLine number) × IsUntouched old new
+StopsWork m hosts words old new why = Refuses m hosts words old.files.told why × IsUntouched old new

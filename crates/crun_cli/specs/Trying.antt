@@ -18,18 +18,7 @@ use Rattle.crun_words.specs.Inputs.{most_journal_bytes, Held, LongJournal, NoJou
 use Rattle.crun_words.specs.Passing.{GivesJournal, ReadsFile}
 use Rattle.crun_job.specs.declared.stop.Stop.{Stop}
 use Rattle.crun_job.specs.Job.{IsTextsJob, Job, Run, Stops, Write}
-use Rattle.crun_job.specs.Lines.{
-  Reason,
-  Usage,
-  CallsTooLong,
-  CallsLine,
-  JournalTooLong,
-  JournalLine,
-  Refused,
-  Unread,
-  Unwritten,
-  WantOfMemory,
-}
+use Rattle.crun_job.specs.Lines.{Reason, JournalTooLong, JournalLine, Unread, WantOfMemory}
 use Rattle.crun_cli.specs.Jobs.{symbols_of, IsJournalBy}
 use Rattle.crun_cli.specs.Passing.{StopsQuietly, WritesRun}
 
@@ -50,11 +39,7 @@ TriesReplay name (Unread file) events = (file ≡ name) × GivesJournal name NoJ
 TriesReplay name JournalTooLong events = GivesJournal name LongJournal events
 TriesReplay name (JournalLine number) events = (text : List ℕ) × GivesJournal name (Held text) events × IsRefusedAt text number
 TriesReplay name WantOfMemory events = ReadsFile most_journal_bytes name events
-TriesReplay name Usage events = ⊥
-TriesReplay name CallsTooLong events = ⊥
-TriesReplay name (CallsLine number) events = ⊥
-TriesReplay name (Refused file why) events = ⊥
-TriesReplay name Unwritten events = ⊥
+TriesReplay name _ events = ⊥
 
 -- ---- the journal of a run
 

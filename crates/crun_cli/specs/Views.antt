@@ -1,7 +1,7 @@
 -- Outcomes of a session as lines tell them.
-use Rattle.std.specs.Prelude.{ℕ, List, [], ◌++◌, flat_map, slice_get, Option, Some, None}
+use Rattle.std.specs.Prelude.{ℕ, List, [], ◌++◌, flat_map, Option, Some, None}
 use Rattle.w2c_base.specs.declared.value.Value.{Value}
-use Rattle.w2c_base.specs.Run.{Host, HostFunction, Phase, Init, Call}
+use Rattle.w2c_base.specs.Run.{Host, Phase, Init, Call}
 use Rattle.c_meaning.specs.State.{Trapped, Undefined}
 use Rattle.c_meaning.specs.Run.{OutOfSteps, Stopped}
 use Rattle.c_hosts.specs.declared.journal.Asked.{Asked}
@@ -41,7 +41,3 @@ status_of_outcome (outcome.Ended value) = None
 status_of_outcome (outcome.Trapped kind) = Some 1
 status_of_outcome (outcome.Undefined u) = Some 8
 status_of_outcome outcome.OutOfSteps = Some 7
-
--- the name of the function with a number; a number past the end stands for the name of no letters
-abbrev pub name_among : List HostFunction → ℕ → List ℕ
-name_among functions f = elim (slice_get functions f) [ None ↦ [] | Some function ↦ function.name ]

@@ -4,15 +4,12 @@
 mod cases;
 mod example;
 mod law;
-mod names;
-mod naming;
 mod offering;
 mod play;
 mod recording;
 mod replaying;
 mod running;
 mod show;
-mod show_objects;
 mod telling;
 #[cfg(test)]
 mod tests;

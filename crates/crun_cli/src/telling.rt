@@ -7,10 +7,10 @@ ghost use Rattle.crun_lines.specs.Views.{phase_of, reply_of as reply_in_line, Is
 ghost use Rattle.crun_cli.specs.Views.{asked_line, asks_lines, end_line, lines_behind, outcome_line, status_of_outcome};
 ghost use Rattle.program_words.specs.Writing.{Writes};
 
-use crate::naming::{function_name, host_name};
 use c_hosts::{Asked, HostModule, HostReply};
 use crun::{Outcome, Session, UndefinedAt as Undefined};
 use crun_lines::{Phase, Reply, Stop, UndefinedAt, ended_line, host_line, last_line};
+use crun_state::{function_name, host_name};
 use program_words::put_line;
 use std::alloc::Global;
 use w2c_base::Value;
@@ -62,21 +62,22 @@ fn tell_journal<H: HostModule, O: Sink>(
     ensures { Writes (O.told out.old) (O.told out.new) (O.faults out.old) (O.faults out.new)
         (asks_lines (hosts_of H.HostModule session.now.hosts) (drop from session.now.journal)) result }
 {
+    let (hosts, _) = session.hosts_and_objects();
     let asks = session.journal().as_slice();
-    tell_asks(alloc, session, &asks[from..], out)
+    tell_asks(alloc, hosts, &asks[from..], out)
 }
 
 fn tell_asks<H: HostModule, O: Sink>(
     alloc: Global,
-    session: &Session<H>,
+    hosts: &[H],
     asks: &[Asked],
     out: &mut O,
 ) -> Result<(), WriteAnswer>
     ensures { Writes (O.told out.old) (O.told out.new) (O.faults out.old) (O.faults out.new)
-        (asks_lines (hosts_of H.HostModule session.now.hosts) asks.now) result }
+        (asks_lines (hosts_of H.HostModule hosts.now) asks.now) result }
 {
     for ask in asks {
-        match tell_ask(alloc, session, ask, out) {
+        match tell_ask(alloc, hosts, ask, out) {
             Ok(()) => {}
             Err(answer) => return Err(answer),
         }
@@ -86,15 +87,15 @@ fn tell_asks<H: HostModule, O: Sink>(
 
 fn tell_ask<H: HostModule, O: Sink>(
     alloc: Global,
-    session: &Session<H>,
+    hosts: &[H],
     ask: &Asked,
     out: &mut O,
 ) -> Result<(), WriteAnswer>
     ensures { Writes (O.told out.old) (O.told out.new) (O.faults out.old) (O.faults out.new)
-        (asked_line (hosts_of H.HostModule session.now.hosts) ask.now) result }
+        (asked_line (hosts_of H.HostModule hosts.now) ask.now) result }
 {
-    let host = host_name(session, ask.host);
-    let function = function_name(session, ask.host, ask.function);
+    let host = host_name(hosts, ask.host);
+    let function = function_name(hosts, ask.host, ask.function);
     let line = host_line(
         alloc,
         host,

@@ -10,8 +10,8 @@ use Rattle.crun_words.specs.CallsFile.{call_lines_of, NumberedLine}
 use Rattle.crun_job.specs.declared.stop.Cause.{Cause}
 use Rattle.crun_job.specs.Links.{AreLinked, IsRefusedUnit, Symbols}
 use Rattle.crun_job.specs.Calls.{AreCalls, IsFirstRefusedLine, IsRefusedLine, NamesFrom}
-use Rattle.crun_job.specs.Lines.{Usage, CallsTooLong, CallsLine, JournalTooLong, JournalLine, Refused, Unread, Unwritten, WantOfMemory}
-use Rattle.crun_job.specs.Job.{IsTextsJob, Job, Run, Stops, Write}
+use Rattle.crun_job.specs.Lines.{CallsLine, Refused}
+use Rattle.crun_job.specs.Job.{IsTextsJob, Job, Run, Stops}
 use Rattle.crun_job.proofs.Each.{first_apart, one_each, one_first}
 use Rattle.crun_job.proofs.Calls.{one_named}
 use Rattle.crun_job.proofs.UnitLaws.{linked_apart, one_refused_unit, one_units}
@@ -52,14 +52,7 @@ module _ (line : RunLine) (symbols : Symbols) (texts : List (List ℕ)) (text : 
       All_named units calls linked are (λ i. Run units calls (is_steps i) (is_shown i))
   seen (Stops (Refused file why)) (number, named, refused) = Unit_refused number file why named refused refl
   seen (Stops (CallsLine number)) (units, linked, first) = Line_refused units number linked first refl
-  seen (Stops Usage) is = absurd is
-  seen (Stops CallsTooLong) is = absurd is
-  seen (Stops JournalTooLong) is = absurd is
-  seen (Stops (JournalLine number)) is = absurd is
-  seen (Stops (Unread file)) is = absurd is
-  seen (Stops Unwritten) is = absurd is
-  seen (Stops WantOfMemory) is = absurd is
-  seen (Write output unit) is = absurd is
+  seen _ is = absurd is
 
   one_seen : (a b : Job) → IsSeen a → IsSeen b → a ≡ b
   one_seen a b (Unit_refused k file why named refused is) (Unit_refused n other why' named' refused' is') =

@@ -7,7 +7,7 @@ use Rattle.c_meaning.specs.Linking.{SymbolCall}
 use Rattle.crun_words.specs.CommandLine.{RunLine}
 use Rattle.crun_words.specs.CallsFile.{call_lines_of}
 use Rattle.crun_job.specs.Calls.{AreCalls, IsFirstRefusedLine}
-use Rattle.crun_job.specs.Lines.{Reason, Usage, CallsTooLong, CallsLine, JournalTooLong, JournalLine, Refused, Unread, Unwritten, WantOfMemory}
+use Rattle.crun_job.specs.Lines.{Reason, CallsLine, Refused}
 use Rattle.crun_job.specs.Links.{AreLinked, IsRefusedUnit, Symbols}
 
 -- A run of linked units: their items, the calls in order, how many statements are run in all, and whether the state is
@@ -29,11 +29,4 @@ IsTextsJob line symbols texts text (Stops (Refused file why)) =
     (number : ℕ) × (slice_get line.units number ≡ Some file) × IsRefusedUnit texts symbols number why
 IsTextsJob line symbols texts text (Stops (CallsLine number)) =
     BehindLink texts symbols (λ units. IsFirstRefusedLine units (call_lines_of text) number)
-IsTextsJob line symbols texts text (Stops Usage) = ⊥
-IsTextsJob line symbols texts text (Stops CallsTooLong) = ⊥
-IsTextsJob line symbols texts text (Stops JournalTooLong) = ⊥
-IsTextsJob line symbols texts text (Stops (JournalLine number)) = ⊥
-IsTextsJob line symbols texts text (Stops (Unread file)) = ⊥
-IsTextsJob line symbols texts text (Stops Unwritten) = ⊥
-IsTextsJob line symbols texts text (Stops WantOfMemory) = ⊥
-IsTextsJob line symbols texts text (Write output unit) = ⊥
+IsTextsJob line symbols texts text _ = ⊥

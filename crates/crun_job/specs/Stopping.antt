@@ -2,17 +2,12 @@
 use Rattle.std.specs.Prelude.{◌≡◌, ◌⊎◌, ℕ, List, map, slice_get, Some}
 use Rattle.w2c_io.specs.Contents.{Name}
 use Rattle.c_tree.specs.View.{unit_of}
-use Rattle.crun_words.specs.declared.inputs.InputStop.{InputStop}
-use Rattle.crun_words.specs.declared.inputs.InputStop.TheVariants as input
 use Rattle.crun_words.specs.CommandLine.{RunLine}
 use Rattle.crun_job.specs.declared.refusal.UnitsRefusal.{UnitsRefusal}
 use Rattle.crun_job.specs.declared.refusal.UnitsRefusal.TheVariants as refusal
-use Rattle.crun_job.specs.declared.stop.Cause.TheVariants as cause
-use Rattle.crun_job.specs.declared.stop.Stop.{Stop}
-use Rattle.crun_job.specs.declared.stop.Stop.TheVariants as stop
 use Rattle.crun_job.specs.declared.task.Task.{Task}
 use Rattle.crun_job.specs.Job.{IsTextsJob, Job, Run, Stops}
-use Rattle.crun_job.specs.Lines.{Reason, Usage, CallsTooLong, CallsLine, JournalTooLong, JournalLine, Refused, Unread, Unwritten, WantOfMemory}
+use Rattle.crun_job.specs.Lines.{Reason, CallsLine, Refused, WantOfMemory}
 use Rattle.crun_job.specs.Links.{Symbols}
 use Rattle.crun_job.specs.Seen.{calls_seen}
 
@@ -26,22 +21,9 @@ StopsUnit names (refusal.Unit number why) reason =
     (reason ≡ WantOfMemory) ⊎ ((file : Name) × (slice_get names number ≡ Some file) × (reason ≡ Refused file why))
 StopsUnit names refusal.Memory reason = reason ≡ WantOfMemory
 
--- why files are not read, as why the program stops
-abbrev pub stop_for : InputStop → Stop
-stop_for (input.Unread name) = stop.Unread name
-stop_for (input.UnitTooLong name) = stop.Refused name cause.TooLong
-stop_for input.CallsTooLong = stop.CallsTooLong
-stop_for input.JournalTooLong = stop.JournalTooLong
-stop_for input.Memory = stop.Memory
-
 -- why texts come to no task
 abbrev pub StopsTexts : RunLine → Symbols → List (List ℕ) → List ℕ → Reason → Type 0
 StopsTexts line symbols texts text (Refused file why) = IsTextsJob line symbols texts text (Stops (Refused file why))
 StopsTexts line symbols texts text (CallsLine number) = IsTextsJob line symbols texts text (Stops (CallsLine number))
 StopsTexts line symbols texts text WantOfMemory = Unit {0}
-StopsTexts line symbols texts text Usage = ⊥
-StopsTexts line symbols texts text CallsTooLong = ⊥
-StopsTexts line symbols texts text JournalTooLong = ⊥
-StopsTexts line symbols texts text (JournalLine number) = ⊥
-StopsTexts line symbols texts text (Unread file) = ⊥
-StopsTexts line symbols texts text Unwritten = ⊥
+StopsTexts line symbols texts text _ = ⊥

@@ -7,7 +7,6 @@ mod checking;
 mod law;
 mod line;
 mod linking;
-mod reading;
 mod refusal;
 mod stop;
 mod task;
@@ -20,7 +19,6 @@ pub use law::{
 };
 pub use line::report;
 pub use linking::link_units;
-pub use reading::stop_of;
 pub use refusal::{CallsRefusal, UnitsRefusal};
-pub use stop::{Cause, Stop};
+pub use stop::{Cause, Stop, stop_of};
 pub use task::{Task, stop_at};

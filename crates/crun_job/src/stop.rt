@@ -1,8 +1,10 @@
 // Why the program stops before it has run.
 ghost use Rattle.std.specs.Prelude.{◌≡◌};
 ghost use Rattle.crun_job.specs.declared.stop.Stop.TheVariants.{Memory as WantOfMemory};
+ghost use Rattle.crun_job.specs.Seen.{stop_for};
 
 use c_tree::Wanted;
+use crun_words::InputStop;
 use w2c_base::{Bytes, Memory};
 
 /// Why a unit is refused. Places are byte offsets from 0.
@@ -51,5 +53,18 @@ impl<E: Into<Memory> + Drop> From<E> for Stop {
 
     fn from(_: E) -> Self {
         Stop::Memory
+    }
+}
+
+/// Why the program stops where a file is not read.
+pub fn stop_of(stop: InputStop) -> Stop
+    ensures { result ≡ stop_for stop }
+{
+    match stop {
+        InputStop::Unread(name) => Stop::Unread(name),
+        InputStop::UnitTooLong(name) => Stop::Refused(name, Cause::TooLong),
+        InputStop::CallsTooLong => Stop::CallsTooLong,
+        InputStop::JournalTooLong => Stop::JournalTooLong,
+        InputStop::Memory => Stop::Memory,
     }
 }

@@ -6,7 +6,7 @@ ghost use Rattle.c_machine.specs.Names.{entry_in, number_in, texts, Finds};
 ghost use Rattle.crun_startup.specs.Names.{array_name as array_name_of, has_object as declares_object, names_in};
 
 use crate::objects::{first_value, is_of};
-use c_machine::{Numbers, number_all};
+use c_machine::{NumberedNames, Numbers, number_all};
 use c_rules::salt_of;
 use c_tree::{CType, Item};
 use std::alloc::Global;
@@ -21,7 +21,11 @@ pub enum ObjectKind {
 }
 
 /// The objects of a kind, numbered in the order of their declarations.
-pub fn object_numbers(alloc: Global, kind: ObjectKind, items: &[Item]) -> Result<Numbers, Memory>
+pub fn object_numbers(
+    alloc: Global,
+    kind: ObjectKind,
+    items: &[Item],
+) -> Result<NumberedNames, Memory>
     ensures { IfOk result (λ table. Finds table (λ q. number_in q (names_in kind (unit_of items.now)))) }
 {
     let names = object_names(alloc, kind, items)?;

@@ -15,8 +15,8 @@ use Rattle.crun_job.specs.declared.refusal.UnitsRefusal.TheVariants as refusal
 use Rattle.crun_job.specs.declared.stop.Cause.{Cause}
 use Rattle.crun_job.specs.Job.{Job, Run, Stops, Write}
 use Rattle.crun_job.specs.Lines.{Reason, Refused, WantOfMemory}
-use Rattle.crun_job.specs.Seen.{reason_of}
-use Rattle.crun_job.specs.Stopping.{stop_for, StopsUnit}
+use Rattle.crun_job.specs.Seen.{reason_of, stop_for}
+use Rattle.crun_job.specs.Stopping.{StopsUnit}
 use Rattle.crun_units.specs.Passing.{IsUnitsJobOver, PassesBy, PassesUnits, reason_for, WritesOutput, WritesUnit}
 use Rattle.crun_units.specs.Trying.{TriesUnit}
 
@@ -30,9 +30,8 @@ module _ (units : List Name) (IsOf : List (List ℕ) → Job → Type 0) where
       let reading = NoUnit (string_bytes name) in (units_in_order units reading events tried, inr (reading, tried, refl))
   reading_tried (input.UnitTooLong name) events tried =
       let reading = UnitTooLong (string_bytes name) in (units_in_order units reading events tried, inr (reading, tried, refl))
-  reading_tried input.CallsTooLong events tried = absurd tried
-  reading_tried input.JournalTooLong events tried = absurd tried
   reading_tried input.Memory events tried = (tried, inl refl)
+  reading_tried _ events tried = absurd tried
 
   module _ (texts : List (List ℕ)) (events : List Event) (gave : GivesUnits units (UnitsRead texts) events) where
     pub wanting_tried : TriesUnit units IsOf WantOfMemory events

@@ -41,22 +41,11 @@ use Rattle.crun_job.specs.declared.refusal.UnitsRefusal.{UnitsRefusal}
 use Rattle.crun_job.specs.declared.refusal.UnitsRefusal.TheVariants as refusal
 use Rattle.crun_job.specs.declared.stop.Cause.{Cause}
 use Rattle.crun_job.specs.Job.{Job, Stops, Write}
-use Rattle.crun_job.specs.Lines.{
-  Reason,
-  Usage,
-  CallsTooLong,
-  CallsLine,
-  JournalTooLong,
-  JournalLine,
-  Refused,
-  Unread,
-  Unwritten,
-  WantOfMemory,
-}
+use Rattle.crun_job.specs.Lines.{Reason, Refused, Unwritten, WantOfMemory}
 use Rattle.crun_job.specs.Links.{Symbols}
 use Rattle.crun_job.specs.Refusals.{IsWithin, RefusesTexts, RefusesUnits}
-use Rattle.crun_job.specs.Seen.{reason_of}
-use Rattle.crun_job.specs.Stopping.{stop_for, StopsUnit}
+use Rattle.crun_job.specs.Seen.{reason_of, stop_for}
+use Rattle.crun_job.specs.Stopping.{StopsUnit}
 use Rattle.crun_job.specs.Texts.{AreUnitTexts, IsRefusedText, IsUnitText}
 use Rattle.crun_job.proofs.Each.{first_within, many_each}
 use Rattle.crun_units.specs.Jobs.{IsMerged, IsTrimmedText, IsUnitsJob}
@@ -82,9 +71,8 @@ module _ (IsOf : List (List ℕ) → Job → Type 0) (units : List Name) (output
       (one, inr (m, tells, (NoUnit (string_bytes name), missing, refl)), untouched)
   reading_stops (input.UnitTooLong name) (one, long) =
       (one, (λ m tells. (UnitTooLong (string_bytes name), long m tells, refl)), untouched)
-  reading_stops input.CallsTooLong stops = absurd stops
-  reading_stops input.JournalTooLong stops = absurd stops
   reading_stops input.Memory stops = λ m tells. inl untouched
+  reading_stops _ stops = absurd stops
 
   pub wanting_stops : Stopped WantOfMemory
   wanting_stops = λ m tells. inl untouched
@@ -159,13 +147,7 @@ output_stops Asks units output unit old mid new Unwritten asks same faults (faul
 )
 output_stops Asks units output unit old mid new WantOfMemory asks same faults begun =
     λ m tells. inr (unit, asks m tells, subst (λ told. IsBegun told new.told output (print_of unit)) same begun)
-output_stops Asks units output unit old mid new Usage asks same faults stops = absurd stops
-output_stops Asks units output unit old mid new CallsTooLong asks same faults stops = absurd stops
-output_stops Asks units output unit old mid new (CallsLine number) asks same faults stops = absurd stops
-output_stops Asks units output unit old mid new JournalTooLong asks same faults stops = absurd stops
-output_stops Asks units output unit old mid new (JournalLine number) asks same faults stops = absurd stops
-output_stops Asks units output unit old mid new (Refused file cause) asks same faults stops = absurd stops
-output_stops Asks units output unit old mid new (Unread file) asks same faults stops = absurd stops
+output_stops Asks units output unit old mid new _ asks same faults stops = absurd stops
 
 -- no other file changes
 abbrev KeepsOthers : Told → Told → Name → Type 0
@@ -179,13 +161,7 @@ pub stop_keeps : (output : Name) (unit : List tree.Item) (old : Told) (mid new :
     → StopsOutput unit output mid new why → KeepsOthers old new.told output
 stop_keeps output unit old mid new Unwritten same stops = begun_keeps old mid.told new.told output (print_of unit) same stops.1
 stop_keeps output unit old mid new WantOfMemory same stops = begun_keeps old mid.told new.told output (print_of unit) same stops
-stop_keeps output unit old mid new Usage same stops = absurd stops
-stop_keeps output unit old mid new CallsTooLong same stops = absurd stops
-stop_keeps output unit old mid new (CallsLine number) same stops = absurd stops
-stop_keeps output unit old mid new JournalTooLong same stops = absurd stops
-stop_keeps output unit old mid new (JournalLine number) same stops = absurd stops
-stop_keeps output unit old mid new (Refused file cause) same stops = absurd stops
-stop_keeps output unit old mid new (Unread file) same stops = absurd stops
+stop_keeps output unit old mid new _ same stops = absurd stops
 
 -- the whole text is written
 pub wrote : (Asks : Contents → Job → Type 0) (output : Name) (unit : List tree.Item) (old mid new : Told)

@@ -5,18 +5,7 @@ use Rattle.w2c_io.specs.Causes.{Faulted}
 use Rattle.w2c_files.specs.Standing.{IsBegun}
 use Rattle.c_tree.specs.Tree as tree
 use Rattle.c_print.specs.Print.{print_of}
-use Rattle.crun_job.specs.Lines.{
-  Reason,
-  Usage,
-  CallsTooLong,
-  CallsLine,
-  JournalTooLong,
-  JournalLine,
-  Refused,
-  Unread,
-  Unwritten,
-  WantOfMemory,
-}
+use Rattle.crun_job.specs.Lines.{Reason, Unwritten, WantOfMemory}
 use Rattle.crun_units.specs.Files.{FilesSeen}
 
 -- the file is untouched, or holds a part of the unit's text
@@ -27,10 +16,4 @@ abbrev pub StopsOutput : List tree.Item → Name → FilesSeen → FilesSeen →
 StopsOutput unit output old new Unwritten =
     Faulted output old.write_faults new.write_faults new.fault_name × IsOutputPart unit output old new
 StopsOutput unit output old new WantOfMemory = IsOutputPart unit output old new
-StopsOutput unit output old new Usage = ⊥
-StopsOutput unit output old new CallsTooLong = ⊥
-StopsOutput unit output old new (CallsLine number) = ⊥
-StopsOutput unit output old new JournalTooLong = ⊥
-StopsOutput unit output old new (JournalLine number) = ⊥
-StopsOutput unit output old new (Refused file why) = ⊥
-StopsOutput unit output old new (Unread file) = ⊥
+StopsOutput unit output old new _ = ⊥

@@ -7,18 +7,7 @@ use Rattle.w2c_files.specs.Standing.{IsBegun, IsOneOf}
 use Rattle.c_tree.specs.Tree as tree
 use Rattle.c_print.specs.Print.{print_of}
 use Rattle.crun_job.specs.Job.{Job, Stops, Write}
-use Rattle.crun_job.specs.Lines.{
-  Reason,
-  Usage,
-  CallsTooLong,
-  CallsLine,
-  JournalTooLong,
-  JournalLine,
-  Refused,
-  Unread,
-  Unwritten,
-  WantOfMemory,
-}
+use Rattle.crun_job.specs.Lines.{Reason, Refused, Unread, Unwritten, WantOfMemory}
 use Rattle.crun_units.specs.Files.{AreUntouched, FilesSeen}
 
 -- a unit is asked for, and of its text a part is written
@@ -36,8 +25,4 @@ StopsWrite Asks units output old new Unwritten = Faulted output old.write_faults
     × Tells old.told (λ contents. IsUnitPart Asks output contents old new)
 StopsWrite Asks units output old new WantOfMemory =
     Tells old.told (λ contents. AreUntouched old new ⊎ IsUnitPart Asks output contents old new)
-StopsWrite Asks units output old new Usage = ⊥
-StopsWrite Asks units output old new CallsTooLong = ⊥
-StopsWrite Asks units output old new (CallsLine number) = ⊥
-StopsWrite Asks units output old new JournalTooLong = ⊥
-StopsWrite Asks units output old new (JournalLine number) = ⊥
+StopsWrite Asks units output old new _ = ⊥

@@ -110,9 +110,8 @@ stops_at_unit told units calls before after named (stop.Unread name) (one, inl f
 stops_at_unit told units calls before after named (stop.Unread name) (one, inr (contents, is, missing)) =
     (inl one, inr (contents, is, inl missing))
 stops_at_unit told units calls before after named (stop.UnitTooLong name) s = s
-stops_at_unit told units calls before after named stop.CallsTooLong s = absurd s
-stops_at_unit told units calls before after named stop.JournalTooLong s = absurd s
 stops_at_unit told units calls before after named stop.Memory s = tt
+stops_at_unit told units calls before after named _ s = absurd s
 
 pub stops_at_calls : (told : Told) (units : List Name) (calls : Name) (start before after : ℕ) (named : Option Name) (why : InputStop)
     → start ≤ before
@@ -122,11 +121,10 @@ stops_at_calls told units calls start before after named (stop.Unread name) late
     (inr same, inl (record { rose = rose_from start before after later faulted.rose; named = faulted.named }))
 stops_at_calls told units calls start before after named (stop.Unread name) later has (same, inr (contents, is, none)) =
     (inr same, inr (contents, is, inr (same, has contents is, none)))
-stops_at_calls told units calls start before after named (stop.UnitTooLong name) later has s = absurd s
 stops_at_calls told units calls start before after named stop.CallsTooLong later has s =
     λ contents tells. (has contents tells, s contents tells)
-stops_at_calls told units calls start before after named stop.JournalTooLong later has s = absurd s
 stops_at_calls told units calls start before after named stop.Memory later has s = tt
+stops_at_calls told units calls start before after named _ later has s = absurd s
 
 -- ---- one reading at most
 

@@ -208,21 +208,19 @@ pub units_tried : (units : List Name) (calls : Name) (why : InputStop) (events :
     → TriesInputs units calls why events
 units_tried units calls (stop.Unread name) events tried = inl tried
 units_tried units calls (stop.UnitTooLong name) events tried = tried
-units_tried units calls stop.CallsTooLong events tried = absurd tried
-units_tried units calls stop.JournalTooLong events tried = absurd tried
 units_tried units calls stop.Memory events tried =
     longer (limited most_unit_bytes units) ((calls, most_calls_bytes) ∷ []) events tried
+units_tried units calls _ events tried = absurd tried
 
 pub calls_tried : (units : List Name) (calls : Name) (texts : List (List ℕ)) (why : InputStop) (first last : List Event)
     → ReadsAll most_unit_bytes units texts first → TriesCalls calls why last → TriesInputs units calls why (first ++ last)
 calls_tried units calls texts (stop.Unread name) first last gave (same, answer, away, is) =
     inr (same, texts, answer, away, (first, gave, ap (λ (l : List Event). first ++ l) is))
-calls_tried units calls texts (stop.UnitTooLong name) first last gave tried = absurd tried
 calls_tried units calls texts stop.CallsTooLong first last gave is = (texts, (first, gave, ap (λ (l : List Event). first ++ l) is))
-calls_tried units calls texts stop.JournalTooLong first last gave tried = absurd tried
 calls_tried units calls texts stop.Memory first last gave (answer, is) =
     unto_last most_unit_bytes units calls most_calls_bytes [] texts first (first ++ last) answer gave
     (ap (λ (l : List Event). first ++ l) is)
+calls_tried units calls texts _ first last gave tried = absurd tried
 
 pub inputs_read : (units : List Name) (calls : Name) (texts : List (List ℕ)) (text : List ℕ) (first last : List Event)
     → ReadsAll most_unit_bytes units texts first → last ≡ Read calls most_calls_bytes (Ok text) ∷ []

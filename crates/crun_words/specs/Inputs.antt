@@ -104,8 +104,8 @@ StopsInputs told units calls before after named (stop.Unread name) = IsInput (st
 StopsInputs told units calls before after named (stop.UnitTooLong name) =
     IsOneOf (string_bytes name) units × Tells told (λ contents. IsLongUnit contents units (string_bytes name))
 StopsInputs told units calls before after named stop.CallsTooLong = Tells told (λ contents. IsLongCalls contents units calls)
-StopsInputs told units calls before after named stop.JournalTooLong = ⊥
 StopsInputs told units calls before after named stop.Memory = Unit {0}
+StopsInputs told units calls before after named _ = ⊥
 
 -- ---- the same of the units alone, and of one file alone: the calls file, or a journal's
 
@@ -115,9 +115,8 @@ StopsUnits told units before after named (stop.Unread name) = IsOneOf (string_by
     × StopsReading most_unit_bytes most_units_bytes contents units (string_bytes name) Missing))
 StopsUnits told units before after named (stop.UnitTooLong name) =
     IsOneOf (string_bytes name) units × Tells told (λ contents. IsLongUnit contents units (string_bytes name))
-StopsUnits told units before after named stop.CallsTooLong = ⊥
-StopsUnits told units before after named stop.JournalTooLong = ⊥
 StopsUnits told units before after named stop.Memory = Unit {0}
+StopsUnits told units before after named _ = ⊥
 
 -- the file of this name is the one that is read, and it is not there or cannot be read
 abbrev pub IsUnread : Told → Name → ℕ → ℕ → Option Name → Name → Type 0
@@ -126,17 +125,15 @@ IsUnread told file before after named name =
 
 abbrev pub StopsCalls : Told → Name → ℕ → ℕ → Option Name → InputStop → Type 0
 StopsCalls told calls before after named (stop.Unread name) = IsUnread told calls before after named (string_bytes name)
-StopsCalls told calls before after named (stop.UnitTooLong name) = ⊥
 StopsCalls told calls before after named stop.CallsTooLong = Tells told (λ contents. IsLong most_calls_bytes contents calls)
-StopsCalls told calls before after named stop.JournalTooLong = ⊥
 StopsCalls told calls before after named stop.Memory = Unit {0}
+StopsCalls told calls before after named _ = ⊥
 
 abbrev pub StopsJournal : Told → Name → ℕ → ℕ → Option Name → InputStop → Type 0
 StopsJournal told journal before after named (stop.Unread name) = IsUnread told journal before after named (string_bytes name)
-StopsJournal told journal before after named (stop.UnitTooLong name) = ⊥
-StopsJournal told journal before after named stop.CallsTooLong = ⊥
 StopsJournal told journal before after named stop.JournalTooLong = Tells told (λ contents. IsLong most_journal_bytes contents journal)
 StopsJournal told journal before after named stop.Memory = Unit {0}
+StopsJournal told journal before after named _ = ⊥
 
 abbrev pub StopsFile : ℕ → Told → Name → ℕ → ℕ → Option Name → FileStop → Type 0
 StopsFile most told file before after named (file_stop.Unread name) = IsUnread told file before after named (string_bytes name)

@@ -105,26 +105,23 @@ abbrev pub TriesCalls : Name → InputStop → List Event → Type 0
 TriesCalls calls (stop.Unread name) events = FindsNone most_calls_bytes calls (string_bytes name) events
 TriesCalls calls stop.CallsTooLong events = events ≡ Read calls most_calls_bytes (Err reading.TooLong) ∷ []
 TriesCalls calls stop.Memory events = ReadsFile most_calls_bytes calls events
-TriesCalls calls (stop.UnitTooLong name) events = ⊥
-TriesCalls calls stop.JournalTooLong events = ⊥
+TriesCalls calls _ events = ⊥
 
 abbrev pub TriesJournal : Name → InputStop → List Event → Type 0
 TriesJournal journal (stop.Unread name) events = FindsNone most_journal_bytes journal (string_bytes name) events
 TriesJournal journal stop.JournalTooLong events = GivesJournal journal LongJournal events
 TriesJournal journal stop.Memory events = ReadsFile most_journal_bytes journal events
-TriesJournal journal (stop.UnitTooLong name) events = ⊥
-TriesJournal journal stop.CallsTooLong events = ⊥
+TriesJournal journal _ events = ⊥
 
 abbrev pub TriesUnits : List Name → InputStop → List Event → Type 0
 TriesUnits units (stop.Unread name) events = GivesUnits units (NoUnit (string_bytes name)) events
 TriesUnits units (stop.UnitTooLong name) events = GivesUnits units (UnitTooLong (string_bytes name)) events
 TriesUnits units stop.Memory events = ReadsInOrder (limited most_unit_bytes units) events
-TriesUnits units stop.CallsTooLong events = ⊥
-TriesUnits units stop.JournalTooLong events = ⊥
+TriesUnits units _ events = ⊥
 
 abbrev pub TriesInputs : List Name → Name → InputStop → List Event → Type 0
 TriesInputs units calls (stop.Unread name) events = GivesInputs units calls (NotThere (string_bytes name)) events
 TriesInputs units calls (stop.UnitTooLong name) events = GivesInputs units calls (LongUnit (string_bytes name)) events
 TriesInputs units calls stop.CallsTooLong events = GivesInputs units calls LongCalls events
 TriesInputs units calls stop.Memory events = ReadsInOrder (limited most_unit_bytes units ++ (calls, most_calls_bytes) ∷ []) events
-TriesInputs units calls stop.JournalTooLong events = ⊥
+TriesInputs units calls _ events = ⊥

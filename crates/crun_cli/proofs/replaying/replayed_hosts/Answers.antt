@@ -7,8 +7,7 @@ use Rattle.crun_words.specs.Inputs.{Held}
 use Rattle.crun_words.specs.Passing.{GivesJournal, TriesJournal}
 use Rattle.crun_words.proofs.Passing.{journal_read}
 use Rattle.crun_job.specs.Lines.{JournalLine, WantOfMemory}
-use Rattle.crun_job.specs.Seen.{reason_of}
-use Rattle.crun_job.specs.Stopping.{stop_for}
+use Rattle.crun_job.specs.Seen.{reason_of, stop_for}
 use Rattle.crun_cli.specs.Trying.{GivesReplays, TriesReplay}
 use Rattle.crun_cli.proofs.Passing.{replay_tried}
 use Rattle.crun_cli.proofs.ReplaysOffered.{replays_offered}

@@ -11,8 +11,7 @@ use Rattle.crun_words.specs.CommandLine.{RunLine}
 use Rattle.crun_words.specs.Inputs.{AllRead, AreInputs, StopsInputs}
 use Rattle.crun_words.specs.Passing.{GivesInputs, TriesInputs}
 use Rattle.crun_words.specs.Seen.{seen_run}
-use Rattle.crun_job.specs.Seen.{reason_of}
-use Rattle.crun_job.specs.Stopping.{stop_for}
+use Rattle.crun_job.specs.Seen.{reason_of, stop_for}
 use Rattle.crun_units.specs.Files.{files_seen, FilesSeen}
 use Rattle.crun_units.specs.Trying.{stopped_by}
 use Rattle.crun_cli.specs.Jobs.{HoldsJournal}

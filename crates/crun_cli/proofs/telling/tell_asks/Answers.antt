@@ -6,7 +6,7 @@ use Rattle.crun_cli.proofs.telling.tell_asks.Goals as goal
 
 pub returns-in-Err : goal.returns-in-Err
 returns-in-Err g c =
-    let lines = asked_line (hosts_of g.H.HostModule c.args.session.now.hosts) in
+    let lines = asked_line (hosts_of g.H.HostModule c.args.hosts.now) in
     let k = c.loop-ask.ask-index in
     let asks = c.args.asks.now in
     stopped_at lines _ _ _ _ _ _ (take k asks) c.ask-item.result (drop (k + 1) asks) asks c.in-Err.answer
@@ -14,7 +14,7 @@ returns-in-Err g c =
 
 pub loop-ask-preserved : goal.loop-ask-preserved
 loop-ask-preserved g c =
-    let lines = asked_line (hosts_of g.H.HostModule c.args.session.now.hosts) in
+    let lines = asked_line (hosts_of g.H.HostModule c.args.hosts.now) in
     let k = c.loop-ask.ask-index in
     let asks = c.args.asks.now in
     subst (AreWritten lines _ _ _ _) (sym (front_next asks k c.ask-item.result c.loop-ask-test.true c.ask-item.is))

@@ -66,18 +66,20 @@ returns-in-Err-clause-refused g c = λ came.
     let err = g.E.Sink in
     refused_line _ c.args.hosts.items (texts c.args.words.now) (outside g.F.Files g.O.Sink c.args.files.now c.args.out.now)
     (outside g.F.Files g.O.Sink c.work.new.files c.work.new.out)
+    (reason_of c.in-Err.stop) c.report.result c.in-Err.ensures.stop c.report.ensures.status
     (λ why. Says (err.told c.args.err.now) (err.told c.report.new.err) (err.faults c.args.err.now) (err.faults c.report.new.err)
     (error_line why))
-    (reason_of c.in-Err.stop) c.report.result c.in-Err.ensures.stop c.report.ensures.status c.report.ensures.says came
+    c.report.ensures.says came
 
 pub returns-in-Err-clause-write_fault : goal.returns-in-Err-clause-write_fault
 returns-in-Err-clause-write_fault g c = λ four.
     let err = g.E.Sink in
     write_fault _ c.args.hosts.items (texts c.args.words.now) (outside g.F.Files g.O.Sink c.args.files.now c.args.out.now)
     (outside g.F.Files g.O.Sink c.work.new.files c.work.new.out)
+    (reason_of c.in-Err.stop) c.report.result c.in-Err.ensures.stop c.report.ensures.status
     (λ why. Says (err.told c.args.err.now) (err.told c.report.new.err) (err.faults c.args.err.now) (err.faults c.report.new.err)
     (error_line why))
-    (reason_of c.in-Err.stop) c.report.result c.in-Err.ensures.stop c.report.ensures.status c.report.ensures.says four
+    c.report.ensures.says four
 
 pub returns-in-Err-clause-part : goal.returns-in-Err-clause-part
 returns-in-Err-clause-part g c = λ status.
@@ -129,6 +131,7 @@ returns-in-Err-clause-read_fault g c = λ three.
     let err = g.E.Sink in
     read_fault _ c.args.hosts.items (texts c.args.words.now) (outside g.F.Files g.O.Sink c.args.files.now c.args.out.now)
     (outside g.F.Files g.O.Sink c.work.new.files c.work.new.out)
+    (reason_of c.in-Err.stop) c.report.result c.in-Err.ensures.stop c.report.ensures.status
     (λ why. Says (err.told c.args.err.now) (err.told c.report.new.err) (err.faults c.args.err.now) (err.faults c.report.new.err)
     (error_line why))
-    (reason_of c.in-Err.stop) c.report.result c.in-Err.ensures.stop c.report.ensures.status c.report.ensures.says three
+    c.report.ensures.says three

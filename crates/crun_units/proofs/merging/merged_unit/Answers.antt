@@ -12,8 +12,8 @@ use Rattle.crun_job.specs.Job.{Write}
 use Rattle.crun_job.specs.Lines.{WantOfMemory}
 use Rattle.crun_job.specs.Links.{AreLinked}
 use Rattle.crun_job.specs.Refusals.{RefusesUnits}
-use Rattle.crun_job.specs.Seen.{reason_of}
-use Rattle.crun_job.specs.Stopping.{stop_for, StopsUnit}
+use Rattle.crun_job.specs.Seen.{reason_of, stop_for}
+use Rattle.crun_job.specs.Stopping.{StopsUnit}
 use Rattle.crun_units.specs.Jobs.{IsMerged, IsMergeJob}
 use Rattle.crun_units.specs.Files.{files_seen, AreUntouched}
 use Rattle.crun_units.specs.Passing.{IsUnitsJobOver}

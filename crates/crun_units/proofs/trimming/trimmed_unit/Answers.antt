@@ -8,8 +8,7 @@ use Rattle.crun_words.specs.Seen.{seen_trim}
 use Rattle.crun_job.specs.Job.{Write}
 use Rattle.crun_job.specs.Lines.{WantOfMemory}
 use Rattle.crun_job.specs.Refusals.{RefusesTexts}
-use Rattle.crun_job.specs.Seen.{reason_of}
-use Rattle.crun_job.specs.Stopping.{stop_for}
+use Rattle.crun_job.specs.Seen.{reason_of, stop_for}
 use Rattle.crun_job.specs.Texts.{AreUnitTexts}
 use Rattle.crun_units.specs.Jobs.{IsTrimmedText, IsTrimJob}
 use Rattle.crun_units.specs.Files.{files_seen, AreUntouched}

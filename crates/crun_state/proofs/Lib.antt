@@ -1,0 +1,5 @@
+-- names by number
+pub mod Named
+-- objects by the numbers of their names, and the lines of all units
+pub mod Numbers
+pub mod Shown

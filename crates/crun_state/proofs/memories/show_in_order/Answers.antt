@@ -1,0 +1,26 @@
+use Rattle.std.proofs.Common.{◌+◌, ◌<◌, sym, subst, arith, take, drop, map, length}
+use Rattle.std.proofs.lemmas.List.{length-map}
+use Rattle.crun_lines.specs.Views.{entry_of}
+use Rattle.crun_state.specs.Showing.{cell_lines, entry_at, lines_at}
+use Rattle.program_words.proofs.Loops.{front_next, front_split, one_more, same_at, stopped_at, AreWritten}
+use Rattle.crun_state.proofs.memories.show_in_order.Goals as goal
+
+pub returns-in-Err : goal.returns-in-Err
+returns-in-Err g c =
+    let lines = lines_at (cell_lines c.args.unit) c.args.own.now.memories.items in
+    let k = c.loop-k.k in
+    let entries = map entry_of c.args.names.now in
+    let x = entry_at c.args.names.now k in
+    let less : k < length entries = omega (arith, c.loop-k-test.true, length-map c.args.names.now entry_of) in
+    stopped_at lines _ _ _ _ _ _ (take k entries) x (drop (k + 1) entries) entries c.in-Err.answer
+    (front_split entries k x less (same_at entries k _ x less)) c.loop-k.invariant c.in-Err.ensures
+
+pub loop-k-preserved : goal.loop-k-preserved
+loop-k-preserved g c =
+    let lines = lines_at (cell_lines c.args.unit) c.args.own.now.memories.items in
+    let k = c.loop-k.k in
+    let entries = map entry_of c.args.names.now in
+    let x = entry_at c.args.names.now k in
+    let less : k < length entries = omega (arith, c.loop-k-test.true, length-map c.args.names.now entry_of) in
+    subst (AreWritten lines _ _ _ _) (sym (front_next entries k x less (same_at entries k _ x less)))
+    (one_more lines c.in-Ok.field-0 _ _ _ _ _ _ (take k entries) x c.loop-k.invariant c.in-Ok.ensures)

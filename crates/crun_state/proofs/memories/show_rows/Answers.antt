@@ -1,0 +1,24 @@
+use Rattle.std.proofs.Common.{◌+◌, ◌-◌, sym, subst, arith, length}
+use Rattle.std.specs.List.{range_with_len}
+use Rattle.std.specs.Prelude.{◌/◌}
+use Rattle.crun_lines.specs.StateLines.{row_line}
+use Rattle.program_words.proofs.Loops.{one_more, range_next, range_split, stopped_at, AreWritten}
+use Rattle.crun_state.proofs.memories.show_rows.Goals as goal
+
+pub returns-in-Err : goal.returns-in-Err
+returns-in-Err g c =
+    let row = c.loop-row.row in
+    let bytes = c.args.memory.now.bytes in
+    let lines = row_line c.args.unit c.args.name.now bytes in
+    stopped_at lines _ _ _ _ _ _ (range_with_len 0 row) row (range_with_len (row + 1) (length bytes / 16 - (row + 1)))
+    (range_with_len 0 (length bytes / 16)) c.in-Err.answer
+    (range_split row (length bytes / 16) (omega (arith, c.loop-row-test.true, c.row_count-row-end.ensures.count))) c.loop-row.invariant
+    (c.in-Err.ensures (lines row) c.row_line.ensures)
+
+pub loop-row-preserved : goal.loop-row-preserved
+loop-row-preserved g c =
+    let row = c.loop-row.row in
+    let lines = row_line c.args.unit c.args.name.now c.args.memory.now.bytes in
+    subst (AreWritten lines _ _ _ _) (sym (range_next row))
+    (one_more lines c.in-Ok.field-0 _ _ _ _ _ _ (range_with_len 0 row) row c.loop-row.invariant
+    (c.in-Ok.ensures (lines row) c.row_line.ensures))

@@ -1,0 +1,17 @@
+use Rattle.std.proofs.Common.{map, take}
+use Rattle.c_hosts.specs.Asking.{hosts_of}
+use Rattle.c_tree.specs.View.{unit_of}
+use Rattle.crun_startup.specs.Names.{naming_of}
+use Rattle.crun_lines.specs.Views.{entry_of}
+use Rattle.crun_state.specs.Showing.{lines_at, table_cell_lines}
+use Rattle.program_words.proofs.Loops.{AreWritten}
+use Rattle.crun_state.proofs.tables.show_in_order.Given as goal
+
+abbrev pub invariant-loop-k : goal.invariant-loop-k
+invariant-loop-k g l =
+    let told = g.O.Sink.told in
+    let faults = g.O.Sink.faults in
+    let hosts = hosts_of g.H.HostModule l.hosts in
+    let names = naming_of (map unit_of l.units) in
+    AreWritten (lines_at (table_cell_lines hosts names l.unit) l.own.tables.items) (told l.fn.out) (told l.out)
+    (faults l.fn.out) (faults l.out) (take l.k (map entry_of l.names))

@@ -1,0 +1,12 @@
+use Rattle.std.proofs.Common.{map, take}
+use Rattle.crun_lines.specs.Views.{entry_of}
+use Rattle.crun_state.specs.Showing.{held_lines, lines_at}
+use Rattle.program_words.proofs.Loops.{AreWritten}
+use Rattle.crun_state.proofs.variables.show_in_order.Given as goal
+
+abbrev pub invariant-loop-k : goal.invariant-loop-k
+invariant-loop-k g l =
+    let told = g.O.Sink.told in
+    let faults = g.O.Sink.faults in
+    AreWritten (lines_at (held_lines l.unit) l.own.vars.items) (told l.fn.out) (told l.out)
+    (faults l.fn.out) (faults l.out) (take l.k (map entry_of l.names))
