@@ -1,39 +1,11 @@
 -- Every call is followed, by induction on how many more functions may become active: hosts', and the modules' own,
 -- which trap where there is no room, and else run their code (WebAssembly Core 1.0, 4.4.7).
-use Rattle.std.proofs.Common.{◌≡◌, ℕ, zero, suc, ◌+◌, ◌<◌, List, [], ◌∷◌, ◌++◌, length, map, slice_get, Option, Some, None, refl, sym, ap, ◌∙◌, subst, arith}
-use Rattle.std.proofs.lemmas.Bool.{or_left, or_right}
-use Rattle.std.proofs.lemmas.Option.{same_Some}
-use Rattle.std.specs.List.{AllByRecursion}
-use Rattle.w2c_base.specs.declared.value.ValType.{ValType}
-use Rattle.w2c_base.specs.declared.value.Value.{Value}
-use Rattle.w2c_base.specs.declared.signature.FuncType.{FuncType}
+use Rattle.c_body.proofs.Common.{◌≡◌, ℕ, zero, suc, ◌+◌, ◌<◌, List, [], ◌∷◌, ◌++◌, map, length, slice_get, Some, None, Option, sym, refl, ap, ◌∙◌, subst, arith, or_left, or_right, same_Some, AllByRecursion, Trail, IsNumber, types_of, zeros, FuncType, ValType, Value, declared_locals, Code, BodyEntry, Context, context_of, values, join, Definition, Program, c_result_of, with_depth, Reaches, Over, Pending, Progress, Stopped, go_on, over, Stops, begin, next, func_name, IsDefined, IsFuncOf, code_stmts, has_element, has_slot, is_return, stmts_of, CallFollows, CallsFollow, Follows, Site, StandsAt, Together, at, any_in, targets, AllCodeFollows, IsSite, IsTarget, IsThere, PassesOn, StandsFor, called, core, wrapper_statements, AreServed, occurs, stands}
 use Rattle.w2c_base.specs.declared.trap.TrapKind.TheVariants as trap
-use Rattle.w2c_base.specs.Values.{types_of, zeros, IsNumber}
-use Rattle.w2c_base.specs.Run.{Trail}
-use Rattle.wasm_tree.specs.declared.entries.BodyEntry.{BodyEntry}
-use Rattle.wasm_tree.specs.IndexSpaces.{declared_locals}
-use Rattle.wasm_tree.specs.Instructions.{Code}
-use Rattle.wasm_valid.specs.Context.{Context, context_of}
-use Rattle.wasm_valid.specs.Typing.{values}
 use Rattle.wasm_meaning.specs.LinkedSet as link
 use Rattle.wasm_meaning.specs.Store as store
 use Rattle.wasm_meaning.specs.Execution as exec
 use Rattle.c_meaning.specs.State as state
-use Rattle.c_meaning.specs.Linking.{Program, Definition, c_result_of}
-use Rattle.c_meaning.specs.Machine.{with_depth}
-use Rattle.c_meaning.specs.Step.{Stops, next, begin}
-use Rattle.c_meaning.specs.Run.{Pending, Progress, Over, Stopped, over, go_on}
-use Rattle.c_meaning.specs.Reaches.{Reaches}
-use Rattle.c_meaning.proofs.Ways.{join}
-use Rattle.alike.specs.Alike.{func_name}
-use Rattle.c_body.specs.Stack.{stands, occurs}
-use Rattle.c_body.specs.Labels.{targets, any_in}
-use Rattle.c_body.specs.Body.{has_slot, has_element, is_return, code_stmts, stmts_of}
-use Rattle.c_body.specs.Passing.{StandsFor, PassesOn, wrapper_statements, called, core}
-use Rattle.c_body.specs.Agree.{IsDefined, IsFuncOf}
-use Rattle.c_body.specs.Serves.{AreServed}
-use Rattle.c_body.specs.Follows.{Together, CallFollows, CallsFollow, Site, StandsAt, Follows, at}
-use Rattle.c_body.specs.Parts.{IsSite, IsThere, IsTarget, AllCodeFollows}
 use Rattle.c_body.specs.Bodies.{BodiesFollow}
 use Rattle.c_body.proofs.Hosts.{host_follows}
 use Rattle.c_body.proofs.Own.{IsOwn, own_is, func_body}

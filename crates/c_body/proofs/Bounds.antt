@@ -1,15 +1,6 @@
 -- What a module that has a file keeps within, as its unit counts: labels, operands, numbers.
-use Rattle.std.proofs.Common.{◌≡◌, ◌+◌, ◌≤◌, ◌&&◌, ◌||◌, not, Bool, true, false, [], refl, arith}
-use Rattle.wasm_tree.specs.declared.tree.Module.{Module}
-use Rattle.wasm_tree.specs.declared.entries.BodyEntry.{BodyEntry}
-use Rattle.wasm_tree.specs.Instructions.{Code, end_code, then_code, Kind, Otherwise, no_else, else_code, Select, Block, Loop, If, BrIf, BrTable}
-use Rattle.wasm_tree.specs.Size.{code_size, kind_size, otherwise_size}
-use Rattle.wasm_spelling.specs.Places.{IsFormed}
-use Rattle.wasm_spelling.specs.Within.{WithinLimits, BodyIsWithin, some_in, some_inside, some_in_else, least_bytes, least_bytes_of, least_bytes_of_else}
+use Rattle.c_body.proofs.Common.{◌≡◌, ◌+◌, ◌≤◌, Bool, true, false, not, ◌&&◌, ◌||◌, [], refl, arith, Block, BrIf, BrTable, Code, If, Kind, Loop, Otherwise, Select, else_code, end_code, no_else, then_code, code_size, kind_size, otherwise_size, BodyEntry, Module, IsFormed, BodyIsWithin, WithinLimits, least_bytes, least_bytes_of, least_bytes_of_else, some_in, some_in_else, some_inside, any_in, any_in_else, any_inside, labels_in, labels_in_else, labels_of, BodyHasLimits, HasLimits, ends}
 use Rattle.wasm_spelling.proofs.WithinPlaces.{formed_is_within}
-use Rattle.c_body.specs.Stack.{ends}
-use Rattle.c_body.specs.Labels.{labels_in, labels_of, labels_in_else, any_in, any_inside, any_in_else}
-use Rattle.c_body.specs.Limits.{HasLimits, BodyHasLimits}
 use Rattle.c_body.proofs.Lists.{all_weaker}
 use Rattle.c_body.proofs.Peaks.{peak_few}
 

@@ -1,45 +1,15 @@
 -- The instructions that copy and fill bytes of the memory are followed by their statements. They cost a step for each
 -- byte, and their helpers take more statements than that.
-use Rattle.std.proofs.Common.{◌≡◌, ℕ, zero, suc, ◌+◌, ◌*◌, ◌<◌, ◌≤◌, ◌^◌, ◌%◌, Bool, true, false, ◌&&◌, if◌then◌else◌, nat_le, List, [], ◌∷◌, ◌++◌, length, replicate, drop, Option, Some, None, refl, sym, ap, ◌∙◌, subst, arith, length-take, length-drop}
-use Rattle.std.proofs.lemmas.List.{length-replicate}
-use Rattle.std.specs.List.{AllByRecursion}
-use Rattle.std.proofs.lemmas.Option.{none-some, same_Some}
-use Rattle.std.proofs.lemmas.Bool.Decides.{nat_tests}
+use Rattle.c_body.proofs.Common.{◌≡◌, ℕ, zero, suc, ◌+◌, ◌*◌, ◌%◌, ◌^◌, ◌<◌, ◌≤◌, Bool, true, false, ◌&&◌, List, [], ◌∷◌, ◌++◌, length, drop, replicate, if◌then◌else◌, nat_le, Some, None, Option, sym, refl, ap, ◌∙◌, subst, arith, length-drop, length-take, nat_tests, length-replicate, none-some, same_Some, AllByRecursion, bytes_at, with_bytes, named, types_of, Value, I32, Kind, MemoryCopy, MemoryFill, HasMemory, Stack, Turns, memory_at, copy_bytes, fill_bytes, with_content, Reaches, Progress, Is, Pointer, evaluate_args, helper_right, GivesBack, TrapsWith, helper_of, Helper, MemoryAgrees, EndsAlike, Follows, Site, StandsAt, Target, at, slot, memory_arg, IsSite, IsThere, KindFollows, bytes_stmt, call_helper, operand, Defines, under}
 use Rattle.w2c_base.specs.declared.value.ValType.TheVariants as type
-use Rattle.w2c_base.specs.declared.value.Value.{Value}
-use Rattle.w2c_base.specs.declared.value.Value.TheVariants.{I32}
 use Rattle.w2c_base.specs.declared.trap.TrapKind.TheVariants as trap
-use Rattle.w2c_base.specs.LittleEndian.{bytes_at, with_bytes}
-use Rattle.w2c_base.specs.Values.{types_of}
-use Rattle.w2c_base.specs.Lookup.{named}
-use Rattle.wasm_tree.specs.Instructions.{Kind, MemoryCopy, MemoryFill}
-use Rattle.wasm_valid.specs.Typing.{Stack, Turns, HasMemory}
-use Rattle.wasm_meaning.specs.LinkedSet.{memory_at}
-use Rattle.wasm_meaning.specs.Memories.{copy_bytes, fill_bytes}
 use Rattle.wasm_meaning.specs.Store as store
 use Rattle.wasm_meaning.specs.Execution as exec
 use Rattle.c_tree.specs.Tree as tree
 use Rattle.c_meaning.specs.State as state
-use Rattle.c_meaning.specs.State.{Is, Pointer}
 use Rattle.c_meaning.specs.Machine as machine
-use Rattle.c_meaning.specs.Primitives.{with_content}
-use Rattle.c_meaning.specs.Step.{evaluate_args}
-use Rattle.c_meaning.specs.Run.{Progress}
-use Rattle.c_meaning.specs.Reaches.{Reaches}
-use Rattle.c_prelude.specs.declared.operation.Helper.{Helper}
 use Rattle.c_prelude.specs.declared.operation.Helper.TheVariants as helper
-use Rattle.c_prelude.specs.Helpers.{helper_of}
-use Rattle.c_prelude.specs.Calls.{GivesBack, TrapsWith}
 use Rattle.c_prelude.specs.Operators.{number, DoesBytes, ComesToBytes}
-use Rattle.c_prelude.proofs.EachHelper.{helper_right}
-use Rattle.c_body.specs.Names.{slot}
-use Rattle.c_body.specs.Stack.{under}
-use Rattle.c_body.specs.Objects.{memory_arg}
-use Rattle.c_body.specs.Plain.{bytes_stmt, call_helper, operand}
-use Rattle.c_body.specs.Agree.{MemoryAgrees}
-use Rattle.c_body.specs.Serves.{Defines}
-use Rattle.c_body.specs.Follows.{Site, Target, StandsAt, Follows, EndsAlike, at}
-use Rattle.c_body.specs.Parts.{IsSite, IsThere, KindFollows}
 use Rattle.c_body.proofs.Before.{spends}
 use Rattle.c_body.proofs.Store.{memory_object, together_memory}
 use Rattle.c_body.proofs.Seen.{MemoryFound, memory_found}

@@ -1,30 +1,10 @@
 -- The helpers of instructions by their steps, and tables of the names of helpers.
-use Rattle.std.proofs.Common.{◌≡◌, ℕ, ◌+◌, ◌<◌, ◌≤◌, Bool, true, false, ◌||◌, ◌&&◌, not, if◌then◌else◌, List, [], ◌∷◌, ◌++◌, append_assoc, length, get_or, drop, filter, bytes_eq, is_some, Option, Some, None, refl, sym, ap, arith, ◌∙◌}
-use Rattle.std.specs.Option.{option_or}
-use Rattle.std.specs.List.{list_any}
-use Rattle.std.proofs.Math.Bool.{or-false, or_assoc}
-use Rattle.std.proofs.lemmas.List.{drop_all}
-use Rattle.w2c_base.specs.Lookup.{named}
-use Rattle.wasm_tree.specs.Instructions.{Kind, Code, Nop}
-use Rattle.wasm_tree.specs.declared.code.Instr.{Instr}
-use Rattle.wasm_tree.specs.declared.entries.BodyEntry.{BodyEntry}
-use Rattle.wasm_tree.specs.declared.tree.Module.{Module}
-use Rattle.wasm_tree.specs.Views.{code_tree, kind_tree}
-use Rattle.c_tree.specs.Scope.{Name}
+use Rattle.c_body.proofs.Common.{◌≡◌, ℕ, ◌+◌, ◌<◌, ◌≤◌, Bool, true, false, not, ◌&&◌, ◌||◌, List, [], ◌∷◌, ◌++◌, length, get_or, drop, is_some, if◌then◌else◌, Some, None, filter, Option, bytes_eq, sym, refl, ap, ◌∙◌, append_assoc, arith, or-false, or_assoc, drop_all, list_any, option_or, named, Code, Kind, Nop, code_tree, kind_tree, Instr, BodyEntry, Module, Name, helper_of, Helper, HELPERS, read_again, HasMore, KnowsCalls, is_known, any_in, any_inside, calls, calls_helper, helpers_of, named_by, helper_for, ends, element_for, step_helper, step_of}
 use Rattle.c_tree.proofs.Tested.{at_front}
 use Rattle.name_table.proofs.NameTables.{either_way}
-use Rattle.c_prelude.specs.declared.operation.Helper.{Helper}
-use Rattle.c_prelude.specs.declared.operation.TheConstants.{HELPERS}
-use Rattle.c_prelude.specs.Helpers.{helper_of}
 use Rattle.c_body.specs.declared.steps.Step.{Step}
-use Rattle.c_body.specs.Plain.{helper_for}
-use Rattle.c_body.specs.Steps.{step_of, step_helper, element_for}
-use Rattle.c_body.specs.Labels.{any_in, any_inside}
-use Rattle.c_body.specs.Stack.{ends}
-use Rattle.c_body.specs.Needs.{named_by, calls, calls_helper, helpers_of}
-use Rattle.c_body.specs.Called.{HasMore, KnowsCalls, is_known}
+use Rattle.w2c_base.proofs.Options.{some_or_if}
 use Rattle.c_body.proofs.CodeLists.{code_more, code_done}
-use Rattle.c_symbols.proofs.Grown.{read_again}
 
 -- ---- helpers
 
@@ -51,13 +31,8 @@ pub one_more : {A : Type 0} (after before : List (Name × A)) (which : Helper) (
     → ((q : Name) → named q after ≡ option_or (named q before) (if bytes_eq name q then Some of else None))
     → HasMore after before (λ name. named_by name (Some which))
 one_more {A} after before which name of is entered q =
-    ap is_some (entered q) ∙ (at (named q before) (bytes_eq name q)
+    ap is_some (entered q) ∙ (some_or_if of (named q before) (bytes_eq name q)
     ∙ (ap (λ b. is_some (named q before) || b) (either_way name q) ∙ ap (λ n. is_some (named q before) || bytes_eq q n) is))
-  where
-    at : (o : Option A) (b : Bool) → is_some (option_or o (if b then Some of else None)) ≡ (is_some o || b)
-    at None true = refl
-    at None false = refl
-    at (Some a) b = refl
 
 -- ---- code
 

@@ -1,44 +1,13 @@
 -- A call in code: its arguments, the function that it reaches, and what comes back (WebAssembly Core 1.0,
 -- 4.4.5 `call`; C11, 6.5.2.2).
-use Rattle.std.proofs.Common.{◌≡◌, ℕ, zero, suc, ◌+◌, ◌≤◌, Bool, true, if◌then◌else◌, List, [], ◌∷◌, ◌++◌, length, map, reverse, take, drop, slice_get, Option, Some, None, refl, sym, ap, ◌∙◌, subst, arith, append_assoc}
-use Rattle.std.specs.List.{AllByRecursion}
-use Rattle.std.proofs.Math.Seq.{take-append_seam, drop-append_seam}
-use Rattle.std.proofs.lemmas.List.{reverse-reverse, length-reverse}
-use Rattle.w2c_base.specs.declared.value.ValType.{ValType}
+use Rattle.c_body.proofs.Common.{◌≡◌, ℕ, zero, suc, ◌+◌, ◌≤◌, Bool, true, List, [], ◌∷◌, ◌++◌, map, reverse, length, take, drop, if◌then◌else◌, slice_get, Some, None, Option, sym, refl, ap, ◌∙◌, subst, append_assoc, arith, drop-append_seam, take-append_seam, length-reverse, reverse-reverse, AllByRecursion, result_is_number, at_index, if_found, named, with_named, IsNumber, equal_types, is_result, type_of, types_of, FuncType, ValType, Value, I32, func_space, type_in, Call, Import, Context, Stack, values, join, stays, Program, func_named, Effect, primitive, Reaches, Progress, go_on, Stops, c_step, call, call_callee, evaluate_args, place_of, take_effect, with_value, func_name, named_here, func_imports, import_symbol, is_usable, IsCallable, Stacked, VarsAgree, call_named, emit_kind, operands_from, result_slot, CallFollows, Follows, Site, StandsAt, Target, at, call_spare, state_at, slot, callee, CallsInCodeFollow, IsSite, aims_of, StandsFor, called, given, Reached, after, after_call, stands}
 use Rattle.w2c_base.specs.declared.value.ValType.TheVariants as type
-use Rattle.w2c_base.specs.declared.value.Value.{Value}
-use Rattle.w2c_base.specs.declared.value.Value.TheVariants.{I32, I64}
-use Rattle.w2c_base.specs.declared.signature.FuncType.{FuncType}
-use Rattle.w2c_base.specs.Values.{type_of, types_of, equal_types, is_result, IsNumber}
-use Rattle.w2c_base.specs.Lookup.{if_found, named, with_named, at_index}
-use Rattle.wasm_tree.specs.declared.entries.Import.{Import}
-use Rattle.wasm_tree.specs.Instructions.{Call}
-use Rattle.wasm_tree.specs.IndexSpaces.{func_space, type_in}
-use Rattle.wasm_valid.specs.Context.{Context}
-use Rattle.wasm_valid.specs.Typing.{Stack, values}
+use Rattle.w2c_base.specs.declared.value.Value.TheVariants.{I64}
 use Rattle.wasm_meaning.specs.LinkedSet as link
 use Rattle.wasm_meaning.specs.Store as store
 use Rattle.wasm_meaning.specs.Execution as exec
 use Rattle.c_tree.specs.Tree as tree
 use Rattle.c_meaning.specs.State as state
-use Rattle.c_meaning.specs.Linking.{Program, func_named}
-use Rattle.c_meaning.specs.Primitives.{Effect, primitive}
-use Rattle.c_meaning.specs.Step.{Stops, evaluate_args, place_of, with_value, call, call_callee, take_effect, c_step}
-use Rattle.c_meaning.specs.Run.{Progress, go_on}
-use Rattle.c_meaning.specs.Reaches.{Reaches}
-use Rattle.c_meaning.proofs.Ways.{stays, join}
-use Rattle.alike.specs.Alike.{func_name}
-use Rattle.c_prelude.proofs.CallStatements.{named_here}
-use Rattle.c_body.specs.Names.{slot}
-use Rattle.c_symbols.specs.Symbols.{func_imports, import_symbol, is_usable}
-use Rattle.c_body.specs.Objects.{callee}
-use Rattle.c_body.specs.Stack.{stands, after, after_call}
-use Rattle.c_body.specs.Passing.{StandsFor, called, given}
-use Rattle.c_body.specs.Agree.{Stacked, VarsAgree, IsCallable}
-use Rattle.c_body.specs.Code.{operands_from, result_slot, call_named, emit_kind}
-use Rattle.c_body.specs.Serves.{Reached}
-use Rattle.c_body.specs.Follows.{call_spare, CallFollows, Site, Target, StandsAt, Follows, state_at, at}
-use Rattle.c_body.specs.Parts.{IsSite, CallsInCodeFollow, aims_of}
 use Rattle.c_body.proofs.Indexes.{own_of_context, import_of_context, func_callable}
 use Rattle.c_body.proofs.Vars.{stacked_below, under as vars_below}
 use Rattle.c_body.proofs.Heights.{stands_top}
@@ -49,7 +18,6 @@ use Rattle.c_body.proofs.Own.{own_is, own_stands}
 use Rattle.c_body.proofs.Types.{equal_types_same}
 use Rattle.c_body.proofs.Gives.{slot_value, waiting, assign_slot}
 use Rattle.c_body.proofs.Jumps.{way_by}
-use Rattle.w2c_base.proofs.Numbers.{result_is_number}
 
 -- ---- operands and arguments
 

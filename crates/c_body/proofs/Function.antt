@@ -1,42 +1,17 @@
 -- A function that is called: the test of the depth, the code, and the exit, against the module's function that is
 -- entered and finished (WebAssembly Core 1.0, 4.4.7.1 invocation; C11, 6.9.1).
-use Rattle.std.proofs.Common.{◌≡◌, ℕ, zero, suc, ◌+◌, ◌-◌, ◌%◌, ◌^◌, ◌<◌, ◌≤◌, ◌==◌, nat_lt, Bool, true, false, if◌then◌else◌, List, [], ◌∷◌, ◌++◌, Option, Some, None, refl, sym, ap, ◌∙◌, subst, arith, append-nil}
-use Rattle.std.specs.List.{AllByRecursion}
-use Rattle.std.proofs.lemmas.Bool.{lt-ltb, le-ltb}
-use Rattle.w2c_base.specs.declared.value.ValType.{ValType}
+use Rattle.c_body.proofs.Common.{◌≡◌, ℕ, zero, suc, ◌+◌, ◌-◌, ◌%◌, ◌^◌, ◌<◌, ◌≤◌, Bool, true, false, List, [], ◌∷◌, ◌++◌, if◌then◌else◌, nat_lt, ◌==◌, Some, None, Option, sym, refl, ap, ◌∙◌, subst, append-nil, arith, le-ltb, lt-ltb, same_Some, AllByRecursion, number_is_found, result_is_typed, named, IsNumber, equal_type, is_result, number_of, type_of, types_of, FuncType, ValType, Value, I32, Code, values, of_its_type, number_is_returned, join, step, c_result_of, with_depth, Reaches, Over, Progress, Stopped, over, Next, Stops, after_label, at_rest, c_step, next, place_of, returned, with_value, VarsAgree, change_depth, code_stmts, give_back, names_exit, stmts_of, entry_label, exit_label, exit_of, label_if, Arrives, Branches, CallFollows, ComesBack, Follows, Site, Target, at, call_spare, labelled, state_at, label_name, slot, given, Setting}
 use Rattle.w2c_base.specs.declared.value.ValType.TheVariants as type
-use Rattle.w2c_base.specs.declared.value.Value.{Value}
-use Rattle.w2c_base.specs.declared.value.Value.TheVariants.{I32, I64}
-use Rattle.w2c_base.specs.declared.signature.FuncType.{FuncType}
+use Rattle.w2c_base.specs.declared.value.Value.TheVariants.{I64}
 use Rattle.w2c_base.specs.declared.trap.TrapKind.TheVariants as trap
-use Rattle.w2c_base.specs.Values.{type_of, types_of, number_of, equal_type, is_result, IsNumber}
-use Rattle.w2c_base.proofs.Numbers.{number_is_found, result_is_typed}
-use Rattle.wasm_meaning.proofs.Typed.{of_its_type}
-use Rattle.std.proofs.lemmas.Option.{same_Some}
-use Rattle.c_meaning.specs.Linking.{c_result_of}
-use Rattle.c_meaning.proofs.Takes.{number_is_returned}
-use Rattle.w2c_base.specs.Lookup.{named}
-use Rattle.wasm_tree.specs.Instructions.{Code}
-use Rattle.wasm_valid.specs.Typing.{values}
 use Rattle.wasm_meaning.specs.Store as store
 use Rattle.wasm_meaning.specs.Execution as exec
 use Rattle.c_tree.specs.declared.tree.COp.TheVariants as op
 use Rattle.c_tree.specs.Tree as tree
 use Rattle.c_meaning.specs.State as state
-use Rattle.c_meaning.specs.Machine.{with_depth}
 use Rattle.c_meaning.specs.Operators.{truth}
-use Rattle.c_meaning.specs.Step.{Next, Stops, place_of, at_rest, next, with_value, after_label, jump, give, is_returned, returned, c_step}
-use Rattle.c_meaning.specs.Run.{Progress, Over, Stopped, over}
-use Rattle.c_meaning.specs.Reaches.{Reaches}
-use Rattle.c_meaning.proofs.Ways.{step, join}
+use Rattle.c_meaning.specs.Step.{jump, give, is_returned}
 use Rattle.c_prelude.specs.Pieces as pieces
-use Rattle.c_body.specs.Names.{slot, label_name}
-use Rattle.c_body.specs.Plain.{Setting}
-use Rattle.c_body.specs.Code.{exit_of, entry_label, exit_label, label_if}
-use Rattle.c_body.specs.Body.{names_exit, give_back, change_depth, code_stmts, stmts_of}
-use Rattle.c_body.specs.Passing.{given}
-use Rattle.c_body.specs.Agree.{VarsAgree}
-use Rattle.c_body.specs.Follows.{call_spare, ComesBack, CallFollows, Site, Target, Arrives, Branches, labelled, Follows, state_at, at}
 use Rattle.c_body.proofs.Past.{past_way}
 use Rattle.c_body.proofs.Before.{labelled_twice, stops_before}
 use Rattle.c_body.proofs.Jumps.{way_by}

@@ -1,34 +1,11 @@
 -- What a plain instruction owes, and the two statements that give a value: an assignment to the slot on top, and a
 -- call of a helper whose value goes there.
-use Rattle.std.proofs.Common.{◌≡◌, ℕ, zero, suc, ◌<◌, ◌≤◌, ◌^◌, true, false, List, [], ◌∷◌, ◌++◌, length, Option, Some, None, is_some, bytes_eq, refl, sym, ap, ◌∙◌, subst, arith}
-use Rattle.w2c_base.specs.declared.value.ValType.{ValType}
-use Rattle.w2c_base.specs.declared.value.Value.{Value}
-use Rattle.w2c_base.specs.Values.{bits, value, type_of, types_of, IsNumber}
-use Rattle.w2c_base.specs.Lookup.{named, with_named}
-use Rattle.wasm_valid.specs.Typing.{Stack}
-use Rattle.wasm_meaning.specs.Operators.{Answer, Gives, Traps, AnswerFits}
+use Rattle.c_body.proofs.Common.{◌≡◌, ℕ, zero, suc, ◌^◌, ◌<◌, ◌≤◌, true, false, List, [], ◌∷◌, ◌++◌, length, is_some, Some, None, Option, bytes_eq, sym, refl, ap, ◌∙◌, subst, arith, named, with_named, IsNumber, bits, type_of, types_of, value, ValType, Value, Stack, Answer, AnswerFits, Gives, Traps, put_where_held, step, Program, Reaches, Going, Over, Pending, Progress, go_on, Evaluated, Is, found, then_evaluate, Next, Step, assign, at_rest, c_step, depth_name, evaluate, evaluate_arg, evaluate_args, next, number_in, place_of, value_of, with_value, with_vars, statement_comes_between, statement_comes_to, CallComesBetween, CallComesTo, CallEnd, call_ended, helper_of, ComesBetween, ComesWithin, Helper, HoldsNumber, Arrives, EndsAlike, Follows, Site, StandsAt, Target, at, labelled, state_at, slot, call_helper, operand, set_slot, Defines}
 use Rattle.wasm_meaning.specs.Store as store
 use Rattle.wasm_meaning.specs.Execution as exec
 use Rattle.c_tree.specs.Tree as tree
 use Rattle.c_meaning.specs.State as state
-use Rattle.c_meaning.specs.State.{Evaluated, Is, then_evaluate, found}
-use Rattle.c_meaning.specs.Linking.{Program}
-use Rattle.c_meaning.specs.Step.{Step, Next, depth_name, value_of, number_in, evaluate, evaluate_arg, evaluate_args, with_value, place_of, at_rest, with_vars, next, assign, c_step}
-use Rattle.c_meaning.specs.Run.{Pending, Progress, Going, Over, go_on}
-use Rattle.c_meaning.specs.Reaches.{Reaches}
-use Rattle.c_meaning.proofs.Takes.{put_where_held}
-use Rattle.c_meaning.proofs.Ways.{step}
-use Rattle.c_prelude.specs.declared.operation.Helper.{Helper}
-use Rattle.c_prelude.specs.Helpers.{helper_of}
-use Rattle.c_prelude.specs.Calls.{CallEnd, call_ended, CallComesTo, CallComesBetween}
 use Rattle.c_prelude.specs.Operators.{number, answered}
-use Rattle.c_prelude.specs.Statements.{ComesWithin, ComesBetween}
-use Rattle.c_prelude.proofs.CallStatements.{statement_comes_to, statement_comes_between}
-use Rattle.c_body.specs.Names.{slot}
-use Rattle.c_body.specs.Plain.{operand, set_slot, call_helper}
-use Rattle.c_body.specs.Serves.{Defines}
-use Rattle.c_body.specs.Agree.{HoldsNumber}
-use Rattle.c_body.specs.Follows.{Site, Target, StandsAt, Arrives, EndsAlike, labelled, Follows, state_at, at}
 use Rattle.c_body.proofs.Names.{slot_is_no_depth}
 use Rattle.c_body.proofs.Slots.{SlotIsSet}
 use Rattle.c_body.proofs.Before.{spends}

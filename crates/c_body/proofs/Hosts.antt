@@ -1,24 +1,11 @@
 -- A host's call: both languages ask the same and take the same reply (WebAssembly Core 1.0, 4.4.7.3).
-use Rattle.std.proofs.Common.{◌≡◌, ℕ, ◌+◌, ◌≤◌, Bool, true, false, if◌then◌else◌, List, [], ◌∷◌, ◌++◌, map, slice_get, Option, Some, None, option_map, refl, sym, ap, ◌∙◌, subst, arith}
-use Rattle.w2c_base.specs.declared.value.Value.{Value}
-use Rattle.w2c_base.specs.declared.signature.FuncType.{FuncType}
+use Rattle.c_body.proofs.Common.{◌≡◌, ℕ, ◌+◌, ◌≤◌, Bool, true, false, List, [], ◌∷◌, ◌++◌, map, if◌then◌else◌, slice_get, Some, None, Option, option_map, sym, refl, ap, ◌∙◌, subst, arith, types_equal_themselves, if_found, Ask, Event, Gave, Host, HostTrapped, Reply, Trail, asked, equal_types, is_result, types_of, FuncType, Value, join, Program, host_type, with_trail, Reaches, Pending, Progress, go_on, Step, Stops, CallFollows, Together, PassesOn, called, given, wrapper_statements}
 use Rattle.w2c_base.specs.declared.trap.TrapKind.TheVariants as trap
-use Rattle.w2c_base.specs.Values.{types_of, equal_types, is_result}
-use Rattle.w2c_base.proofs.Types.{types_equal_themselves}
-use Rattle.w2c_base.specs.Lookup.{if_found}
-use Rattle.w2c_base.specs.Run.{Host, Reply, Gave, HostTrapped, Ask, Event, Trail, asked}
 use Rattle.wasm_meaning.specs.LinkedSet as link
 use Rattle.wasm_meaning.specs.Store as store
 use Rattle.wasm_meaning.specs.Execution as exec
 use Rattle.c_meaning.specs.State as state
-use Rattle.c_meaning.specs.Linking.{Program, host_type}
-use Rattle.c_meaning.specs.Machine.{with_trail}
-use Rattle.c_meaning.specs.Step.{Step, Stops, numbers, replied, give, ask}
-use Rattle.c_meaning.specs.Run.{Pending, Progress, go_on}
-use Rattle.c_meaning.specs.Reaches.{Reaches}
-use Rattle.c_meaning.proofs.Ways.{join}
-use Rattle.c_body.specs.Passing.{PassesOn, wrapper_statements, called, given}
-use Rattle.c_body.specs.Follows.{Together, CallFollows}
+use Rattle.c_meaning.specs.Step.{numbers, replied, give, ask}
 use Rattle.c_body.proofs.Store.{with_trail_together}
 
 pub numbers_are_read : (args : List Value) → numbers (map state.Number args) ≡ Some args

@@ -1,22 +1,8 @@
 -- What a function's index stands for in a linked set: an own function, or what an import stands for; and
 -- that it is a function of the modules up to this one, or a host's (WebAssembly Core 1.0, 4.2.5, 4.5.4).
-use Rattle.std.proofs.Common.{◌≡◌, ℕ, zero, suc, ◌+◌, ◌<◌, inl, inr, true, false, cond, List, [], ◌∷◌, ◌++◌, length, map, filter, slice_get, flat_map, Option, Some, None, refl, sym, ap, ◌∙◌, subst, arith}
-use Rattle.std.proofs.lemmas.List.{length-map}
-use Rattle.std.specs.List.{range_with_len}
-use Rattle.std.proofs.lemmas.Option.{slice_get_within, same_Some}
-use Rattle.w2c_base.specs.declared.signature.FuncType.{FuncType}
-use Rattle.w2c_base.specs.Lookup.{if_found, at_index}
-use Rattle.wasm_tree.specs.declared.tree.Module.{Module}
-use Rattle.wasm_tree.specs.declared.entries.Import.{Import}
-use Rattle.wasm_tree.specs.declared.entries.ImportKind.{ImportKind}
-use Rattle.wasm_tree.specs.declared.entries.ImportKind.TheVariants.{Func as ImportFunc, Table as ImportTable, Memory as ImportMemory, Global as ImportGlobal}
-use Rattle.wasm_tree.specs.declared.entries.FuncEntry.{FuncEntry}
-use Rattle.wasm_tree.specs.IndexSpaces.{func_of_import, func_space, type_in, is_func_import, imported_funcs, at_defined}
-use Rattle.wasm_tree.proofs.BehindImports.{defined_behind_imports}
+use Rattle.c_body.proofs.Common.{◌≡◌, ℕ, zero, suc, ◌+◌, ◌<◌, true, false, cond, List, [], ◌∷◌, ◌++◌, map, length, slice_get, Some, None, filter, Option, flat_map, sym, refl, ap, ◌∙◌, subst, inl, inr, arith, length-map, same_Some, slice_get_within, range_with_len, all_at, at_index, if_found, FuncType, defined_behind_imports, at_defined, func_of_import, func_space, imported_funcs, is_func_import, type_in, FuncEntry, Import, ImportKind, ImportFunc, ImportGlobal, ImportMemory, ImportTable, Module, func_imports, IsCallable, IsDefined}
 use Rattle.wasm_meaning.specs.LinkedSet as link
-use Rattle.c_body.specs.Agree.{IsDefined, IsCallable}
-use Rattle.c_symbols.specs.Symbols.{func_imports}
-use Rattle.c_body.proofs.Lists.{get_left, get_behind, get_joined, get_mapped, get_unmapped, get_numbered, get_kept, get_none, all_at}
+use Rattle.c_body.proofs.Lists.{get_left, get_behind, get_joined, get_mapped, get_unmapped, get_numbered, get_kept, get_none}
 use Rattle.c_body.proofs.Spaces.{module_is, ResolvesAs, callable_later, looked_up, func_owner, func_count}
 
 -- ---- functions by their indexes

@@ -1,56 +1,16 @@
 -- A call through the table: the element's traps in both languages, and then the call through the element.
-use Rattle.std.proofs.Common.{◌≡◌, ℕ, zero, suc, ◌+◌, ◌≤◌, Bool, true, false, ◌&&◌, if◌then◌else◌, nat_eq, List, [], ◌∷◌, ◌++◌, length, map, reverse, drop, slice_get, Option, Some, None, option_map, refl, sym, ap, ◌∙◌, subst, arith, append_assoc, is_some}
-use Rattle.std.specs.List.{AllByRecursion}
-use Rattle.std.specs.Option.{option_or}
-use Rattle.std.proofs.lemmas.Bool.Decides.{nat_tests}
-use Rattle.std.proofs.lemmas.Option.{same_Some, slice_get-map}
-use Rattle.std.proofs.lemmas.List.{reverse-append}
-use Rattle.w2c_base.specs.declared.value.ValType.{ValType}
+use Rattle.c_body.proofs.Common.{◌≡◌, ℕ, zero, suc, ◌+◌, ◌≤◌, Bool, true, false, ◌&&◌, List, [], ◌∷◌, ◌++◌, map, reverse, length, drop, is_some, if◌then◌else◌, nat_eq, slice_get, Some, None, Option, option_map, sym, refl, ap, ◌∙◌, subst, append_assoc, arith, nat_tests, reverse-append, same_Some, slice_get-map, AllByRecursion, option_or, all_at, if_found, named, with_named, sig_number_of, IsNumber, equal_func_types, types_of, FuncType, ValType, Value, I32, CallIndirect, Module, Context, Stack, values, same_func_type, same_type, same_types, CType, N64, bytes_equal, named-with_named, join, stays, Program, func_type, Reaches, Progress, go_on, Element, Evaluated, FuncPointer, Is, Number, Pointer, Next, Step, Stops, assign, c_step, call, call_callee, call_through, evaluate_args, in_unit, place_of, with_value, helper_right, CallComesTo, CallEnd, GivesBack, TrapsWith, call_ended, helper_of, ComesWithin, c_func_type, ElementAgrees, ElementsAgree, HoldsFunction, IsCallable, IsCallableIfAny, VarsAgree, call_element, call_of, emit_kind, operands_from, result_slot, Follows, Site, StandsAt, Target, at, state_at, element_name, table_arg, IndirectCallsFollow, IsSite, aims_of, StandsFor, called, call_helper, operand, Defines, after_call, stands}
 use Rattle.w2c_base.specs.declared.value.ValType.TheVariants as type
-use Rattle.w2c_base.specs.declared.value.Value.{Value}
-use Rattle.w2c_base.specs.declared.value.Value.TheVariants.{I32, I64}
-use Rattle.w2c_base.specs.declared.signature.FuncType.{FuncType}
+use Rattle.w2c_base.specs.declared.value.Value.TheVariants.{I64}
 use Rattle.w2c_base.specs.declared.trap.TrapKind.TheVariants as trap
-use Rattle.w2c_base.specs.Values.{types_of, equal_func_types, IsNumber}
-use Rattle.w2c_base.specs.Lookup.{if_found, named, with_named}
-use Rattle.w2c_base.specs.Signature.{sig_number_of}
-use Rattle.wasm_tree.specs.declared.tree.Module.{Module}
-use Rattle.wasm_tree.specs.Instructions.{CallIndirect}
-use Rattle.wasm_valid.specs.Context.{Context}
-use Rattle.wasm_valid.specs.Typing.{Stack, values}
 use Rattle.wasm_meaning.specs.LinkedSet as link
 use Rattle.wasm_meaning.specs.Store as store
 use Rattle.wasm_meaning.specs.Execution as exec
-use Rattle.c_tree.specs.declared.tree.CType.{CType}
-use Rattle.c_tree.specs.declared.tree.Num.TheVariants.{N64}
 use Rattle.c_tree.specs.Tree as tree
-use Rattle.c_tree.specs.Runtime.{same_type, same_types, same_func_type}
 use Rattle.c_meaning.specs.State as state
-use Rattle.c_meaning.specs.State.{Is, Number, Pointer, FuncPointer, Element, Evaluated}
-use Rattle.c_meaning.specs.Linking.{Program, func_type}
-use Rattle.c_meaning.specs.Step.{Step, Next, Stops, in_unit, evaluate_args, with_value, place_of, assign, call, call_through, call_callee, c_step}
 use Rattle.c_meaning.specs.Machine as machine
-use Rattle.c_meaning.specs.Run.{Progress, go_on}
-use Rattle.c_meaning.specs.Reaches.{Reaches}
-use Rattle.c_meaning.proofs.Ways.{stays, join}
-use Rattle.c_meaning.proofs.Lookups.{bytes_equal, named-with_named}
 use Rattle.c_prelude.specs.declared.operation.Helper.TheVariants as helper
-use Rattle.c_prelude.specs.Helpers.{helper_of}
-use Rattle.c_prelude.specs.Calls.{CallEnd, GivesBack, TrapsWith, call_ended, CallComesTo}
 use Rattle.c_prelude.specs.Operators.{number, IsSigned, element_found}
-use Rattle.c_prelude.specs.Statements.{ComesWithin}
-use Rattle.c_prelude.proofs.EachHelper.{helper_right}
-use Rattle.c_body.specs.Names.{element_name}
-use Rattle.c_symbols.specs.Symbols.{c_func_type}
-use Rattle.c_body.specs.Stack.{stands, after_call}
-use Rattle.c_body.specs.Objects.{table_arg}
-use Rattle.c_body.specs.Passing.{StandsFor, called}
-use Rattle.c_body.specs.Agree.{HoldsFunction, VarsAgree, ElementAgrees, ElementsAgree, IsCallable, IsCallableIfAny}
-use Rattle.c_body.specs.Plain.{call_helper, operand}
-use Rattle.c_body.specs.Code.{operands_from, result_slot, call_of, call_element, emit_kind}
-use Rattle.c_body.specs.Serves.{Defines}
-use Rattle.c_body.specs.Follows.{Site, Target, StandsAt, Follows, state_at, at}
-use Rattle.c_body.specs.Parts.{IsSite, IndirectCallsFollow, aims_of}
 use Rattle.c_body.proofs.Store.{table_object}
 use Rattle.c_body.proofs.Seen.{TableFound, table_found}
 use Rattle.c_body.proofs.Vars.{under as below, set_element, function_taken}
@@ -60,7 +20,6 @@ use Rattle.c_body.proofs.Operands.{arguments, arguments_are_numbers, no_operand,
 use Rattle.c_body.proofs.Calls.{args_evaluated, invoked, types_under, call_done}
 use Rattle.c_body.proofs.Numeric.{args_are}
 use Rattle.c_body.proofs.Memories.{types_differ}
-use Rattle.c_body.proofs.Lists.{all_at}
 use Rattle.c_body.proofs.Types.{equal_func_types_tell, sig_number_some, NumbersTellTypes, numbers_decide}
 use Rattle.c_body.proofs.Spaces.{module_is}
 use Rattle.c_body.proofs.Gives.{assign_variable, running, operand_is, waiting, helper_comes}

@@ -1,37 +1,17 @@
 -- Branches and returns: a value is moved to the height of the block that is left, and the label is gone to.
-use Rattle.std.proofs.Common.{◌≡◌, ℕ, zero, suc, ◌+◌, eqb-true, ◌≤◌, ◌==◌, Bool, true, false, List, [], ◌∷◌, ◌++◌, map, length, Option, Some, None, slice_get, if◌then◌else◌, refl, sym, ap, ◌∙◌, subst, arith, append_assoc}
+use Rattle.c_body.proofs.Common.{◌≡◌, ℕ, zero, suc, ◌+◌, ◌≤◌, Bool, true, false, List, [], ◌∷◌, ◌++◌, map, length, if◌then◌else◌, ◌==◌, slice_get, Some, None, Option, sym, refl, ap, ◌∙◌, subst, append_assoc, arith, eqb-true, named, with_named, IsNumber, number_of, type_of, types_of, ValType, Value, I32, Stack, values, COp, N32, of_its_type, join, step, operate, Reaches, Progress, go_on, Next, Step, after_label, at_rest, c_step, evaluate, goto, next, number_in, place_of, with_value, HoldsNumber, is_straight, jump, Branches, BranchesTo, Site, StandsAt, Target, at, state_at, label_name, slot, AreTargets, IsFoundIf, IsTarget, aims_of, jump_if, operand, set_slot}
 use Rattle.std.proofs.Math.Dec.{eqb-suc-zero}
-use Rattle.w2c_base.specs.declared.value.ValType.{ValType}
 use Rattle.w2c_base.specs.declared.value.ValType.TheVariants as type
-use Rattle.w2c_base.specs.declared.value.Value.{Value}
-use Rattle.w2c_base.specs.declared.value.Value.TheVariants.{I32}
-use Rattle.w2c_base.specs.Values.{type_of, types_of, number_of, IsNumber}
-use Rattle.w2c_base.specs.Lookup.{named, with_named}
-use Rattle.wasm_valid.specs.Typing.{Stack, values}
 use Rattle.wasm_meaning.specs.Store as store
 use Rattle.wasm_meaning.specs.Execution as exec
-use Rattle.c_tree.specs.declared.tree.COp.{COp}
 use Rattle.c_tree.specs.declared.tree.COp.TheVariants as op
-use Rattle.c_tree.specs.declared.tree.Num.TheVariants.{N32}
 use Rattle.c_tree.specs.Tree as tree
-use Rattle.c_meaning.specs.Operators.{operate}
 use Rattle.c_meaning.specs.State as state
-use Rattle.c_meaning.specs.Step.{Step, Next, next, at_rest, place_of, number_in, evaluate, with_value, jump as goto, after_label, c_step}
-use Rattle.c_meaning.specs.Run.{Progress, go_on}
-use Rattle.c_meaning.specs.Reaches.{Reaches}
-use Rattle.c_meaning.proofs.Ways.{step, join}
-use Rattle.c_body.specs.Names.{slot, label_name}
-use Rattle.c_body.specs.Plain.{operand, set_slot, jump_if}
-use Rattle.c_body.specs.Code.{is_straight, jump}
-use Rattle.c_body.specs.Follows.{Site, Target, StandsAt, Branches, BranchesTo, state_at, at}
-use Rattle.c_body.specs.Parts.{IsTarget, IsFoundIf, AreTargets, aims_of}
 use Rattle.c_body.proofs.Vars.{stands_below, number_taken}
 use Rattle.c_body.proofs.Slots.{SlotIsSet}
 use Rattle.c_body.proofs.Before.{target_by}
 use Rattle.c_body.proofs.Gives.{arg_reaches, operand_is, slot_value}
 use Rattle.c_body.proofs.Names.{slot_is_no_depth}
-use Rattle.c_body.specs.Agree.{HoldsNumber}
-use Rattle.wasm_meaning.proofs.Typed.{of_its_type}
 
 -- ---- variables
 

@@ -1,37 +1,19 @@
 -- Instructions on locals and constants, and those that only drop or select operands, are followed by their statements.
-use Rattle.std.proofs.Common.{◌≡◌, ℕ, zero, suc, ◌+◌, ◌<◌, ◌≤◌, ◌^◌, List, [], ◌∷◌, ◌++◌, length, slice_get, slice_set, Option, Some, None, refl, sym, ap, ◌∙◌, subst, arith, length-append}
-use Rattle.w2c_base.specs.declared.value.ValType.{ValType}
+use Rattle.c_body.proofs.Common.{◌≡◌, ℕ, zero, suc, ◌+◌, ◌^◌, ◌<◌, ◌≤◌, List, [], ◌∷◌, ◌++◌, length, slice_get, slice_set, Some, None, Option, sym, refl, ap, ◌∙◌, subst, arith, length-append, all_at, named, with_named, IsNumber, bits, type_of, types_of, value, ValType, Value, I32, declared_locals, Context, Stack, pattern_below, of_the_same_type, pattern_of, join_one, stays, after_label, number, Arrives, Follows, Site, StandsAt, Target, at, label_name, local_name, slot, IsPlaced, IsSite, KindFollows, operand, plain_stmts, selected, set_slot}
 use Rattle.w2c_base.specs.declared.value.ValType.TheVariants as type
-use Rattle.w2c_base.specs.declared.value.Value.{Value}
-use Rattle.w2c_base.specs.declared.value.Value.TheVariants.{I32, I64}
-use Rattle.w2c_base.specs.Values.{bits, value, type_of, types_of, IsNumber}
-use Rattle.w2c_base.specs.Lookup.{named, with_named}
+use Rattle.w2c_base.specs.declared.value.Value.TheVariants.{I64}
 use Rattle.wasm_tree.specs.Instructions as wasm
-use Rattle.wasm_tree.specs.IndexSpaces.{declared_locals}
-use Rattle.wasm_valid.specs.Typing.{Stack}
-use Rattle.wasm_meaning.specs.Operators.{pattern_of}
 use Rattle.wasm_meaning.specs.Store as store
 use Rattle.wasm_meaning.specs.Execution as exec
 use Rattle.c_tree.specs.declared.tree.COp.TheVariants as op
 use Rattle.c_tree.specs.Tree as tree
 use Rattle.c_meaning.specs.State as state
-use Rattle.c_meaning.specs.Step.{after_label}
-use Rattle.c_meaning.proofs.Ways.{stays, join_one}
-use Rattle.c_prelude.specs.Pieces.{num as number}
-use Rattle.wasm_meaning.proofs.Fits.{pattern_below}
-use Rattle.c_body.specs.Names.{slot, local_name, label_name}
-use Rattle.c_body.specs.Plain.{operand, set_slot, selected, plain_stmts}
-use Rattle.c_body.specs.Follows.{Site, Target, StandsAt, Arrives, Follows, at}
-use Rattle.c_body.specs.Parts.{KindFollows, IsSite, IsPlaced}
 use Rattle.c_body.proofs.Names.{slot_is_no_depth, local_is_no_depth}
-use Rattle.wasm_meaning.proofs.Typed.{of_the_same_type}
 use Rattle.c_body.proofs.Vars.{height, set_local, local_at, local_taken, number_taken, stands_below}
 use Rattle.c_body.proofs.Gives.{Does, Place, owes, running, evaluate-variable, set_reaches, with_top, leaves_number, sets}
 use Rattle.c_body.proofs.Numeric.{one_of, evaluate-slot, One, one_stands, Two, two_stand, place_of, Finds, labels_of}
 use Rattle.c_body.proofs.Operands.{types_length, types_set, value_number, other_types, type_of-value}
 use Rattle.c_body.proofs.Jumps.{if_passes, if_goes, ne_zero, ne_more}
-use Rattle.c_body.proofs.Lists.{all_at}
-use Rattle.wasm_valid.specs.Context.{Context}
 
 -- ---- no statement
 

@@ -1,18 +1,6 @@
 -- Look-ups in what a body's translation reads of its module.
-use Rattle.std.proofs.Common.{◌≡◌, ◌∙◌, ℕ, ◌<◌, ◌≤◌, true, false, List, [], ◌∷◌, length, map, Option, Some, None, arith, refl, ap, sym}
-use Rattle.std.specs.Prelude.{slice_get, is_some, option_map}
-use Rattle.std.proofs.lemmas.Option.{slice_get-map, slice_get-get_or, slice_get_past}
-use Rattle.w2c_base.specs.Lookup.{at_index, if_found}
-use Rattle.wasm_tree.specs.declared.entries.Import.{Import}
-use Rattle.wasm_tree.specs.declared.entries.TypeEntry.{TypeEntry}
-use Rattle.std.proofs.lemmas.List.{length-map}
-use Rattle.wasm_tree.specs.IndexSpaces.{imported_funcs}
-use Rattle.wasm_meaning.specs.LinkedSet.{NamedModule}
-use Rattle.alike.specs.Alike.{func_name}
-use Rattle.c_tree.specs.Scope.{Name}
+use Rattle.c_body.proofs.Common.{◌≡◌, ℕ, ◌<◌, ◌≤◌, true, false, List, [], ◌∷◌, map, length, is_some, slice_get, Some, None, Option, option_map, sym, refl, ap, ◌∙◌, arith, length-map, slice_get-get_or, slice_get-map, slice_get_past, at_index, if_found, imported_funcs, Import, TypeEntry, Name, NamedModule, func_name, func_imports, callee}
 use Rattle.c_symbols.specs.Reached.{usable_symbol}
-use Rattle.c_body.specs.Objects.{callee}
-use Rattle.c_symbols.specs.Symbols.{func_imports}
 
 -- what is made of each item of a list stands where the item does
 pub reached_within : {A B : Type 0} (f : A → B) (made : List B) (xs : List A) (i : ℕ) → made ≡ map f xs → i < length made

@@ -1,15 +1,8 @@
 -- Operands as lists of values: their types, those on top that are a call's arguments, and that they are numbers of
 -- their types.
-use Rattle.std.proofs.Common.{◌≡◌, Option, None, ℕ, zero, suc, ◌<◌, ◌^◌, Some, slice_get, slice_set, List, [], ◌∷◌, ◌++◌, length, reverse, refl, sym, ap, ◌∙◌, subst, arith}
-use Rattle.std.proofs.lemmas.Option.{same_Some}
-use Rattle.std.specs.List.{AllByRecursion}
-use Rattle.std.proofs.lemmas.List.{reverse-append, reverse-reverse}
-use Rattle.w2c_base.specs.declared.value.ValType.{ValType}
+use Rattle.c_body.proofs.Common.{◌≡◌, ℕ, zero, suc, ◌^◌, ◌<◌, List, [], ◌∷◌, ◌++◌, reverse, length, slice_get, slice_set, Some, None, Option, sym, refl, ap, ◌∙◌, subst, arith, reverse-append, reverse-reverse, same_Some, AllByRecursion, all_append, IsNumber, bits, type_of, types_of, value, zeros, ValType, Value, Stack, values}
 use Rattle.w2c_base.specs.declared.value.ValType.TheVariants as type
-use Rattle.w2c_base.specs.declared.value.Value.{Value}
-use Rattle.w2c_base.specs.Values.{bits, value, type_of, types_of, zeros, IsNumber}
-use Rattle.wasm_valid.specs.Typing.{Stack, values}
-use Rattle.c_body.proofs.Lists.{all_append, all_front}
+use Rattle.c_body.proofs.Lists.{all_front}
 
 -- ---- types
 

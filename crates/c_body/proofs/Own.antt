@@ -1,36 +1,12 @@
 -- The functions that a module defines: what their units have for them, and that those stand for them with
 -- no frame between.
-use Rattle.std.proofs.Common.{◌≡◌, ℕ, zero, suc, ◌+◌, ◌-◌, ◌≤◌, inl, List, [], ◌∷◌, ◌++◌, length, map, slice_get, Option, Some, None, option_map, unwrap_or, refl, sym, ap, ◌∙◌, subst, arith}
-use Rattle.std.proofs.lemmas.Option.{same_Some}
-use Rattle.w2c_base.specs.declared.value.ValType.{ValType}
+use Rattle.c_body.proofs.Common.{◌≡◌, ℕ, zero, suc, ◌+◌, ◌-◌, ◌≤◌, List, [], ◌∷◌, ◌++◌, map, length, slice_get, Some, None, Option, option_map, unwrap_or, sym, refl, ap, ◌∙◌, subst, inl, arith, same_Some, all_at, if_found, FuncType, ValType, defined_behind_imports, at_defined, declared_locals, imported_funcs, type_in, BodyEntry, FuncEntry, TypeEntry, Module, Context, body_context, context_of, BodyHasType, AreTyped, IsTyped, bodies_of, func_type_of, stays, Program, c_params_of, c_type_of, definition_at, func_type, primitive, func_name, c_func_type, IsDefined, body_of, defined_at, element_local, func_of, locals_from, no_func, params_from, params_of, slots_of, stmts_of, BodyHasLimits, HasLimits, StandsFor, called, given, AreServed}
 use Rattle.w2c_base.specs.declared.value.ValType.TheVariants as type
-use Rattle.w2c_base.specs.declared.signature.FuncType.{FuncType}
-use Rattle.w2c_base.specs.Lookup.{if_found}
-use Rattle.wasm_tree.specs.declared.tree.Module.{Module}
-use Rattle.wasm_tree.specs.declared.entries.TypeEntry.{TypeEntry}
-use Rattle.wasm_tree.specs.declared.entries.FuncEntry.{FuncEntry}
-use Rattle.wasm_tree.specs.declared.entries.BodyEntry.{BodyEntry}
-use Rattle.wasm_tree.specs.IndexSpaces.{type_in, declared_locals, imported_funcs, at_defined}
-use Rattle.wasm_tree.proofs.BehindImports.{defined_behind_imports}
-use Rattle.wasm_valid.specs.Context.{Context, context_of, body_context}
-use Rattle.wasm_valid.specs.Typing.{BodyHasType}
-use Rattle.wasm_valid.specs.Verdict.{bodies_of, IsTyped, AreTyped}
 use Rattle.wasm_meaning.specs.LinkedSet as link
 use Rattle.c_tree.specs.Tree as tree
-use Rattle.c_tree.specs.Scope.{func_type_of}
 use Rattle.c_meaning.specs.State as state
-use Rattle.c_meaning.specs.Linking.{Program, definition_at, func_type, c_type_of, c_params_of}
-use Rattle.c_meaning.specs.Primitives.{primitive}
-use Rattle.c_meaning.proofs.Ways.{stays}
-use Rattle.alike.specs.Alike.{func_name}
-use Rattle.c_symbols.specs.Symbols.{c_func_type}
-use Rattle.c_body.specs.Limits.{BodyHasLimits, HasLimits}
-use Rattle.c_body.specs.Passing.{StandsFor, called, given}
-use Rattle.c_body.specs.Agree.{IsDefined}
-use Rattle.c_body.specs.Body.{params_of, params_from, locals_from, slots_of, element_local, stmts_of, func_of, defined_at, no_func, body_of}
-use Rattle.c_body.specs.Serves.{AreServed}
 use Rattle.c_body.proofs.Bounds.{within_of}
-use Rattle.c_body.proofs.Lists.{get_zipped, all_at}
+use Rattle.c_body.proofs.Lists.{get_zipped}
 use Rattle.c_body.proofs.Indexes.{own_type}
 use Rattle.c_body.proofs.Spaces.{module_is}
 

@@ -1,47 +1,13 @@
 -- What the translation of code rests on holds at each place of typed code.
-use Rattle.std.proofs.Common.{◌≡◌, ◌∙◌, ℕ, suc, ◌+◌, ◌-◌, ◌<◌, ◌≤◌, ◌^◌, nat_lt, if◌then◌else◌, ◌&&◌, ◌||◌, not, Bool, true, false, List, [], ◌∷◌, ◌++◌, length, length-append, reverse, drop, Option, Some, None, refl, ap, sym, subst, arith, get_or}
-use Rattle.std.specs.Prelude.{slice_get, vec_len, map}
-use Rattle.std.proofs.lemmas.List.{length-reverse}
-use Rattle.std.proofs.lemmas.Option.{slice_get-map}
-use Rattle.w2c_base.specs.declared.value.ValType.{ValType}
-use Rattle.w2c_base.specs.declared.signature.FuncType.{FuncType}
-use Rattle.wasm_tree.specs.declared.code.Instr.{Instr}
-use Rattle.wasm_tree.specs.declared.tree.Module.{Module}
-use Rattle.wasm_tree.specs.declared.entries.TypeEntry.{TypeEntry}
-use Rattle.wasm_tree.specs.declared.entries.FuncEntry.{FuncEntry}
-use Rattle.wasm_tree.specs.declared.entries.BodyEntry.{BodyEntry}
-use Rattle.wasm_tree.specs.IndexSpaces.{type_in, imported_funcs, at_defined}
+use Rattle.c_body.proofs.Common.{◌≡◌, ℕ, suc, ◌+◌, ◌-◌, ◌^◌, ◌<◌, ◌≤◌, Bool, true, false, not, ◌&&◌, ◌||◌, List, [], ◌∷◌, ◌++◌, map, reverse, length, get_or, drop, if◌then◌else◌, nat_lt, slice_get, Some, None, vec_len, Option, sym, refl, ap, ◌∙◌, subst, arith, length-append, length-reverse, slice_get-map, all_at, FuncType, ValType, at_defined, imported_funcs, type_in, Typing, by_rule, of_types, Code, Kind, Otherwise, else_code, no_else, then_code, code_tree, kind_tree, Instr, BodyEntry, FuncEntry, TypeEntry, Module, IsFormed, has_wide, binary_typing, compare_typing, eqz_typing, extend_typing, load_typing, store_typing, unary_typing, Context, Labels, context_of, ElseHasType, HasType, KindHasType, Stack, TurnsAsTabled, table_type, values, IsValid, bodies_of, begun, Inside, any_in, any_in_else, any_inside, labels_in, labels_in_else, labels_of, BodyHasLimits, Made, in_first, in_second, popped, ran, ran_instr, ran_kind, unless_dead, with_labels, made_by, Covered, Setting, BodyIsReady, CodeIsReady, HasOperands, HaveFewParams, InsideIsReady, IsReached, KindIsReached, KindIsReady, PlainIsReady, operands_in, takes, Keeps, after, ends, stands, step_of, taken, Mark, Operands}
 use Rattle.wasm_tree.specs.Instructions as wasm
-use Rattle.wasm_tree.specs.Instructions.{Code, then_code, Kind, Otherwise, no_else, else_code}
-use Rattle.wasm_tree.specs.InstructionTable.{Typing, of_types, by_rule}
-use Rattle.wasm_tree.specs.Views.{code_tree, kind_tree}
-use Rattle.wasm_spelling.specs.Places.{IsFormed}
-use Rattle.wasm_valid.specs.Verdict.{IsValid, bodies_of}
-use Rattle.wasm_valid.specs.Context.{Context, Labels, context_of}
-use Rattle.wasm_valid.specs.Typing.{Stack, HasType, KindHasType, ElseHasType, TurnsAsTabled, table_type, values}
-use Rattle.c_body.specs.declared.mark.Mark.{Mark}
 use Rattle.c_body.specs.declared.steps.Step.{Step}
 use Rattle.c_body.specs.declared.emitter.Emitter.{Emitter}
-use Rattle.c_body.specs.declared.stack.Operands.{Operands}
-use Rattle.c_body.specs.Stack.{after, ends, stands}
-use Rattle.c_body.specs.Labels.{labels_in, labels_of, any_in, any_inside, any_in_else, labels_in_else}
-use Rattle.wasm_spelling.specs.Within.{has_wide}
-use Rattle.c_body.specs.Limits.{BodyHasLimits}
-use Rattle.c_body.specs.Marks.{Covered}
-use Rattle.c_body.specs.Plain.{Setting}
-use Rattle.c_body.specs.Steps.{step_of, taken}
-use Rattle.c_body.specs.Made.{Made, with_labels, ran, ran_kind, ran_instr, unless_dead, popped, in_first, in_second}
-use Rattle.c_body.specs.MadeBy.{made_by}
-use Rattle.c_body.specs.Shown.{types_of, Keeps}
-use Rattle.c_body.specs.Inside.{Inside}
-use Rattle.c_body.specs.Finished.{begun}
-use Rattle.c_body.specs.Ready.{HasOperands, operands_in, takes, IsReached, CodeIsReady, KindIsReached, KindIsReady, PlainIsReady, InsideIsReady, BodyIsReady, HaveFewParams}
-use Rattle.c_body.proofs.Lists.{all_at}
+use Rattle.c_body.specs.Shown.{types_of}
 use Rattle.c_body.proofs.Own.{typed_body, few_params}
 use Rattle.c_body.proofs.Zipped.{pair_at}
 use Rattle.c_body.proofs.Bounds.{within_of}
 use Rattle.c_body.proofs.Heights.{after_typed}
-use Rattle.wasm_valid.proofs.TableTypes.{eqz_typing, compare_typing, unary_typing, binary_typing, extend_typing, load_typing, store_typing}
 use Rattle.c_body.proofs.CodeLists.{code_more}
 use Rattle.c_body.proofs.Marked.{covered_drop}
 use Rattle.c_body.proofs.Went.{Went, Goes}

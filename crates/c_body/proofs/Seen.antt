@@ -1,41 +1,11 @@
 -- The memory, the table and the globals of a module as code of its unit sees them: its own by name, imported ones through pointers.
-use Rattle.std.proofs.Common.{◌≡◌, ℕ, zero, suc, ◌+◌, ◌<◌, ◌≤◌, Bool, true, false, ◌||◌, if◌then◌else◌, List, [], ◌∷◌, ◌++◌, length, map, filter, flat_map, replicate, bytes_eq, slice_get, is_some, IsSome, Option, Some, None, option_map, refl, sym, ap, ◌∙◌, subst, arith}
-use Rattle.std.proofs.lemmas.List.{length-map}
-use Rattle.std.specs.List.{AllByRecursion, range_with_len}
-use Rattle.std.specs.Option.{option_or}
-use Rattle.std.proofs.lemmas.Option.{none-some, same_Some, slice_get_within, slice_get-map}
-use Rattle.w2c_base.specs.declared.value.ValType.{ValType}
-use Rattle.w2c_base.specs.declared.value.Value.{Value}
-use Rattle.w2c_base.specs.declared.value.Value.TheVariants.{I32}
-use Rattle.w2c_base.specs.Values.{type_of, types_of, IsNumber}
-use Rattle.w2c_base.specs.Lookup.{if_found, at_index, named, with_named}
-use Rattle.wasm_tree.specs.declared.tree.Module.{Module}
-use Rattle.wasm_tree.specs.declared.entries.Import.{Import}
-use Rattle.wasm_tree.specs.declared.entries.ImportKind.{ImportKind}
-use Rattle.wasm_tree.specs.declared.entries.ImportKind.TheVariants.{Func as ImportFunc, Table as ImportTable, Memory as ImportMemory, Global as ImportGlobal}
+use Rattle.c_body.proofs.Common.{◌≡◌, ℕ, zero, suc, ◌+◌, ◌<◌, ◌≤◌, Bool, true, false, ◌||◌, List, [], ◌∷◌, ◌++◌, map, length, replicate, is_some, if◌then◌else◌, IsSome, slice_get, Some, None, filter, Option, option_map, flat_map, bytes_eq, sym, refl, ap, ◌∙◌, subst, arith, length-map, none-some, same_Some, slice_get-map, slice_get_within, AllByRecursion, range_with_len, option_or, at_index, if_found, named, with_named, IsNumber, type_of, types_of, ValType, Value, I32, global_of_import, global_space, imported_globals, is_global_import, is_memory_import, is_table_import, memory_of_import, memory_space, table_of_import, table_space, Import, ImportKind, ImportFunc, ImportGlobal, ImportMemory, ImportTable, Module, Context, HasMemory, HasTable, External, GlobalAddress, IndexSpaces, IsGlobal, IsLinked, LinkedSet, NamedModule, Resolves, as_global, as_memory, as_table, global_at, global_type, import_at, imports_of, instances, memory_at, module_at, spaces_of, table_at, put_number, Program, Evaluated, Is, NoRule, Number, Pointer, found, then_evaluate, Next, Step, act, as_object, assign, c_step, depth_name, evaluate_arg, in_unit, next, number_in, place_of, put_in, value_of, with_value, with_vars, first_global, global_name, memory_name, table_name, global_imports, memory_imports, table_imports, IsCallableIfAny, IsMade, MemoryAgrees, PointersAreSet, PointsTo, TableAgrees, Site, StandsAt, state_at, HasLimits, pointer_name, global_value, memory_arg, set_global, table_arg, IsSite, AreServed}
 use Rattle.wasm_tree.specs.declared.entries.GlobalEntry.{GlobalEntry}
-use Rattle.wasm_tree.specs.IndexSpaces.{table_of_import, memory_of_import, global_of_import, table_space, memory_space, global_space, imported_globals, is_table_import, is_memory_import, is_global_import}
-use Rattle.wasm_valid.specs.Typing.{HasMemory, HasTable}
-use Rattle.wasm_meaning.specs.LinkedSet.{NamedModule, LinkedSet, GlobalAddress, IsGlobal, as_memory, as_table, as_global, imports_of, module_at, import_at, table_at, memory_at, global_at, global_type, Resolves, IsLinked, External, IndexSpaces, spaces_of, instances}
 use Rattle.wasm_meaning.specs.Store as store
 use Rattle.c_tree.specs.Tree as tree
 use Rattle.c_meaning.specs.State as state
-use Rattle.c_meaning.specs.State.{Evaluated, NoRule, Is, then_evaluate, found, Pointer, Number}
 use Rattle.c_meaning.specs.Machine as machine
-use Rattle.c_meaning.specs.Linking.{Program}
 use Rattle.wasm_meaning.specs.Execution.{Calls}
-use Rattle.wasm_valid.specs.Context.{Context}
-use Rattle.c_body.specs.Serves.{AreServed}
-use Rattle.c_meaning.specs.Step.{Step, Next, depth_name, in_unit, value_of, number_in, as_object, evaluate_arg, with_value, place_of, with_vars, next, assign, act, c_step, put_in}
-use Rattle.c_meaning.proofs.Takes.{put_number}
-use Rattle.alike.specs.Alike.{memory_name, table_name, global_name, first_global}
-use Rattle.c_body.specs.Names.{pointer_name}
-use Rattle.c_body.specs.Limits.{HasLimits}
-use Rattle.c_symbols.specs.Symbols.{table_imports, memory_imports, global_imports}
-use Rattle.c_body.specs.Objects.{memory_arg, table_arg, global_value, set_global}
-use Rattle.c_body.specs.Agree.{MemoryAgrees, TableAgrees, PointsTo, PointersAreSet, IsMade, IsCallableIfAny}
-use Rattle.c_body.specs.Follows.{Site, StandsAt, state_at}
-use Rattle.c_body.specs.Parts.{IsSite}
 use Rattle.c_body.proofs.Bounds.{within_of}
 use Rattle.c_body.proofs.Store.{AreFew, global_object, memory_object, table_object, global_seen, memory_seen, table_seen}
 use Rattle.c_body.proofs.Spaces.{looked_up, memory_owner, table_owner, global_owner, module_is, module_named, ResolvesAs, of_kind, memory_count, table_count, global_count}

@@ -1,21 +1,7 @@
 -- The slots of a function: below the greatest height, and set without changing what else its variables hold.
-use Rattle.std.proofs.Common.{◌≡◌, ℕ, ◌<◌, ◌≤◌, ◌^◌, max, true, ◌⊎◌, inl, inr, List, [], ◌∷◌, length, Option, Some, None, sym, ◌∙◌, arith}
-use Rattle.std.proofs.lemmas.Bool.{or_cases}
-use Rattle.w2c_base.specs.declared.value.ValType.{ValType}
-use Rattle.w2c_base.specs.declared.value.Value.{Value}
-use Rattle.w2c_base.specs.Values.{type_of, types_of, IsNumber}
-use Rattle.w2c_base.specs.Lookup.{with_named}
-use Rattle.wasm_tree.specs.Instructions.{Code}
-use Rattle.wasm_valid.specs.Context.{Context}
-use Rattle.wasm_valid.specs.Typing.{values}
+use Rattle.c_body.proofs.Common.{◌≡◌, ℕ, ◌^◌, ◌<◌, ◌≤◌, max, true, ◌⊎◌, List, [], ◌∷◌, length, Some, None, Option, sym, ◌∙◌, inl, inr, arith, or_cases, with_named, IsNumber, type_of, types_of, ValType, Value, Code, Context, values, VarsAgree, has_slot, most_operands, Site, slot, IsSite, occurs, peak, stands}
 use Rattle.wasm_meaning.specs.Execution as exec
 use Rattle.c_meaning.specs.State as state
-use Rattle.c_body.specs.Names.{slot}
-use Rattle.c_body.specs.Agree.{VarsAgree}
-use Rattle.c_body.specs.Stack.{stands, occurs, peak}
-use Rattle.c_body.specs.Body.{has_slot, most_operands}
-use Rattle.c_body.specs.Follows.{Site}
-use Rattle.c_body.specs.Parts.{IsSite}
 use Rattle.c_body.proofs.Vars.{push}
 use Rattle.c_body.proofs.Heights.{stands_low, occurs_low}
 

@@ -1,24 +1,12 @@
 -- What the indices of a linked set's modules stand for: objects of the module itself or of an earlier one, of the types that
 -- the module's context has.
-use Rattle.std.proofs.Common.{◌≡◌, cond, flat_map, ℕ, zero, suc, ◌+◌, ◌<◌, ◌≤◌, ◌⊎◌, inl, inr, Bool, List, [], ◌∷◌, ◌++◌, length, map, filter, replicate, take, find, bytes_eq, slice_get, Option, Some, None, option_map, refl, sym, ap, ◌∙◌, subst, arith, append_assoc, append-nil, length-append}
-use Rattle.std.proofs.Math.Seq.{take-append_seam}
-use Rattle.std.specs.List.{AllByRecursion, range_with_len, position_from}
-use Rattle.std.specs.Option.{option_or}
-use Rattle.std.proofs.lemmas.Option.{none-some, same_Some, slice_get_within}
-use Rattle.w2c_base.specs.declared.signature.FuncType.{FuncType}
-use Rattle.w2c_base.specs.Lookup.{if_found, at_index, named}
-use Rattle.w2c_base.specs.Run.{Host}
-use Rattle.wasm_tree.specs.declared.tree.Module.{Module}
-use Rattle.wasm_tree.specs.declared.entries.Import.{Import}
-use Rattle.wasm_tree.specs.declared.entries.ImportKind.{ImportKind}
-use Rattle.wasm_tree.specs.declared.entries.ImportKind.TheVariants.{Func as ImportFunc, Table as ImportTable, Memory as ImportMemory, Global as ImportGlobal}
+use Rattle.c_body.proofs.Common.{◌≡◌, ℕ, zero, suc, ◌+◌, ◌<◌, ◌≤◌, Bool, cond, ◌⊎◌, List, [], ◌∷◌, ◌++◌, map, length, take, replicate, slice_get, Some, None, filter, Option, option_map, find, flat_map, bytes_eq, sym, refl, ap, ◌∙◌, subst, inl, inr, append_assoc, append-nil, arith, length-append, take-append_seam, none-some, same_Some, slice_get_within, AllByRecursion, position_from, range_with_len, option_or, all_append, all_map, at_index, if_found, named, Host, FuncType, func_of_import, global_of_import, imported_funcs, is_func_import, is_global_import, is_memory_import, is_table_import, memory_of_import, table_of_import, Import, ImportKind, ImportFunc, ImportGlobal, ImportMemory, ImportTable, Module, External, GlobalAddress, IndexSpaces, IsGlobal, LinkedSet, NamedModule, as_global, as_memory, as_table, global_at, global_type, import_at, imports_of, instances, memory_at, module_at, spaces_of, table_at, IsCallable, IsFuncOf}
 use Rattle.wasm_tree.specs.declared.entries.Export.{Export}
 use Rattle.wasm_tree.specs.declared.entries.ExportKind.{ExportKind}
 use Rattle.wasm_tree.specs.declared.entries.ExportKind.TheVariants.{Func as ExportFunc, Table as ExportTable, Memory as ExportMemory, Global as ExportGlobal}
-use Rattle.wasm_tree.specs.IndexSpaces.{func_of_import, table_of_import, memory_of_import, global_of_import, imported_funcs, is_func_import, is_table_import, is_memory_import, is_global_import}
-use Rattle.wasm_meaning.specs.LinkedSet.{NamedModule, LinkedSet, FuncAddress, ModuleFunc, HostFunc, GlobalAddress, External, IsFunc, IsTable, IsMemory, IsGlobal, IndexSpaces, Instance, as_func, as_table, as_memory, as_global, exported, offered, imports_of, spaces_of, export_of, instance_of, instances_behind, instances, module_at, import_at, func_at, table_at, memory_at, global_at, type_at, func_type, global_type}
-use Rattle.c_body.specs.Agree.{IsFuncOf, IsCallable}
-use Rattle.c_body.proofs.Lists.{get_behind, get_within, all_append, all_map, all_of, all_replicate, all_range, all_taken, found_has, named_has, one_each}
+use Rattle.wasm_meaning.specs.LinkedSet.{FuncAddress, ModuleFunc, HostFunc, IsFunc, IsTable, IsMemory, Instance, as_func, exported, offered, export_of, instance_of, instances_behind, func_at, type_at, func_type}
+use Rattle.w2c_base.proofs.Places.{get_within}
+use Rattle.c_body.proofs.Lists.{get_behind, all_of, all_replicate, all_range, all_taken, found_has, named_has, one_each}
 
 -- ---- lists
 

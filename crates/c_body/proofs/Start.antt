@@ -1,38 +1,15 @@
 -- The variables of a function at its start: its parameters, its declared locals, which are 0, and then its slots
 -- (C11, 6.9.1 function definitions, 6.7.9 initialisation).
-use Rattle.std.proofs.Common.{◌≡◌, ℕ, zero, suc, ◌+◌, ◌<◌, ◌≤◌, ◌^◌, Bool, true, false, cond, if◌then◌else◌, List, [], ◌∷◌, ◌++◌, length, map, filter, bytes_eq, IsTrue, Option, Some, None, option_map, refl, sym, ap, ◌∙◌, subst, arith, append_assoc, inl, inr, length-append}
-use Rattle.std.specs.List.{AllByRecursion, range_with_len}
-use Rattle.std.proofs.lemmas.Bool.{cases_eq}
-use Rattle.w2c_base.specs.declared.value.ValType.{ValType}
+use Rattle.c_body.proofs.Common.{◌≡◌, ℕ, zero, suc, ◌+◌, ◌^◌, ◌<◌, ◌≤◌, Bool, true, false, cond, List, [], ◌∷◌, ◌++◌, map, length, if◌then◌else◌, IsTrue, Some, None, filter, Option, option_map, bytes_eq, sym, refl, ap, ◌∙◌, subst, inl, inr, append_assoc, arith, length-append, cases_eq, AllByRecursion, range_with_len, all_append, if_found, named, IsNumber, types_of, value, zeros, FuncType, ValType, Value, declared_locals, Code, BodyEntry, Context, context_of, Plain, bytes_differ, bytes_equal, numbers_of_their_types, c_type_of, initial_of, are_of_types, bind, first_vars, locals_of, param_names, param_types, global_name, Located, VarsAgree, element_local, func_of, has_element, has_slot, locals_from, most_operands, params_from, params_of, slots_of, zero_local, BodyHasLimits, element_name, local_name, pointer_name, slot}
 use Rattle.w2c_base.specs.declared.value.ValType.TheVariants as type
-use Rattle.w2c_base.specs.declared.value.Value.{Value}
-use Rattle.w2c_base.specs.declared.signature.FuncType.{FuncType}
-use Rattle.w2c_base.specs.Values.{value, types_of, zeros, IsNumber}
-use Rattle.w2c_base.specs.Lookup.{if_found, named}
-use Rattle.wasm_tree.specs.declared.entries.BodyEntry.{BodyEntry}
-use Rattle.wasm_tree.specs.Instructions.{Code}
-use Rattle.wasm_tree.specs.IndexSpaces.{declared_locals}
-use Rattle.wasm_valid.specs.Context.{Context, context_of}
 use Rattle.wasm_meaning.specs.LinkedSet as link
 use Rattle.c_tree.specs.declared.tree.CType.TheVariants as c_type
-use Rattle.c_tree.specs.declared.tree.Num.TheVariants.{Plain}
 use Rattle.c_tree.specs.Tree as tree
 use Rattle.c_meaning.specs.State as state
-use Rattle.c_meaning.specs.Machine.{initial_of}
-use Rattle.c_meaning.specs.Linking.{c_type_of}
-use Rattle.c_meaning.specs.Step.{param_names, param_types, are_of_types, bind, locals_of, first_vars}
-use Rattle.c_meaning.proofs.Takes.{numbers_of_their_types}
-use Rattle.c_meaning.proofs.Lookups.{bytes_equal, bytes_differ}
-use Rattle.alike.specs.Alike.{global_name}
-use Rattle.c_body.specs.Names.{slot, local_name, element_name, pointer_name}
-use Rattle.c_body.specs.Limits.{BodyHasLimits}
-use Rattle.c_body.specs.Agree.{Located, VarsAgree}
-use Rattle.c_body.specs.Body.{params_from, params_of, zero_local, locals_from, has_slot, most_operands, slots_of, has_element, element_local, func_of}
 use Rattle.c_body.proofs.Names.{local_at_another_place, local_is_no_element, slot_is_no_element, slot_is_no_global, slot_is_no_local, slot_is_no_pointer}
 use Rattle.c_body.proofs.Slots.{slots_are_low}
 use Rattle.c_body.proofs.Operands.{type_of-value, types_length, zeros_types, zeros_numbers}
 use Rattle.c_body.proofs.Own.{func_body}
-use Rattle.c_body.proofs.Lists.{all_append}
 
 -- ---- the variables that are made
 

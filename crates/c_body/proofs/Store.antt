@@ -1,23 +1,9 @@
 -- A store and a machine that agrees with it, where the objects of one module and those of its unit change alike.
-use Rattle.std.proofs.Common.{◌≡◌, ◌≢◌, ℕ, zero, suc, ◌+◌, ◌<◌, ◌^◌, true, List, [], ◌∷◌, length, slice_get, slice_set, is_some, Option, Some, None, refl, sym, ap, ◌∙◌, subst, arith}
-use Rattle.std.specs.List.{AllByRecursion}
-use Rattle.std.proofs.lemmas.Option.{none-some, same_Some, slice_get_within}
-use Rattle.w2c_base.specs.declared.value.Value.{Value}
-use Rattle.w2c_base.specs.Values.{type_of, IsNumber}
-use Rattle.w2c_base.specs.Lookup.{if_found, named, with_named}
-use Rattle.w2c_base.specs.Run.{Trail}
-use Rattle.wasm_tree.specs.declared.tree.Module.{Module}
-use Rattle.wasm_meaning.specs.LinkedSet.{LinkedSet, GlobalAddress}
+use Rattle.c_body.proofs.Common.{◌≡◌, ℕ, zero, suc, ◌+◌, ◌^◌, ◌<◌, true, ◌≢◌, List, [], ◌∷◌, length, is_some, slice_get, slice_set, Some, None, Option, sym, refl, ap, ◌∙◌, subst, arith, none-some, same_Some, slice_get_within, AllByRecursion, all_at, if_found, named, with_named, Trail, IsNumber, type_of, Value, Module, GlobalAddress, LinkedSet, named-with_another, named-with_named, Program, GlobalsAlike, first_global, global_name, memory_name, table_name, Agrees, IsCallableIfAny, IsMade, MemoriesAgree, MemoryAgrees, ObjectsAgree, PointersAreSet, StoresAgree, TableAgrees, TablesAgree, Together, pointer_name}
 use Rattle.wasm_meaning.specs.Store as store
 use Rattle.c_meaning.specs.State as state
 use Rattle.c_meaning.specs.Machine as machine
-use Rattle.c_meaning.specs.Linking.{Program}
-use Rattle.c_meaning.proofs.Lookups.{named-with_named, named-with_another}
-use Rattle.alike.specs.Alike.{memory_name, table_name, global_name, GlobalsAlike, first_global}
-use Rattle.c_body.specs.Names.{pointer_name}
-use Rattle.c_body.specs.Agree.{MemoryAgrees, MemoriesAgree, TableAgrees, TablesAgree, ObjectsAgree, StoresAgree, Agrees, PointersAreSet, IsMade, IsCallableIfAny}
-use Rattle.c_body.specs.Follows.{Together}
-use Rattle.c_body.proofs.Lists.{all_at, all_set, unseen, still_there, still_all}
+use Rattle.c_body.proofs.Lists.{all_set, unseen, still_there, still_all}
 use Rattle.c_body.proofs.Operands.{types_set}
 use Rattle.c_body.proofs.Names.{global_at_another_place, global_is_no_pointer}
 

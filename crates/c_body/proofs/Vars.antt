@@ -1,22 +1,8 @@
 -- The variables of a running function agree with its operands and locals behind an assignment.
-use Rattle.std.proofs.Common.{bytes_eq, false, refl, ◌≡◌, ◌≢◌, ℕ, zero, suc, ◌+◌, ◌<◌, ◌≤◌, ◌^◌, Bool, true, List, [], ◌∷◌, ◌++◌, length, Option, Some, None, is_some, slice_get, slice_set, IsSome, IsTrue, sym, ap, ◌∙◌, subst, arith}
-use Rattle.std.proofs.lemmas.Option.{same_Some, slice_get_within}
-use Rattle.std.proofs.lemmas.Slice.Eq.{bytes_eq-Decides}
-use Rattle.w2c_base.specs.declared.value.ValType.{ValType}
-use Rattle.w2c_base.specs.declared.value.Value.{Value}
-use Rattle.w2c_base.specs.Values.{type_of, types_of, IsNumber}
-use Rattle.w2c_base.specs.Lookup.{named, with_named}
-use Rattle.alike.specs.Alike.{global_name}
+use Rattle.c_body.proofs.Common.{◌≡◌, ℕ, zero, suc, ◌+◌, ◌^◌, ◌<◌, ◌≤◌, Bool, true, false, ◌≢◌, List, [], ◌∷◌, ◌++◌, length, is_some, IsSome, IsTrue, slice_get, slice_set, Some, None, Option, bytes_eq, sym, refl, ap, ◌∙◌, subst, arith, same_Some, slice_get_within, bytes_eq-Decides, equal_type-eq, named, with_named, IsNumber, type_of, types_of, ValType, Value, named-with_another, named-with_named, numbers_of_one_type, of_one_type, global_name, HoldsFunction, HoldsNumber, Located, Stacked, VarsAgree, Site, StandsAt, Together, element_name, local_name, pointer_name, slot}
 use Rattle.wasm_meaning.specs.Store as store
 use Rattle.wasm_meaning.specs.Execution as exec
 use Rattle.c_meaning.specs.State as state
-use Rattle.c_meaning.specs.State.{of_one_type}
-use Rattle.w2c_base.proofs.Types.{equal_type-eq}
-use Rattle.c_meaning.proofs.Lookups.{named-with_named, named-with_another}
-use Rattle.c_meaning.proofs.Takes.{numbers_of_one_type}
-use Rattle.c_body.specs.Names.{slot, local_name, element_name, pointer_name}
-use Rattle.c_body.specs.Agree.{Stacked, Located, HoldsNumber, HoldsFunction, VarsAgree}
-use Rattle.c_body.specs.Follows.{Site, StandsAt, Together}
 use Rattle.c_body.proofs.Names.{slot_at_another_height, slot_is_no_local, slot_is_no_element, slot_is_no_global, slot_is_no_pointer, local_at_another_place, local_is_no_element, local_is_no_global, local_is_no_pointer, element_is_no_global, element_is_no_pointer}
 use Rattle.c_body.proofs.Lists.{all_behind, all_set}
 

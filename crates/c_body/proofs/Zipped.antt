@@ -1,16 +1,6 @@
 -- The function with an index, by what is found of it.
-use Rattle.std.proofs.Common.{◌≡◌, ◌∙◌, ℕ, zero, suc, ◌-◌, nat_lt, Bool, true, false, if◌then◌else◌, List, [], ◌∷◌, map, Option, Some, None, refl, ap, sym}
-use Rattle.std.specs.Prelude.{slice_get, option_map, unwrap_or, zip}
-use Rattle.w2c_base.specs.Lookup.{if_found}
+use Rattle.c_body.proofs.Common.{◌≡◌, ℕ, zero, suc, ◌-◌, Bool, true, false, List, [], ◌∷◌, map, if◌then◌else◌, nat_lt, slice_get, Some, None, Option, option_map, zip, unwrap_or, sym, refl, ap, ◌∙◌, slice_get-map, if_found, FuncType, at_defined, imported_funcs, type_in, BodyEntry, FuncEntry, TypeEntry, Module, body_of, func_of, no_func}
 use Rattle.c_tree.specs.Tree as tree
-use Rattle.std.proofs.lemmas.Option.{slice_get-map}
-use Rattle.w2c_base.specs.declared.signature.FuncType.{FuncType}
-use Rattle.wasm_tree.specs.declared.tree.Module.{Module}
-use Rattle.wasm_tree.specs.declared.entries.FuncEntry.{FuncEntry}
-use Rattle.wasm_tree.specs.declared.entries.BodyEntry.{BodyEntry}
-use Rattle.wasm_tree.specs.declared.entries.TypeEntry.{TypeEntry}
-use Rattle.wasm_tree.specs.IndexSpaces.{type_in, imported_funcs, at_defined}
-use Rattle.c_body.specs.Body.{body_of, func_of, no_func}
 
 none_left : {A B : Type 0} (xs : List A) (ys : List B) (i : ℕ) → slice_get xs i ≡ None → slice_get (zip xs ys) i ≡ None
 none_left [] ys i e = refl
@@ -24,12 +14,12 @@ none_right (x ∷ xs) [] i e = refl
 none_right (x ∷ xs) (y ∷ ys) zero e = cc
 none_right (x ∷ xs) (y ∷ ys) (suc i) e = none_right xs ys i e
 
-both : {A B : Type 0} (xs : List A) (ys : List B) (i : ℕ) (a : A) (b : B) → slice_get xs i ≡ Some a → slice_get ys i ≡ Some b
+pub zip_at : {A B : Type 0} (xs : List A) (ys : List B) (i : ℕ) (a : A) (b : B) → slice_get xs i ≡ Some a → slice_get ys i ≡ Some b
     → slice_get (zip xs ys) i ≡ Some (a, b)
-both [] ys i a b e f = cc
-both (x ∷ xs) [] i a b e f = cc
-both (x ∷ xs) (y ∷ ys) zero a b e f = cc
-both (x ∷ xs) (y ∷ ys) (suc i) a b e f = both xs ys i a b e f
+zip_at [] ys i a b e f = cc
+zip_at (x ∷ xs) [] i a b e f = cc
+zip_at (x ∷ xs) (y ∷ ys) zero a b e f = cc
+zip_at (x ∷ xs) (y ∷ ys) (suc i) a b e f = zip_at xs ys i a b e f
 
 -- what stands at an index in two lists stands there in pairs
 pub pair_at : {A B : Type 0} (m : Module) (xs : List A) (ys : List B) (index : ℕ) (a : A) (b : B)
@@ -40,7 +30,7 @@ pair_at {A} {B} m xs ys index a b = go (nat_lt index (imported_funcs m))
         → (if imported then None else slice_get ys (index - imported_funcs m)) ≡ Some b
         → (if imported then None else slice_get (zip xs ys) (index - imported_funcs m)) ≡ Some (a, b)
     go true e f = absurd cc
-    go false e f = both xs ys (index - imported_funcs m) a b e f
+    go false e f = zip_at xs ys (index - imported_funcs m) a b e f
 
 no_pair_left : {A B : Type 0} (m : Module) (xs : List A) (ys : List B) (index : ℕ) → at_defined m xs index ≡ None
     → at_defined m (zip xs ys) index ≡ None

@@ -152,24 +152,25 @@ impl<'a> IndexSpaces<'a> {
     fn func_at(&self, index: u32) -> Option<&'a FuncEntry>
         ensures { option_copied result ≡ at_defined self.now.tree.now self.now.tree.now.funcs index }
     {
-        let index = index as usize;
-        let imported = self.imported_funcs();
-        if index < imported {
-            None
-        } else {
-            self.tree.funcs.as_slice().get(index - imported)
-        }
+        self.at_defined(self.tree.funcs.as_slice(), index)
     }
 
     fn body_at(&self, index: u32) -> Option<&'a BodyEntry>
         ensures { option_copied result ≡ at_defined self.now.tree.now self.now.tree.now.bodies index }
+    {
+        self.at_defined(self.tree.bodies.as_slice(), index)
+    }
+
+    // What a list has for the function that the module defines with an index.
+    fn at_defined<T>(&self, list: &'a [T], index: u32) -> Option<&'a T>
+        ensures { option_copied result ≡ at_defined self.now.tree.now list.now index }
     {
         let index = index as usize;
         let imported = self.imported_funcs();
         if index < imported {
             None
         } else {
-            self.tree.bodies.as_slice().get(index - imported)
+            list.get(index - imported)
         }
     }
 

@@ -1,12 +1,5 @@
 -- The items behind one more, of which none clash.
-use Rattle.std.proofs.Common.{◌≡◌, ℕ, ◌+◌, ◌<◌, true, List, length, get_or, map, take, Option, None, sym, ap, ◌∙◌}
-use Rattle.c_tree.specs.declared.tree.Item.{Item}
-use Rattle.c_tree.specs.View.{item_of}
-use Rattle.c_scope.proofs.NextItem.{take_next}
-use Rattle.c_rules.specs.FirstRule.{item_breaks}
-use Rattle.c_rules.specs.UnitNames.{none_clash}
-use Rattle.c_rules.proofs.Clashes.{none_clash_more}
-use Rattle.c_rules.proofs.Onward.{declared_once}
+use Rattle.c_check.proofs.Common.{◌≡◌, ℕ, ◌+◌, ◌<◌, true, List, map, length, get_or, take, None, Option, sym, ap, ◌∙◌, item_of, Item, none_clash_more, declared_once, item_breaks, none_clash, take_next}
 
 pub taken : (xs ys : List Item) (i n : ℕ) → ys ≡ xs → n ≡ i + 1 → take (i + 1) (map item_of xs) ≡ take n (map item_of ys)
 taken xs ys i n same next = ap (λ m. take m (map item_of xs)) (sym next) ∙ ap (λ (zs : List Item). take n (map item_of zs)) (sym same)

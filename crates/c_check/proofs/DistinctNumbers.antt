@@ -1,12 +1,7 @@
 -- Numbers without two equal ones, from the end on.
-use Rattle.std.proofs.Common.{◌≡◌, ℕ, zero, suc, ◌+◌, ◌==◌, Bool, true, false, ◌&&◌, ◌||◌, cond, is_eq, nat_cmp, List, [], ◌∷◌, drop, Some, refl, sym, ap, ◌∙◌, BTreeSet}
-use Rattle.std.specs.Prelude.{not, slice_get}
-use Rattle.std.specs.List.{list_any}
-use Rattle.std.specs.BTreeMap.{is_at}
-use Rattle.std.specs.BTreeSet.{contains}
+use Rattle.c_check.proofs.Common.{◌≡◌, ℕ, zero, suc, ◌+◌, Bool, true, false, cond, not, ◌&&◌, ◌||◌, List, [], ◌∷◌, drop, ◌==◌, slice_get, Some, nat_cmp, is_eq, BTreeSet, sym, refl, ap, ◌∙◌, is_at, contains, list_any, are_distinct_numbers}
 use Rattle.std.specs.Cmp.{unsigned_tied}
-use Rattle.c_tree.specs.Rules.{are_distinct_numbers}
-use Rattle.c_rules.proofs.Distinct.{drop_front}
+use Rattle.w2c_base.proofs.Places.{drop_front}
 
 -- where the end is not distinct, the whole is not
 pub distinct_end : (numbers : List ℕ) (j : ℕ) → are_distinct_numbers (drop j numbers) ≡ false → are_distinct_numbers numbers ≡ false

@@ -1,3 +1,4 @@
+mod Common
 pub mod Behind
 pub mod DistinctNumbers
 pub mod Sets

@@ -1,25 +1,11 @@
 -- Sets of names, and tests of all items of a list.
-use Rattle.std.proofs.Common.{◌≡◌, ℕ, zero, suc, ◌+◌, ◌<◌, ◌≤◌, Bool, true, false, ◌&&◌, ◌||◌, if◌then◌else◌, List, [], ◌∷◌, ◌++◌, length, get_or, take, map, bytes_eq, is_some, Option, refl, sym, ap, ◌∙◌, arith}
-use Rattle.std.specs.Prelude.{filter_map, not}
-use Rattle.std.specs.List.{list_all, list_any}
-use Rattle.std.proofs.lemmas.List.{length-map}
-use Rattle.w2c_base.specs.Lookup.{named}
-use Rattle.c_tree.specs.declared.tree.CType.{CType}
+use Rattle.c_check.proofs.Common.{◌≡◌, ℕ, zero, suc, ◌+◌, ◌<◌, ◌≤◌, Bool, true, false, not, ◌&&◌, ◌||◌, List, [], ◌∷◌, map, length, get_or, take, is_some, if◌then◌else◌, Option, filter_map, bytes_eq, sym, refl, ap, ◌∙◌, arith, length-map, list_all, list_any, named, hides_none, name_of, CType, names_of, knows_next, variable_pair, Variable}
 use Rattle.c_tree.specs.Tree as tree
-use Rattle.c_tree.specs.Scope.{name_of}
-use Rattle.c_tree.specs.Rules.{hides_none}
-use Rattle.c_scope.specs.declared.own.Variable.{Variable}
-use Rattle.c_scope.specs.Own.{variable_pair}
-use Rattle.c_scope.proofs.NextItem.{knows_next}
-use Rattle.c_rules.specs.UnitNames.{names_of}
+use Rattle.c_tree.proofs.Tested.{list_all_map}
 
 pub or_nothing : (b : Bool) → (b || false) ≡ b
 or_nothing true = refl
 or_nothing false = refl
-
-pub all_mapped : {A B : Type 0} (p : B → Bool) (view : A → B) (xs : List A) → list_all p (map view xs) ≡ list_all (λ x. p (view x)) xs
-all_mapped p view [] = refl
-all_mapped p view (x ∷ xs) = ap (λ b. p (view x) && b) (all_mapped p view xs)
 
 -- a set behind one more item that may name something, and behind all
 pub knows_put : {A B C : Type 0} (view : A → B) (of : B → Option (List ℕ)) (xs : List A) (i : ℕ) (x : A) → i < length xs
@@ -69,21 +55,5 @@ hides set unit own names knows same =
     all_same (λ (v : Variable). not (is_some (named v.name.now set)))
     (λ (v : Variable). not (list_any (bytes_eq v.name.now) (map name_of unit))) own
     (λ v. ap not (knows v.name.now ∙ ap (list_any (bytes_eq v.name.now)) (names_listed unit)))
-    ∙ sym (all_mapped (λ n. not (list_any (bytes_eq n) (map name_of unit))) (λ (v : Variable). v.name.now) own)
+    ∙ sym (list_all_map (λ n. not (list_any (bytes_eq n) (map name_of unit))) (λ (v : Variable). v.name.now) own)
     ∙ ap (hides_none unit) same
-
-pub all_push : {A : Type 0} (p : A → Bool) (xs ys : List A) → list_all p (xs ++ ys) ≡ (list_all p xs && list_all p ys)
-all_push p [] ys = refl
-all_push p (x ∷ xs) ys = go (p x) (all_push p xs ys)
-  where
-    go : (b : Bool) → list_all p (xs ++ ys) ≡ (list_all p xs && list_all p ys)
-        → (b && list_all p (xs ++ ys)) ≡ ((b && list_all p xs) && list_all p ys)
-    go true behind = behind
-    go false behind = refl
-
-pub all_one : {A : Type 0} (p : A → Bool) (x : A) → list_all p (x ∷ []) ≡ p x
-all_one p x = go (p x)
-  where
-    go : (b : Bool) → (b && true) ≡ b
-    go true = refl
-    go false = refl

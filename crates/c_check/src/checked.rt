@@ -1,4 +1,4 @@
-// Units that keep the rules.
+// The checker: whether a unit keeps the rules, and the first one that it breaks.
 ghost use Rattle.std.specs.Prelude.{◌≡◌, IfOk, IfErr};
 ghost use Rattle.c_tree.specs.View.{unit_of};
 ghost use Rattle.c_tree.specs.Spelled.{Formed};

@@ -33,7 +33,7 @@ fn function_names<'a>(alloc: Global, f: &'a Func) -> Result<Vec<Variable<'a>>, M
 }
 
 /// Whether none of the names that an item declares is reserved for something else.
-#[tactic(auto, using(crate::proofs::Sets::all_mapped))]
+#[tactic(auto, using(c_tree::proofs::Tested::list_all_map))]
 pub fn names_are_free(item: &Item, own: &[Variable]) -> bool
     requires { map (λ v. v.name.now) own.now ≡ local_names (item_of item.now) }
     ensures { result ≡ names_are_free (alone item.now) }

@@ -60,7 +60,7 @@ pub fn proper_params(params: &[(CType, Option<Name>)]) -> &[(CType, Option<Name>
     params
 }
 
-#[tactic(auto, using(crate::proofs::Sets::all_mapped))]
+#[tactic(auto, using(c_tree::proofs::Tested::list_all_map))]
 fn locals_have_values(body: &Option<Body>) -> bool
     ensures { result ≡ locals_have_values (maybe_body_of body.now) }
 {
@@ -114,7 +114,7 @@ pub fn written_type_is_proper(stmt: &Stmt) -> bool
     }
 }
 
-#[tactic(auto, using(crate::proofs::Sets::all_mapped))]
+#[tactic(auto, using(c_tree::proofs::Tested::list_all_map))]
 fn callee_is_proper(callee: &Callee) -> bool
     ensures { result ≡ elim (callee_of callee.now) [ tree.Called name ↦ true | tree.Through t name ↦ is_result_type t.result && list_all is_value_type (proper_types t.params) ] }
 {

@@ -38,7 +38,7 @@ fn have_case_labels(labels: &NameTable<()>, cases: &[(Num, Name)]) -> bool
 }
 
 /// Whether each label that a statement names is there.
-#[tactic(auto, using(crate::proofs::Sets::all_mapped, crate::proofs::Sets::all_push, crate::proofs::Sets::all_one))]
+#[tactic(auto, using(c_tree::proofs::Tested::list_all_map, c_types::proofs::Tested::all_append, c_types::proofs::Tested::all_one))]
 fn named_labels_are_there(labels: &NameTable<()>, stmt: &Stmt) -> bool
     ensures { result ≡ list_all (λ n. is_some (named n labels.now)) (labels_named (stmt_of stmt.now)) }
 {

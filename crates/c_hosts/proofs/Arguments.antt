@@ -1,10 +1,8 @@
 -- Values of the types of parameters, one for each.
-use Rattle.std.proofs.Common.{◌≡◌, ℕ, suc, ◌&&◌, length, drop, Bool, true, false, List, [], ◌∷◌, refl, ap, ap₂}
+use Rattle.c_hosts.proofs.Common.{◌≡◌, ℕ, suc, Bool, true, false, ◌&&◌, List, [], ◌∷◌, length, drop, refl, ap, ap₂, equal_type, equal_types, type_of, types_of, Value}
 use Rattle.w2c_base.proofs.Conjunctions.{both_hold}
-use Rattle.w2c_base.specs.declared.value.Value.{Value}
 use Rattle.w2c_base.specs.declared.value.ValType.{ValType}
 use Rattle.w2c_base.specs.declared.value.ValType.TheVariants.{I32, I64}
-use Rattle.w2c_base.specs.Values.{equal_type, equal_types, type_of, types_of}
 
 -- types and values agree from the i-th on as they do on the whole
 abbrev pub Agree : ℕ → List ValType → List Value → Type 0

@@ -1,13 +1,5 @@
 -- The host that a call names.
-use Rattle.std.proofs.Common.{◌≡◌, List, Option, Some, None, refl, sym, ap, ◌∙◌, subst}
-use Rattle.std.specs.Prelude.{slice_get, slice_index_or, IfSome, MatchOption}
-use Rattle.std.specs.Option.{unwrap_or}
-use Rattle.std.proofs.lemmas.Option.{unwrap_or-slice_get}
-use Rattle.w2c_base.specs.Lookup.{if_found}
-use Rattle.c_thread.specs.declared.linked.HostCall.{HostCall}
-use Rattle.c_hosts.specs.declared.host.HostFunction.{HostFunction}
-use Rattle.c_hosts.specs.declared.host.HostModule.{Ghosts as HostModule}
-use Rattle.c_hosts.specs.Asking.{offered}
+use Rattle.c_hosts.proofs.Common.{◌≡◌, List, IfSome, slice_get, slice_index_or, Some, None, Option, MatchOption, unwrap_or, sym, refl, ap, ◌∙◌, subst, unwrap_or-slice_get, if_found, HostCall, offered, HostFunction, HostModule}
 
 module _ {H : Type 0} (m : HostModule H) (hosts : List H) (call : HostCall) (f : HostFunction) (r : H)
     (found : offered m hosts call ≡ Some f) (at : r ≡ slice_index_or hosts call.host r) where

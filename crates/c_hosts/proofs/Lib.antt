@@ -1,4 +1,5 @@
-mod Arguments
+mod Common
+pub mod Arguments
 mod Called
 mod Lasts
 pub mod Offers

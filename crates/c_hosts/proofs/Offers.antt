@@ -1,19 +1,6 @@
 -- What hosts offer, and that answers change nothing of it.
-use Rattle.std.proofs.Common.{◌≡◌, ℕ, get_or, append_assoc, List, [], ◌∷◌, ◌++◌, map, Option, Some, None, refl, sym, ap, ◌∙◌, subst}
-use Rattle.std.specs.Prelude.{slice_get, option_map}
-use Rattle.std.proofs.lemmas.Option.{slice_get-map, unwrap_or-slice_get}
-use Rattle.std.specs.Option.{unwrap_or}
-use Rattle.std.proofs.Math.Seq.{map-set_same}
-use Rattle.w2c_base.specs.declared.signature.FuncType.{FuncType}
-use Rattle.w2c_base.specs.Lookup.{if_found}
+use Rattle.c_hosts.proofs.Common.{◌≡◌, ℕ, List, [], ◌∷◌, ◌++◌, map, get_or, slice_get, Some, None, Option, option_map, unwrap_or, sym, refl, ap, ◌∙◌, subst, append_assoc, map-set_same, slice_get-map, unwrap_or-slice_get, if_found, FuncType, Program, host_type, HostCall, Answered, Answers, function_of, host_of, hosts_of, offered, Asks, HostFunction, HostModule, Asked}
 use Rattle.w2c_base.specs.Run as run
-use Rattle.c_meaning.specs.Linking.{Program, host_type}
-use Rattle.c_thread.specs.declared.linked.HostCall.{HostCall}
-use Rattle.c_hosts.specs.declared.host.HostFunction.{HostFunction}
-use Rattle.c_hosts.specs.declared.host.HostModule.{Ghosts as HostModule}
-use Rattle.c_hosts.specs.declared.journal.Asked.{Asked}
-use Rattle.c_hosts.specs.Asking.{function_of, host_of, hosts_of, offered, Answers, Answered}
-use Rattle.c_hosts.specs.Running.{Asks}
 
 module _ {H : Type 0} (m : HostModule H) where
   abbrev type_in : run.HostFunction → FuncType

@@ -1,27 +1,13 @@
 -- The reply of a host, and what a statement that asks one comes to.
-use Rattle.std.proofs.Common.{◌≡◌, Bool, true, false, if◌then◌else◌, List, [], ◌∷◌, ◌++◌, Option, Some, None, refl, sym, ap, ◌∙◌, subst}
-use Rattle.std.specs.Prelude.{is_some, bytes_eq, option_map, ⊤}
-use Rattle.w2c_base.specs.declared.value.Value.{Value}
+use Rattle.c_hosts.proofs.Common.{◌≡◌, Bool, true, false, List, [], ◌∷◌, ◌++◌, is_some, if◌then◌else◌, Some, None, Option, option_map, bytes_eq, sym, refl, ap, ◌∙◌, subst, named, with_named, Event, Gave, Reply, equal_types, is_result, types_of, FuncType, Value, Program, host_type, Stuck, Back, Next, Step, Stops, assign, assign_depth, depth_name, give, in_unit, next, put_in, replied, with_vars, Naming, below_in, host_asked, machine_in, step_in, waiting_in, HostCall, LinkedThread, IsOffered, hosts_of, offered, settled_in, HostFunction, HostModule}
+use Rattle.std.specs.Prelude.{⊤}
 use Rattle.w2c_base.specs.declared.value.Value.TheVariants.{I32, I64}
-use Rattle.w2c_base.specs.declared.signature.FuncType.{FuncType}
-use Rattle.w2c_base.specs.Lookup.{named, with_named}
 use Rattle.w2c_base.specs.Run as run
-use Rattle.w2c_base.specs.Run.{Ask, Event, Reply, Trail, Gave, asked}
-use Rattle.w2c_base.specs.Values.{equal_types, types_of, is_result}
-use Rattle.c_meaning.specs.State.{Name, CValue, Number, Pointer, FuncPointer, Machine, Running, Frame as Waiting, Asks, Stuck, of_one_type}
-use Rattle.c_meaning.specs.Linking.{Program, host_type}
+use Rattle.w2c_base.specs.Run.{Ask, Trail, asked}
+use Rattle.c_meaning.specs.State.{Name, CValue, Number, Pointer, FuncPointer, Machine, Running, Frame as Waiting, Asks, of_one_type}
 use Rattle.c_meaning.specs.Machine.{var_in, with_trail, with_var}
-use Rattle.c_meaning.specs.Step.{Step, Next, Back, Stops, assign, assign_depth, depth_name, give, in_unit, next, put_in, replied, with_vars}
-use Rattle.c_objects.specs.Views.{Naming}
-use Rattle.c_thread.specs.declared.linked.HostCall.{HostCall}
 use Rattle.c_thread.specs.declared.linked.LinkedStep.{LinkedStep}
 use Rattle.c_thread.specs.declared.linked.LinkedStep.TheVariants as step
-use Rattle.c_thread.specs.declared.linked.LinkedThread.{LinkedThread}
-use Rattle.c_thread.specs.Linked.{below_in, host_asked, machine_in, step_in, waiting_in}
-use Rattle.c_hosts.specs.declared.host.HostFunction.{HostFunction}
-use Rattle.c_hosts.specs.declared.host.HostModule.{Ghosts as HostModule}
-use Rattle.c_hosts.specs.Asking.{hosts_of, offered, IsOffered}
-use Rattle.c_hosts.specs.Running.{settled_in}
 use Rattle.c_hosts.proofs.Offers.{own_type, type_of_offered}
 
 -- the statement stops at no ask

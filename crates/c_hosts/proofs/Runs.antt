@@ -1,24 +1,11 @@
 -- One statement more of a run with hosts.
-use Rattle.std.proofs.Common.{◌≡◌, ℕ, ◌+◌, ◌-◌, ◌≤◌, ◌<◌, List, [], ◌∷◌, ◌++◌, append_assoc, Option, None, refl, sym, ap, ◌∙◌, arith}
-use Rattle.std.proofs.lemmas.List.{append-nil, map-append}
-use Rattle.w2c_base.specs.Run.{Event, Reply}
-use Rattle.c_meaning.specs.State.{State}
-use Rattle.c_meaning.specs.Linking.{Program}
+use Rattle.c_hosts.proofs.Common.{◌≡◌, ℕ, ◌+◌, ◌-◌, ◌<◌, ◌≤◌, List, [], ◌∷◌, ◌++◌, None, Option, sym, refl, ap, ◌∙◌, append_assoc, append-nil, arith, Event, Reply, Program, State, Step, c_step, AreStored, Naming, state_in, LinkedThread, hosts_of, event_in, events_in, replies_in, reply_in, IsThread, Runs, RunsPart, step_at, trail_before, trail_behind, HostModule, Asked}
+use Rattle.std.proofs.lemmas.List.{map-append}
 use Rattle.c_meaning.specs.Run.{Going, Pending, Progress, after, go_on}
-use Rattle.c_meaning.specs.Step.{Step, c_step}
 use Rattle.c_meaning.proofs.Longer.{after_sum}
-use Rattle.c_objects.specs.Stores.{AreStored}
-use Rattle.c_objects.specs.Views.{Naming}
 use Rattle.c_thread.specs.declared.control.LinkedUnit.{LinkedUnit}
-use Rattle.c_thread.specs.declared.linked.LinkedThread.{LinkedThread}
 use Rattle.c_thread.specs.declared.signatures.FuncTypes.{FuncTypes}
-use Rattle.c_thread.specs.Linked.{state_in}
-use Rattle.c_hosts.specs.declared.host.HostModule.{Ghosts as HostModule}
-use Rattle.c_hosts.specs.declared.journal.Asked.{Asked}
 use Rattle.c_hosts.specs.declared.running.Ending.{Ending}
-use Rattle.c_hosts.specs.Asking.{hosts_of}
-use Rattle.c_hosts.specs.Journals.{event_in, events_in, replies_in, reply_in}
-use Rattle.c_hosts.specs.Running.{step_at, trail_before, trail_behind, IsThread, Runs, RunsPart}
 
 -- asks in front of others
 pub before_both : (asks more : List Asked) (later : List Reply) (told : List Event)

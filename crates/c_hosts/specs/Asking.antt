@@ -8,7 +8,7 @@ use Rattle.w2c_base.specs.Values.{equal_types, types_of}
 use Rattle.c_thread.specs.declared.linked.HostCall.{HostCall}
 use Rattle.c_hosts.specs.declared.host.HostFunction.{HostFunction}
 use Rattle.c_hosts.specs.declared.host.HostModule.{Ghosts as HostModule}
-use Rattle.c_hosts.specs.declared.host.HostReply.{HostReply}
+use Rattle.c_meaning.specs.declared.reply.HostReply.{HostReply}
 use Rattle.c_hosts.specs.declared.journal.Asked.{Asked}
 
 -- what units see of hosts: their names and functions

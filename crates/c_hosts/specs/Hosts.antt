@@ -3,8 +3,8 @@ use Rattle.std.specs.Prelude.{◌≡◌, List, ⊤, true}
 use Rattle.w2c_base.specs.declared.value.Value.{Value}
 use Rattle.w2c_base.specs.Values.{types_of, is_result}
 use Rattle.c_hosts.specs.declared.host.HostFunction.{HostFunction}
-use Rattle.c_hosts.specs.declared.host.HostReply.{HostReply}
-use Rattle.c_hosts.specs.declared.host.HostReply.TheVariants as reply
+use Rattle.c_meaning.specs.declared.reply.HostReply.{HostReply}
+use Rattle.c_meaning.specs.declared.reply.HostReply.TheVariants as reply
 
 -- the arguments have the function's types
 abbrev pub TakesArgs : HostFunction → List Value → Type 0

@@ -1,10 +1,10 @@
 -- What hosts were asked and replied, as the events of a run tell it.
 use Rattle.std.specs.Prelude.{List, map, Some}
-use Rattle.w2c_base.specs.Run.{Ask, Event, Reply, Gave, HostTrapped}
+use Rattle.w2c_base.specs.Run.{Ask, Event, Reply}
 use Rattle.w2c_base.specs.Run as run
 use Rattle.c_thread.specs.declared.linked.HostCall.{HostCall}
-use Rattle.c_hosts.specs.declared.host.HostReply.{HostReply}
-use Rattle.c_hosts.specs.declared.host.HostReply.TheVariants as reply
+use Rattle.c_meaning.specs.declared.reply.HostReply.{HostReply}
+pub use Rattle.c_meaning.specs.Views.{reply_of}
 use Rattle.c_hosts.specs.declared.journal.Asked.{Asked}
 
 -- a call that was answered so
@@ -17,10 +17,6 @@ with_reply r a = record { host = a.host; function = a.function; args = a.args; r
 
 abbrev pub ask_of : Asked → Ask
 ask_of a = record { host = a.host; function = a.function; args = a.args }
-
-abbrev pub reply_of : HostReply → Reply
-reply_of (reply.Value v) = Gave v
-reply_of reply.Trap = HostTrapped
 
 abbrev pub reply_in : Asked → Reply
 reply_in a = reply_of a.reply

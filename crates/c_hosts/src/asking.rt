@@ -6,8 +6,9 @@ ghost use Rattle.c_hosts.specs.Asking.{Answers, IsOffered};
 ghost use Rattle.c_hosts.specs.Hosts.{IsReply};
 ghost use Rattle.c_hosts.specs.Journals.{asked};
 
-use crate::host::{HostFunction, HostModule, HostReply};
+use crate::host::{HostFunction, HostModule};
 use crate::journal::Journal;
+use c_meaning::HostReply;
 use c_thread::HostCall;
 use w2c_base::{Memory, ValType, Value};
 

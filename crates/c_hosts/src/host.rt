@@ -2,6 +2,7 @@
 ghost use Rattle.std.specs.Prelude.{◌≡◌, ◌↔◌, ◌<◌, ℕ, List, IfSome, length, slice_get, Some};
 ghost use Rattle.w2c_base.specs.declared.value.Value.{Value as AnyValue};
 
+use c_meaning::HostReply;
 use std::boxed::Box;
 use w2c_base::{Bytes, FuncType, Value};
 
@@ -12,18 +13,10 @@ pub struct HostFunction {
     pub ty: FuncType,
 }
 
-/// A host's answer to a call: a value of the function's result type, none where it has none, or a
-/// trap, which ends the run with kind 11.
-#[derive(Clone, Copy, Debug, PartialEq, Eq)]
-pub enum HostReply {
-    Value(Option<Value>),
-    Trap,
-}
-
 /// A host module. Its name, its functions and what its calls may do never change.
 pub trait HostModule: Drop {
     ghost use Rattle.c_hosts.specs.declared.host.HostFunction.{HostFunction};
-    ghost use Rattle.c_hosts.specs.declared.host.HostReply.{HostReply};
+    ghost use Rattle.c_meaning.specs.declared.reply.HostReply.{HostReply};
     ghost use Rattle.c_hosts.specs.Hosts.{IsReply, TakesArgs};
 
     /// The name.

@@ -1,11 +1,11 @@
 // What hosts were asked and replied.
 ghost use Rattle.std.specs.Prelude.{◌≡◌, ◌<◌, ◌∷◌, ◌++◌, [], length, slice_index_or, OnErr, OnOk};
 ghost use Rattle.std.specs.Prelude.{List};
-ghost use Rattle.c_hosts.specs.declared.host.HostReply.TheVariants as reply;
+ghost use Rattle.c_meaning.specs.declared.reply.HostReply.TheVariants as reply;
 ghost use Rattle.c_hosts.specs.declared.journal.Asked.{Asked};
 ghost use Rattle.c_hosts.specs.Journals.{asked, with_reply};
 
-use crate::host::HostReply;
+use c_meaning::HostReply;
 use c_thread::HostCall;
 use std::alloc::Global;
 use std::marker::Model;

@@ -8,7 +8,8 @@ mod journal;
 mod running;
 
 pub use asking::Hosts;
+pub use c_meaning::HostReply;
 pub use c_thread::HostCall;
-pub use host::{BoxedHost, HostFunction, HostModule, HostReply};
+pub use host::{BoxedHost, HostFunction, HostModule};
 pub use journal::{Asked, Journal};
 pub use running::{Ending, run};

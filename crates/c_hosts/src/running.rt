@@ -13,7 +13,8 @@ ghost use Rattle.c_hosts.specs.Asking.{hosts_of};
 ghost use Rattle.c_hosts.specs.Running.{settled_in, step_at, trail_before, trail_behind, Asks, IsThread, Runs, RunsPart};
 
 use crate::asking::Hosts;
-use crate::host::{HostModule, HostReply};
+use crate::host::HostModule;
+use c_meaning::HostReply;
 use c_objects::Held;
 use c_thread::{FuncTypes, HostCall, LinkedStep, LinkedThread, LinkedUnit};
 use std::alloc::Global;

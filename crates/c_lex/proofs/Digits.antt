@@ -1,6 +1,5 @@
 -- The number that digits write.
-use Rattle.std.proofs.Common.{◌≡◌, ℕ, ◌+◌, ◌-◌, ◌*◌, ◌<◌, ◌≤◌, List, [], ◌∷◌, length, get_or, drop, drop-cons, refl, add-one, arith}
-use Rattle.c_tree.specs.Grammar.{value_of}
+use Rattle.c_lex.proofs.Common.{◌≡◌, ℕ, ◌+◌, ◌-◌, ◌*◌, ◌<◌, ◌≤◌, List, [], ◌∷◌, length, get_or, drop, refl, add-one, arith, drop-cons, value_of}
 
 pub value_grows : (n : ℕ) (ds : List ℕ) → n ≤ value_of n ds
 value_grows n [] = omega arith

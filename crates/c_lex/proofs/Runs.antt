@@ -1,10 +1,6 @@
 -- The bytes in front that pass a test.
-use Rattle.std.proofs.Common.{◌≡◌, ℕ, suc, ◌+◌, ◌-◌, ◌<◌, ◌≤◌, Bool, true, false, cond, List, [], ◌∷◌, ◌++◌, length, get_or, take, drop, drop-cons, refl, sym, ap, ◌∙◌, append_assoc, add-one, arith}
-use Rattle.std.proofs.lemmas.List.{append-nil, take_more, drop_all, length-take-le, length-drop}
-use Rattle.std.specs.Prelude.{slice_index, not, ◌&&◌, ◌==◌, option_map, Option, Some, None}
-use Rattle.std.specs.List.{list_all}
-use Rattle.c_tree.specs.Text.{run, past, are_digits, is_digit, comment_end, is_comment_byte, sign_front, one_sign, two_sign, longer, comment_front, Begins, is_word_byte, is_blank, is_letter, word_token, run_token, front}
-use Rattle.c_tree.specs.Tokens.{Token}
+use Rattle.c_lex.proofs.Common.{◌≡◌, ℕ, suc, ◌+◌, ◌-◌, ◌<◌, ◌≤◌, Bool, true, false, cond, not, ◌&&◌, List, [], ◌∷◌, ◌++◌, length, get_or, take, drop, ◌==◌, slice_index, Some, None, Option, option_map, sym, refl, ap, ◌∙◌, append_assoc, append-nil, add-one, arith, length-drop, length-take-le, drop-cons, list_all, Begins, are_digits, comment_end, comment_front, front, is_blank, is_comment_byte, is_digit, is_letter, is_word_byte, longer, one_sign, past, run, run_token, sign_front, two_sign, word_token, Token}
+use Rattle.std.proofs.lemmas.List.{take_more, drop_all}
 
 pub run_more : (p : ℕ → Bool) (xs : List ℕ) (i : ℕ) → i < length xs → p (get_or xs i 0) ≡ true → take i xs ++ run p (drop i xs) ≡ run p xs
     → take (i + 1) xs ++ run p (drop (i + 1) xs) ≡ run p xs

@@ -1,9 +1,6 @@
 -- The tokens of a text, from its front.
-use Rattle.std.proofs.Common.{◌≡◌, ℕ, zero, suc, ◌+◌, ◌<◌, ◌≤◌, List, [], ◌∷◌, length, drop, refl, ap, ◌∙◌, add-one, arith}
-use Rattle.std.specs.Prelude.{slice_index}
+use Rattle.c_lex.proofs.Common.{◌≡◌, ℕ, zero, suc, ◌+◌, ◌<◌, ◌≤◌, List, [], ◌∷◌, length, drop, slice_index, refl, ap, ◌∙◌, add-one, arith, Begins, Gap, and_then, front, lexeme, lexemes, Fixed, Named, Number, Token, Wrong}
 use Rattle.c_tree.specs.declared.token.Tok.TheVariants as tok
-use Rattle.c_tree.specs.Tokens.{Token, Fixed, Named, Number, Wrong}
-use Rattle.c_tree.specs.Text.{front, Gap, Begins, lexeme, and_then, lexemes}
 use Rattle.c_lex.specs.Cursor.{seen}
 
 pub at_end : (text : List ℕ) (place : ℕ) → length text ≡ 0 → lexemes 0 place text ≡ lexeme place (Fixed tok.End) ∷ []

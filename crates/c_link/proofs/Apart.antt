@@ -1,20 +1,9 @@
 -- What linked units and hosts define is defined once.
-use Rattle.std.proofs.Common.{◌≡◌, ℕ, ◌+◌, length, Bool, true, false, ◌&&◌, if◌then◌else◌, List, [], ◌∷◌, map, bytes_eq, is_some, Option, Some, None, refl, sym, ap, ◌∙◌}
-use Rattle.std.specs.Prelude.{slice_get, option_map, zip, filter, filter_map, flat_map}
-use Rattle.std.specs.List.{range_with_len}
-use Rattle.std.specs.Option.{option_or}
-use Rattle.std.proofs.lemmas.Slice.Eq.{bytes_eq-Decides}
-use Rattle.w2c_base.specs.Lookup.{if_found, named, numbered}
-use Rattle.c_tree.specs.declared.tree.CType.{CType}
+use Rattle.c_link.proofs.Common.{◌≡◌, ℕ, ◌+◌, Bool, true, false, ◌&&◌, List, [], ◌∷◌, ◌++◌, map, length, take, is_some, if◌then◌else◌, slice_get, Some, None, filter, Option, option_map, zip, flat_map, filter_map, bytes_eq, sym, refl, ap, ◌∙◌, bytes_eq-Decides, cons_option, range_with_len, option_or, if_found, named, numbered, named-append, or_none, Name, type_of_func, CType, Definition, LinkRefusal, defined_for_all, definition_of, external_functions, first, is_external, twice, type_found, signature_of, Offered, host_offer, host_offers, offers, unit_offers, unit_type_of, first_twice}
+use Rattle.std.proofs.lemmas.Bool.{both_ways}
 use Rattle.c_tree.specs.Tree as tree
-use Rattle.c_tree.specs.Scope.{Name, func_type_of as type_of_func}
 use Rattle.c_meaning.specs.Linking as linking
-use Rattle.c_meaning.specs.Linking.{Definition, definition_of, defined_for_all, is_external}
-use Rattle.name_table.proofs.Lookups.{named-append}
 use Rattle.c_link.specs.declared.offers.Owner.TheVariants as owner
-use Rattle.c_link.specs.Offers.{Offered, unit_type_of, host_offer, host_offers, unit_offers, offers}
-use Rattle.c_link.specs.Refusals.{first_of, first_twice, found_before, twice_by, twice_in}
-use Rattle.c_link.specs.Calls.{signature_of}
 
 -- ---- what a unit defines, as the meaning of C finds it
 
@@ -78,9 +67,70 @@ units_say k q (items ∷ units) =
 
     go : (d : Option Definition) → if_found (named q rest) unit_type_of ≡ signature_of units q
         → if_found (option_or (offer_of k d) (named q rest)) unit_type_of
-        ≡ option_or (option_map (λ (d : Definition). type_of_func d.func) d) (signature_of units q)
+        ≡ option_map (λ (d : Definition). type_of_func d.func) (first (cons_option d (filter_map (λ items. defined_for_all items q) units)))
     go None e = e
     go (Some d) e = refl
+
+-- ---- types that are found
+
+abbrev pub typed : Option Offered → Option tree.FuncType
+typed o = option_map (λ (o : Offered). o.1) o
+
+typed-or : (a b : Option Offered) → typed (option_or a b) ≡ option_or (typed a) (typed b)
+typed-or None b = refl
+typed-or (Some x) b = refl
+
+pub some_typed : (o : Option Offered) → is_some (typed o) ≡ is_some o
+some_typed None = refl
+some_typed (Some x) = refl
+
+hosts_typed : (k : ℕ) (q : Name) (symbols : List (Name × tree.FuncType))
+    → typed (named q (map host_offer (zip (range_with_len k (length symbols)) symbols))) ≡ named q symbols
+hosts_typed k q [] = refl
+hosts_typed k q (s ∷ symbols) = go (bytes_eq s.0 q) (hosts_typed (k + 1) q symbols)
+  where
+    behind : List (Name × Offered)
+    behind = map host_offer (zip (range_with_len (k + 1) (length symbols)) symbols)
+
+    go : (b : Bool) → typed (named q behind) ≡ named q symbols
+        → typed (if b then Some (owner.Host k, s.1) else named q behind) ≡ (if b then Some s.1 else named q symbols)
+    go true e = refl
+    go false e = e
+
+units_typed : (k : ℕ) (q : Name) (us : List (List tree.Item))
+    → typed (named q (flat_map unit_offers (zip (range_with_len k (length us)) us))) ≡ signature_of us q
+units_typed k q [] = refl
+units_typed k q (items ∷ us) =
+    ap typed (named-append q (unit_offers (k, items)) rest ∙ ap (λ o. option_or o (named q rest)) (unit_says k q items))
+    ∙ go (defined_for_all items q) (units_typed (k + 1) q us)
+  where
+    rest : List (Name × Offered)
+    rest = flat_map unit_offers (zip (range_with_len (k + 1) (length us)) us)
+
+    go : (d : Option Definition) → typed (named q rest) ≡ signature_of us q
+        → typed (option_or (offer_of k d) (named q rest))
+        ≡ option_map (λ (d : Definition). type_of_func d.func) (first (cons_option d (filter_map (λ items. defined_for_all items q) us)))
+    go None e = e
+    go (Some d) e = refl
+
+module _ (us : List (List tree.Item)) (symbols : List (Name × tree.FuncType)) (q : Name) where
+  -- hosts stand in front of units, while the meaning of C looks into units first
+  offers_typed : typed (named q (offers us symbols)) ≡ option_or (named q symbols) (signature_of us q)
+  offers_typed =
+      ap typed (named-append q (host_offers symbols) (flat_map unit_offers (numbered us)))
+      ∙ typed-or (named q (host_offers symbols)) (named q (flat_map unit_offers (numbered us)))
+      ∙ ap (λ o. option_or o (typed (named q (flat_map unit_offers (numbered us))))) (hosts_typed 0 q symbols)
+      ∙ ap (option_or (named q symbols)) (units_typed 0 q us)
+
+  -- something is found in both orders, or in none
+  pub found_some : is_some (named q (offers us symbols)) ≡ is_some (type_found us symbols q)
+  found_some = sym (some_typed (named q (offers us symbols))) ∙ ap is_some offers_typed ∙ go (named q symbols) (signature_of us q)
+    where
+      go : (a b : Option tree.FuncType) → is_some (option_or a b) ≡ is_some (option_or b a)
+      go None None = refl
+      go None (Some y) = refl
+      go (Some x) None = refl
+      go (Some x) (Some y) = refl
 
 -- ---- what a host defines, no unit does
 
@@ -88,20 +138,22 @@ pub both_none : {A : Type 0} (a b : Option A) → option_or a b ≡ None → (a 
 both_none None b e = (refl, e)
 both_none (Some x) b e = cc
 
-module _ (find : Name → Option Offered) (q : Name) (there : is_some (find q) ≡ true) (u : ℕ) where
-  once : (name : Name) → bytes_eq name q ≡ true → option_map (λ (o : Offered). linking.Twice u name) (find name) ≡ None → ⊥
-  once name same none = go (find q) there (ap (λ n. option_map (λ (o : Offered). linking.Twice u name) (find n)) (sym
-      ((bytes_eq-Decides name q).0 same)) ∙ none)
-    where
-      go : (o : Option Offered) → is_some o ≡ true → option_map (λ (o : Offered). linking.Twice u name) o ≡ None → ⊥
-      go None e f = cc
-      go (Some o) e f = cc
+pub none_joined : {A : Type 0} (xs ys : List A) → first (xs ++ ys) ≡ None → (first xs ≡ None) × (first ys ≡ None)
+none_joined [] ys e = (refl, e)
+none_joined (x ∷ xs) ys e = cc
+
+module _ (found : Name → Option tree.FuncType) (q : Name) (there : is_some (found q) ≡ true) (u : ℕ) where
+  abbrev NoneTwice : List tree.Item → Type 0
+  NoneTwice items = first (flat_map (twice found u) (external_functions items)) ≡ None
+
+  not_this : (name : Name) (b : Bool) → first (if b then linking.Twice u name ∷ [] else []) ≡ None → b ≡ false
+  not_this name true e = cc
+  not_this name false e = refl
 
   function_apart : (items : List tree.Item) (is_static : Bool) (result : CType) (name : Name) (params : List tree.Param)
       (o : Option tree.Body)
-      → (first_of (twice_by find u) items ≡ None → named q (unit_offers (u, items)) ≡ None)
-      → first_of (twice_by find u) (tree.Function (record
-      { is_static = is_static; result = result; name = name; params = params; body = o }) ∷ items) ≡ None
+      → (NoneTwice items → named q (unit_offers (u, items)) ≡ None)
+      → NoneTwice (tree.Function (record { is_static = is_static; result = result; name = name; params = params; body = o }) ∷ items)
       → named q (unit_offers (
         u,
         tree.Function (record
@@ -111,43 +163,61 @@ module _ (find : Name → Option Offered) (q : Name) (there : is_some (find q) �
   function_apart items false result name params None behind e = behind e
   function_apart items true result name params (Some body) behind e = behind e
   function_apart items false result name params (Some body) behind e =
-      let both = both_none (option_map (λ (o : Offered). linking.Twice u name) (find name)) (first_of (twice_by find u) items) e in
-      by_test (bytes_eq name q) refl both.0 (behind both.1)
+      let rest : List LinkRefusal = flat_map (twice found u) (external_functions items) in
+      let both = none_joined (if is_some (found name) then linking.Twice u name ∷ [] else []) rest e in
+      by_test (bytes_eq name q) refl (not_this name (is_some (found name)) both.0) (behind both.1)
     where
-      by_test : (b : Bool) → bytes_eq name q ≡ b → option_map (λ (o : Offered). linking.Twice u name) (find name) ≡ None
-          → named q (unit_offers (u, items)) ≡ None
+      by_test : (b : Bool) → bytes_eq name q ≡ b → is_some (found name) ≡ false → named q (unit_offers (u, items)) ≡ None
           → (if b then Some (
             owner.Unit u,
             type_of_func
                 (record { is_static = false; result = result; name = name; params = params; body = Some body }),
           ) else named q (unit_offers
           (u, items))) ≡ None
-      by_test true same none rest = absurd (once name same none)
+      by_test true same none rest =
+          absurd (both_ways (is_some (found q)) (ap (λ n. is_some (found n)) (sym ((bytes_eq-Decides name q).0 same)) ∙ none) there)
       by_test false same none rest = rest
 
-  pub unit_apart : (items : List tree.Item) → first_of (twice_by find u) items ≡ None → named q (unit_offers (u, items)) ≡ None
+  pub unit_apart : (items : List tree.Item) → NoneTwice items → named q (unit_offers (u, items)) ≡ None
   unit_apart [] e = refl
   unit_apart (tree.Array name count bytes ∷ items) e = unit_apart items e
   unit_apart (tree.Var ty name number ∷ items) e = unit_apart items e
   unit_apart (tree.Function f ∷ items) e = function_apart items f.is_static f.result f.name f.params f.body (unit_apart items) e
 
 module _ (units : List (List tree.Item)) (symbols : List (Name × tree.FuncType)) (q : Name) where
-  found_there : is_some (named q (host_offers symbols)) ≡ true → (u : ℕ) → is_some (found_before units symbols u q) ≡ true
-  found_there there u = ap is_some (named-append q (host_offers symbols) _) ∙ go (named q (host_offers symbols)) _ there
+  found_there : is_some (named q symbols) ≡ true → (us : List (List tree.Item)) → is_some (type_found us symbols q) ≡ true
+  found_there there us = go (signature_of us q) (named q symbols) there
     where
-      go : (a b : Option Offered) → is_some a ≡ true → is_some (option_or a b) ≡ true
-      go None b e = cc
+      go : (a b : Option tree.FuncType) → is_some b ≡ true → is_some (option_or a b) ≡ true
+      go None b e = e
       go (Some x) b e = refl
 
-  pub units_apart : is_some (named q (host_offers symbols)) ≡ true → (us : List (ℕ × List tree.Item))
-      → first_of (twice_in units symbols) us ≡ None → named q (flat_map unit_offers us) ≡ None
+  abbrev twice_of : ℕ × List tree.Item → List LinkRefusal
+  twice_of u = flat_map (twice (type_found (take u.0 units) symbols) u.0) (external_functions u.1)
+
+  units_apart : is_some (named q symbols) ≡ true → (us : List (ℕ × List tree.Item)) → first (flat_map twice_of us) ≡ None
+      → named q (flat_map unit_offers us) ≡ None
   units_apart there [] e = refl
   units_apart there (u ∷ us) e =
-      let both = both_none (twice_in units symbols u) (first_of (twice_in units symbols) us) e in
+      let both = none_joined (twice_of u) (flat_map twice_of us) e in
       named-append q (unit_offers u) (flat_map unit_offers us)
       ∙ ap (λ o. option_or o (named q (flat_map unit_offers us)))
-      (unit_apart (found_before units symbols u.0) q (found_there there u.0) u.0 u.1 both.0)
+      (unit_apart (type_found (take u.0 units) symbols) q (found_there there (take u.0 units)) u.0 u.1 both.0)
       ∙ units_apart there us both.1
+
+  module _ (none : first_twice units symbols ≡ None) where
+    pub no_unit : is_some (named q (host_offers symbols)) ≡ true → named q (flat_map unit_offers (numbered units)) ≡ None
+    no_unit there =
+        units_apart (ap is_some (sym (hosts_typed 0 q symbols)) ∙ some_typed (named q (host_offers symbols)) ∙ there) (numbered units) none
+
+    -- so both orders find the same
+    pub found_same : typed (named q (offers units symbols)) ≡ type_found units symbols q
+    found_same = offers_typed units symbols q ∙ go (named q symbols) (signature_of units q)
+        (λ there. sym (units_typed 0 q units) ∙ ap typed (units_apart there (numbered units) none))
+      where
+        go : (a b : Option tree.FuncType) → (is_some a ≡ true → b ≡ None) → option_or a b ≡ option_or b a
+        go None b apart = sym (or_none b)
+        go (Some x) b apart = ap (λ o. option_or o (Some x)) (sym (apart refl))
 
 hosts_only : (q : Name) (hs : List (ℕ × (Name × tree.FuncType))) → if_found (named q (map host_offer hs)) unit_type_of ≡ None
 hosts_only q [] = refl
@@ -172,4 +242,4 @@ signed units symbols q none =
     go None e = units_say 0 q units
     go (Some x) e =
         sym (ap (λ o. if_found o unit_type_of) e) ∙ hosts_only q (numbered symbols)
-        ∙ ap (λ o. if_found o unit_type_of) (sym (units_apart units symbols q (ap is_some e) (numbered units) none)) ∙ units_say 0 q units
+        ∙ ap (λ o. if_found o unit_type_of) (sym (no_unit units symbols q none (ap is_some e))) ∙ units_say 0 q units

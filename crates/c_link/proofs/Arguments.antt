@@ -1,11 +1,6 @@
 -- Which arguments fit the parameters of a function.
-use Rattle.std.proofs.Common.{◌≡◌, ℕ, suc, ◌+◌, ◌<◌, ◌≤◌, length, drop, Bool, true, false, ◌&&◌, List, [], ◌∷◌, map, refl, ap, ◌∙◌, arith}
-use Rattle.w2c_base.specs.declared.value.Value.{Value}
-use Rattle.w2c_base.specs.Values.{type_of, types_of}
-use Rattle.c_tree.specs.declared.tree.CType.{CType}
+use Rattle.c_link.proofs.Common.{◌≡◌, ℕ, suc, ◌+◌, ◌<◌, ◌≤◌, Bool, true, false, ◌&&◌, List, [], ◌∷◌, map, length, drop, refl, ap, ◌∙◌, arith, type_of, types_of, Value, same_type, same_types, CType, c_params_of, c_type_of}
 use Rattle.c_tree.specs.declared.tree.CType.TheVariants.{Void}
-use Rattle.c_tree.specs.Runtime.{same_type, same_types}
-use Rattle.c_meaning.specs.Linking.{c_type_of, c_params_of}
 
 -- ---- types of arguments
 
@@ -35,12 +30,3 @@ unequal (p ∷ params) (v ∷ args) not = go (same_type p (c_type_of (type_of v)
 pub no_arguments : (args : List Value) → length args ≡ 0 → c_params_of (types_of args) ≡ Void ∷ []
 no_arguments [] none = refl
 no_arguments (v ∷ args) none = absurd (omega arith)
-
-pub not_one : (params : List CType) → (length params ≡ 1 → ⊥) → false ≡ same_types params (Void ∷ [])
-not_one [] not = refl
-not_one (p ∷ []) not = absurd (not refl)
-not_one (p ∷ q ∷ params) not = go (same_type p Void)
-  where
-    go : (b : Bool) → false ≡ (b && false)
-    go true = refl
-    go false = refl

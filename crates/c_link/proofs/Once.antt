@@ -1,29 +1,13 @@
 -- Linked units define each symbol once, with the declared type.
-use Rattle.std.proofs.Common.{◌≡◌, ℕ, zero, suc, ◌+◌, ◌<◌, ◌≤◌, length, take, Bool, true, false, ◌&&◌, ◌||◌, if◌then◌else◌, List, [], ◌∷◌, ◌++◌, map, bytes_eq, is_some, Option, Some, None, refl, sym, ap, ◌∙◌, arith}
-use Rattle.std.specs.Prelude.{slice_get, not, zip}
-use Rattle.std.specs.List.{list_all, range_with_len}
-use Rattle.std.proofs.lemmas.List.{map-append, take_all}
-use Rattle.std.proofs.lemmas.Slice.Eq.{bytes_eq-Decides}
-use Rattle.w2c_base.proofs.Conjunctions.{left_holds, right_holds}
-use Rattle.w2c_base.specs.Lookup.{if_found, named, numbered}
-use Rattle.c_tree.specs.declared.tree.CType.{CType}
+use Rattle.c_link.proofs.Common.{◌≡◌, ℕ, zero, suc, ◌+◌, ◌<◌, ◌≤◌, Bool, true, false, not, ◌&&◌, ◌||◌, List, [], ◌∷◌, ◌++◌, map, length, take, is_some, if◌then◌else◌, slice_get, Some, None, Option, zip, bytes_eq, sym, refl, ap, ◌∙◌, arith, take_all, map-append, bytes_eq-Decides, list_all, range_with_len, left_holds, right_holds, numbered_at, if_found, named, numbered, among-append, are_distinct, same_func_type, Name, is_among, type_of_func, CType, none_clash, stands_behind, LinkRefusal, NotDefined, TypeDiffers, first, first_refusal, type_found, unresolved, Offered, c_symbols, host_offer, host_offers, offers, unit_offers, AllChecked, first_twice, in_item, HostSymbol}
 use Rattle.c_tree.specs.Tree as tree
-use Rattle.c_tree.specs.Runtime.{same_func_type}
-use Rattle.c_tree.specs.Rules.{are_distinct}
-use Rattle.c_tree.specs.Scope.{Name, is_among, func_type_of as type_of_func}
-use Rattle.c_meaning.specs.Linking as linking
-use Rattle.c_rules.specs.UnitNames.{none_clash, stands_behind}
 use Rattle.name_table.proofs.NameTables.{either_way}
-use Rattle.name_table.proofs.Lookups.{among-append}
-use Rattle.c_link.specs.declared.host_symbol.HostSymbol.{HostSymbol}
-use Rattle.c_link.specs.Offers.{Offered, c_symbols, host_offer, host_offers, offers, unit_offers}
-use Rattle.c_link.specs.Refusals.{first_of, first_refusal, first_twice, found_before, twice_in, unlike, unresolved_by, unresolved_in}
-use Rattle.c_link.specs.Programs.{AllChecked}
 use Rattle.c_link.specs.Resolved.{AreDefinedOnce, AreResolved, IsResolved, symbol_names}
-use Rattle.c_link.proofs.Apart.{both_none, offer_of, says_from, unit_apart}
+use Rattle.c_link.proofs.Apart.{both_none, found_same, found_some, offer_of, says_from, typed, unit_apart}
+use Rattle.c_link.proofs.FirstRefusal.{in_items, twice_in, twice_units, unresolved_in, unresolved_units}
 use Rattle.c_link.proofs.Rules.{clash_none, none_under}
 use Rattle.c_link.proofs.Tables.{unit_added}
-use Rattle.c_link.proofs.Walks.{numbered_at}
+use Rattle.c_link.proofs.Walks.{first_of}
 
 abbrev names : List (Name × Offered) → List Name
 names entries = map (λ (e : Name × Offered). e.0) entries
@@ -132,14 +116,16 @@ module _ (units : List (List tree.Item)) (hosts : List HostSymbol) (none : first
       let at = there units i less in
       let front = offers (take i units) (c_symbols hosts) in
       let twice : twice_in units (c_symbols hosts) (i, at.0) ≡ None =
-      none_at (twice_in units (c_symbols hosts)) (numbered units) i (i, at.0) none (numbered_at units i at.0 at.1) in
+      none_at (twice_in units (c_symbols hosts)) (numbered units) i (i, at.0) (sym (twice_units units (c_symbols hosts)) ∙ none)
+      (numbered_at units i at.0 at.1) in
       ap (λ n. are_distinct (names (offers (take n units) (c_symbols hosts)))) next
       ∙ ap (λ es. are_distinct (names es)) (unit_added units (c_symbols hosts) i at.0 less at.1)
       ∙ ap are_distinct (map-append (λ (e : Name × Offered). e.0) front (unit_offers (i, at.0)))
       ∙ distinct_append (names front) (names (unit_offers (i, at.0))) (once_front i (omega arith))
       (unit_once i at.0 (clash_none at.0 (keep i at.0 at.1).1))
       (λ q in_front. among_named q (unit_offers (i, at.0))
-      ∙ ap is_some (unit_apart (found_before units (c_symbols hosts) i) q (sym (among_named q front) ∙ in_front) i at.0 twice))
+      ∙ ap is_some (unit_apart (type_found (take i units) (c_symbols hosts)) q
+      (sym (found_some (take i units) (c_symbols hosts) q) ∙ sym (among_named q front) ∙ in_front) i at.0 twice))
     where
       there : (xs : List (List tree.Item)) (i : ℕ) → i < length xs → (x : List tree.Item) × (slice_get xs i ≡ Some x)
       there [] i less = absurd (omega arith)
@@ -157,18 +143,27 @@ module _ (units : List (List tree.Item)) (hosts : List HostSymbol) (none : first
 pub all_resolved : (units : List (List tree.Item)) (hosts : List HostSymbol) → first_refusal units (c_symbols hosts) ≡ None
     → AreResolved units hosts
 all_resolved units hosts none u items i item f at_unit at is =
-    let find : Name → Option Offered = λ q. named q (offers units (c_symbols hosts)) in
-    let unit_none = none_at (unresolved_in find) (numbered units) u (u, items) (both_none _ _ none).1
+    let found : Name → Option tree.FuncType = type_found units (c_symbols hosts) in
+    let parts = both_none (first_twice units (c_symbols hosts)) _ none in
+    let unit_none = none_at (unresolved_in found) (numbered units) u (u, items) (sym (unresolved_units found units) ∙ parts.1)
     (numbered_at units u items at_unit) in
-    let item_none = none_at (unresolved_by find u) items i item unit_none at in
+    let item_none = none_at (in_item (unresolved found u)) items i item (sym (in_items (unresolved found u) items) ∙ unit_none) at in
     told_of (named f.name (offers units (c_symbols hosts))) refl
-    (sym (ap (λ o. if_found o (λ f. unlike u f (find f.name))) is) ∙ item_none)
+    (ap refusal_by (found_same units (c_symbols hosts) f.name parts.0)
+    ∙ sym (ap (λ o. if_found o (λ f. first (unresolved found u f))) is) ∙ item_none)
   where
+    refusal_by : Option tree.FuncType → Option LinkRefusal
+    refusal_by o = first (elim o as (λ _. List LinkRefusal) [
+      | None ↦ NotDefined u f.name ∷ []
+      | Some ty ↦ if same_func_type ty (type_of_func f) then [] else TypeDiffers u f.name ∷ []
+    ])
+
     by_type : (o : Offered) (b : Bool) → same_func_type o.1 (type_of_func f) ≡ b → named f.name (offers units (c_symbols hosts)) ≡ Some o
-        → (if b then None else Some (linking.TypeDiffers u f.name)) ≡ None → IsResolved units hosts f
+        → first (if b then [] else TypeDiffers u f.name ∷ []) ≡ None → IsResolved units hosts f
     by_type o true same found e = record { by = o; found = found; typed = same }
     by_type o false same found e = cc
 
-    told_of : (o : Option Offered) → named f.name (offers units (c_symbols hosts)) ≡ o → unlike u f o ≡ None → IsResolved units hosts f
+    told_of : (o : Option Offered) → named f.name (offers units (c_symbols hosts)) ≡ o → refusal_by (typed o) ≡ None
+        → IsResolved units hosts f
     told_of None found e = cc
     told_of (Some o) found e = by_type o (same_func_type o.1 (type_of_func f)) refl found e

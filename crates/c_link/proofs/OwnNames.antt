@@ -1,27 +1,9 @@
 -- The names of the functions that a unit defines.
-use Rattle.std.proofs.Common.{◌≡◌, ℕ, zero, suc, ◌+◌, ◌<◌, ◌≤◌, length, get_or, take, Bool, true, false, ◌&&◌, ◌||◌, if◌then◌else◌, List, [], ◌∷◌, ◌++◌, map, bytes_eq, is_some, Option, Some, None, refl, sym, ap, ◌∙◌, subst, arith}
-use Rattle.std.specs.Prelude.{slice_get, option_map, filter}
-use Rattle.std.specs.List.{list_any}
-use Rattle.std.specs.Option.{option_or}
-use Rattle.std.proofs.lemmas.List.{length-map, take_all}
-use Rattle.std.proofs.lemmas.Option.{slice_get-get_or}
-use Rattle.w2c_base.specs.Lookup.{if_found, named}
-use Rattle.c_tree.specs.declared.tree.CType.{CType}
-use Rattle.c_tree.specs.declared.tree.Item.{Item}
+use Rattle.c_link.proofs.Common.{◌≡◌, ℕ, zero, suc, ◌+◌, ◌<◌, ◌≤◌, Bool, true, false, ◌&&◌, ◌||◌, List, [], ◌∷◌, ◌++◌, map, length, get_or, take, is_some, if◌then◌else◌, slice_get, Some, None, filter, Option, option_map, bytes_eq, sym, refl, ap, ◌∙◌, subst, arith, take_all, length-map, slice_get-get_or, list_any, option_or, take_next, if_found, named, defines, Name, unit_of, CType, Item, Definition, Program, defined, external_func, func_named, UnitFunc, HaveOwn, Knows, IsProgramOf, address_in, HostSymbol, Owner}
 use Rattle.c_tree.specs.Tree as tree
-use Rattle.c_tree.specs.View.{unit_of}
-use Rattle.c_tree.specs.Rules.{defines}
-use Rattle.c_tree.specs.Scope.{Name}
-use Rattle.c_meaning.specs.Linking.{Definition, Program, defined, external_func, func_named}
-use Rattle.c_meaning.specs.State.{UnitFunc}
-use Rattle.c_link.specs.declared.host_symbol.HostSymbol.{HostSymbol}
-use Rattle.c_link.specs.declared.offers.Owner.{Owner}
 use Rattle.c_link.specs.declared.offers.Owner.TheVariants as owner
-use Rattle.c_link.specs.Own.{HaveOwn, Knows}
-use Rattle.c_link.specs.Programs.{IsProgramOf, address_in}
 use Rattle.c_link.proofs.Apart.{definitions_from}
 use Rattle.c_link.proofs.Rules.{first_defined}
-use Rattle.c_link.proofs.Walks.{take_next}
 
 any_push : {A : Type 0} (p : A → Bool) (xs : List A) (x : A) → list_any p (xs ++ x ∷ []) ≡ (list_any p xs || p x)
 any_push p [] x = go (p x)

@@ -1,24 +1,8 @@
 -- What the readers of linked units say, by what their table holds.
-use Rattle.std.proofs.Common.{◌≡◌, Bool, List, Option, None, map, sym, ap, ◌∙◌, subst}
-use Rattle.std.specs.Prelude.{option_map}
-use Rattle.w2c_base.specs.declared.value.Value.{Value}
-use Rattle.w2c_base.specs.Lookup.{if_found, named}
-use Rattle.c_tree.specs.declared.tree.Item.{Item}
+use Rattle.c_link.proofs.Common.{◌≡◌, Bool, List, map, None, Option, option_map, sym, ap, ◌∙◌, subst, if_found, named, Value, Name, unit_of, Item, Program, external_func, first_refusal, fits, symbols_of, signature_of, takes_if_any, Holds, Offered, c_symbols, offers, owner_of, told, unit_type_of, AllChecked, IsProgramOf, address_in, first_twice, HostSymbol, Offer, Owner}
 use Rattle.c_tree.specs.Tree as tree
-use Rattle.c_tree.specs.Scope.{Name}
-use Rattle.c_tree.specs.View.{unit_of}
-use Rattle.c_meaning.specs.Linking.{Program, external_func, fits, link_refusal}
-use Rattle.c_link.specs.declared.host_symbol.HostSymbol.{HostSymbol}
-use Rattle.c_link.specs.declared.offers.Offer.{Offer}
-use Rattle.c_link.specs.declared.offers.Owner.{Owner}
-use Rattle.c_link.specs.Offers.{Holds, Offered, c_symbols, offers, owner_of, told, unit_type_of}
-use Rattle.c_link.specs.Refusals.{first_refusal, first_twice}
-use Rattle.c_link.specs.Calls.{signature_of, takes_if_any}
-use Rattle.c_link.specs.Programs.{AllChecked, IsProgramOf, address_in, symbols_of}
 use Rattle.c_link.proofs.Apart.{both_none, signed}
-use Rattle.c_link.proofs.FirstRefusal.{fits_says, refusal_ends}
-use Rattle.c_link.proofs.Linking.{there}
-use Rattle.c_link.proofs.Programs.{owned}
+use Rattle.c_link.proofs.Programs.{fits_says, owned}
 
 abbrev Seen : Type 0
 Seen = List (List Item) × List HostSymbol
@@ -51,17 +35,10 @@ module _ (units : List (List Item)) (hosts : List HostSymbol) (table : List (Nam
       → if_found o (address_in p q) ≡ external_func p q
   address_is o e p there =
       let twice_now = subst (λ (seen : Seen). first_twice (map unit_of seen.0) (c_symbols seen.1) ≡ None) is once in
-      let twice_there : first_twice p.units (symbols_of p)
-      ≡ None = subst (λ us. first_twice us (symbols_of p) ≡ None) (sym there.units_are)
+      let twice_there : first_twice p.units (symbols_of p.hosts)
+      ≡ None = subst (λ us. first_twice us (symbols_of p.hosts) ≡ None) (sym there.units_are)
       (subst (λ ss. first_twice (map unit_of now.0) ss ≡ None) (sym there.symbols_are) twice_now) in
       let owner_there : owner_of (map unit_of now.0) (c_symbols now.1) q
-      ≡ owner_of p.units (symbols_of p) q = ap (λ ss. owner_of (map unit_of now.0) ss q) (sym there.symbols_are)
-      ∙ ap (λ us. owner_of us (symbols_of p) q) (sym there.units_are) in
+      ≡ owner_of p.units (symbols_of p.hosts) q = ap (λ ss. owner_of (map unit_of now.0) ss q) (sym there.symbols_are)
+      ∙ ap (λ us. owner_of us (symbols_of p.hosts) q) (sym there.units_are) in
       ap (λ o. if_found o (address_in p q)) (owner_is o e ∙ owner_there) ∙ owned p twice_there q
-
--- units without a refusal link
-pub link_of : (units : List (List tree.Item)) (hosts : List HostSymbol) → first_refusal units (c_symbols hosts) ≡ None
-    → (p : Program) → IsProgramOf p units hosts → link_refusal p ≡ None
-link_of units hosts none p is =
-    refusal_ends p (there (λ us ss. first_twice us ss ≡ None) units hosts p is (both_none _ _ none).0)
-    ∙ there (λ us ss. first_refusal us ss ≡ None) units hosts p is none

@@ -1,25 +1,13 @@
 -- In a unit that keeps the rules each function is defined once.
-use Rattle.std.proofs.Common.{◌≡◌, ℕ, zero, suc, ◌+◌, ◌<◌, ◌≤◌, length, take, Bool, true, false, ◌&&◌, ◌||◌, if◌then◌else◌, List, [], ◌∷◌, ◌++◌, map, bytes_eq, is_some, Option, Some, None, refl, sym, ap, ◌∙◌, subst, arith}
-use Rattle.std.specs.Prelude.{slice_get, not, filter, flat_map}
-use Rattle.std.specs.List.{list_all}
-use Rattle.std.proofs.lemmas.List.{take_all}
-use Rattle.std.proofs.lemmas.Slice.Eq.{bytes_eq-Decides}
-use Rattle.w2c_base.proofs.Conjunctions.{left_holds, right_holds}
-use Rattle.w2c_base.specs.Lookup.{numbered}
-use Rattle.c_tree.specs.declared.tree.CType.{CType}
+use Rattle.c_link.proofs.Common.{◌≡◌, ℕ, zero, suc, ◌+◌, ◌<◌, ◌≤◌, Bool, true, false, not, ◌&&◌, ◌||◌, List, [], ◌∷◌, ◌++◌, length, take, is_some, if◌then◌else◌, slice_get, Some, None, filter, Option, bytes_eq, sym, refl, ap, ◌∙◌, subst, arith, take_all, bytes_eq-Decides, list_all, left_holds, right_holds, numbered_at, take_next, numbered, are_alike, item_rules, Name, CType, none_clash, stands_behind, Definition, AllChecked, IsChecked}
 use Rattle.c_tree.specs.Tree as tree
-use Rattle.c_tree.specs.Scope.{Name}
-use Rattle.c_tree.specs.Rules.{item_rules, are_alike}
 use Rattle.c_tree.specs.FirstBroken.{BrokenAt, KeepsRules, broken_of, broken_in_item, broken_in_body}
-use Rattle.c_meaning.specs.Linking.{Definition}
 use Rattle.c_rules.specs.FirstRule.{item_breaks}
-use Rattle.c_rules.specs.UnitNames.{none_clash, stands_behind}
 use Rattle.c_rules.proofs.Clashes.{none_clash_more}
 use Rattle.c_rules.proofs.FirstOf.{first_broken_of}
 use Rattle.c_rules.proofs.Onward.{declared_once}
-use Rattle.c_link.specs.Programs.{AllChecked, IsChecked}
+use Rattle.w2c_base.proofs.Nothing.{map_none, none_at, append_none}
 use Rattle.c_link.proofs.Apart.{seen_under, definitions_from, first_under}
-use Rattle.c_link.proofs.Walks.{numbered_at, take_next}
 
 -- ---- no items clash
 
@@ -27,30 +15,13 @@ first_none : {A : Type 0} (xs : List A) → slice_get xs 0 ≡ None → xs ≡ [
 first_none [] e = refl
 first_none (x ∷ xs) e = cc
 
-left_none : {A : Type 0} (xs ys : List A) → xs ++ ys ≡ [] → xs ≡ []
-left_none [] ys e = refl
-left_none (x ∷ xs) ys e = cc
-
-right_none : {A : Type 0} (xs ys : List A) → xs ++ ys ≡ [] → ys ≡ []
-right_none [] ys e = e
-right_none (x ∷ xs) ys e = cc
-
-map_none : {A B : Type 0} (f : A → B) (xs : List A) → map f xs ≡ [] → xs ≡ []
-map_none f [] e = refl
-map_none f (x ∷ xs) e = cc
-
-each_none : {A B : Type 0} (f : A → List B) (xs : List A) (i : ℕ) (x : A) → flat_map f xs ≡ [] → slice_get xs i ≡ Some x → f x ≡ []
-each_none f [] i x e at = cc
-each_none f (y ∷ xs) zero x e at = let same : y ≡ x = cc in ap f (sym same) ∙ left_none (f y) (flat_map f xs) e
-each_none f (y ∷ xs) (suc i) x e at = each_none f xs i x (right_none (f y) (flat_map f xs) e) at
-
 breaks_none : (items : List tree.Item) (i : ℕ) (item : tree.Item) → KeepsRules items → slice_get items i ≡ Some item
     → item_breaks (record { unit = items; number = i; item = item }) ≡ None
 unfolding item_breaks
 breaks_none items i item keeps at =
-    let none = each_none (broken_in_item items) (numbered items) i (i, item) (first_none _ keeps) (numbered_at items i item at) in
+    let none = none_at (broken_in_item items) (numbered items) i (i, item) (first_none _ keeps) (numbered_at items i item at) in
     let rules = map_none (λ (rule : ℕ). the_at i rule) (broken_of item_rules (record { unit = items; number = i; item = item }))
-    (left_none _ (broken_in_body items i item) none) in
+    (append_none _ (broken_in_body items i item) none).0 in
     sym (first_broken_of item_rules (record { unit = items; number = i; item = item })) ∙ ap (λ rs. slice_get rs 0) rules
   where
     the_at : ℕ → ℕ → BrokenAt
@@ -78,20 +49,22 @@ clash_none items keeps =
 
 -- ---- so no two functions of a name have bodies
 
+-- two of one name do not both have bodies, where one may stand behind the other
+pub not_both : (b : Bool) → b ≡ true → (m : Bool) → m ≡ true → (n : Bool) → n ≡ true → (a : Bool)
+    → (not b || (a && not (m && n))) ≡ true → ⊥
+not_both true e true h true k true t = cc
+not_both true e true h true k false t = cc
+not_both true e true h false k a t = cc
+not_both true e false h n k a t = cc
+not_both false e m h n k a t = cc
+
 -- behind a definition no other of its name stands
 module _ (q : Name) (f : tree.Func) (body : tree.Body) (is : f.body ≡ Some body) (named_so : f.name ≡ q) where
   never : (g : tree.Func) → is_some g.body ≡ true → bytes_eq g.name q ≡ true → stands_behind (tree.Function f) (tree.Function g) ≡ true
       → ⊥
   never g has same stands =
-      go (bytes_eq f.name g.name) ((bytes_eq-Decides f.name g.name).1 (named_so ∙ sym ((bytes_eq-Decides g.name q).0 same)))
+      not_both (bytes_eq f.name g.name) ((bytes_eq-Decides f.name g.name).1 (named_so ∙ sym ((bytes_eq-Decides g.name q).0 same)))
       (is_some f.body) (ap is_some is) (is_some g.body) has (are_alike (tree.Function f) (tree.Function g)) stands
-    where
-      go : (b : Bool) → b ≡ true → (m : Bool) → m ≡ true → (n : Bool) → n ≡ true → (a : Bool) → (not b || (a && not (m && n))) ≡ true → ⊥
-      go true e true h true k true t = cc
-      go true e true h true k false t = cc
-      go true e true h false k a t = cc
-      go true e false h n k a t = cc
-      go false e m h n k a t = cc
 
   function_none : (k : ℕ) (items : List tree.Item) (is_static : Bool) (result : CType) (name : Name) (params : List tree.Param)
       (o : Option tree.Body)

@@ -1,19 +1,8 @@
 -- A table of what is defined, as it grows.
-use Rattle.std.proofs.Common.{◌≡◌, ℕ, ◌+◌, ◌<◌, ◌≤◌, Bool, true, false, if◌then◌else◌, List, [], ◌∷◌, ◌++◌, append_assoc, length, take, bytes_eq, Option, Some, None, refl, sym, ap, ◌∙◌, subst, arith}
-use Rattle.std.specs.Prelude.{slice_get, filter_map, flat_map}
-use Rattle.std.specs.Option.{option_or}
-use Rattle.std.proofs.lemmas.List.{take_all, length-take-le}
+use Rattle.c_link.proofs.Common.{◌≡◌, ℕ, ◌+◌, ◌<◌, ◌≤◌, Bool, true, false, List, [], ◌∷◌, ◌++◌, length, take, if◌then◌else◌, slice_get, Some, None, Option, flat_map, filter_map, bytes_eq, sym, refl, ap, ◌∙◌, subst, append_assoc, arith, length-take-le, take_all, option_or, numbered_push, or_assoc, take_next, named, numbered, named-append, or_none, Name, Holds, Offered, host_offers, item_offer, offered_by, offers, told, unit_offers, Offer, Owner}
 use Rattle.std.proofs.lemmas.List.Elements.{filter_map-append}
 use Rattle.std.proofs.lemmas.Grind.{flat_map-append}
-use Rattle.w2c_base.specs.Lookup.{named, numbered}
 use Rattle.c_tree.specs.Tree as tree
-use Rattle.c_tree.specs.Scope.{Name}
-use Rattle.c_meaning.proofs.Fronts.{zip_from}
-use Rattle.name_table.proofs.Lookups.{named-append, or_assoc, or_none}
-use Rattle.c_link.specs.declared.offers.Offer.{Offer}
-use Rattle.c_link.specs.declared.offers.Owner.{Owner}
-use Rattle.c_link.specs.Offers.{Offered, Holds, told, offered_by, offers, host_offers, unit_offers, item_offer}
-use Rattle.c_link.proofs.Walks.{take_next}
 
 told-or : (a b : Option Offer) → told (option_or a b) ≡ option_or (told a) (told b)
 told-or None b = refl
@@ -66,9 +55,6 @@ item_added number items i item at =
 none_behind : {A : Type 0} (xs : List A) → xs ++ [] ≡ xs
 none_behind [] = refl
 none_behind (x ∷ xs) = ap (λ ys. x ∷ ys) (none_behind xs)
-
-numbered_push : {A : Type 0} (xs : List A) (x : A) → numbered (xs ++ x ∷ []) ≡ numbered xs ++ (length xs, x) ∷ []
-numbered_push xs x = zip_from 0 xs (x ∷ []) ∙ (let e : 0 + length xs ≡ length xs = omega arith in ap (λ n. numbered xs ++ (n, x) ∷ []) e)
 
 module _ (units : List (List tree.Item)) (symbols : List (Name × tree.FuncType)) (i : ℕ) where
   pub all_taken : length units ≤ i → offers (take i units) symbols ≡ offers units symbols

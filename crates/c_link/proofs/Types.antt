@@ -1,12 +1,8 @@
 -- The types of functions, parameter by parameter.
-use Rattle.std.proofs.Common.{◌≡◌, ◌≢◌, ℕ, ◌+◌, ◌<◌, ◌≤◌, true, false, ◌&&◌, List, [], ◌∷◌, length, get_or, drop, take, map, refl, sym, ap, ◌∙◌, arith}
-use Rattle.std.proofs.lemmas.List.{drop_all, take_all, length-map}
+use Rattle.c_link.proofs.Common.{◌≡◌, ℕ, ◌+◌, ◌<◌, ◌≤◌, true, false, ◌&&◌, ◌≢◌, List, [], ◌∷◌, map, length, get_or, take, drop, sym, refl, ap, ◌∙◌, arith, take_all, drop_all, length-map, same_type, same_types, CType, c_params_of, c_type_of}
 use Rattle.w2c_base.specs.declared.value.ValType.{ValType}
-use Rattle.c_tree.specs.declared.tree.CType.{CType}
 use Rattle.c_tree.specs.Tree as tree
-use Rattle.c_tree.specs.Runtime.{same_type, same_types}
 use Rattle.c_tree.proofs.Tested.{at_front}
-use Rattle.c_meaning.specs.Linking.{c_type_of, c_params_of}
 use Rattle.c_rules.proofs.SameTypes.{same_many}
 
 abbrev pub types_in : List tree.Param → List CType

@@ -1,5 +1,5 @@
 -- Units and symbols as a program of the meaning of C.
-use Rattle.std.specs.Prelude.{◌≡◌, ℕ, List, map, slice_get, Option, Some, option_map}
+use Rattle.std.specs.Prelude.{◌≡◌, ℕ, List, slice_get, Option, Some, option_map}
 use Rattle.c_tree.specs.Tree as tree
 use Rattle.c_tree.specs.Scope.{Name}
 use Rattle.c_tree.specs.FirstBroken.{KeepsRules}
@@ -11,17 +11,10 @@ use Rattle.c_link.specs.declared.offers.Owner.{Owner}
 use Rattle.c_link.specs.declared.offers.Owner.TheVariants as owner
 use Rattle.c_link.specs.Offers.{c_symbols}
 
-abbrev pub symbol_pair : linking.HostSymbol → Name × tree.FuncType
-symbol_pair s = (s.symbol, s.ty)
-
--- the symbols of a program's hosts, with their types
-abbrev pub symbols_of : linking.Program → List (Name × tree.FuncType)
-symbols_of p = map symbol_pair (linking.host_symbols p.hosts)
-
 -- a program of these units whose hosts have these symbols
 pub record IsProgramOf (p : linking.Program) (units : List (List tree.Item)) (hosts : List HostSymbol) : Type 0 where
   pub units_are : p.units ≡ units
-  pub symbols_are : symbols_of p ≡ c_symbols hosts
+  pub symbols_are : linking.symbols_of p.hosts ≡ c_symbols hosts
 
 -- some text spells the unit, and it keeps the rules
 abbrev pub IsChecked : List tree.Item → Type 0

@@ -2,12 +2,12 @@
 ghost use Rattle.std.specs.Prelude.{◌≡◌, ◌<◌, length, map, slice_get, true, Some, None, IfOk, IfErr, option_copied, option_map};
 ghost use Rattle.c_tree.specs.View.{func_type_of, unit_of};
 ghost use Rattle.w2c_base.specs.Lookup.{if_found};
-ghost use Rattle.c_meaning.specs.Linking.{Program, external_func, fits, func_named, link_refusal};
+ghost use Rattle.c_meaning.specs.Linking.{Program, external_func, first_refusal, fits, func_named, link_refusal};
 ghost use Rattle.c_link.specs.Offers.{c_symbols, owner_of};
 ghost use Rattle.c_tree.specs.Rules.{are_distinct};
 ghost use Rattle.c_link.specs.Resolved.{AreDefinedOnce, AreResolved, symbol_names};
 ghost use Rattle.c_link.specs.Programs.{AllChecked, IsProgramOf, address_in};
-ghost use Rattle.c_link.specs.Refusals.{IsRefusal, first_refusal};
+ghost use Rattle.c_link.specs.Refusals.{IsRefusal};
 ghost use Rattle.c_link.specs.Calls.{signature_of, takes_if_any};
 
 use crate::calls::takes;
@@ -39,9 +39,9 @@ impl Model for Linked {
     ghost use Rattle.c_tree.specs.declared.tree.Item.{Item};
     ghost use Rattle.c_tree.specs.contracts.tree.Expr as expr;
     ghost use Rattle.c_tree.specs.View.{unit_of};
+    ghost use Rattle.c_meaning.specs.Linking.{first_refusal};
     ghost use Rattle.c_link.specs.declared.host_symbol.HostSymbol.{HostSymbol};
     ghost use Rattle.c_link.specs.Offers.{Holds, c_symbols, offers};
-    ghost use Rattle.c_link.specs.Refusals.{first_refusal};
     ghost use Rattle.c_link.specs.Programs.{AllChecked};
     ghost use Rattle.c_link.specs.Own.{HaveOwn};
 

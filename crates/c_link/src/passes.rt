@@ -1,12 +1,12 @@
 // The two passes over the units: what is defined twice, then what is not resolved.
-ghost use Rattle.std.specs.Prelude.{◌≡◌, map, IfOk, IfErr, None};
-ghost use Rattle.w2c_base.specs.Lookup.{named};
+ghost use Rattle.std.specs.Prelude.{◌≡◌, flat_map, map, IfOk, IfErr, None};
 ghost use Rattle.c_tree.specs.View.{func_of, item_of, unit_of};
-ghost use Rattle.c_link.specs.Offers.{Holds, c_symbols, offers as offers_of, told};
-ghost use Rattle.c_link.specs.Refusals.{IsRefusal, first_of, first_twice, first_unresolved, twice_by, unlike, unresolved_by};
+ghost use Rattle.c_meaning.specs.Linking.{external_functions, first, twice, unresolved};
+ghost use Rattle.c_link.specs.Offers.{Holds, c_symbols, offers as offers_of};
+ghost use Rattle.c_link.specs.Refusals.{IsRefusal, first_twice, first_unresolved, in_item, types_in};
 ghost use Rattle.c_link.specs.Programs.{AllChecked};
 
-use crate::functions::{defined_function, external_function, has_type};
+use crate::functions::{external_function, has_type};
 use crate::host_symbol::HostSymbol;
 use crate::offers::Offers;
 use crate::refusal::LinkRefusal;
@@ -51,8 +51,8 @@ pub fn define_all(
 
 // That nothing that a unit defines is in the table.
 fn define_once(alloc: Global, table: &Offers, u: usize, items: &[Item]) -> Result<(), LinkRefusal>
-    ensures once { IfOk result (λ _. first_of (twice_by (λ q. told (named q table.now)) u) (unit_of items.now) ≡ None) }
-    ensures first { IfErr result (λ r. IsRefusal r (first_of (twice_by (λ q. told (named q table.now)) u) (unit_of items.now))) }
+    ensures once { IfOk result (λ _. first (flat_map (twice (types_in table.now) u) (external_functions (unit_of items.now))) ≡ None) }
+    ensures first { IfErr result (λ r. IsRefusal r (first (flat_map (twice (types_in table.now) u) (external_functions (unit_of items.now))))) }
 {
     for item in items {
         match define_item(alloc, table, u, item) {
@@ -64,12 +64,22 @@ fn define_once(alloc: Global, table: &Offers, u: usize, items: &[Item]) -> Resul
 }
 
 fn define_item(alloc: Global, table: &Offers, u: usize, item: &Item) -> Result<(), LinkRefusal>
-    ensures once { IfOk result (λ _. twice_by (λ q. told (named q table.now)) u (item_of item.now) ≡ None) }
-    ensures first { IfErr result (λ r. IsRefusal r (twice_by (λ q. told (named q table.now)) u (item_of item.now))) }
+    ensures once { IfOk result (λ _. in_item (twice (types_in table.now) u) (item_of item.now) ≡ None) }
+    ensures first { IfErr result (λ r. IsRefusal r (in_item (twice (types_in table.now) u) (item_of item.now))) }
 {
-    let Some(f) = defined_function(item) else {
+    match external_function(item) {
+        Some(f) => define(alloc, table, u, f),
+        None => Ok(()),
+    }
+}
+
+fn define(alloc: Global, table: &Offers, u: usize, f: &Func) -> Result<(), LinkRefusal>
+    ensures once { IfOk result (λ _. first (twice (types_in table.now) u (func_of f.now)) ≡ None) }
+    ensures first { IfErr result (λ r. IsRefusal r (first (twice (types_in table.now) u (func_of f.now)))) }
+{
+    if f.body.is_none() {
         return Ok(());
-    };
+    }
     match table.find(f.name.as_slice()) {
         Some(_) => Err(LinkRefusal::Twice(u, f.name.copy(alloc)?)),
         None => Ok(()),
@@ -78,8 +88,8 @@ fn define_item(alloc: Global, table: &Offers, u: usize, item: &Item) -> Result<(
 
 /// That all that units declare is in the table, with its type.
 pub fn resolve_all(alloc: Global, table: &Offers, units: &[CheckedUnit]) -> Result<(), LinkRefusal>
-    ensures resolved { IfOk result (λ _. first_unresolved (λ q. told (named q table.now)) (map unit_of units.now) ≡ None) }
-    ensures first { IfErr result (λ r. IsRefusal r (first_unresolved (λ q. told (named q table.now)) (map unit_of units.now))) }
+    ensures resolved { IfOk result (λ _. first_unresolved (types_in table.now) (map unit_of units.now) ≡ None) }
+    ensures first { IfErr result (λ r. IsRefusal r (first_unresolved (types_in table.now) (map unit_of units.now))) }
 {
     for (u, unit) in units.iter().enumerate() {
         match resolve_unit(alloc, table, u, unit.unit().as_slice()) {
@@ -91,8 +101,8 @@ pub fn resolve_all(alloc: Global, table: &Offers, units: &[CheckedUnit]) -> Resu
 }
 
 fn resolve_unit(alloc: Global, table: &Offers, u: usize, items: &[Item]) -> Result<(), LinkRefusal>
-    ensures resolved { IfOk result (λ _. first_of (unresolved_by (λ q. told (named q table.now)) u) (unit_of items.now) ≡ None) }
-    ensures first { IfErr result (λ r. IsRefusal r (first_of (unresolved_by (λ q. told (named q table.now)) u) (unit_of items.now))) }
+    ensures resolved { IfOk result (λ _. first (flat_map (unresolved (types_in table.now) u) (external_functions (unit_of items.now))) ≡ None) }
+    ensures first { IfErr result (λ r. IsRefusal r (first (flat_map (unresolved (types_in table.now) u) (external_functions (unit_of items.now))))) }
 {
     for item in items {
         match resolve_item(alloc, table, u, item) {
@@ -104,8 +114,8 @@ fn resolve_unit(alloc: Global, table: &Offers, u: usize, items: &[Item]) -> Resu
 }
 
 fn resolve_item(alloc: Global, table: &Offers, u: usize, item: &Item) -> Result<(), LinkRefusal>
-    ensures resolved { IfOk result (λ _. unresolved_by (λ q. told (named q table.now)) u (item_of item.now) ≡ None) }
-    ensures first { IfErr result (λ r. IsRefusal r (unresolved_by (λ q. told (named q table.now)) u (item_of item.now))) }
+    ensures resolved { IfOk result (λ _. in_item (unresolved (types_in table.now) u) (item_of item.now) ≡ None) }
+    ensures first { IfErr result (λ r. IsRefusal r (in_item (unresolved (types_in table.now) u) (item_of item.now))) }
 {
     match external_function(item) {
         Some(f) => resolve(alloc, table, u, f),
@@ -114,8 +124,8 @@ fn resolve_item(alloc: Global, table: &Offers, u: usize, item: &Item) -> Result<
 }
 
 fn resolve(alloc: Global, table: &Offers, u: usize, f: &Func) -> Result<(), LinkRefusal>
-    ensures resolved { IfOk result (λ _. unlike u (func_of f.now) (told (named f.now.name table.now)) ≡ None) }
-    ensures first { IfErr result (λ r. IsRefusal r (unlike u (func_of f.now) (told (named f.now.name table.now)))) }
+    ensures resolved { IfOk result (λ _. first (unresolved (types_in table.now) u (func_of f.now)) ≡ None) }
+    ensures first { IfErr result (λ r. IsRefusal r (first (unresolved (types_in table.now) u (func_of f.now)))) }
 {
     match table.find(f.name.as_slice()) {
         None => Err(LinkRefusal::Undefined(u, f.name.copy(alloc)?)),

@@ -1,15 +1,9 @@
 -- Arguments are evaluated from left to right.
-use Rattle.std.proofs.Common.{◌≡◌, ℕ, ◌+◌, ◌≤◌, append_assoc, List, [], ◌∷◌, ◌++◌, length, drop, map, Err, Some, refl, sym, ap, ◌∙◌}
-use Rattle.std.specs.Prelude.{slice_get}
-use Rattle.std.proofs.lemmas.List.{drop_all, append-nil, map_push}
+use Rattle.c_machine.proofs.Common.{◌≡◌, ℕ, ◌+◌, ◌≤◌, List, [], ◌∷◌, ◌++◌, map, length, drop, slice_get, Some, Err, sym, refl, ap, ◌∙◌, append_assoc, append-nil, drop_all, map_push, drop_front, Program, Bad, CValue, Evaluated, Is, Machine, NoRule, Running, then_evaluate, evaluate_arg, evaluate_args}
 use Rattle.c_tree.specs.Tree as tree
-use Rattle.c_meaning.specs.State.{CValue, Machine, Running, Evaluated, Is, Bad, NoRule, then_evaluate}
-use Rattle.c_meaning.specs.Linking.{Program}
-use Rattle.c_meaning.specs.Step.{evaluate_arg, evaluate_args}
 use Rattle.c_machine.specs.declared.evaluation.Fault.{Fault}
 use Rattle.c_machine.specs.declared.evaluation.Fault.TheVariants as fault
 use Rattle.c_machine.specs.Scope.{evaluated}
-use Rattle.c_machine.proofs.NameTables.{drop_front}
 
 bad : (f : Fault) (go : CValue → Evaluated (List CValue)) (more : List CValue → Evaluated (List CValue))
     → then_evaluate (then_evaluate (evaluated {A = CValue} (Err f)) go) more ≡ evaluated (Err f)

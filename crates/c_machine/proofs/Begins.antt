@@ -1,18 +1,6 @@
 -- A function that begins.
-use Rattle.std.proofs.Common.{◌≡◌, ℕ, suc, Bool, true, false, ◌&&◌, List, [], ◌∷◌, length, map, Option, Some, None}
-use Rattle.std.proofs.Common.{refl, sym, ap, ◌∙◌, subst}
-use Rattle.std.specs.Prelude.{slice_get, option_map}
-use Rattle.std.proofs.lemmas.List.{length-map}
-use Rattle.w2c_base.specs.Lookup.{if_found}
-use Rattle.c_tree.specs.declared.tree.CType.{CType}
-use Rattle.c_tree.specs.declared.tree.CType.TheVariants.{Void}
+use Rattle.c_machine.proofs.Common.{◌≡◌, ℕ, suc, Bool, true, false, ◌&&◌, List, [], ◌∷◌, map, length, slice_get, Some, None, Option, option_map, sym, refl, ap, ◌∙◌, subst, length-map, if_found, CType, Void, Definition, definition_of, of_type, CValue, Name, are_of_types, param_names, param_types, local_names, WithLocals, definition_in, names_at, names_of, result_at, result_of, stmts_at, stmts_of}
 use Rattle.c_tree.specs.Tree as tree
-use Rattle.c_meaning.specs.State.{Name, CValue}
-use Rattle.c_meaning.specs.Linking.{Definition, definition_of}
-use Rattle.c_meaning.specs.Machine.{of_type}
-use Rattle.c_meaning.specs.Step.{are_of_types, param_names, param_types}
-use Rattle.c_machine.specs.Names.{local_names}
-use Rattle.c_machine.specs.Threads.{definition_in, names_at, names_of, result_at, result_of, stmts_at, stmts_of, WithLocals}
 
 -- what an item's definition says of the item
 pub record Defines (items : List tree.Item) (i : ℕ) (d : Definition) : Type 0 where

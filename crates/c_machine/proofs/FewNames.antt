@@ -1,11 +1,6 @@
 -- Names that are compared one by one.
-use Rattle.std.proofs.Common.{◌≡◌, ℕ, if◌then◌else◌, List, [], ◌∷◌, ◌++◌, map, bytes_eq, Some, None, ap, ◌∙◌}
-use Rattle.std.specs.Option.{option_or}
-use Rattle.std.proofs.lemmas.List.{map_push}
-use Rattle.w2c_base.specs.Lookup.{named}
-use Rattle.name_table.proofs.Lookups.{named-append}
+use Rattle.c_machine.proofs.Common.{◌≡◌, ℕ, List, [], ◌∷◌, ◌++◌, map, if◌then◌else◌, Some, None, bytes_eq, ap, ◌∙◌, map_push, option_or, named, named-append, entry_of}
 use Rattle.c_machine.specs.declared.numbered_names.NumberedName.{NumberedName}
-use Rattle.c_machine.specs.NumberedNames.{entry_of}
 
 -- a name at the end
 pub named_pushed : (q name : List ℕ) (names : List NumberedName) (one : NumberedName) → one.name.items ≡ name

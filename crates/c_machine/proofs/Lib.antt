@@ -1,3 +1,4 @@
+mod Common
 pub mod NameTables
 mod FewNames
 pub mod Labels

@@ -1,17 +1,7 @@
 -- Locals behind parameters, one by one.
-use Rattle.std.proofs.Common.{◌≡◌, ℕ, zero, suc, ◌+◌, ◌≤◌, List, [], ◌∷◌, ◌++◌, length, take, drop, map, Option, Some, None}
-use Rattle.std.proofs.Common.{append_assoc, refl, sym, ap, ◌∙◌, arith}
-use Rattle.std.specs.Prelude.{slice_get, option_map, zip}
-use Rattle.std.proofs.lemmas.List.{append-nil, map_push, length-map, drop_all, take_all}
-use Rattle.w2c_base.specs.Lookup.{if_found}
+use Rattle.c_machine.proofs.Common.{◌≡◌, ℕ, zero, suc, ◌+◌, ◌≤◌, List, [], ◌∷◌, ◌++◌, map, length, take, drop, slice_get, Some, None, Option, option_map, zip, sym, refl, ap, ◌∙◌, append_assoc, append-nil, arith, take_all, drop_all, length-map, length_push, map_push, drop_front, if_found, initial_of, CValue, Name, Vars, bind, locals_of, local_name, WithLocals}
 use Rattle.c_tree.specs.Tree as tree
-use Rattle.c_meaning.specs.State.{Name, CValue, Vars}
-use Rattle.c_meaning.specs.Machine.{initial_of}
-use Rattle.c_meaning.specs.Step.{locals_of, bind}
-use Rattle.c_machine.specs.Names.{local_name}
-use Rattle.c_machine.specs.Threads.{WithLocals}
-use Rattle.c_machine.proofs.NameTables.{drop_front}
-use Rattle.c_machine.proofs.Variables.{zip-push, length-push}
+use Rattle.c_machine.proofs.Variables.{zip-push}
 
 abbrev vars_in : {V : Type 0} → (V → CValue) → List Name → List V → Vars
 vars_in view names values = zip names (map view values)
@@ -59,7 +49,7 @@ grows_next view params values locals i so_far l v at is g =
     ap (λ ns. zip ns (map view (so_far ++ v ∷ []))) more_names ∙ ap (zip (names ++ local_name l ∷ [])) (map_push view so_far v)
     ∙ zip-push names (map view so_far) (local_name l) (view v) numbers in
     record {
-      count = ap length more_names ∙ length-push names (local_name l) ∙ ap (λ n. n + 1) g.count ∙ sym (length-push so_far v);
+      count = ap length more_names ∙ length_push names (local_name l) ∙ ap (λ n. n + 1) g.count ∙ sym (length_push so_far v);
       same = g.same
           ∙ ap (λ ls. option_map (λ rest. vars_in view names so_far ++ rest) (locals_of ls)) (drop_front locals i l at)
           ∙ ap (λ o. option_map (λ rest. vars_in view names so_far ++ rest)

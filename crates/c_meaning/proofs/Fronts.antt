@@ -1,18 +1,7 @@
 -- A run over a list of calls beside the run over its front: they are the same until the front has
 -- ended, and from there on the longer one goes on with the calls behind it.
-use Rattle.std.proofs.Common.{◌≡◌, ◌≢◌, ◌⊎◌, inl, inr, ℕ, zero, suc, ◌+◌, List, [], ◌∷◌, ◌++◌, length, map, append_assoc, Option, Some, None, refl, sym, ap, ◌∙◌, subst, arith}
-use Rattle.std.specs.Prelude.{zip}
-use Rattle.std.proofs.lemmas.List.{append-nil, map-append}
-use Rattle.std.specs.List.{range_with_len, AllByRecursion}
-use Rattle.w2c_base.specs.declared.value.Value.{Value}
-use Rattle.w2c_base.specs.Lookup.{numbered}
-use Rattle.w2c_base.specs.Run.{Phase, Init, Call, Reply, Event, CallEnded, values_in}
-use Rattle.w2c_base.proofs.Events.{values_behind}
-use Rattle.c_meaning.specs.State.{FuncAddress, CValue, Number, Pointer, FuncPointer, Objects, Machine, Stop, Stuck}
-use Rattle.c_meaning.specs.Linking.{Program, SymbolCall, called_func, init_functions}
-use Rattle.c_meaning.specs.Machine.{fresh}
-use Rattle.c_meaning.specs.Step.{Step, Next, Back, Stops, call, c_step}
-use Rattle.c_meaning.specs.Run.{CRun, Ended, Stopped, OutOfSteps, Entry, Pending, Progress, Going, Over, over, begun, begin_entry, told_end, came_back, go_on, after, run_of, c_start, c_run, entries_of}
+use Rattle.c_meaning.proofs.Common.{◌≡◌, ℕ, zero, suc, ◌+◌, ◌≢◌, ◌⊎◌, List, [], ◌∷◌, ◌++◌, map, length, Some, None, Option, zip, sym, refl, ap, ◌∙◌, subst, inl, inr, append_assoc, append-nil, arith, AllByRecursion, range_with_len, values_behind, numbered, Call, CallEnded, Event, Init, Phase, Reply, values_in, Value, Program, SymbolCall, called_func, init_functions, fresh, CRun, Ended, Entry, Going, OutOfSteps, Over, Pending, Progress, Stopped, after, begin_entry, begun, c_run, c_start, came_back, entries_of, go_on, over, run_of, told_end, CValue, FuncAddress, FuncPointer, Machine, Number, Objects, Pointer, Stop, Stuck, Back, Next, Step, Stops, c_step, call}
+use Rattle.std.proofs.lemmas.List.{map-append}
 use Rattle.c_meaning.proofs.Longer.{after_sum}
 use Rattle.c_meaning.proofs.StepsKeep.{KeptByObjects, KeptByAsks, KeptByEnds, OfMachine, trail_kept, entry_keeps, after_keeps}
 use Rattle.c_meaning.proofs.Told.{machine_of, asked_same, call_same, step_same}

@@ -1,9 +1,5 @@
 -- A way of a C run as a computation: so many statements one behind another, each of which computes.
-use Rattle.std.proofs.Common.{◌≡◌, ℕ, zero, suc, Option, Some, None, subst}
-use Rattle.c_meaning.specs.Linking.{Program}
-use Rattle.c_meaning.specs.Step.{c_step}
-use Rattle.c_meaning.specs.Run.{Progress, Going, Over, go_on}
-use Rattle.c_meaning.specs.Reaches.{Reaches}
+use Rattle.c_meaning.proofs.Common.{◌≡◌, ℕ, zero, suc, Some, None, Option, subst, Program, Reaches, Going, Over, Progress, go_on, c_step}
 use Rattle.c_meaning.proofs.Ways.{stays, step, join_one}
 
 -- where a run stands after one statement, or nothing where it was over before

@@ -1,14 +1,9 @@
 -- A symbol is found to be that of an init function exactly where it is one.
-use Rattle.std.proofs.Common.{◌≡◌, ℕ, ◌+◌, ◌-◌, ◌*◌, ◌/◌, ◌%◌, ◌<◌, ◌≤◌, ◌==◌, ◌&&◌, nat_lt, nat_le, Bool, true, false, cond, List, [], ◌∷◌, ◌++◌, length, take, drop, bytes_eq, codes, All, refl, sym, ap, ◌∙◌, subst, arith}
+use Rattle.c_meaning.proofs.Common.{◌≡◌, ℕ, ◌+◌, ◌-◌, ◌*◌, ◌/◌, ◌%◌, ◌<◌, ◌≤◌, Bool, true, false, cond, ◌&&◌, List, [], ◌∷◌, ◌++◌, length, take, drop, nat_lt, nat_le, ◌==◌, codes, All, bytes_eq, sym, refl, ap, ◌∙◌, subst, arith, length-append, take_at, bytes_eq-Decides, list_all, init_symbol_of, hexadecimal_value, is_init_symbol, is_module_name, unescaped}
 use Rattle.std.proofs.lemmas.Bool.Decides.{nat_tests}
-use Rattle.std.proofs.lemmas.List.{take_at, length-append}
 use Rattle.std.proofs.lemmas.List.Elements.{All-head, All-tail, All-cons, All-nil}
-use Rattle.std.proofs.lemmas.Slice.Eq.{bytes_eq-Decides}
-use Rattle.std.specs.List.{list_all}
 use Rattle.w2c_base.proofs.Conjunctions.{both_hold}
 use Rattle.w2c_mangle.specs.Escaping.{stays, hexadecimal_digit, escaped_byte, escaped}
-use Rattle.w2c_mangle.specs.Symbols.{init_symbol_of}
-use Rattle.c_meaning.specs.Linking.{unescaped, hexadecimal_value, is_module_name, is_init_symbol}
 use Rattle.c_meaning.proofs.Lookups.{bytes_equal}
 
 -- a byte that is no Z stays

@@ -1,4 +1,6 @@
+mod Common
 pub mod InitSymbols
+pub mod Links
 pub mod Longer
 pub mod Lookups
 pub mod OnTheWay

@@ -1,9 +1,5 @@
 -- Runs split, and one that is over stays the same with more statements.
-use Rattle.std.proofs.Common.{◌≡◌, ◌≢◌, ℕ, zero, suc, ◌+◌, ◌-◌, ◌≤◌, List, refl, sym, ap, ◌∙◌, arith}
-use Rattle.w2c_base.specs.Run.{Reply}
-use Rattle.c_meaning.specs.Linking.{Program, SymbolCall}
-use Rattle.c_meaning.specs.Step.{c_step}
-use Rattle.c_meaning.specs.Run.{CRun, OutOfSteps, Progress, Going, Over, go_on, after, run_of, c_start, c_run}
+use Rattle.c_meaning.proofs.Common.{◌≡◌, ℕ, zero, suc, ◌+◌, ◌-◌, ◌≤◌, ◌≢◌, List, sym, refl, ap, ◌∙◌, arith, Reply, Program, SymbolCall, CRun, Going, OutOfSteps, Over, Progress, after, c_run, c_start, go_on, run_of, c_step}
 
 pub after_over : (p : Program) (k : ℕ) (run : CRun) → after p k (Over run) ≡ Over run
 after_over p zero run = refl

@@ -1,7 +1,5 @@
 -- What stands beside a name, behind a change of what stands beside one.
-use Rattle.std.proofs.Common.{◌≡◌, ◌≢◌, ℕ, Bool, true, false, if◌then◌else◌, List, [], ◌∷◌, bytes_eq, is_some, Some, refl, sym, ◌∙◌, subst}
-use Rattle.std.proofs.lemmas.Slice.Eq.{bytes_eq-Decides}
-use Rattle.w2c_base.specs.Lookup.{named, with_named}
+use Rattle.c_meaning.proofs.Common.{◌≡◌, ℕ, Bool, true, false, ◌≢◌, List, [], ◌∷◌, is_some, if◌then◌else◌, Some, bytes_eq, sym, refl, ◌∙◌, subst, bytes_eq-Decides, named, with_named}
 
 pub bytes_equal : (name : List ℕ) → bytes_eq name name ≡ true
 bytes_equal name = (bytes_eq-Decides name name).1 refl

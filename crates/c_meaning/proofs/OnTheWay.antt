@@ -1,12 +1,5 @@
 -- A run is out of steps exactly where it is on its way: no statement makes one that is over so.
-use Rattle.std.proofs.Common.{◌≡◌, ◌≢◌, ℕ, zero, suc, List, [], ◌∷◌, Option, Some, None, refl, arith}
-use Rattle.std.specs.Prelude.{⊤}
-use Rattle.w2c_base.specs.Run.{Reply, Phase, Init, Call}
-use Rattle.c_meaning.specs.State.{FuncAddress, CValue, Number, Pointer, FuncPointer, Machine, Stop}
-use Rattle.c_meaning.specs.Linking.{Program, SymbolCall}
-use Rattle.c_meaning.specs.Machine.{fresh}
-use Rattle.c_meaning.specs.Step.{Step, Next, Back, Stops, c_step}
-use Rattle.c_meaning.specs.Run.{Ended, Stopped, OutOfSteps, Entry, Pending, Progress, Going, Over, IsGoing, begun, begin_entry, told_end, came_back, go_on, after, run_of, entries_of, c_start, c_run}
+use Rattle.c_meaning.proofs.Common.{◌≡◌, ℕ, zero, suc, ◌≢◌, List, [], ◌∷◌, Some, None, Option, refl, arith, ⊤, Call, Init, Phase, Reply, Program, SymbolCall, fresh, Ended, Entry, Going, IsGoing, OutOfSteps, Over, Pending, Progress, Stopped, after, begin_entry, begun, c_run, c_start, came_back, entries_of, go_on, run_of, told_end, CValue, FuncAddress, FuncPointer, Machine, Number, Pointer, Stop, Back, Next, Step, Stops, c_step}
 
 -- what is over is over for another reason
 abbrev Proper : Progress → Type 0

@@ -1,25 +1,12 @@
 -- What is so of a machine, and stays so whenever an object, the depth or the trail is changed, is so after a statement and after
 -- a run. So a law of that kind is told by what these changes do, and a new statement of C needs one arm here.
-use Rattle.std.proofs.Common.{◌≡◌, ℕ, zero, suc, ◌==◌, ◌||◌, ◌+◌, ◌/◌, nat_le, nat_lt, min, Bool, true, false, if◌then◌else◌, List, [], ◌∷◌, map, length, bytes_eq, find, is_some, Option, Some, None, option_map, slice_get, slice_set, refl, sym, ap, ◌∙◌, subst}
-use Rattle.std.specs.Prelude.{⊤}
-use Rattle.std.specs.List.{AllByRecursion}
+use Rattle.c_meaning.proofs.Common.{◌≡◌, ℕ, zero, suc, ◌+◌, ◌/◌, min, Bool, true, false, ◌||◌, List, [], ◌∷◌, map, length, is_some, if◌then◌else◌, nat_lt, nat_le, ◌==◌, slice_get, slice_set, Some, None, Option, option_map, find, bytes_eq, sym, refl, ap, ◌∙◌, subst, AllByRecursion, ⊤, if_found, named, with_named, Ask, Call, Event, Gave, HostTrapped, Init, Phase, Reply, Trail, asked, equal_type, equal_types, is_result, number_of, type_of, types_of, FuncType, Value, I32, I64, same_func_type, Definition, Program, definition_at, func_named, func_type, host_type, memory_in, table_in, var_in, with_depth, with_memory, with_objects, with_table, with_trail, with_var, Entry, Going, Over, Pending, Progress, after, begin_entry, begun, came_back, go_on, run_of, told_end, Bad, CValue, Evaluated, Frame, FuncAddress, FuncPointer, HostFunc, Is, Machine, Memory, Name, NoRule, Number, ObjectAddress, Objects, Place, Pointer, Running, State, Stuck, Table, UnitFunc, found, of_one_type, then_evaluate}
 use Rattle.w2c_base.specs.declared.value.ValType.{ValType}
 use Rattle.w2c_base.specs.declared.value.ValType.TheVariants as type
-use Rattle.w2c_base.specs.declared.value.Value.{Value}
-use Rattle.w2c_base.specs.declared.value.Value.TheVariants.{I32, I64}
-use Rattle.w2c_base.specs.declared.signature.FuncType.{FuncType}
 use Rattle.w2c_base.specs.Trap.{code_of}
-use Rattle.w2c_base.specs.Values.{equal_type, equal_types, is_result, number_of, type_of, types_of}
-use Rattle.w2c_base.specs.Lookup.{if_found, named, with_named}
-use Rattle.w2c_base.specs.Run.{Reply, Gave, HostTrapped, Trail, Ask, Event, asked, Phase, Init, Call}
 use Rattle.c_tree.specs.Tree as tree
-use Rattle.c_tree.specs.Runtime.{same_func_type}
-use Rattle.c_meaning.specs.State.{Name, FuncAddress, UnitFunc, HostFunc, ObjectAddress, CValue, Number, Pointer, FuncPointer, Memory, Table, Objects, Machine, Running, Frame, State, Place, Stuck, Evaluated, Is, Bad, NoRule, then_evaluate, found, of_one_type}
-use Rattle.c_meaning.specs.Linking.{Program, Definition, definition_at, host_type, func_named, func_type}
-use Rattle.c_meaning.specs.Machine.{with_depth, with_trail, with_objects, var_in, with_var, memory_in, with_memory, table_in, with_table}
 use Rattle.c_meaning.specs.Primitives as prim
 use Rattle.c_meaning.specs.Step as step
-use Rattle.c_meaning.specs.Run.{Entry, Pending, Progress, Going, Over, begun, begin_entry, told_end, came_back, go_on, after, run_of}
 
 -- ---- what holds whichever way a test goes, and whether or not something is there
 

@@ -1,13 +1,6 @@
 -- Values that go where a value of their type is held or wanted.
-use Rattle.std.proofs.Common.{◌≡◌, true, List, [], ◌∷◌, map, Option, Some, None, refl, ap, ◌∙◌}
-use Rattle.w2c_base.specs.declared.value.Value.{Value}
-use Rattle.w2c_base.specs.declared.value.Value.TheVariants.{I32, I64}
-use Rattle.w2c_base.specs.Values.{type_of, types_of}
+use Rattle.c_meaning.proofs.Common.{◌≡◌, true, List, [], ◌∷◌, map, Some, None, Option, refl, ap, ◌∙◌, type_of, types_of, Value, I32, I64, c_result_of, c_type_of, of_type, CValue, Machine, Number, of_one_type, Step, are_of_types, is_returned, put_in}
 use Rattle.w2c_base.proofs.Types.{equal_type_of_same}
-use Rattle.c_meaning.specs.State.{CValue, Number, Machine, of_one_type}
-use Rattle.c_meaning.specs.Linking.{c_type_of, c_result_of}
-use Rattle.c_meaning.specs.Machine.{of_type}
-use Rattle.c_meaning.specs.Step.{Step, put_in, are_of_types, is_returned}
 
 pub numbers_of_one_type : (v w : Value) → type_of v ≡ type_of w → of_one_type (Number v) (Number w) ≡ true
 numbers_of_one_type v w e = equal_type_of_same (type_of v) (type_of w) e

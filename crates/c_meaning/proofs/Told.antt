@@ -1,12 +1,6 @@
 -- No statement ends a listed call: what it tells are asks. So the values of the calls that ended stay
 -- while a function runs.
-use Rattle.std.proofs.Common.{◌≡◌, List, [], ◌∷◌, Option, refl, ◌∙◌}
-use Rattle.std.proofs.lemmas.List.{append-nil}
-use Rattle.w2c_base.specs.Run.{Reply, Ask, Asked, asked, values_in}
-use Rattle.w2c_base.proofs.Events.{values_behind}
-use Rattle.c_meaning.specs.State.{FuncAddress, CValue, Machine, Frame, State}
-use Rattle.c_meaning.specs.Linking.{Program}
-use Rattle.c_meaning.specs.Machine.{with_trail}
+use Rattle.c_meaning.proofs.Common.{◌≡◌, List, [], ◌∷◌, Option, refl, ◌∙◌, append-nil, values_behind, Ask, Asked, Reply, asked, values_in, Program, with_trail, CValue, Frame, FuncAddress, Machine, State}
 use Rattle.c_meaning.specs.Step as step
 use Rattle.c_meaning.proofs.StepsKeep.{KeptByObjects, KeptByAsks, StepHas, trail_kept, call_keeps, steps_keep}
 pub use Rattle.c_meaning.proofs.StepsKeep.{machine_of}

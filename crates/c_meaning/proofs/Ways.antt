@@ -1,13 +1,7 @@
 -- Ways of a C run: one statement, one way behind another, and a way to the end.
-use Rattle.std.proofs.Common.{◌≡◌, ℕ, zero, suc, ◌+◌, ◌-◌, ◌<◌, ◌≤◌, ◌⊎◌, inl, inr, List, refl, sym, ap, ◌∙◌, subst, arith}
-use Rattle.w2c_base.specs.Run.{Reply}
-use Rattle.c_meaning.specs.State.{State}
-use Rattle.c_meaning.specs.Linking.{Program, SymbolCall}
-use Rattle.c_meaning.specs.Step.{c_step}
-use Rattle.c_meaning.specs.Run.{CRun, OutOfSteps, Pending, Progress, Going, Over, IsGoing, go_on, after, run_of, c_start, c_run}
+use Rattle.c_meaning.proofs.Common.{◌≡◌, ℕ, zero, suc, ◌+◌, ◌-◌, ◌<◌, ◌≤◌, ◌⊎◌, List, sym, refl, ap, ◌∙◌, subst, inl, inr, arith, Reply, Program, SymbolCall, Reaches, CRun, Going, IsGoing, OutOfSteps, Over, Pending, Progress, after, c_run, c_start, go_on, run_of, State, c_step}
 use Rattle.c_meaning.proofs.Longer.{after_sum, after_over}
 use Rattle.c_meaning.proofs.OnTheWay.{going_is_out}
-use Rattle.c_meaning.specs.Reaches.{Reaches}
 
 less_or_not : (m n : ℕ) → (m < n) ⊎ (n ≤ m)
 less_or_not m n = grind arith

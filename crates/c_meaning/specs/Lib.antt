@@ -7,3 +7,4 @@ pub mod Run
 pub mod Samples
 pub mod State
 pub mod Step
+pub mod Views

@@ -1,6 +1,6 @@
 -- Units that link with hosts, and what each name of a unit stands for (C11, 6.2.2 linkages of
--- identifiers, 6.9 external definitions).
-use Rattle.std.specs.Prelude.{ℕ, ◌+◌, ◌-◌, ◌*◌, ◌==◌, ◌&&◌, ◌||◌, not, nat_lt, nat_le, Bool, false, if◌then◌else◌, List, [], ◌∷◌, ◌++◌, length, map, filter, flat_map, filter_map, take, drop, bytes_eq, slice_get, is_some, Option, Some, None, option_map}
+-- identifiers, 6.2.7 compatible type, 6.9 external definitions).
+use Rattle.std.specs.Prelude.{ℕ, ◌+◌, ◌-◌, ◌*◌, ◌==◌, ◌&&◌, not, nat_lt, nat_le, Bool, false, if◌then◌else◌, List, [], ◌∷◌, length, map, filter, flat_map, filter_map, take, drop, bytes_eq, slice_get, is_some, Option, Some, None, option_map}
 use Rattle.std.specs.List.{list_all, list_any, position_from}
 use Rattle.std.specs.Option.{option_or}
 use Rattle.w2c_base.specs.declared.value.ValType.{ValType}
@@ -8,7 +8,7 @@ use Rattle.w2c_base.specs.declared.value.ValType.TheVariants.{I32, I64}
 use Rattle.w2c_base.specs.declared.value.Value.{Value}
 use Rattle.w2c_base.specs.declared.signature.FuncType.{FuncType}
 use Rattle.w2c_base.specs.Values.{is_number, types_of}
-use Rattle.w2c_base.specs.Lookup.{if_found, numbered}
+use Rattle.w2c_base.specs.Lookup.{if_found, named, numbered}
 use Rattle.w2c_base.specs.Run.{Host}
 use Rattle.w2c_mangle.specs.declared.symbol.SymbolKind.TheVariants as symbol
 use Rattle.w2c_mangle.specs.Symbols.{export_symbol_of, init_symbol_of}
@@ -44,7 +44,7 @@ definitions items = filter_map definition_of (numbered items)
 abbrev pub is_external : Definition → Bool
 is_external d = not d.func.is_static
 
-abbrev first : {A : Type 0} → List A → Option A
+abbrev pub first : {A : Type 0} → List A → Option A
 first items = slice_get items 0
 
 -- the definition of a name in a unit, and of a name that other units see
@@ -134,28 +134,39 @@ external_functions items = filter_map (λ item. elim item [
   | tree.Function f ↦ if f.is_static then None else Some f
 ]) items
 
--- a host or an earlier unit defines the symbol already
-abbrev pub twice : Program → ℕ → tree.Func → List LinkRefusal
-twice p u f =
-    if is_some f.body
-    && (is_some (host_symbol p f.name)
-    || list_any (λ items. is_some (defined_for_all items f.name)) (take u p.units))
-    then Twice u f.name ∷ []
-    else []
+-- the symbols that hosts define, with their types
+abbrev pub symbols_of : List Host → List (Name × tree.FuncType)
+symbols_of hosts = map (λ s. (s.symbol, s.ty)) (host_symbols hosts)
 
--- nothing defines the symbol, or with another type
-abbrev pub unresolved : Program → ℕ → tree.Func → List LinkRefusal
-unresolved p u f = elim (if_found (external_func p f.name) (func_type p)) [
+-- the type with which a symbol is defined: by the first unit that defines it, else by a host
+abbrev pub type_found : List (List tree.Item) → List (Name × tree.FuncType) → Name → Option tree.FuncType
+type_found units symbols name =
+    option_or (option_map (λ d. func_type_of d.func) (first (filter_map (λ items. defined_for_all items name) units))) (named name symbols)
+
+-- a definition of a symbol that is found
+abbrev pub twice : (Name → Option tree.FuncType) → ℕ → tree.Func → List LinkRefusal
+twice found u f = if is_some f.body && is_some (found f.name) then Twice u f.name ∷ [] else []
+
+-- a declaration of a symbol that is not found, or that is found with another type
+abbrev pub unresolved : (Name → Option tree.FuncType) → ℕ → tree.Func → List LinkRefusal
+unresolved found u f = elim (found f.name) [
   | None ↦ NotDefined u f.name ∷ []
   | Some ty ↦ if same_func_type ty (func_type_of f) then [] else TypeDiffers u f.name ∷ []
 ]
 
--- the first refusal: unit by unit, what is defined twice before all else
+-- the first refusal of a declaration, unit by unit
+abbrev pub first_in : (ℕ → tree.Func → List LinkRefusal) → List (List tree.Item) → Option LinkRefusal
+first_in refusals units = first (flat_map (λ u. flat_map (refusals u.0) (external_functions u.1)) (numbered units))
+
+-- The first refusal of units that are linked with these symbols. An external definition stands once (6.9): what a host or an earlier
+-- unit defines is refused before all else. Each declaration has the type of the definition (6.2.7).
+abbrev pub first_refusal : List (List tree.Item) → List (Name × tree.FuncType) → Option LinkRefusal
+first_refusal units symbols =
+    option_or (first_in (λ u. twice (type_found (take u units) symbols) u) units) (first_in (unresolved (type_found units symbols)) units)
+
+-- of a program
 abbrev pub link_refusal : Program → Option LinkRefusal
-link_refusal p = first (
-    flat_map (λ u. flat_map (twice p u.0) (external_functions u.1)) (numbered p.units)
-    ++ flat_map (λ u. flat_map (unresolved p u.0) (external_functions u.1)) (numbered p.units)
-    )
+link_refusal p = first_refusal p.units (symbols_of p.hosts)
 
 -- the name whose escape a text is, where it is one: Z and two hexadecimal digits are a byte
 abbrev pub hexadecimal_value : ℕ → ℕ

@@ -1,16 +1,7 @@
 -- The one unit that linked units become runs as they do.
-use Rattle.std.proofs.Common.{◌≡◌, ℕ, List, [], ◌∷◌, Some, None, slice_get, sym, ap, ◌∙◌, subst}
+use Rattle.c_merge.proofs.Common.{◌≡◌, ℕ, List, [], ◌∷◌, slice_get, Some, None, sym, ap, ◌∙◌, subst, KeepsRules, Program, first_refusal, runs_same, calls_fit, c_symbols, AllChecked, IsProgramOf, HostSymbol, AreLinked, RunsAsUnits, as_one, merge_names, merged}
 use Rattle.c_tree.specs.Tree as tree
-use Rattle.c_tree.specs.FirstBroken.{KeepsRules}
-use Rattle.c_meaning.specs.Linking.{Program}
-use Rattle.c_link.specs.declared.host_symbol.HostSymbol.{HostSymbol}
-use Rattle.c_link.specs.Offers.{c_symbols}
-use Rattle.c_link.specs.Programs.{AllChecked, IsProgramOf}
-use Rattle.c_link.specs.Refusals.{first_refusal}
-use Rattle.c_link.proofs.Readers.{link_of}
-use Rattle.c_renaming.proofs.Runs.{runs_same}
-use Rattle.c_renaming.proofs.Types.{calls_fit}
-use Rattle.c_merge.specs.Merge.{AreLinked, RunsAsUnits, as_one, merge_names, merged}
+use Rattle.c_link.proofs.Linking.{link_of}
 use Rattle.c_merge.proofs.OneLinks.{found_same, one_links, one_renames, type_same}
 
 runs_as : (p : Program) → AreLinked p → RunsAsUnits p (as_one p)

@@ -1,9 +1,6 @@
 -- Numbers of units in decimal, as the machine writes them, and the new names that are made of them.
-use Rattle.std.proofs.Common.{◌≡◌, ℕ, zero, suc, ◌<◌, ◌^◌, [], ◌∷◌, ◌++◌, ap, ◌∙◌, arith, append_assoc}
-use Rattle.std.specs.Prelude.{decimal}
+use Rattle.c_merge.proofs.Common.{◌≡◌, ℕ, zero, suc, ◌^◌, ◌<◌, [], ◌∷◌, ◌++◌, decimal, ap, ◌∙◌, append_assoc, arith, Name, decimal_text, name_in}
 use Rattle.std.proofs.lemmas.Fmt.{decimal_digit, decimal-digits_of}
-use Rattle.c_meaning.specs.State.{Name}
-use Rattle.c_renaming.specs.NewNames.{decimal_text, name_in}
 
 decimal_is : (n : ℕ) → n < 2 ^ 64 → decimal n ≡ decimal_text n
 decimal_is zero small = decimal_digit 0 (omega arith)

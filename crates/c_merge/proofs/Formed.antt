@@ -1,26 +1,15 @@
 -- Some text spells the one unit.
-use Rattle.std.proofs.Common.{◌≡◌, ℕ, zero, suc, ◌+◌, ◌-◌, ◌<◌, ◌==◌, ◌&&◌, ◌||◌, not, Bool, true, false, if◌then◌else◌, List, [], ◌∷◌, ◌++◌, map, bytes_eq, Option, Some, None, option_map, slice_get, refl, sym, ap, ◌∙◌, subst, arith}
-use Rattle.std.specs.List.{AllByRecursion, list_all, list_any}
+use Rattle.c_merge.proofs.Common.{◌≡◌, ℕ, zero, suc, ◌+◌, ◌-◌, ◌<◌, Bool, true, false, not, ◌&&◌, ◌||◌, List, [], ◌∷◌, ◌++◌, map, if◌then◌else◌, ◌==◌, slice_get, Some, None, Option, option_map, bytes_eq, sym, refl, ap, ◌∙◌, subst, arith, and_parts, both_ways, false≢true, length-map, bytes_eq-Decides, AllByRecursion, list_all, list_any, all_join, by_test, FitsArg, FitsBody, FitsCallee, FitsExpr, FitsItem, FitsNum, FitsStmt, Formed, depth_limit, Program, Name, depth_name, decimal_text, is_outside, name_in, Renaming, merge_names, merged}
 use Rattle.std.specs.Int.Digits.{digits_of, AllBelowBase}
-use Rattle.std.proofs.lemmas.Bool.{and_parts, false≢true, both_ways}
 use Rattle.std.proofs.lemmas.Bool.Decides.{nat_tests}
 use Rattle.std.proofs.lemmas.Int.Digits.{all_below_base_digits_of}
-use Rattle.std.proofs.lemmas.List.{length-map}
-use Rattle.std.proofs.lemmas.Slice.Eq.{bytes_eq-Decides}
 use Rattle.c_tree.specs.Tree as tree
 use Rattle.c_tree.specs.Tokens.{fixed_text}
 use Rattle.c_tree.specs.Text.{is_letter, is_word_byte, is_digit, key_words, other_words}
-use Rattle.c_tree.specs.Spelled.{Formed, FitsExpr, FitsArg, FitsCallee, FitsStmt, FitsBody, FitsItem, FitsNum, depth_limit}
 use Rattle.c_tree.specs.WellFormed.{is_key_word, IsName, IsNamedIfAny, NamedExpr, NamedArg, NamedCallee, NamedStmt, NamedBody, NamedItem}
 use Rattle.c_tree.proofs.WellFormedUnits.{formed, well_formed}
-use Rattle.c_meaning.specs.State.{Name}
-use Rattle.c_meaning.specs.Linking.{Program}
-use Rattle.c_meaning.specs.Step.{depth_name}
-use Rattle.c_sound.proofs.Choices.{by_test}
-use Rattle.c_renaming.specs.Renaming.{Renaming}
 use Rattle.c_renaming.specs.Renamed as renamed
-use Rattle.c_renaming.specs.NewNames.{decimal_text, is_outside, name_in}
-use Rattle.c_merge.specs.Merge.{merge_names, merged}
+use Rattle.w2c_base.proofs.OfEach.{all_from, all_at}
 use Rattle.c_merge.proofs.NewNames.{new, new_var}
 use Rattle.c_merge.proofs.Places.{placed_at}
 
@@ -30,15 +19,6 @@ all_map : {A B : Type 0} (P : A → Type 0) (Q : B → Type 0) (f : A → B) →
     → AllByRecursion P xs → AllByRecursion Q (map f xs)
 all_map P Q f give [] all = tt
 all_map P Q f give (x ∷ xs) all = (give x all.0, all_map P Q f give xs all.1)
-
-all_from : {A : Type 0} (P : A → Type 0) (xs : List A) → ((i : ℕ) (x : A) → slice_get xs i ≡ Some x → P x) → AllByRecursion P xs
-all_from P [] holds = tt
-all_from P (x ∷ xs) holds = (holds 0 x refl, all_from P xs (λ i y at. holds (suc i) y at))
-
-all_at : {A : Type 0} (P : A → Type 0) (xs : List A) → AllByRecursion P xs → (i : ℕ) (x : A) → slice_get xs i ≡ Some x → P x
-all_at P [] all i x at = absurd cc
-all_at P (y ∷ xs) all zero x at = let same : y ≡ x = cc in subst P same all.0
-all_at P (y ∷ xs) all (suc i) x at = all_at P xs all.1 i x at
 
 -- ---- new names are names
 
@@ -56,12 +36,6 @@ digits_words (d ∷ ds) all = λ i. digit d all.0 i && digits_words ds all.1 i
 text_words : (n : ℕ) → list_all is_word_byte (decimal_text n) ≡ true
 text_words zero = refl
 text_words (suc n) = digits_words (digits_of 10 (suc n)) (all_below_base_digits_of 10 (suc n) (omega arith))
-
-words_join : (xs ys : List ℕ) → list_all is_word_byte xs ≡ true → list_all is_word_byte ys ≡ true → list_all is_word_byte (xs ++ ys) ≡ true
-words_join [] ys first second = second
-words_join (x ∷ xs) ys first second =
-    let both = and_parts (is_word_byte x) (list_all is_word_byte xs) first in
-    λ i. both.0 i && words_join xs ys both.1 second i
 
 name_words : (n : Name) → IsName n → list_all is_word_byte n ≡ true
 name_words [] is = absurd (false≢true is)
@@ -98,7 +72,7 @@ underscore (d ∷ ds) x = ap (λ b. (d == 95) || b) (underscore ds x) ∙ go (d 
 pub new_named : (u : ℕ) (x : Name) → IsName x → IsName (name_in u x)
 new_named u x is =
     let rest : list_all is_word_byte (decimal_text u ++ 95 ∷ x)
-    ≡ true = words_join (decimal_text u) (95 ∷ x) (text_words u) (name_words x is) in
+    ≡ true = all_join is_word_byte (decimal_text u) (95 ∷ x) (text_words u) (name_words x is) in
     let near : is_apart (name_in u x) ≡ false = ap not (underscore (decimal_text u) x) in
     λ i. rest i && not (none_equal (name_in u x) near (map fixed_text key_words ++ other_words) words_apart i)
 
@@ -242,7 +216,7 @@ one_formed p each = formed (merged p.units) (record {
         let u = (placed_at p k y at).unit in
         subst NamedItem (sym from.is)
         (item_named p u from.item
-        (all_at NamedItem from.items (well_formed from.items (each u from.items from.there)).named from.number from.item
+        (all_at NamedItem from.items from.number from.item (well_formed from.items (each u from.items from.there)).named
         from.at))
 
     fits : (k : ℕ) (y : tree.Item) → slice_get (merged p.units) k ≡ Some y → FitsItem depth_limit y
@@ -251,5 +225,5 @@ one_formed p each = formed (merged p.units) (record {
         let u = (placed_at p k y at).unit in
         subst (FitsItem depth_limit) (sym from.is)
         (item_fits p u depth_limit from.item
-        (all_at (FitsItem depth_limit) from.items (well_formed from.items (each u from.items from.there)).fits from.number
-        from.item from.at))
+        (all_at (FitsItem depth_limit) from.items from.number from.item (well_formed from.items (each u from.items from.there)).fits
+        from.at))

@@ -1,11 +1,7 @@
 -- The items of units, unit by unit.
-use Rattle.std.proofs.Common.{◌≡◌, ℕ, zero, suc, ◌+◌, ◌<◌, List, [], ◌∷◌, ◌++◌, length, map, take, Some, slice_get, get_or, option_map, refl, sym, ap, ◌∙◌, arith, append_assoc}
-use Rattle.std.proofs.lemmas.List.{append-nil, length-map, map-append}
-use Rattle.std.proofs.lemmas.Option.{slice_get-map}
+use Rattle.c_merge.proofs.Common.{◌≡◌, ℕ, zero, suc, ◌+◌, ◌<◌, List, [], ◌∷◌, ◌++◌, map, length, get_or, take, slice_get, Some, sym, refl, ap, ◌∙◌, append_assoc, append-nil, arith, length-map, map-append, joined, Renaming}
 use Rattle.c_tree.specs.Tree as tree
-use Rattle.c_renaming.specs.Renaming.{Renaming}
 use Rattle.c_renaming.specs.Renamed as renamed
-use Rattle.c_renaming.specs.Merging.{joined}
 
 joined_next : (ρ : Renaming) (v k : ℕ) (units : List (List tree.Item)) (items : List tree.Item) → slice_get units k ≡ Some items
     → joined ρ v (take (suc k) units) ≡ joined ρ v (take k units) ++ map (renamed.item ρ (v + k)) items
@@ -63,7 +59,3 @@ pushed view seen f xs i x v before after start less at grown is so_far =
     ∙ ap (λ l. start ++ l) (sym (ap (map f) (map-append seen (take i xs) (x ∷ [])) ∙ map-append f (map seen (take i xs)) (seen x ∷ [])))
     ∙ ap (λ l. start ++ map f (map seen l)) (sym (take_more xs i x less at))
     ∙ ap (λ n. start ++ map f (map seen (take n xs))) one
-
-pub seen_at : {A X : Type 0} (view : X → A) (xs : List X) (i : ℕ) (x : X) → slice_get xs i ≡ Some x
-    → slice_get (map view xs) i ≡ Some (view x)
-seen_at view xs i x at = slice_get-map view xs i ∙ ap (option_map view) at

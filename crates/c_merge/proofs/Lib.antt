@@ -1,6 +1,6 @@
+mod Common
 pub mod AsUnits
 pub mod Decimal
-pub mod FirstRefusal
 pub mod Formed
 pub mod Joined
 pub mod Linked

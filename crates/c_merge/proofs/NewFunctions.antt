@@ -1,42 +1,20 @@
 -- The rules on types, first values, static functions, names of a function's own and bodies, for an item of the one unit.
-use Rattle.std.proofs.Common.{◌≡◌, ◌≢◌, inl, inr, ℕ, zero, suc, ◌+◌, ◌&&◌, ◌||◌, not, true, nat_le, List, [], ◌∷◌, ◌++◌, length, map, take, drop, bytes_eq, is_some, Option, Some, None, option_map, slice_get, refl, sym, ap, ◌∙◌, subst, arith}
-use Rattle.std.specs.List.{list_all, list_any}
-use Rattle.std.proofs.lemmas.List.{length-map}
-use Rattle.std.proofs.lemmas.Bool.{and_parts, false≢true, both_ways, cases_order}
-use Rattle.std.proofs.lemmas.Slice.Eq.{bytes_eq-Decides}
-use Rattle.c_tree.specs.declared.tree.CType.{CType}
+use Rattle.c_merge.proofs.Common.{◌≡◌, ℕ, zero, suc, ◌+◌, true, not, ◌&&◌, ◌||◌, ◌≢◌, List, [], ◌∷◌, ◌++◌, map, length, take, drop, is_some, nat_le, slice_get, Some, None, Option, option_map, bytes_eq, sym, refl, ap, ◌∙◌, subst, inl, inr, arith, and_parts, both_ways, cases_order, false≢true, length-map, bytes_eq-Decides, list_all, list_any, is_some_map, by_test, are_distinct, body_is_not_empty, defines, file_name_is_free, first_values_suit, hides_none, if_any, is_defined_if_static, is_own_name, is_result_type, is_value_type, item_rules, local_names, locals_have_values, locals_suit, number_suits, own_names_are_distinct, params_are_named, proper_params, types_are_proper, is_among, name_of, CType, bytes_equal, Program, Name, any_from, free_names, split, Each, joined, is_outside, Renaming, merge_names, merged}
 use Rattle.c_tree.specs.declared.tree.CType.TheVariants as type
 use Rattle.c_tree.specs.Tree as tree
-use Rattle.c_tree.specs.Scope.{is_among, name_of}
-use Rattle.c_tree.specs.Rules.{item_rules, if_any, is_own_name, file_name_is_free, local_names, is_value_type, is_result_type, proper_params, locals_have_values, types_are_proper, number_suits, locals_suit, first_values_suit, defines, is_defined_if_static, params_are_named, hides_none, are_distinct, own_names_are_distinct, body_is_not_empty}
-use Rattle.c_meaning.specs.State.{Name}
-use Rattle.c_meaning.specs.Linking.{Program}
-use Rattle.c_meaning.proofs.Lookups.{bytes_equal}
-use Rattle.c_sound.proofs.Choices.{by_test}
-use Rattle.c_sound.proofs.Defined.{any_from}
-use Rattle.c_renaming.specs.Renaming.{Renaming}
 use Rattle.c_renaming.specs.Renamed as renamed
-use Rattle.c_renaming.specs.Kept.{Each}
-use Rattle.c_renaming.specs.Merging.{joined}
-use Rattle.c_renaming.specs.NewNames.{is_outside, name_in}
-use Rattle.c_renaming.proofs.Merged.{split}
-use Rattle.c_renaming.proofs.Merging.{merging_names}
-use Rattle.c_renaming.proofs.NewNames.{new_names}
-use Rattle.c_merge.specs.Merge.{may_name, merge_names, merged}
 use Rattle.c_merge.proofs.Together.{FitTogether}
-use Rattle.c_merge.proofs.NewItems.{any_map, any_behind, any_front, and_false, is_some_map, declared_once, name_free, own_names, locals_free, stands_by}
-use Rattle.c_merge.proofs.NewNames.{new, new_var, own_new, own_var, SameNew, new_same, new_keeps, item_name}
-use Rattle.c_merge.proofs.NewStatements.{all_map, among_map, or_gives}
+use Rattle.c_merge.proofs.NewItems.{any_map, any_behind, any_front, and_false, declared_once, name_free, own_names, locals_free, stands_by}
+use Rattle.c_merge.proofs.NewNames.{new, new_var, own_new, own_var, SameNew, new_same, new_keeps, item_name, among_map}
+use Rattle.c_merge.proofs.NewStatements.{all_map, or_gives}
 use Rattle.c_merge.proofs.Places.{Before, Placed, from_map, placed_at}
 use Rattle.c_merge.proofs.Rules.{Keeps}
-use Rattle.c_merge.proofs.Units.{free, any_at}
+use Rattle.c_merge.proofs.Units.{any_at}
+use Rattle.c_merge.proofs.NewScope.{vars_keep}
 
 module _ (p : Program) (are : FitTogether p.units) (u : ℕ) (items : List tree.Item) (at_u : slice_get p.units u ≡ Some items) where
   abbrev ρ : Renaming
   ρ = merge_names p
-
-  vars_keep : (m n : Name) → bytes_eq (new_var u m) (new_var u n) ≡ bytes_eq m n
-  vars_keep = (merging_names name_in new_names p is_outside (may_name p)).vars u
 
   -- ---- rules 3, 4 and 12
 
@@ -146,7 +124,7 @@ module _ (p : Program) (are : FitTogether p.units) (u : ℕ) (items : List tree.
 
   distinct_same : (names : List Name) → are_distinct (map (new_var u) names) ≡ are_distinct names
   distinct_same [] = refl
-  distinct_same (n ∷ names) = λ i. not (among_map (new_var u) vars_keep n names i) && distinct_same names i
+  distinct_same (n ∷ names) = λ i. not (among_map (new_var u) (vars_keep p are u items at_u) n names i) && distinct_same names i
 
   -- a name of file scope of the one unit that is a new name of this unit was one of its own
   among_own : (n : Name) → is_own_name n ≡ true → is_among (new_var u n) (map name_of (merged p.units)) ≡ true
@@ -158,7 +136,8 @@ module _ (p : Program) (are : FitTogether p.units) (u : ℕ) (items : List tree.
       let from = place.from in
       let w = place.unit in
       let named_so : name_of item.0 ≡ new w (name_of from.item) =
-      ap name_of from.is ∙ item_name p w from.item (free from.items (are.kept w from.items from.there) from.number from.item from.at).0 in
+      ap name_of from.is ∙ item_name p w from.item
+      (free_names from.items (are.kept w from.items from.there) from.number from.item from.at).0 in
       let same : new w (name_of from.item) ≡ new u n =
       sym named_so ∙ sym item.2 ∙ sym ((bytes_eq-Decides (new_var u n) found.1).0 found.3) ∙ own_var u n own ∙ sym (own_new u n own) in
       by_unit w from.items from.there from.number from.item from.at same

@@ -1,34 +1,13 @@
 -- An item of the one unit keeps the rules that it kept in its own unit.
-use Rattle.std.proofs.Common.{◌≡◌, ◌≢◌, ℕ, zero, suc, ◌<◌, ◌&&◌, ◌||◌, not, Bool, true, false, if◌then◌else◌, List, [], ◌∷◌, ◌++◌, map, filter_map, take, bytes_eq, is_some, Option, Some, None, option_map, slice_get, refl, sym, ap, ◌∙◌, subst, arith}
-use Rattle.std.specs.List.{list_all, list_any}
-use Rattle.std.proofs.lemmas.List.{map-append}
-use Rattle.std.proofs.lemmas.Bool.{and_parts, false≢true, both_ways, not-true}
-use Rattle.std.proofs.lemmas.Slice.Eq.{bytes_eq-Decides}
-use Rattle.c_tree.specs.declared.tree.CType.{CType}
+use Rattle.c_merge.proofs.Common.{◌≡◌, ℕ, suc, ◌<◌, Bool, true, false, not, ◌&&◌, ◌||◌, ◌≢◌, List, [], ◌∷◌, ◌++◌, map, take, is_some, if◌then◌else◌, slice_get, Some, None, Option, option_map, filter_map, bytes_eq, sym, refl, ap, ◌∙◌, arith, and_parts, both_ways, false≢true, not-true, map-append, bytes_eq-Decides, list_all, list_any, is_some_map, all_join, by_test, KeepsRules, are_alike, body_variables, file_name_is_free, has_body, is_own_name, is_symbol, local_names, may_both_stand, same_func_type, same_type, same_types, func_type_of, local_variables, name_of, param_variables, CType, Program, Name, by_option, passes_at, free_names, take_keeps, func_type_of-func, each_at, Each, is_outside, Renaming, merge_names}
 use Rattle.c_tree.specs.declared.tree.CType.TheVariants as type
 use Rattle.c_tree.specs.Tree as tree
-use Rattle.c_tree.specs.Runtime.{same_type, same_types, same_func_type}
-use Rattle.c_tree.specs.Scope.{name_of, func_type_of, param_variables, local_variables}
-use Rattle.c_tree.specs.Rules.{has_body, are_alike, may_both_stand, is_own_name, is_symbol, file_name_is_free, body_variables, local_names}
-use Rattle.c_tree.specs.FirstBroken.{KeepsRules}
-use Rattle.c_meaning.specs.State.{Name}
-use Rattle.c_meaning.specs.Linking.{Program}
-use Rattle.c_sound.proofs.Choices.{by_test, by_option}
-use Rattle.c_sound.proofs.Defined.{passes_at}
-use Rattle.c_sound.proofs.Lists.{take_keeps}
-use Rattle.c_renaming.specs.Renaming.{Renaming}
 use Rattle.c_renaming.specs.Renamed as renamed
-use Rattle.c_renaming.specs.Kept.{Each}
-use Rattle.c_renaming.specs.NewNames.{is_outside, name_in}
-use Rattle.c_renaming.proofs.Bodies.{func_type_of-func}
-use Rattle.c_renaming.proofs.Merging.{merging_names}
-use Rattle.c_renaming.proofs.NewNames.{new_names}
-use Rattle.c_merge.specs.Merge.{may_name, merge_names}
 use Rattle.c_merge.proofs.Together.{FitTogether}
 use Rattle.c_merge.proofs.NewNames.{new, new_var, outside_stays, own_new, own_var, SameNew, new_same, new_keeps, item_name, one_type}
 use Rattle.c_merge.proofs.NewStatements.{all_gives}
 use Rattle.c_merge.proofs.Places.{Before, from_map}
-use Rattle.c_merge.proofs.Units.{free, func_seen, defined_once}
+use Rattle.c_merge.proofs.Units.{func_seen, defined_once}
 
 -- ---- lists and tests
 
@@ -36,13 +15,6 @@ pub all_from : {A : Type 0} (test : A → Bool) (xs : List A) → ((j : ℕ) (x 
     → list_all test xs ≡ true
 all_from test [] holds = refl
 all_from test (x ∷ xs) holds = λ i. holds 0 x refl i && all_from test xs (λ j y at. holds (suc j) y at) i
-
-all_join : {A : Type 0} (test : A → Bool) (xs ys : List A) → list_all test xs ≡ true → list_all test ys ≡ true
-    → list_all test (xs ++ ys) ≡ true
-all_join test [] ys first second = second
-all_join test (x ∷ xs) ys first second =
-    let both = and_parts (test x) (list_all test xs) first in
-    λ i. both.0 i && all_join test xs ys both.1 second i
 
 pub any_map : {A B : Type 0} (f : A → B) (test : B → Bool) (test' : A → Bool) → ((a : A) → test (f a) ≡ test' a) → (xs : List A)
     → list_any test (map f xs) ≡ list_any test' xs
@@ -66,18 +38,9 @@ any_front test (x ∷ xs) ys is = go (test x) is (any_front test xs ys)
     go true is behind = refl
     go false is behind = behind is
 
-each_at : {A : Type 0} (P : A → Type 0) (xs : List A) → Each P xs → (i : ℕ) (x : A) → slice_get xs i ≡ Some x → P x
-each_at P [] each i x at = absurd cc
-each_at P (y ∷ xs) each zero x at = let same : y ≡ x = cc in subst P same each.0
-each_at P (y ∷ xs) each (suc i) x at = each_at P xs each.1 i x at
-
 pub and_false : (b : Bool) → (b && false) ≡ false
 and_false true = refl
 and_false false = refl
-
-pub is_some_map : {A B : Type 0} (f : A → B) (o : Option A) → is_some (option_map f o) ≡ is_some o
-is_some_map f None = refl
-is_some_map f (Some a) = refl
 
 -- ---- types are equal to themselves
 
@@ -106,9 +69,6 @@ module _ (p : Program) (are : FitTogether p.units) (u : ℕ) (items : List tree.
 
   keeps : KeepsRules items
   keeps = are.kept u items at_u
-
-  vars_keep : (m n : Name) → bytes_eq (new_var u m) (new_var u n) ≡ bytes_eq m n
-  vars_keep = (merging_names name_in new_names p is_outside (may_name p)).vars u
 
   -- ---- rule 1
 
@@ -184,15 +144,15 @@ module _ (p : Program) (are : FitTogether p.units) (u : ℕ) (items : List tree.
   others_stand w differ others there k j (tree.Function g) (tree.Function f) at_k at_j same outside = functions_stand w differ
       others there k j g f at_k at_j same outside
   others_stand w differ others there k j (tree.Array n count bytes) x at_k at_j same outside =
-      absurd (both_ways (is_outside n) (ap not (free others (are.kept w others there) k (tree.Array n count bytes) at_k).0)
+      absurd (both_ways (is_outside n) (ap not (free_names others (are.kept w others there) k (tree.Array n count bytes) at_k).0)
       (ap is_outside same ∙ outside))
   others_stand w differ others there k j (tree.Var t n number) x at_k at_j same outside =
-      absurd (both_ways (is_outside n) (ap not (free others (are.kept w others there) k (tree.Var t n number) at_k).0)
+      absurd (both_ways (is_outside n) (ap not (free_names others (are.kept w others there) k (tree.Var t n number) at_k).0)
       (ap is_outside same ∙ outside))
   others_stand w differ others there k j (tree.Function g) (tree.Array n count bytes) at_k at_j same outside =
-      absurd (both_ways (is_outside n) (ap not (free items keeps j (tree.Array n count bytes) at_j).0) outside)
+      absurd (both_ways (is_outside n) (ap not (free_names items keeps j (tree.Array n count bytes) at_j).0) outside)
   others_stand w differ others there k j (tree.Function g) (tree.Var t n number) at_k at_j same outside =
-      absurd (both_ways (is_outside n) (ap not (free items keeps j (tree.Var t n number) at_j).0) outside)
+      absurd (both_ways (is_outside n) (ap not (free_names items keeps j (tree.Var t n number) at_j).0) outside)
 
   abbrev pub stands_by : tree.Item → tree.Item → Bool
   stands_by x other = not (bytes_eq (name_of other) (name_of x)) || may_both_stand other x
@@ -208,7 +168,7 @@ module _ (p : Program) (are : FitTogether p.units) (u : ℕ) (items : List tree.
       (all_from (stands_by (renamed.item ρ u x)) (map (renamed.item ρ u) (take i items)) of_own)
     where
       x_name : name_of (renamed.item ρ u x) ≡ new u (name_of x)
-      x_name = item_name p u x (free items keeps i x at).0
+      x_name = item_name p u x (free_names items keeps i x at).0
 
       by_name : (w : ℕ) (a : tree.Item) → name_of (renamed.item ρ w a) ≡ new w (name_of a) → w ≢ u
           → ((name_of a ≡ name_of x) → is_outside (name_of x) ≡ true → may_both_stand (renamed.item ρ w a) (renamed.item ρ u x) ≡ true)
@@ -227,7 +187,7 @@ module _ (p : Program) (are : FitTogether p.units) (u : ℕ) (items : List tree.
           let w = b.unit in
           let from = b.from in
           let differ : w ≢ u = less_differ w b.less in
-          let a_name = item_name p w from.item (free from.items (are.kept w from.items from.there) from.number from.item from.at).0 in
+          let a_name = item_name p w from.item (free_names from.items (are.kept w from.items from.there) from.number from.item from.at).0 in
           ap (stands_by (renamed.item ρ u x)) from.is
           ∙ by_name w from.item a_name differ
           (λ same outside. others_stand w differ from.items from.there from.number i from.item x from.at at same outside)
@@ -237,7 +197,7 @@ module _ (p : Program) (are : FitTogether p.units) (u : ℕ) (items : List tree.
       of_own j other at_j =
           let from = from_map (renamed.item ρ u) (take i items) j other at_j in
           let a = from.0 in
-          let a_name = item_name p u a (free items keeps j a (take_keeps i items j a from.1)).0 in
+          let a_name = item_name p u a (free_names items keeps j a (take_keeps i items j a from.1)).0 in
           let names : bytes_eq (name_of (renamed.item ρ u a)) (name_of (renamed.item ρ u x)) ≡ bytes_eq (name_of a) (name_of x) =
           (λ k. bytes_eq (a_name k) (x_name k)) ∙ new_keeps u (name_of a) (name_of x) in
           ap (stands_by (renamed.item ρ u x)) from.2

@@ -1,21 +1,8 @@
 -- The names that the one unit declares, by those of its units.
-use Rattle.std.proofs.Common.{◌≡◌, ◌≢◌, ℕ, not, true, false, if◌then◌else◌, List, bytes_eq, Some, option_map, slice_get, refl, sym, ap, ◌∙◌, subst}
-use Rattle.std.proofs.lemmas.Bool.{both_ways, not-true}
-use Rattle.std.proofs.lemmas.Slice.Eq.{bytes_eq-Decides}
+use Rattle.c_merge.proofs.Common.{◌≡◌, ℕ, true, false, not, ◌||◌, ◌≢◌, List, [], ◌∷◌, map, if◌then◌else◌, slice_get, Some, option_map, bytes_eq, sym, refl, ap, ◌∙◌, subst, both_ways, not-true, bytes_eq-Decides, by_test, file_name_is_free, is_own_name, func_type_of, function_of, is_among, name_of, variable_of, bytes_differ, bytes_equal, Program, Name, depth_name, func_type_of-func, is_outside, name_in, Renaming, merge_names}
 use Rattle.c_tree.specs.Tree as tree
-use Rattle.c_tree.specs.Scope.{name_of, variable_of, function_of, func_type_of}
-use Rattle.c_tree.specs.Rules.{is_own_name, file_name_is_free}
-use Rattle.c_meaning.specs.State.{Name}
-use Rattle.c_meaning.specs.Linking.{Program}
-use Rattle.c_meaning.specs.Step.{depth_name}
-use Rattle.c_meaning.proofs.Lookups.{bytes_equal, bytes_differ}
-use Rattle.c_sound.proofs.Choices.{by_test}
-use Rattle.c_renaming.specs.Renaming.{Renaming}
 use Rattle.c_renaming.specs.Renamed as renamed
-use Rattle.c_renaming.specs.NewNames.{is_outside, name_in}
-use Rattle.c_renaming.proofs.Bodies.{func_type_of-func}
 use Rattle.c_renaming.proofs.NewNames.{new_names}
-use Rattle.c_merge.specs.Merge.{merge_names}
 use Rattle.c_merge.proofs.Together.{FitTogether, Shows}
 use Rattle.c_merge.proofs.Units.{own_not_depth, func_seen}
 
@@ -128,3 +115,10 @@ module _ (p : Program) (are : FitTogether p.units) where
       → func_type_of f ≡ func_type_of g
   one_type u w items others i j f g at_u at_w at_i at_j same outside =
       are.typed u w f g (shows u items i f at_u at_i outside) (shows w others j g at_w at_j (sym (ap is_outside same) ∙ outside)) same
+
+-- ---- among others
+
+pub among_map : (f : Name → Name) → ((m n : Name) → bytes_eq (f m) (f n) ≡ bytes_eq m n) → (n : Name) (xs : List Name)
+    → is_among (f n) (map f xs) ≡ is_among n xs
+among_map f keeps n [] = refl
+among_map f keeps n (x ∷ xs) = λ i. keeps n x i || among_map f keeps n xs i

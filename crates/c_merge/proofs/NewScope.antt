@@ -1,34 +1,15 @@
 -- What names stand for in the scope of a function of the one unit, and the types of expressions there.
-use Rattle.std.proofs.Common.{◌≡◌, ◌≢◌, ℕ, zero, suc, ◌++◌, ◌<◌, ◌||◌, Bool, true, false, if◌then◌else◌, List, [], ◌∷◌, map, filter_map, take, bytes_eq, is_some, Option, Some, None, option_map, slice_get, refl, sym, ap, ◌∙◌, subst, arith}
-use Rattle.std.specs.List.{cons_option}
-use Rattle.std.specs.Option.{option_or}
+use Rattle.c_merge.proofs.Common.{◌≡◌, ℕ, ◌<◌, Bool, true, false, ◌||◌, ◌≢◌, List, [], ◌∷◌, ◌++◌, map, take, is_some, if◌then◌else◌, slice_get, Some, None, Option, option_map, filter_map, bytes_eq, sym, refl, ap, ◌∙◌, subst, arith, both_ways, same_Some, bytes_eq-Decides, cons_option, option_or, or_assoc, by_test, if_found, named, primitives, HasType, IsElement, Scope, array_of, arrays, common_type, file_functions, file_variables, func_type_of, function_of, functions, is_among, local_variables, may_be_narrowed, name_typing, number_type, op_typing, param_variables, pointed_by, typed_if, typing_of, value_typing, variable_of, variables, CType, Program, Name, depth_name, by_option, free_names, named_from, take_keeps, each_at, merging_names, Each, is_outside, name_in, Renaming, may_name, merge_names}
 use Rattle.std.proofs.lemmas.List.Elements.{filter_map-append}
-use Rattle.std.proofs.lemmas.Bool.{both_ways}
-use Rattle.std.proofs.lemmas.Option.{same_Some}
-use Rattle.std.proofs.lemmas.Slice.Eq.{bytes_eq-Decides}
-use Rattle.w2c_base.specs.Lookup.{if_found, named}
-use Rattle.c_tree.specs.declared.tree.CType.{CType}
 use Rattle.c_tree.specs.declared.tree.CType.TheVariants as type
 use Rattle.c_tree.specs.Tree as tree
-use Rattle.c_tree.specs.Runtime.{primitives}
-use Rattle.c_tree.specs.Scope.{Scope, HasType, IsElement, is_among, variable_of, array_of, function_of, func_type_of, param_variables, local_variables, file_variables, variables, arrays, file_functions, functions, pointed_by, typed_if, may_be_narrowed, name_typing, value_typing, number_type, common_type, op_typing, typing_of}
-use Rattle.c_meaning.specs.State.{Name}
-use Rattle.c_meaning.specs.Linking.{Program}
-use Rattle.c_meaning.specs.Step.{depth_name}
-use Rattle.c_sound.proofs.Choices.{by_test, by_option}
-use Rattle.c_sound.proofs.Lists.{named_from, take_keeps}
-use Rattle.c_renaming.specs.Renaming.{Renaming}
 use Rattle.c_renaming.specs.Renamed as renamed
-use Rattle.c_renaming.specs.Kept.{Each}
-use Rattle.c_renaming.specs.NewNames.{is_outside, name_in}
 use Rattle.c_renaming.proofs.Begins.{named-append}
-use Rattle.c_renaming.proofs.Merging.{merging_names}
 use Rattle.c_renaming.proofs.NewNames.{new_names}
-use Rattle.c_merge.specs.Merge.{may_name, merge_names}
 use Rattle.c_merge.proofs.Together.{FitTogether}
-use Rattle.c_merge.proofs.NewNames.{new, new_var, outside_stays, inside_new, var_apart, new_same, new_keeps, variable_item, function_item, one_type}
+use Rattle.c_merge.proofs.NewNames.{new, new_var, outside_stays, inside_new, var_apart, new_same, new_keeps, variable_item, function_item, one_type, among_map}
 use Rattle.c_merge.proofs.Places.{Before}
-use Rattle.c_merge.proofs.Units.{free, func_not_runtime, variable_free, runtime_reserved}
+use Rattle.c_merge.proofs.Units.{func_not_runtime, variable_free, runtime_reserved}
 
 no_some : {A : Type 0} {a : A} → None ≡ Some a → ⊥
 no_some e = cc
@@ -55,16 +36,11 @@ filter_new {A} g h f same (x ∷ xs) = (λ i. cons_option (same x i) (filter_new
     go None = refl
     go (Some a) = refl
 
-among_new : (f : Name → Name) → ((m n : Name) → bytes_eq (f m) (f n) ≡ bytes_eq m n) → (n : Name) (xs : List Name)
-    → is_among (f n) (map f xs) ≡ is_among n xs
-among_new f keeps n [] = refl
-among_new f keeps n (x ∷ xs) = λ i. keeps n x i || among_new f keeps n xs i
-
 module _ (p : Program) (are : FitTogether p.units) (u : ℕ) (items : List tree.Item) (at_u : slice_get p.units u ≡ Some items) where
   abbrev ρ : Renaming
   ρ = merge_names p
 
-  vars_keep : (m n : Name) → bytes_eq (new_var u m) (new_var u n) ≡ bytes_eq m n
+  pub vars_keep : (m n : Name) → bytes_eq (new_var u m) (new_var u n) ≡ bytes_eq m n
   vars_keep = (merging_names name_in new_names p is_outside (may_name p)).vars u
 
   less_differ : (w : ℕ) → w < u → w ≢ u
@@ -106,7 +82,7 @@ module _ (p : Program) (are : FitTogether p.units) (u : ℕ) (items : List tree.
       go : (item : tree.Item) → slice_get b.from.items b.from.number ≡ Some item
           → array_of (renamed.item ρ b.unit item) ≡ Some m → bytes_eq (new_var u n) m ≡ false
       go (tree.Array x count bytes) at is =
-          let own = (free b.from.items (are.kept b.unit b.from.items b.from.there) b.from.number (tree.Array x count bytes) at).0 in
+          let own = (free_names b.from.items (are.kept b.unit b.from.items b.from.there) b.from.number (tree.Array x count bytes) at).0 in
           let same : new_var b.unit x ≡ m = same_Some (new_var b.unit x) m is in
           let apart : bytes_eq (new_var b.unit x) (new_var u n) ≡ false = var_apart u b.unit (less_differ b.unit b.less) x n own in
           by_test (bytes_eq (new_var u n) m)
@@ -135,11 +111,6 @@ module _ (p : Program) (are : FitTogether p.units) (u : ℕ) (items : List tree.
     name_is : func.name ≡ n
     type_is : func_type_of func ≡ t
     outside : is_outside n ≡ true
-
-  each_at : {A : Type 0} (P : A → Type 0) (xs : List A) → Each P xs → (i : ℕ) (x : A) → slice_get xs i ≡ Some x → P x
-  each_at P [] each i x at = absurd cc
-  each_at P (y ∷ xs) each zero x at = let same : y ≡ x = cc in subst P same each.0
-  each_at P (y ∷ xs) each (suc i) x at = each_at P xs each.1 i x at
 
   function_other : (n : Name) (t : tree.FuncType) (others : List tree.Item) → Front others
       → named (new u n) (filter_map function_of others) ≡ Some t → Other n t
@@ -254,7 +225,7 @@ module _ (p : Program) (are : FitTogether p.units) (u : ℕ) (items : List tree.
         ∙ ap (λ b. b || is_among (new_var u n) (filter_map array_of (map (renamed.item ρ u) (take n0 items))))
         (arrays_other n others front)
         ∙ ap (is_among (new_var u n)) (filter_new array_of (renamed.item ρ u) (new_var u) array_item (take n0 items))
-        ∙ among_new (new_var u) vars_keep n (filter_map array_of (take n0 items))
+        ∙ among_map (new_var u) vars_keep n (filter_map array_of (take n0 items))
 
     -- ---- functions
 
@@ -296,10 +267,6 @@ module _ (p : Program) (are : FitTogether p.units) (u : ℕ) (items : List tree.
         ∙ (λ i. option_or (file_functions_now n i) (runtime_functions n i))
         ∙ or_assoc (named (new u n) (filter_map function_of others)) (named n (file_functions old)) (named n primitives)
         ∙ ap (option_or (named (new u n) (filter_map function_of others))) (sym (named-append n (file_functions old) primitives))
-      where
-        or_assoc : {A : Type 0} (a b c : Option A) → option_or (option_or a b) c ≡ option_or a (option_or b c)
-        or_assoc None b c = refl
-        or_assoc (Some a) b c = refl
 
     -- a function that another unit declares too has the type that it has here
     other_type : (n : Name) (t t' : tree.FuncType) → Other n t' → named n (functions old) ≡ Some t → t' ≡ t

@@ -1,32 +1,14 @@
 -- A statement of the one unit keeps the rules that it kept in its own unit.
-use Rattle.std.proofs.Common.{◌≡◌, ℕ, ◌-◌, ◌==◌, ◌&&◌, ◌||◌, not, Bool, true, false, List, [], ◌∷◌, ◌++◌, length, map, flat_map, take, bytes_eq, codes, is_some, Option, Some, None, option_map, slice_get, refl, sym, ap, ◌∙◌}
-use Rattle.std.specs.List.{list_all}
-use Rattle.std.proofs.lemmas.List.{length-map, map-append}
-use Rattle.std.proofs.lemmas.Bool.{and_parts, false≢true}
-use Rattle.std.proofs.lemmas.Slice.Eq.{bytes_eq-Decides}
-use Rattle.w2c_base.specs.Lookup.{if_found, named}
-use Rattle.c_tree.specs.declared.tree.CType.{CType}
+use Rattle.c_merge.proofs.Common.{◌≡◌, ℕ, ◌-◌, Bool, true, false, not, ◌&&◌, ◌||◌, List, [], ◌∷◌, ◌++◌, map, length, take, is_some, ◌==◌, slice_get, Some, None, codes, Option, option_map, flat_map, bytes_eq, sym, refl, ap, ◌∙◌, and_parts, false≢true, length-map, map-append, bytes_eq-Decides, list_all, all_parts, if_found, named, AsArray, AsFunction, AsVariable, Use, are_distinct_numbers, arg_has_type, arg_suits, arg_uses, args_suit, call_suits, callee_type, callee_uses, case_value, cases_are_distinct, cases_suit, ends_body, expr_uses, has_same_type, if_any, is_known, is_void, label_is_free, label_of, labels_are_there, labels_named, labels_of, last_ends_body, may_be_assigned, may_be_called, number_suits, proper_types, stmt_is_typed, stmt_rules, stmt_suits, stmt_uses, target_suits, target_uses, written_type_is_proper, same_type, Scope, common_type, file_functions, functions, is_among, is_comparison, is_number_type, is_object_type, pointed_by, type_of, typing_of, value_type, variables, CType, Program, Name, by_option, merging_names, Each, is_outside, name_in, Renaming, may_name, merge_names}
 use Rattle.c_tree.specs.declared.tree.CType.TheVariants as type
 use Rattle.c_tree.specs.Tree as tree
-use Rattle.c_tree.specs.Runtime.{same_type}
-use Rattle.c_tree.specs.Scope.{Scope, is_among, variables, file_functions, functions, is_number_type, is_comparison, is_object_type, pointed_by, value_type, common_type, typing_of, type_of}
-use Rattle.c_tree.specs.Rules.{stmt_rules, if_any, is_void, label_of, labels_of, labels_named, label_is_free, written_type_is_proper, labels_are_there, cases_are_distinct, last_ends_body, Use, AsVariable, AsArray, AsFunction, expr_uses, arg_uses, callee_uses, target_uses, stmt_uses, is_known, arg_has_type, may_be_assigned, may_be_called, stmt_is_typed, has_same_type, arg_suits, args_suit, callee_type, target_suits, call_suits, stmt_suits, proper_types, case_value, are_distinct_numbers, number_suits, cases_suit, ends_body}
-use Rattle.c_meaning.specs.State.{Name}
-use Rattle.c_meaning.specs.Linking.{Program}
-use Rattle.c_sound.proofs.Choices.{by_option}
-use Rattle.c_renaming.specs.Renaming.{Renaming}
 use Rattle.c_renaming.specs.Renamed as renamed
-use Rattle.c_renaming.specs.Kept.{Each}
-use Rattle.c_renaming.specs.NewNames.{is_outside, name_in}
-use Rattle.c_renaming.proofs.Merging.{merging_names}
 use Rattle.c_renaming.proofs.NewNames.{new_names}
-use Rattle.c_merge.specs.Merge.{may_name, merge_names}
 use Rattle.c_merge.proofs.Together.{FitTogether}
-use Rattle.c_merge.proofs.NewNames.{new, new_var, outside_stays}
+use Rattle.c_merge.proofs.NewNames.{new, new_var, outside_stays, among_map}
 use Rattle.c_merge.proofs.NewScope.{old, now, variables_same, file_variables_same, arrays_same, function_same, file_functions_there, typing_same}
 use Rattle.c_merge.proofs.Places.{Before, take_map}
 use Rattle.c_merge.proofs.Rules.{Keeps}
-use Rattle.c_merge.proofs.Units.{all_parts}
 
 -- ---- lists
 
@@ -47,11 +29,6 @@ if_any_map : {A B : Type 0} (f : A → B) (test : B → Bool) (test' : A → Boo
     → if_any (option_map f o) test ≡ if_any o test'
 if_any_map f test test' same None = refl
 if_any_map f test test' same (Some a) = same a
-
-pub among_map : (f : Name → Name) → ((m n : Name) → bytes_eq (f m) (f n) ≡ bytes_eq m n) → (n : Name) (xs : List Name)
-    → is_among (f n) (map f xs) ≡ is_among n xs
-among_map f keeps n [] = refl
-among_map f keeps n (x ∷ xs) = λ i. keeps n x i || among_map f keeps n xs i
 
 pub or_gives : (a b c : Bool) → (a || b) ≡ true → (b ≡ true → c ≡ true) → (a || c) ≡ true
 or_gives true b c e gives = refl

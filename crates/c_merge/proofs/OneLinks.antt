@@ -1,46 +1,26 @@
 -- The one unit that linked units become links with the same hosts, and defines the same functions for others.
-use Rattle.std.proofs.Common.{◌≡◌, ℕ, suc, ◌&&◌, not, Bool, true, false, if◌then◌else◌, List, [], ◌∷◌, ◌++◌, is_some, Option, Some, None, option_map, slice_get, refl, sym, ap, ◌∙◌}
-use Rattle.std.specs.Prelude.{◌||◌, flat_map}
-use Rattle.w2c_base.specs.Lookup.{if_found}
+use Rattle.c_merge.proofs.Common.{◌≡◌, ℕ, Bool, true, false, not, ◌&&◌, List, [], ◌∷◌, ◌++◌, take, is_some, if◌then◌else◌, slice_get, Some, None, Option, option_map, flat_map, sym, refl, ap, ◌∙◌, option_or, flat_empty, is_some_map, if_found, named, same_func_type, func_type_of, LinkRefusal, NotDefined, Program, Twice, TypeDiffers, external_func, external_functions, func_type, link_refusal, symbols_of, twice, type_found, unresolved, Name, cons_not_none, kept_from, func_type_of-func, merged_made, merging_names, kept_type_found, MayMerge, is_outside, name_in, Renaming, address, signature_of, AreLinked, as_one, may_name, merge_names, merged}
 use Rattle.c_tree.specs.Tree as tree
-use Rattle.c_tree.specs.Runtime.{same_func_type}
-use Rattle.c_tree.specs.Scope.{func_type_of}
-use Rattle.c_meaning.specs.State.{Name}
-use Rattle.c_meaning.specs.Linking.{Program, LinkRefusal, NotDefined, Twice, TypeDiffers, external_func, external_functions, func_type, host_symbol, link_refusal, twice, unresolved}
-use Rattle.c_sound.proofs.Lists.{cons_not_none, kept_from}
-use Rattle.c_renaming.specs.Renaming.{Renaming, address}
+use Rattle.c_meaning.proofs.Links.{type_stands}
 use Rattle.c_renaming.specs.Renamed as renamed
-use Rattle.c_renaming.specs.Merging.{MayMerge}
-use Rattle.c_renaming.specs.NewNames.{is_outside, name_in}
 use Rattle.c_renaming.specs.Renames.{Renames}
-use Rattle.c_renaming.proofs.Bodies.{func_type_of-func}
 use Rattle.c_renaming.proofs.Made.{external_kept, external_same}
-use Rattle.c_renaming.proofs.Merged.{merged_made}
 use Rattle.c_renaming.proofs.MergedExternals.{merged_externals, merged_renames}
-use Rattle.c_renaming.proofs.Merging.{merging_names}
-use Rattle.c_renaming.proofs.Types.{type_found}
-use Rattle.c_merge.specs.Merge.{AreLinked, as_one, may_name, merge_names, merged}
 use Rattle.c_merge.proofs.Linked.{external_of, linked_fit, not_twice, not_unresolved}
 use Rattle.c_merge.proofs.NewNames.{outside_stays}
 use Rattle.c_merge.proofs.Places.{placed_at}
 use Rattle.c_merge.proofs.Units.{func_seen, units_may_merge}
+use Rattle.c_merge.proofs.OneUnit.{same_func}
 
 -- ---- lists and refusals
 
-all_none : {A B : Type 0} (f : A → List B) (xs : List A) → ((i : ℕ) (x : A) → slice_get xs i ≡ Some x → f x ≡ []) → flat_map f xs ≡ []
-all_none f [] each = refl
-all_none f (x ∷ xs) each = λ i. each 0 x refl i ++ all_none f xs (λ j y at. each (suc j) y at) i
-
-is_some-map : {A B : Type 0} (f : A → B) (o : Option A) → is_some (option_map f o) ≡ is_some o
-is_some-map f None = refl
-is_some-map f (Some a) = refl
-
 -- what hosts do not define is defined once by one unit
-not_by_hosts : (has host unit : Bool) (x y : LinkRefusal) → (if has && (host || unit) then x ∷ [] else []) ≡ []
-    → (if has && (host || false) then y ∷ [] else []) ≡ []
-not_by_hosts true true unit x y e = absurd (cons_not_none x [] e)
-not_by_hosts true false unit x y e = refl
-not_by_hosts false host unit x y e = refl
+not_by_hosts : (has : Bool) (unit host : Option tree.FuncType) (x y : LinkRefusal)
+    → (if has && is_some (option_or unit host) then x ∷ [] else []) ≡ [] → (if has && is_some host then y ∷ [] else []) ≡ []
+not_by_hosts true unit None x y e = refl
+not_by_hosts true None (Some ty) x y e = absurd (cons_not_none x [] e)
+not_by_hosts true (Some other) (Some ty) x y e = absurd (cons_not_none x [] e)
+not_by_hosts false unit host x y e = refl
 
 abbrev refusals : ℕ → Name → tree.FuncType → Option tree.FuncType → List LinkRefusal
 refusals u x ty o = elim o [
@@ -78,6 +58,9 @@ module _ (p : Program) (are : AreLinked p) where
   abbrev one : List tree.Item
   one = merged p.units
 
+  abbrev symbols : List (Name × tree.FuncType)
+  symbols = symbols_of p.hosts
+
   may : MayMerge p name_in is_outside (may_name p)
   may = units_may_merge p (linked_fit p are)
 
@@ -94,9 +77,12 @@ module _ (p : Program) (are : AreLinked p) where
   pub type_same : (x : Name) → if_found (external_func q x) (func_type q) ≡ if_found (external_func p x) (func_type p)
   type_same x =
       ap (λ o. if_found o (func_type q)) (found_same x)
-      ∙ type_found ρ p q one_renames.meanings (external_func p x)
+      ∙ kept_type_found ρ p q one_renames.meanings (external_func p x)
       (external_kept ρ p q (merging_names name_in may.tells p is_outside (may_name p)) (merged_made p name_in is_outside (may_name p) may)
       (merged_externals p name_in is_outside (may_name p) may) x)
+
+  found_as_before : (x : Name) → type_found (one ∷ []) symbols x ≡ type_found p.units symbols x
+  found_as_before x = type_stands q x ∙ type_same x ∙ sym (type_stands p x)
 
   -- ---- functions that the one unit shows
 
@@ -116,9 +102,6 @@ module _ (p : Program) (are : AreLinked p) where
   func_from u (tree.Array n count bytes) g is = absurd cc
   func_from u (tree.Var t n number) g is = absurd cc
   func_from u (tree.Function f) g is = (f, refl, same_func g (renamed.func ρ u f) is)
-    where
-      same_func : (g h : tree.Func) → tree.Function g ≡ tree.Function h → g ≡ h
-      same_func g h e = cc
 
   shown_at : (k : ℕ) (g : tree.Func) → slice_get one k ≡ Some (tree.Function g) → g.is_static ≡ false → Shown g
   shown_at k g at shown =
@@ -147,27 +130,30 @@ module _ (p : Program) (are : AreLinked p) where
       let is = shown_item from.1 g from.3 in
       shown_at from.0 g (from.2 ∙ ap Some is.0) is.1
 
-  none_twice : (g : tree.Func) → Shown g → twice q 0 g ≡ []
+  none_twice : (g : tree.Func) → Shown g → twice (type_found [] symbols) 0 g ≡ []
   none_twice g s =
       let has : is_some g.body ≡ is_some s.func.body =
-      ap (λ (h : tree.Func). is_some h.body) s.is ∙ is_some-map (renamed.body ρ s.unit) s.func.body in
-      (λ i. if has i && (is_some (host_symbol p (s.name_is i)) || false) then Twice 0 (s.name_is i) ∷ [] else [])
-      ∙ not_by_hosts (is_some s.func.body) (is_some (host_symbol p s.func.name)) _ (Twice s.unit s.func.name) (Twice 0 s.func.name)
-      (not_twice p are s.unit s.items s.number s.func s.there s.at s.shown)
+      ap (λ (h : tree.Func). is_some h.body) s.is ∙ is_some_map (renamed.body ρ s.unit) s.func.body in
+      (λ i. if has i && is_some (named (s.name_is i) symbols) then Twice 0 (s.name_is i) ∷ [] else [])
+      ∙ not_by_hosts (is_some s.func.body) (signature_of (take s.unit p.units) s.func.name) (named s.func.name symbols)
+      (Twice s.unit s.func.name) (Twice 0 s.func.name)
+      (not_twice p.units symbols are.kept are.linked s.unit s.items s.number s.func s.there s.at s.shown)
 
-  none_unresolved : (g : tree.Func) → Shown g → unresolved q 0 g ≡ []
+  none_unresolved : (g : tree.Func) → Shown g → unresolved (type_found (one ∷ []) symbols) 0 g ≡ []
   none_unresolved g s =
       let types : func_type_of g ≡ func_type_of s.func = ap func_type_of s.is ∙ func_type_of-func ρ s.unit s.func in
-      (λ i. refusals 0 (s.name_is i) (types i) (if_found (external_func q (s.name_is i)) (func_type q)))
-      ∙ ap (refusals 0 s.func.name (func_type_of s.func)) (type_same s.func.name)
-      ∙ still_found s.unit 0 s.func.name (func_type_of s.func) (if_found (external_func p s.func.name) (func_type p))
-      (not_unresolved p are s.unit s.items s.number s.func s.there s.at s.shown)
+      (λ i. refusals 0 (s.name_is i) (types i) (type_found (one ∷ []) symbols (s.name_is i)))
+      ∙ ap (refusals 0 s.func.name (func_type_of s.func)) (found_as_before s.func.name)
+      ∙ still_found s.unit 0 s.func.name (func_type_of s.func) (type_found p.units symbols s.func.name)
+      (not_unresolved p.units symbols are.kept are.linked s.unit s.items s.number s.func s.there s.at s.shown)
 
   pub one_links : link_refusal q ≡ None
-  one_links = λ i. slice_get ((twice_none i ++ []) ++ (unresolved_none i ++ [])) 0
+  one_links = λ i. option_or (slice_get (twice_none i ++ []) 0) (slice_get (unresolved_none i ++ []) 0)
     where
-      twice_none : flat_map (twice q 0) (external_functions one) ≡ []
-      twice_none = all_none (twice q 0) (external_functions one) (λ i g at. none_twice g (shown_from i g at))
+      twice_none : flat_map (twice (type_found [] symbols) 0) (external_functions one) ≡ []
+      twice_none = flat_empty (twice (type_found [] symbols) 0) (external_functions one) (λ i g at. none_twice g (shown_from i g at))
 
-      unresolved_none : flat_map (unresolved q 0) (external_functions one) ≡ []
-      unresolved_none = all_none (unresolved q 0) (external_functions one) (λ i g at. none_unresolved g (shown_from i g at))
+      unresolved_none : flat_map (unresolved (type_found (one ∷ []) symbols) 0) (external_functions one) ≡ []
+      unresolved_none =
+          flat_empty (unresolved (type_found (one ∷ []) symbols) 0) (external_functions one)
+          (λ i g at. none_unresolved g (shown_from i g at))

@@ -1,18 +1,15 @@
 -- The one unit that linked units become keeps the rules.
-use Rattle.std.proofs.Common.{◌≡◌, ℕ, ◌+◌, List, map, take, Some, None, option_map, slice_get, refl, sym, ap, ◌∙◌, subst}
+use Rattle.c_merge.proofs.Common.{◌≡◌, ℕ, ◌+◌, List, map, take, slice_get, Some, None, option_map, sym, refl, ap, ◌∙◌, subst, KeepsRules, item_rules, stmt_rules, Program, by_option, Renaming, merge_names, merged}
 use Rattle.c_tree.specs.Tree as tree
-use Rattle.c_tree.specs.Rules.{item_rules, stmt_rules}
-use Rattle.c_tree.specs.FirstBroken.{KeepsRules}
-use Rattle.c_meaning.specs.Linking.{Program}
-use Rattle.c_sound.proofs.Choices.{by_option}
-use Rattle.c_renaming.specs.Renaming.{Renaming}
 use Rattle.c_renaming.specs.Renamed as renamed
-use Rattle.c_merge.specs.Merge.{merge_names, merged}
 use Rattle.c_merge.proofs.Together.{FitTogether}
 use Rattle.c_merge.proofs.NewFunctions.{item_keeps}
 use Rattle.c_merge.proofs.NewStatements.{stmt_keeps}
 use Rattle.c_merge.proofs.Places.{Placed, from_map, placed_at, upto}
 use Rattle.c_merge.proofs.Rules.{Keeps, keeps_all, all_keep}
+
+pub same_func : (g h : tree.Func) → tree.Function g ≡ tree.Function h → g ≡ h
+same_func g h e = cc
 
 module _ (p : Program) (are : FitTogether p.units) where
   abbrev ρ : Renaming
@@ -38,9 +35,6 @@ module _ (p : Program) (are : FitTogether p.units) where
     body_is : func.body ≡ Some body
     func_new : g ≡ renamed.func ρ u func
     body_new : c ≡ renamed.body ρ u body
-
-  same_func : (g h : tree.Func) → tree.Function g ≡ tree.Function h → g ≡ h
-  same_func g h e = cc
 
   array_no_func : {g : tree.Func} {n bytes : List ℕ} {count : ℕ} → tree.Function g ≡ tree.Array n count bytes → ⊥
   array_no_func e = cc

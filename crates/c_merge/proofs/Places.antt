@@ -1,20 +1,10 @@
 -- Where the items of the one unit come from.
-use Rattle.std.proofs.Common.{◌≡◌, ℕ, zero, suc, ◌+◌, ◌<◌, List, [], ◌∷◌, ◌++◌, map, take, Some, slice_get, refl, sym, ap, ◌∙◌, subst, arith, append_assoc}
+use Rattle.c_merge.proofs.Common.{◌≡◌, ℕ, zero, suc, ◌+◌, ◌<◌, List, [], ◌∷◌, ◌++◌, map, take, slice_get, Some, sym, refl, ap, ◌∙◌, subst, append_assoc, arith, Program, each-append, each_by, Each, joined, Renaming, merge_names, merged}
 use Rattle.c_tree.specs.Tree as tree
-use Rattle.c_meaning.specs.Linking.{Program}
-use Rattle.c_renaming.specs.Renaming.{Renaming}
 use Rattle.c_renaming.specs.Renamed as renamed
-use Rattle.c_renaming.specs.Kept.{Each}
-use Rattle.c_renaming.specs.Merging.{joined}
-use Rattle.c_renaming.proofs.Merged.{each-append}
-use Rattle.c_merge.specs.Merge.{merge_names, merged}
 use Rattle.c_merge.proofs.Units.{each_from}
 
 -- ---- lists
-
-each_by : {A : Type 0} {P Q : A → Type 0} → ((a : A) → P a → Q a) → (xs : List A) → Each P xs → Each Q xs
-each_by give [] each = tt
-each_by give (x ∷ xs) each = (give x each.0, each_by give xs each.1)
 
 pub take_map : {A B : Type 0} (f : A → B) (n : ℕ) (xs : List A) → take n (map f xs) ≡ map f (take n xs)
 take_map f zero xs = refl

@@ -1,17 +1,8 @@
 -- What holds of the items that linked units become.
-use Rattle.std.proofs.Common.{◌≡◌, List, [], None, sym, ◌∙◌, subst}
+use Rattle.c_merge.proofs.Common.{◌≡◌, List, [], None, sym, ◌∙◌, subst, KeepsRules, Formed, Program, first_refusal, joined, c_symbols, AllChecked, HostSymbol, merged, new_names}
 use Rattle.c_tree.specs.Tree as tree
-use Rattle.c_tree.specs.FirstBroken.{KeepsRules}
-use Rattle.c_tree.specs.Spelled.{Formed}
-use Rattle.c_meaning.specs.Linking.{Program}
-use Rattle.c_link.specs.declared.host_symbol.HostSymbol.{HostSymbol}
-use Rattle.c_link.specs.Offers.{c_symbols}
-use Rattle.c_link.specs.Programs.{AllChecked}
-use Rattle.c_link.specs.Refusals.{first_refusal}
-use Rattle.c_renaming.specs.Merging.{joined}
-use Rattle.c_merge.specs.Merge.{merged, new_names}
-use Rattle.c_merge.proofs.FirstRefusal.{not_refused_fit}
 use Rattle.c_merge.proofs.Formed.{one_formed}
+use Rattle.c_merge.proofs.Linked.{units_fit}
 use Rattle.c_merge.proofs.OneUnit.{one_keeps}
 use Rattle.c_merge.proofs.SameNames.{one_same}
 
@@ -28,4 +19,5 @@ module _ (units : List (List tree.Item)) (one : List tree.Item) (is : one ≡ jo
 
     module _ (hosts : List HostSymbol) (none : first_refusal units (c_symbols hosts) ≡ None) where
       pub is_kept : KeepsRules one
-      is_kept = subst KeepsRules (sym is_merged) (one_keeps p (not_refused_fit units hosts checked none))
+      is_kept = subst KeepsRules (sym is_merged)
+          (one_keeps p (units_fit units (c_symbols hosts) (λ u items at. (checked u items at).1) none))

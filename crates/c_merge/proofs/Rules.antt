@@ -1,13 +1,6 @@
 -- A unit keeps the rules exactly where each item and each statement keeps them.
-use Rattle.std.proofs.Common.{◌≡◌, ℕ, suc, ◌+◌, Bool, true, not, if◌then◌else◌, List, [], ◌∷◌, ◌++◌, map, filter, flat_map, take, Option, Some, None, slice_get, refl, sym, ap, ◌∙◌}
-use Rattle.std.specs.List.{AllByRecursion}
-use Rattle.w2c_base.specs.Lookup.{numbered}
+use Rattle.c_merge.proofs.Common.{◌≡◌, ℕ, ◌+◌, Bool, true, not, List, [], ◌∷◌, ◌++◌, map, take, if◌then◌else◌, slice_get, Some, None, filter, Option, flat_map, sym, refl, ap, ◌∙◌, AllByRecursion, append_none, flat_empty, map_none, numbered_at, by_test, numbered, BrokenAt, KeepsRules, broken_in_body, broken_in_item, broken_in_stmt, broken_of, broken_rules, item_rules, stmt_rules, Scope, by_option, at_numbered, cons_not_none, flat_none, none_first}
 use Rattle.c_tree.specs.Tree as tree
-use Rattle.c_tree.specs.Scope.{Scope}
-use Rattle.c_tree.specs.Rules.{item_rules, stmt_rules}
-use Rattle.c_tree.specs.FirstBroken.{BrokenAt, KeepsRules, broken_of, broken_in_stmt, broken_in_body, broken_in_item, broken_rules}
-use Rattle.c_sound.proofs.Choices.{by_test, by_option}
-use Rattle.c_sound.proofs.Lists.{append_none, at_numbered, cons_not_none, flat_none, none_first, numbered_at}
 
 abbrev pub Keeps : {P : Type 0} → List (ℕ × (P → Bool)) → P → Type 0
 Keeps {P} rules p = AllByRecursion (λ (rule : ℕ × (P → Bool)). rule.1 p ≡ true) rules
@@ -24,10 +17,6 @@ pub record KeepsAll (items : List tree.Item) : Type 0 where
       → Keeps stmt_rules (record { scope = scope_at items k f b; number = j + 1; stmt = stmt })
 
 -- ---- from a unit to its places
-
-map_none : {A B : Type 0} (f : A → B) (xs : List A) → map f xs ≡ [] → xs ≡ []
-map_none f [] e = refl
-map_none f (x ∷ xs) e = absurd (cons_not_none (f x) (map f xs) e)
 
 abbrev numbers : {P : Type 0} → ℕ × (P → Bool) → List (ℕ × (P → Bool)) → P → Bool → List ℕ
 numbers {P} rule rules p b = map (λ (r : ℕ × (P → Bool)). r.0)
@@ -79,10 +68,6 @@ module _ (items : List tree.Item) where
           (flat_none (broken_in_stmt (scope_at items k f b) k) (numbered b.stmts) body j (j, stmt) (numbered_at b.stmts j stmt here)))
 
 -- ---- from the places to the unit
-
-flat_empty : {A B : Type 0} (f : A → List B) (xs : List A) → ((i : ℕ) (x : A) → slice_get xs i ≡ Some x → f x ≡ []) → flat_map f xs ≡ []
-flat_empty f [] h = refl
-flat_empty f (x ∷ xs) h = (λ i. h 0 x refl i ++ flat_empty f xs (λ j y at. h (suc j) y at) i)
 
 pub all_keep : (items : List tree.Item) → KeepsAll items → KeepsRules items
 all_keep items all = ap (λ l. slice_get l 0) (flat_empty (broken_in_item items) (numbered items) each)

@@ -1,13 +1,7 @@
 -- New names hang on no unit's items, so the one unit does not depend on what else a renaming of its units has.
-use Rattle.std.proofs.Common.{◌≡◌, ℕ, List, length, map, option_map, refl, ap}
-use Rattle.std.specs.Prelude.{flat_map, zip}
-use Rattle.std.specs.List.{range_with_len}
+use Rattle.c_merge.proofs.Common.{◌≡◌, ℕ, List, map, length, option_map, zip, flat_map, refl, ap, range_with_len, Program, joined, Renaming, merge_names, new_names}
 use Rattle.c_tree.specs.Tree as tree
-use Rattle.c_meaning.specs.Linking.{Program}
-use Rattle.c_renaming.specs.Renaming.{Renaming}
 use Rattle.c_renaming.specs.Renamed as renamed
-use Rattle.c_renaming.specs.Merging.{joined}
-use Rattle.c_merge.specs.Merge.{merge_names, new_names}
 
 module _ (p : Program) where
   abbrev ρ : Renaming

@@ -1,8 +1,6 @@
 -- What units have to keep to become one: hosts have no part in it.
-use Rattle.std.proofs.Common.{◌≡◌, ℕ, ◌<◌, true, false, List, is_some, Some, slice_get}
+use Rattle.c_merge.proofs.Common.{◌≡◌, ℕ, ◌<◌, true, false, List, is_some, slice_get, Some, KeepsRules, func_type_of}
 use Rattle.c_tree.specs.Tree as tree
-use Rattle.c_tree.specs.FirstBroken.{KeepsRules}
-use Rattle.c_tree.specs.Scope.{func_type_of}
 
 -- a unit declares a function of external linkage, or defines it
 pub record Shows (units : List (List tree.Item)) (u : ℕ) (f : tree.Func) : Type 0 where

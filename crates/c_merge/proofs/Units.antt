@@ -1,30 +1,8 @@
 -- Linked units that keep the rules may become one.
-use Rattle.std.proofs.Common.{◌≡◌, ◌≢◌, inl, inr, ℕ, zero, suc, ◌+◌, ◌<◌, ◌&&◌, not, Bool, true, false, if◌then◌else◌, List, [], ◌∷◌, ◌++◌, filter_map, flat_map, take, bytes_eq, is_some, Option, Some, None, slice_get, refl, sym, ap, ◌∙◌, subst}
-use Rattle.std.specs.Prelude.{◌||◌}
-use Rattle.std.specs.List.{list_all, list_any}
-use Rattle.std.proofs.lemmas.Bool.{and_parts, false≢true, or_cases, both_ways, not-true, cases_order}
-use Rattle.std.proofs.lemmas.Slice.Eq.{bytes_eq-Decides}
-use Rattle.w2c_base.specs.Lookup.{if_found, named}
-use Rattle.c_tree.specs.declared.tree.CType.{CType}
+use Rattle.c_merge.proofs.Common.{◌≡◌, ℕ, zero, suc, ◌+◌, ◌<◌, Bool, true, false, not, ◌&&◌, ◌||◌, ◌≢◌, List, [], ◌∷◌, ◌++◌, take, is_some, if◌then◌else◌, slice_get, Some, None, Option, flat_map, filter_map, bytes_eq, sym, refl, ap, ◌∙◌, subst, inl, inr, and_parts, both_ways, cases_order, false≢true, not-true, or_cases, bytes_eq-Decides, list_all, list_any, all_parts, by_test, if_found, named, KeepsRules, arg_suits, arg_uses, args_suit, call_suits, callee_type, callee_uses, if_any, is_known, is_own_name, is_runtime_name, is_symbol, is_void, proper_types, stmt_suits, stmt_uses, target_suits, target_uses, primitives, Scope, file_variables, func_type_of, function_of, functions, variable_of, variables, CType, Program, defined, defined_for_all, definition_at, definitions, is_external, Name, depth_name, by_option, any_from, defined_names, is_listed, static_defined, free_names, stmt_kept, first_there, named_from, take_keeps, Each, KeptArg, KeptCallee, KeptStmt, Foreign, IsDefinedOnce, KeepsSeen, MayMerge, MayUse, Own, is_outside, name_in, Renaming, declares, may_be_named, may_name, merge_names}
 use Rattle.c_tree.specs.Tree as tree
-use Rattle.c_tree.specs.FirstBroken.{KeepsRules}
-use Rattle.c_tree.specs.Runtime.{primitives}
-use Rattle.c_tree.specs.Scope.{Scope, variable_of, variables, file_variables, function_of, functions, func_type_of}
-use Rattle.c_tree.specs.Rules.{is_runtime_name, is_symbol, is_own_name, is_void, file_name_is_free, local_names, if_any, arg_suits, args_suit, arg_uses, callee_uses, target_uses, is_known, callee_type, stmt_suits, stmt_uses, proper_types, target_suits, call_suits}
-use Rattle.c_meaning.specs.State.{Name}
-use Rattle.c_meaning.specs.Linking.{Program, definitions, is_external, defined, defined_for_all, definition_at}
-use Rattle.c_meaning.specs.Step.{depth_name}
-use Rattle.c_sound.proofs.Choices.{by_test, by_option}
-use Rattle.c_sound.proofs.Defined.{any_from, defined_names, is_listed, static_defined}
-use Rattle.c_sound.proofs.Kept.{item_kept, stmt_kept}
-use Rattle.c_sound.proofs.Lists.{first_there, named_from, take_keeps}
-use Rattle.c_renaming.specs.Renaming.{Renaming}
-use Rattle.c_renaming.specs.Kept.{Each, KeptArg, KeptCallee, KeptStmt}
 use Rattle.c_renaming.specs.Parts.{KeptBody, KeptItem}
-use Rattle.c_renaming.specs.Merging.{IsDefinedOnce, KeepsSeen, MayUse, Own, Foreign, MayMerge}
-use Rattle.c_renaming.specs.NewNames.{is_outside, name_in}
 use Rattle.c_renaming.proofs.NewNames.{new_names, primitives_outside}
-use Rattle.c_merge.specs.Merge.{declares, may_be_named, may_name, merge_names}
 use Rattle.c_merge.proofs.Together.{FitTogether, Shows}
 
 -- ---- lists
@@ -50,15 +28,6 @@ any_at test (y ∷ xs) zero x at is =
 any_at test (y ∷ xs) (suc i) x at is = by_test (test y)
     (λ passes. rw passes refl)
     (λ fails. rw fails (any_at test xs i x at is))
-
--- each of two lists that are joined
-pub all_parts : {A : Type 0} (test : A → Bool) (xs ys : List A) → list_all test (xs ++ ys) ≡ true
-    → (list_all test xs ≡ true) × (list_all test ys ≡ true)
-all_parts test [] ys e = (refl, e)
-all_parts test (x ∷ xs) ys e =
-    let both = and_parts (test x) (list_all test (xs ++ ys)) e in
-    let behind = all_parts test xs ys both.1 in
-    (rw (both.0, behind.0) refl, behind.1)
 
 -- ---- names of the runtime
 
@@ -138,13 +107,9 @@ own_not_depth name own = by_test (bytes_eq name depth_name)
     (λ differ. differ)
 
 module _ (items : List tree.Item) (keeps : KeepsRules items) where
-  pub free : (k : ℕ) (item : tree.Item) → slice_get items k ≡ Some item
-      → (file_name_is_free item ≡ true) × (list_all is_own_name (local_names item) ≡ true)
-  free k item at = and_parts (file_name_is_free item) (list_all is_own_name (local_names item)) (item_kept items keeps k item at).free
-
   -- a function's name is seen outside exactly where it is not static
   pub func_seen : (k : ℕ) (f : tree.Func) → slice_get items k ≡ Some (tree.Function f) → is_outside f.name ≡ not f.is_static
-  func_seen k f at = go f.is_static (free k (tree.Function f) at).0
+  func_seen k f at = go f.is_static (free_names items keeps k (tree.Function f) at).0
     where
       go : (b : Bool) → (if b then is_own_name f.name else is_symbol f.name) ≡ true → is_outside f.name ≡ not b
       go true own = own_inside f.name own
@@ -157,7 +122,7 @@ module _ (items : List tree.Item) (keeps : KeepsRules items) where
       clash : (ty : tree.FuncType) → named f.name primitives ≡ Some ty → ⊥
       clash ty there =
           let kinds = runtime_reserved f.name (ap is_some there) in
-          go f.is_static kinds.0 kinds.1 (free k (tree.Function f) at).0
+          go f.is_static kinds.0 kinds.1 (free_names items keeps k (tree.Function f) at).0
         where
           go : (b : Bool) → is_outside f.name ≡ true → is_symbol f.name ≡ false
               → (if b then is_own_name f.name else is_symbol f.name) ≡ true → ⊥
@@ -170,7 +135,7 @@ module _ (items : List tree.Item) (keeps : KeepsRules items) where
   variable_free k (tree.Array n count bytes) name t at e = absurd cc
   variable_free k (tree.Function f) name t at e = absurd cc
   variable_free k (tree.Var ty n number) name t at e =
-      subst (λ (x : Name). is_own_name x ≡ true) (same_first n name ty t e) (free k (tree.Var ty n number) at).0
+      subst (λ (x : Name). is_own_name x ≡ true) (same_first n name ty t e) (free_names items keeps k (tree.Var ty n number) at).0
 
   -- the name of a function that some place declares
   pub func_declared : (n : ℕ) (name : Name) (ty : tree.FuncType) → named name (filter_map function_of (take n items)) ≡ Some ty
@@ -285,8 +250,8 @@ module _ (items : List tree.Item) (keeps : KeepsRules items) where
           stmt_text stmt h.known (sym (ap (λ c. not c || stmt_suits s stmt) h.known) ∙ h.suits))
 
     item_text : (k : ℕ) (item : tree.Item) → slice_get items k ≡ Some item → KeptItem ρ u (λ x. true) item
-    item_text k (tree.Array n count bytes) at = own_not_depth n (free k (tree.Array n count bytes) at).0
-    item_text k (tree.Var ty n number) at = own_not_depth n (free k (tree.Var ty n number) at).0
+    item_text k (tree.Array n count bytes) at = own_not_depth n (free_names items keeps k (tree.Array n count bytes) at).0
+    item_text k (tree.Var ty n number) at = own_not_depth n (free_names items keeps k (tree.Var ty n number) at).0
     item_text k (tree.Function f) at = go f.body refl
       where
         go : (o : Option tree.Body) → f.body ≡ o → KeptBody ρ u (λ x. true) true o

@@ -1,14 +1,9 @@
 -- The elements of a table, seen through their view.
-use Rattle.std.proofs.Common.{◌≡◌, ℕ, zero, suc, ◌<◌, ◌≤◌, ◌==◌, Bool, true, false, nat_lt, List, [], ◌∷◌, length, map, replicate, Option, Some, None, refl, ap, sym, ◌∙◌, arith}
-use Rattle.std.specs.Prelude.{slice_get, slice_set, option_map}
+use Rattle.c_objects.proofs.Common.{◌≡◌, ℕ, zero, suc, ◌<◌, ◌≤◌, Bool, true, false, List, [], ◌∷◌, map, length, replicate, nat_lt, ◌==◌, slice_get, slice_set, Some, None, Option, option_map, sym, refl, ap, ◌∙◌, arith, table_in, with_table, Gives, on_table, set_element, tab_new, tab_set, FuncPointer, Machine, Number, ObjectAddress, Pointer, Table, element_of, Naming, func_of}
 use Rattle.w2c_base.specs.declared.value.Value.TheVariants.{I32, I64}
-use Rattle.c_meaning.specs.State.{ObjectAddress, Number, Pointer, FuncPointer, Table, Machine}
-use Rattle.c_meaning.specs.Machine.{table_in, with_table}
-use Rattle.c_meaning.specs.Primitives.{Gives, on_table, set_element, tab_new, tab_set}
 use Rattle.c_objects.specs.declared.held.FuncId.{FuncId}
 use Rattle.c_objects.specs.declared.table.Entry.{Entry}
-use Rattle.c_objects.specs.Objects.{element_of}
-use Rattle.c_objects.specs.Views.{Naming, func_of}
+use Rattle.w2c_base.proofs.Places.{get_within}
 
 module _ {A B : Type 0} where
   pub get_mapped : (f : A → B) (xs : List A) (i : ℕ) → slice_get (map f xs) i ≡ option_map f (slice_get xs i)
@@ -37,11 +32,6 @@ element_set names es i e = set_mapped (option_map (element_of names)) es i (Some
 pub empty_elements : (names : Naming) (n : ℕ) → map (option_map (element_of names)) (replicate n None) ≡ replicate n None
 empty_elements names n = empty_mapped (element_of names) n
 
-some_at : {A : Type 0} (xs : List A) (i : ℕ) → i < length xs → (x : A) × (slice_get xs i ≡ Some x)
-some_at [] i less = absurd (omega (arith, less))
-some_at (x ∷ xs) zero less = (x, refl)
-some_at (x ∷ xs) (suc i) less = some_at xs i (omega (arith, less))
-
 -- the elements of a table as the meaning of C has them
 module _ (names : Naming) (m : Machine) (a : ObjectAddress) (made : Bool) (es : List (Option Entry)) (max : ℕ) where
   abbrev table : List (Option Entry) → Table
@@ -61,7 +51,7 @@ module _ (names : Naming) (m : Machine) (a : ObjectAddress) (made : Bool) (es : 
       → tab_set (Pointer (Some a) ∷ Number (I64 at) ∷ FuncPointer (option_map (func_of names) func) ∷ Number (I64 signature) ∷ []) m
       ≡ Gives (with_table m a (table (slice_set es at (Some (record { func = f; signature = signature }))))) None
   set_done at func f signature e is some less =
-      let here = some_at es at less in
+      let here = get_within es at less in
       rw is (rw (e, on_table) (element_sets at f signature some here.0 here.1))
 
   pub make_done : (fresh : List (Option Entry)) (count most : ℕ)

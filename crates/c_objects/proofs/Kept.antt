@@ -1,12 +1,7 @@
 -- What is written where it stands already changes nothing.
-use Rattle.std.proofs.Common.{◌≡◌, ℕ, zero, suc, Bool, true, false, if◌then◌else◌, List, [], ◌∷◌, bytes_eq, Option, Some, None, refl, ap, sym, ◌∙◌}
-use Rattle.std.specs.Prelude.{slice_get, slice_set}
-use Rattle.w2c_base.specs.Lookup.{if_found, named, with_named}
+use Rattle.c_objects.proofs.Common.{◌≡◌, ℕ, zero, suc, Bool, true, false, List, [], ◌∷◌, if◌then◌else◌, slice_get, slice_set, Some, None, Option, bytes_eq, sym, refl, ap, ◌∙◌, if_found, named, with_named, memory_in, table_in, with_memory, with_objects, with_table, Machine, Memory, Name, ObjectAddress, Objects, Table, Keeps}
 use Rattle.c_objects.specs.declared.done.Done.{Done}
 use Rattle.c_objects.specs.declared.done.Done.TheVariants as done
-use Rattle.c_objects.specs.Views.{Keeps}
-use Rattle.c_meaning.specs.State.{Name, ObjectAddress, Memory, Table, Objects, Machine}
-use Rattle.c_meaning.specs.Machine.{memory_in, with_memory, table_in, with_table, with_objects}
 
 module _ {A : Type 0} where
   some_is : (x y : A) → Some x ≡ Some y → x ≡ y

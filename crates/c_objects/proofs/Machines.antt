@@ -1,29 +1,14 @@
 -- Memories and tables of a store, as those of the machine of the meaning of C.
-use Rattle.std.proofs.Common.{◌≡◌, ℕ, zero, suc, ◌<◌, ◌≤◌, ◌⊎◌, inl, inr, arith, true, false, List, [], ◌∷◌, length, map, bytes_eq, length-set, Option, Some, None, refl, ap, sym, ◌∙◌}
+use Rattle.c_objects.proofs.Common.{◌≡◌, ℕ, zero, suc, ◌<◌, ◌≤◌, true, false, ◌⊎◌, List, [], ◌∷◌, map, length, get_or, slice_get, slice_set, Some, None, Option, option_map, zip, bytes_eq, sym, refl, ap, ◌∙◌, inl, inr, arith, length-set, slice_get_cases, AllByRecursion, if_found, named, memory_in, table_in, var_in, with_memory, with_objects, with_table, with_var, NoEffect, Machine, Memory, Name, Pointer, Table, memory_effect, table_effect, memory_of, table_of, AreApart, AreNames, AreStored, Differ, IsStored, machine_of, objects_of, units_of, var_at, Naming, UnitNames, address_of, object_name, value_of, MemoryCall, UnitObjects, TableCall}
 use Rattle.std.proofs.lemmas.List.{length-map}
-use Rattle.std.proofs.lemmas.Option.{slice_get_cases}
-use Rattle.std.specs.Prelude.{slice_get, slice_set, get_or, option_map, zip}
-use Rattle.std.specs.List.{AllByRecursion}
 use Rattle.std.specs.Vec.{with_item}
-use Rattle.w2c_base.specs.Lookup.{if_found, named}
 use Rattle.w2c_base.specs.Run.{Trail}
-use Rattle.c_meaning.specs.State.{Name, Memory, Table, Machine}
-use Rattle.c_meaning.specs.Machine.{var_in, with_var, memory_in, with_memory, table_in, with_table, with_objects}
 use Rattle.c_objects.specs.declared.held.Held.{Held}
 use Rattle.c_objects.specs.declared.held.Object.{Object}
 use Rattle.c_objects.specs.declared.held.Object.TheVariants as object
 use Rattle.c_objects.specs.declared.held.ObjectId.{ObjectId}
 use Rattle.c_objects.specs.declared.memory.MemoryCell.{MemoryCell}
 use Rattle.c_objects.specs.declared.table.TableCell.{TableCell}
-use Rattle.c_objects.specs.declared.memory.MemoryCall.{MemoryCall}
-use Rattle.c_objects.specs.declared.table.TableCall.{TableCall}
-use Rattle.c_objects.specs.Calls.{memory_effect, table_effect}
-use Rattle.c_meaning.specs.State.{Pointer}
-use Rattle.c_meaning.specs.Primitives.{NoEffect}
-use Rattle.c_objects.specs.declared.store.UnitObjects.{UnitObjects}
-use Rattle.c_objects.specs.Objects.{memory_of, table_of}
-use Rattle.c_objects.specs.Stores.{objects_of, units_of, machine_of, var_at, Differ, AreApart, AreNames, IsStored, AreStored}
-use Rattle.c_objects.specs.Views.{Naming, UnitNames, address_of, object_name, value_of}
 use Rattle.c_objects.proofs.Kept.{memory_kept, table_kept}
 use Rattle.c_objects.proofs.Elements.{get_mapped, set_mapped}
 use Rattle.c_objects.proofs.Stores.{no_memory_effect, no_table_effect, no_such, nameless, later, named_at, set_at, stored_at, stored_set, units_at, units_past, units_set}

@@ -1,22 +1,9 @@
 -- Objects that stand by number, looked up by name.
-use Rattle.std.proofs.Common.{◌≡◌, ℕ, zero, suc, Bool, true, false, if◌then◌else◌, List, [], ◌∷◌, length, bytes_eq, Some, None, rules, refl, ap, sym, subst, arith}
-use Rattle.std.specs.Prelude.{slice_get, slice_set, get_or, zip}
-use Rattle.std.specs.List.{AllByRecursion}
-use Rattle.w2c_base.specs.Lookup.{named, with_named}
-use Rattle.c_meaning.specs.State.{Name, ObjectAddress, Machine}
+use Rattle.c_objects.proofs.Common.{◌≡◌, ℕ, zero, suc, Bool, true, false, List, [], ◌∷◌, length, get_or, if◌then◌else◌, slice_get, slice_set, Some, None, zip, bytes_eq, sym, refl, ap, subst, arith, rules, AllByRecursion, named, with_named, memory_in, table_in, Effect, NoEffect, on_memory, on_table, Machine, Name, ObjectAddress, Pointer, memory_effect, table_effect, AreNames, AreStored, Differ, IsStored, objects_of, units_of, Naming, UnitNames, MemoryCall, UnitObjects, TableCall}
 use Rattle.w2c_base.specs.Values.{equal_type, type_of}
-use Rattle.c_meaning.specs.State.{Pointer}
-use Rattle.c_meaning.specs.Primitives.{Effect, NoEffect, on_memory, on_table}
-use Rattle.c_objects.specs.declared.memory.MemoryCall.{MemoryCall}
 use Rattle.c_objects.specs.declared.memory.MemoryCall.TheVariants as mem
-use Rattle.c_objects.specs.declared.table.TableCall.{TableCall}
 use Rattle.c_objects.specs.declared.table.TableCall.TheVariants as tab
-use Rattle.c_objects.specs.Calls.{memory_effect, table_effect}
 use Rattle.c_objects.specs.Widths.{type_at}
-use Rattle.c_meaning.specs.Machine.{memory_in, table_in}
-use Rattle.c_objects.specs.declared.store.UnitObjects.{UnitObjects}
-use Rattle.c_objects.specs.Stores.{objects_of, units_of, Differ, AreNames, IsStored, AreStored}
-use Rattle.c_objects.specs.Views.{Naming, UnitNames}
 
 module _ {A : Type 0} where
   -- a name that differs from all is beside nothing

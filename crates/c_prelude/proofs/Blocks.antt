@@ -1,13 +1,7 @@
 -- Counting ones by sums of blocks: each block of a number holds the count of its ones.
-use Rattle.std.proofs.Common.{◌≡◌, ℕ, zero, suc, ◌+◌, ◌-◌, ◌*◌, ◌/◌, ◌%◌, ◌^◌, ◌<◌, ◌≤◌, true, false, arith, refl, sym, subst, ap, ◌∙◌}
-use mathlib.Core.Logic.{inl, inr}
-use Rattle.std.specs.Prelude.{cond, nat_eq, bit_and}
-use native.Mathlib.Nat.{mod-eq_of_lt, pow-suc, mul-le-mul_right, mul-le-mul_left, add-mul-div_right, add_comm, add_assoc, mod-lt, le_refl}
-use lib.Bits.{and_block, and_mask, and_le_r, and_zero_r}
+use Rattle.c_prelude.proofs.Common.{◌≡◌, ℕ, zero, suc, ◌+◌, ◌-◌, ◌*◌, ◌/◌, ◌%◌, ◌^◌, ◌<◌, ◌≤◌, true, false, cond, nat_eq, bit_and, sym, refl, ap, ◌∙◌, subst, inl, inr, le_refl, add_assoc, mul-le-mul_right, mod-lt, mod-eq_of_lt, add_comm, mul-le-mul_left, pow-suc, div-add-mod', arith, pow_pos, pow_mono, pow-add, and_block, and_le_r, and_mask, and_zero_r, add-mul-div_right, eqb_tells, nat_tests, div-mul-add, mod-mul-add, pow_below, shl_below, shr_below}
 use lib.Count.{ones, ones_in, ones_cat, ones-le}
-use Rattle.std.proofs.lemmas.Nat.{pow-add, pow_pos, shr_below, div-mul-add, mod-mul-add, div-add-mod', shl_below, pow_below}
-use lib.Pow.{pow_mono, ones_lt}
-use Rattle.std.proofs.lemmas.Bool.Decides.{nat_tests, eqb_tells}
+use lib.Pow.{ones_lt}
 
 -- the numbers of 2 ^ k bits whose blocks of 2 ^ (i + 1) bits have the low half set: 0x55.., 0x33.., ..
 abbrev pub low_halves : ℕ → ℕ → ℕ

@@ -1,10 +1,6 @@
 -- Bytes that are written one after another are what is written at once.
-use Rattle.std.proofs.Common.{◌≡◌, ℕ, zero, suc, ◌+◌, ◌-◌, ◌%◌, ◌<◌, ◌≤◌, List, [], ◌∷◌, ◌++◌, length, get_or, take, drop, set, replicate, sym, ap, ◌∙◌, arith, append_assoc, length-append, length-take, length-drop, length-set, take-append-drop}
-use Rattle.std.specs.List.{AllByRecursion}
-use Rattle.std.proofs.lemmas.List.{set_split, take-set-le, drop-set, drop-set-lt, drop-set-add, get_or-drop}
-use native.Mathlib.Nat.{mod-eq_of_lt}
-use lib.Seq.{drop-cons, take-suc, take-suc-set}
-use Rattle.w2c_base.specs.LittleEndian.{little_endian, low_bytes, bytes_at, with_bytes}
+use Rattle.c_prelude.proofs.Common.{◌≡◌, ℕ, zero, suc, ◌+◌, ◌-◌, ◌%◌, ◌<◌, ◌≤◌, List, [], ◌∷◌, ◌++◌, length, get_or, take, drop, set, replicate, sym, ap, ◌∙◌, append_assoc, mod-eq_of_lt, arith, length-append, length-drop, length-set, take-append-drop, length-take, get_or-drop, drop-cons, take-suc, take-suc-set, drop-set-lt, AllByRecursion, bytes_at, little_endian, low_bytes, with_bytes}
+use Rattle.std.proofs.lemmas.List.{set_split, take-set-le, drop-set, drop-set-add}
 
 -- ---- one byte
 

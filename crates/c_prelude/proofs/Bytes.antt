@@ -1,25 +1,8 @@
 -- The helpers that copy and fill bytes of a memory: each is a loop over the bytes that are left.
-use Rattle.std.proofs.Common.{◌≡◌, ◌∙◌, ℕ, zero, suc, ◌+◌, ◌*◌, ◌%◌, ◌^◌, ◌<◌, ◌≤◌, Bool, true, false, ◌&&◌, if◌then◌else◌, arith, refl, sym, ap, subst, List, [], ◌∷◌, codes, drop, length, length-set, get_or, replicate, set, le_of_lt, Option, Some, None}
-use mathlib.Core.Logic.{inl, inr}
-use Rattle.std.specs.Prelude.{nat_le, nat_lt, nat_eq}
-use Rattle.std.specs.List.{AllByRecursion}
-use Rattle.std.proofs.lemmas.Bool.Decides.{nat_tests}
+use Rattle.c_prelude.proofs.Common.{◌≡◌, ℕ, zero, suc, ◌+◌, ◌*◌, ◌%◌, ◌^◌, ◌<◌, ◌≤◌, Bool, true, false, ◌&&◌, List, [], ◌∷◌, length, get_or, drop, set, replicate, if◌then◌else◌, nat_eq, nat_lt, nat_le, Some, None, codes, Option, sym, refl, ap, ◌∙◌, subst, inl, inr, le_of_lt, arith, length-set, nat_tests, AllByRecursion, bytes_at, little_endian, low_bytes, with_bytes, I32, I64, Void, step_on, walk, Program, memory_in, with_memory, on_memory, with_content, Going, Pending, Progress, CValue, Frame, Machine, Memory, Name, Number, ObjectAddress, Pointer, Vars, after_label, CallComesBetween, GivesBack, call_begun, call_ended, copy_helper, fill_helper, object_stmts, ComesToBytes, DoesCopy, DoesFill, number}
 use Rattle.w2c_base.specs.declared.value.ValType.TheVariants as type
-use Rattle.w2c_base.specs.declared.value.Value.TheVariants.{I32, I64}
-use Rattle.w2c_base.specs.LittleEndian.{little_endian, low_bytes, bytes_at, with_bytes}
-use Rattle.c_tree.specs.declared.tree.CType.TheVariants.{Void}
 use Rattle.c_tree.specs.Tree as tree
-use Rattle.c_meaning.specs.State.{Name, ObjectAddress, CValue, Number, Pointer, Vars, Memory, Machine, Frame}
-use Rattle.c_meaning.specs.Linking.{Program}
-use Rattle.c_meaning.specs.Machine.{memory_in, with_memory}
-use Rattle.c_meaning.specs.Primitives.{on_memory, with_content}
-use Rattle.c_meaning.specs.Step.{after_label}
-use Rattle.c_meaning.specs.Run.{Pending, Progress, Going}
-use Rattle.c_meaning.proofs.Goes.{walk, step_on}
 use Rattle.c_prelude.specs.declared.object_tables.TheConstants.{COPY, FILL}
-use Rattle.c_prelude.specs.Helpers.{object_stmts, copy_helper, fill_helper}
-use Rattle.c_prelude.specs.Calls.{GivesBack, call_begun, call_ended, CallComesBetween}
-use Rattle.c_prelude.specs.Operators.{number, ComesToBytes, DoesCopy, DoesFill}
 use Rattle.c_prelude.proofs.Computed.{computed, computed_between}
 use Rattle.c_prelude.proofs.Memories.{no_wrap}
 use Rattle.c_prelude.proofs.Widths.{sides}

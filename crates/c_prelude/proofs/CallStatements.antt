@@ -1,17 +1,9 @@
 -- A statement that calls a function of its unit comes to the end of the call.
-use Rattle.std.proofs.Common.{◌≡◌, ℕ, suc, List, ◌∷◌, Option, Some, None, option_map, sym, subst, ap, ◌∙◌, arith}
-use Rattle.std.specs.Prelude.{slice_get}
+use Rattle.c_prelude.proofs.Common.{◌≡◌, ℕ, suc, List, ◌∷◌, slice_get, Some, None, Option, option_map, sym, ap, ◌∙◌, subst, arith, if_found, Definition, Program, defined, definition_at, definition_of, external_func, func_named, Effect, Going, Pending, Progress, go_on, CValue, Evaluated, Frame, FuncAddress, Machine, Name, Running, Stuck, UnitFunc, Step, Stops, act, at_rest, begin, c_step, call, call_callee, place_of, take_effect, with_value, CallComesBetween, CallComesTo, CallEnd, call_begun, call_ended}
 use Rattle.std.specs.Option.{option_or}
-use Rattle.w2c_base.specs.Lookup.{if_found}
 use Rattle.c_tree.specs.Tree as tree
-use Rattle.c_meaning.specs.State.{Name, FuncAddress, UnitFunc, CValue, Machine, Running, Frame, Stuck, Evaluated}
-use Rattle.c_meaning.specs.Linking.{Program, Definition, definition_of, definition_at, defined, func_named, external_func}
-use Rattle.c_meaning.specs.Primitives.{Effect}
-use Rattle.c_meaning.specs.Step.{Step, Stops, at_rest, place_of, act, with_value, call, call_callee, take_effect, begin, c_step}
-use Rattle.c_meaning.specs.Run.{Pending, Progress, Going, go_on}
 use Rattle.c_meaning.specs.Reaches.{Reaches}
 use Rattle.c_meaning.proofs.Ways.{step, join_one}
-use Rattle.c_prelude.specs.Calls.{CallEnd, call_begun, call_ended, CallComesTo, CallComesBetween}
 use Rattle.c_prelude.specs.Statements.{Calls, StatementComesTo, StatementComesBetween}
 
 -- a name that the unit defines stands for that definition

@@ -1,18 +1,8 @@
 -- The helpers of signed comparisons.
-use Rattle.std.proofs.Common.{◌≡◌, ℕ, ◌%◌, ◌^◌, Bool, true, false, if◌then◌else◌, refl, ◌∙◌, ap, arith, List, Option, Some}
-use Rattle.w2c_base.specs.declared.value.ValType.{ValType}
+use Rattle.c_prelude.proofs.Common.{◌≡◌, ℕ, ◌%◌, ◌^◌, Bool, true, false, List, if◌then◌else◌, Some, Option, refl, ap, ◌∙◌, arith, ValType, I32, truth, Program, Pending, Progress, go_on, Frame, Machine, Number, give, number_helper, DoesOperator, Compare}
 use Rattle.w2c_base.specs.declared.value.ValType.TheVariants as type
-use Rattle.w2c_base.specs.declared.value.Value.TheVariants.{I32}
 use Rattle.wasm_tree.specs.declared.operators.CompareOp.TheVariants as comparison_op
-use Rattle.wasm_meaning.specs.Operators.{truth}
-use Rattle.c_meaning.specs.State.{Number, Machine, Frame}
-use Rattle.c_meaning.specs.Linking.{Program}
-use Rattle.c_meaning.specs.Step.{give}
-use Rattle.c_meaning.specs.Run.{Pending, Progress, go_on}
 use Rattle.c_prelude.specs.declared.rows.Form.TheVariants as form
-use Rattle.c_prelude.specs.Rows.{Compare}
-use Rattle.c_prelude.specs.Helpers.{number_helper}
-use Rattle.c_prelude.specs.Operators.{DoesOperator}
 use Rattle.c_prelude.proofs.Computed.{computed}
 use Rattle.c_prelude.proofs.Numbers.{lt_s_32, lt_s_64, le_s_32, le_s_64}
 

@@ -1,16 +1,7 @@
 -- Calls whose statements compute.
-use Rattle.std.proofs.Common.{◌≡◌, ℕ, ◌≤◌, List, [], ◌∷◌, Some, ap, ◌∙◌}
-use Rattle.w2c_base.specs.declared.value.ValType.{ValType}
+use Rattle.c_prelude.proofs.Common.{◌≡◌, ℕ, ◌≤◌, List, [], ◌∷◌, Some, ap, ◌∙◌, ValType, walk, walk_reaches, Program, Going, Pending, Progress, CValue, Frame, Machine, CallComesBetween, CallComesTo, CallEnd, call_begun, call_ended, c_type, number_helper, number_stmts, number, Form}
 use Rattle.c_tree.specs.Tree as tree
-use Rattle.c_meaning.specs.State.{CValue, Machine, Frame}
-use Rattle.c_meaning.specs.Linking.{Program}
-use Rattle.c_meaning.specs.Run.{Pending, Progress, Going}
-use Rattle.c_meaning.proofs.Goes.{walk, walk_reaches}
-use Rattle.c_prelude.specs.declared.rows.Form.{Form}
-use Rattle.c_prelude.specs.Helpers.{c_type, number_helper, number_stmts}
-use Rattle.c_prelude.specs.Operators.{number}
 use Rattle.c_prelude.proofs.Widths.{operands}
-use Rattle.c_prelude.specs.Calls.{CallEnd, call_begun, call_ended, CallComesTo, CallComesBetween}
 
 -- so many statements lead from the beginning of the call to its end
 abbrev pub Walks : ℕ → tree.Func → List CValue → Machine → CallEnd → Type 0

@@ -1,18 +1,8 @@
 -- The helpers of division and remainder.
-use Rattle.std.proofs.Common.{ℕ, ◌-◌, ◌^◌, arith, refl}
-use mathlib.Core.Logic.{inl, inr}
-use Rattle.std.proofs.lemmas.Bool.Decides.{eqb_tells}
-use Rattle.w2c_base.specs.declared.value.ValType.{ValType}
+use Rattle.c_prelude.proofs.Common.{ℕ, ◌-◌, ◌^◌, refl, inl, inr, arith, eqb_tells, bits, DivByZero, IntOverflow, ValType, Gives, Traps, Machine, number_helper, DoesOperator, Binary}
 use Rattle.w2c_base.specs.declared.value.ValType.TheVariants as type
-use Rattle.c_meaning.specs.State.{Machine}
-use Rattle.w2c_base.specs.declared.trap.TrapKind.TheVariants.{DivByZero, IntOverflow}
-use Rattle.w2c_base.specs.Values.{bits}
 use Rattle.wasm_tree.specs.declared.operators.BinaryOp.TheVariants as binary_op
-use Rattle.wasm_meaning.specs.Operators.{Gives, Traps}
 use Rattle.c_prelude.specs.declared.rows.Form.TheVariants as form
-use Rattle.c_prelude.specs.Rows.{Binary}
-use Rattle.c_prelude.specs.Helpers.{number_helper}
-use Rattle.c_prelude.specs.Operators.{DoesOperator}
 use Rattle.c_prelude.proofs.Computed.{BeginsWith, computed_from}
 use Rattle.c_prelude.proofs.Widths.{widths, at_operands, twice, half_pos, answers, sides}
 use Rattle.c_prelude.proofs.Signs.{minus, minus_not_zero, quot_pp, quot_pn, quot_np, quot_nn, rem_pp, rem_pn, rem_np, rem_nn, div_s_zero, div_s_value, div_s_overflow, rem_s_zero, rem_s_value}

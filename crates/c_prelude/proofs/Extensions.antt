@@ -1,23 +1,7 @@
 -- Sign extension, and its helpers.
-use Rattle.std.proofs.Common.{◌≡◌, ℕ, zero, suc, ◌+◌, ◌*◌, ◌/◌, ◌%◌, ◌^◌, ◌<◌, arith, refl, sym, ap, ◌∙◌, List, Option, Some}
-use Rattle.std.specs.Prelude.{bit_xor}
-use native.Mathlib.Nat.{add-mod_right, add-div_right, mod-lt}
-use native.Mathlib.Numerals.{one-add}
-use Rattle.std.proofs.lemmas.Nat.{mod-pow-add, pow_pos}
-use lib.Bits.{xor_block, xor_zero_r}
-use Rattle.std.proofs.lemmas.Bool.Decides.{nat_tests}
-use Rattle.w2c_base.specs.declared.value.ValType.{ValType}
+use Rattle.c_prelude.proofs.Common.{◌≡◌, ℕ, zero, suc, ◌+◌, ◌*◌, ◌/◌, ◌%◌, ◌^◌, ◌<◌, List, bit_xor, Some, Option, sym, refl, ap, ◌∙◌, mod-lt, one-add, arith, pow_pos, xor_block, xor_zero_r, add-div_right, add-mod_right, nat_tests, mod-pow-add, ValType, extend_s, Program, Pending, Progress, go_on, Frame, Machine, give, number_helper, DoesOperator, number, Extend, ExtendI32S, Form}
 use Rattle.w2c_base.specs.declared.value.ValType.TheVariants as type
-use Rattle.wasm_meaning.specs.Operators.{extend_s}
-use Rattle.c_meaning.specs.State.{Machine, Frame}
-use Rattle.c_meaning.specs.Linking.{Program}
-use Rattle.c_meaning.specs.Step.{give}
-use Rattle.c_meaning.specs.Run.{Pending, Progress, go_on}
-use Rattle.c_prelude.specs.declared.rows.Form.{Form}
 use Rattle.c_prelude.specs.declared.rows.Form.TheVariants as form
-use Rattle.c_prelude.specs.Rows.{ExtendI32S, Extend}
-use Rattle.c_prelude.specs.Helpers.{number_helper}
-use Rattle.c_prelude.specs.Operators.{number, DoesOperator}
 use Rattle.c_prelude.proofs.Computed.{computed}
 
 flip_last : (r : ℕ) → r < 2 → bit_xor r 1 ≡ (r + 1) % 2

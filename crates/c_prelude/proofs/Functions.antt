@@ -1,17 +1,11 @@
 -- Each helper is a static function of its type; helpers have names of their own.
-use Rattle.std.proofs.Common.{◌≡◌, ◌∙◌, ℕ, suc, if◌then◌else◌, refl, sym, ap, subst, bytes_eq, List, [], ◌∷◌, Bool, true, false, Option, Some}
-use Rattle.std.specs.Prelude.{find, slice_get}
-use Rattle.wasm_tree.specs.declared.operators.LoadOp.{LoadOp}
+use Rattle.c_prelude.proofs.Common.{◌≡◌, ℕ, suc, Bool, true, false, List, [], ◌∷◌, if◌then◌else◌, slice_get, Some, Option, find, bytes_eq, sym, refl, ap, ◌∙◌, subst, LoadOp, StoreOp, helper_of, Helper, NumOp}
 use Rattle.wasm_tree.specs.declared.operators.LoadOp.TheVariants as load
-use Rattle.wasm_tree.specs.declared.operators.StoreOp.{StoreOp}
 use Rattle.wasm_tree.specs.declared.operators.StoreOp.TheVariants as store
 use Rattle.c_tree.specs.Tree as tree
-use Rattle.c_prelude.specs.declared.operation.NumOp.{NumOp}
 use Rattle.c_prelude.specs.declared.operation.NumOp.TheVariants as num
-use Rattle.c_prelude.specs.declared.operation.Helper.{Helper}
 use Rattle.c_prelude.specs.declared.operation.Helper.TheVariants as helper
 use Rattle.c_prelude.specs.declared.operation.TheConstants.{HELPERS}
-use Rattle.c_prelude.specs.Helpers.{helper_of}
 use Rattle.c_prelude.specs.Functions.{helper_type, IsStaticFunction}
 
 abbrev IsOne : Helper → Type 0

@@ -1,13 +1,6 @@
 -- Counting zeros: from the top by halves, what is left to count, and the count so far; and the lowest bit that is set.
-use Rattle.std.proofs.Common.{◌≡◌, ℕ, zero, suc, ◌+◌, ◌-◌, ◌*◌, ◌/◌, ◌%◌, ◌^◌, ◌<◌, ◌≤◌, true, false, arith, refl, sym, subst, ap, ◌∙◌}
-use mathlib.Core.Logic.{inl, inr}
-use Rattle.std.specs.Prelude.{nat_lt, nat_eq, bit_and}
-use native.Mathlib.Nat.{mod-eq_of_lt, mul-one, add-zero, pow-suc, mul_assoc, zero-mul, one-mul, zero-mod, mul-le-mul_right, lt_of_mul-lt-mul_right, le_of_mul-le-mul_right}
-use lib.Count.{leading_unique, leading_of_zero, count_leading_zeros, count_trailing_zeros}
-use lib.Bits.{shifted_half, shifted_even, and_block, and_zero_r}
-use Rattle.std.proofs.lemmas.Nat.{pow-add, pow_pos, shl_below}
-use Rattle.std.proofs.lemmas.Bool.Decides.{nat_tests, eqb_tells}
-use Rattle.wasm_meaning.specs.Operators.{truth}
+use Rattle.c_prelude.proofs.Common.{◌≡◌, ℕ, zero, suc, ◌+◌, ◌-◌, ◌*◌, ◌/◌, ◌%◌, ◌^◌, ◌<◌, ◌≤◌, true, false, nat_eq, nat_lt, bit_and, sym, refl, ap, ◌∙◌, subst, inl, inr, add-zero, mul-le-mul_right, mod-eq_of_lt, mul_assoc, lt_of_mul-lt-mul_right, one-mul, pow-suc, zero-mul, mul-one, le_of_mul-le-mul_right, arith, pow_pos, pow-add, and_block, and_zero_r, shifted_even, shifted_half, count_leading_zeros, zero-mod, eqb_tells, nat_tests, shl_below, truth}
+use lib.Count.{leading_unique, leading_of_zero, count_trailing_zeros}
 use Rattle.c_prelude.proofs.Signs.{minus, minus-is}
 
 pub below_test : (a b : ℕ) → a < b → nat_lt a b ≡ true

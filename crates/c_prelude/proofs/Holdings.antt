@@ -1,10 +1,7 @@
 -- A machine in which one memory holds other bytes, and nothing else is changed.
-use Rattle.std.proofs.Common.{◌≡◌, ℕ, zero, suc, Bool, true, false, if◌then◌else◌, List, [], ◌∷◌, bytes_eq, slice_get, slice_set, is_some, Option, Some, None, refl, sym, ap, ◌∙◌}
+use Rattle.c_prelude.proofs.Common.{◌≡◌, ℕ, zero, suc, Bool, true, false, List, [], ◌∷◌, is_some, if◌then◌else◌, slice_get, slice_set, Some, None, Option, bytes_eq, sym, refl, ap, ◌∙◌, if_found, named, with_named, memory_in, with_memory, with_objects, with_content, Machine, Memory, Name, ObjectAddress, Objects}
 use Rattle.std.proofs.lemmas.Option.{none-some, same_Some}
-use Rattle.w2c_base.specs.Lookup.{if_found, named, with_named}
-use Rattle.c_meaning.specs.State.{Name, ObjectAddress, Memory, Objects, Machine}
-use Rattle.c_meaning.specs.Machine.{memory_in, with_memory, with_objects}
-use Rattle.c_meaning.specs.Primitives.{with_content}
+use Rattle.w2c_base.proofs.Places.{set_same}
 use Rattle.c_meaning.proofs.Lookups.{named-with_named}
 
 -- the machine with these bytes or those in its memory
@@ -15,11 +12,6 @@ pub record Holding (m : Machine) (a : ObjectAddress) (memory : Memory) : Type 0 
   pub put : (bytes new : List ℕ) → with_memory (machine bytes) a (with_content memory new) ≡ machine new
 
 -- ---- lists and names
-
-set_same : {A : Type 0} (xs : List A) (k : ℕ) (x : A) → slice_get xs k ≡ Some x → slice_set xs k x ≡ xs
-set_same [] k x e = refl
-set_same (y ∷ xs) zero x e = ap (λ z. z ∷ xs) (sym (same_Some y x e))
-set_same (y ∷ xs) (suc k) x e = ap (λ ys. y ∷ ys) (set_same xs k x e)
 
 set_again : {A : Type 0} (xs : List A) (k : ℕ) (x y : A) → slice_set (slice_set xs k x) k y ≡ slice_set xs k y
 set_again [] k x y = refl

@@ -1,3 +1,4 @@
+mod Common
 pub mod Blocks
 pub mod ByteLists
 pub mod Bytes

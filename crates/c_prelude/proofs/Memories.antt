@@ -1,38 +1,14 @@
 -- The helpers of loads and stores, and of a memory's size.
-use Rattle.std.proofs.Common.{◌≡◌, ◌∙◌, ℕ, ◌+◌, ◌/◌, ◌%◌, ◌^◌, ◌<◌, ◌≤◌, if◌then◌else◌, true, arith, refl, ap, List, [], ◌∷◌, codes, length, Option, Some, None}
-use mathlib.Core.Logic.{inl, inr}
-use Rattle.std.specs.Prelude.{nat_le}
-use Rattle.w2c_base.specs.declared.value.ValType.{ValType}
+use Rattle.c_prelude.proofs.Common.{◌≡◌, ℕ, ◌+◌, ◌/◌, ◌%◌, ◌^◌, ◌<◌, ◌≤◌, true, List, [], ◌∷◌, length, if◌then◌else◌, nat_le, Some, None, codes, Option, refl, ap, ◌∙◌, inl, inr, arith, bytes_at, little_endian, low_bytes, with_bytes, equal_type, type_of, value, MemoryOut, ValType, Value, I32, I64, LoadOp, StoreOp, CType, Void, Answer, Gives, Traps, walk, Program, memory_in, get, on_memory, primitive, put, Going, Pending, Progress, CValue, Evaluated, Frame, Is, Machine, Memory, Name, Number, ObjectAddress, Pointer, Vars, evaluate_arg, CallComesTo, call_begun, c_type, load_helper, size_helper, store_helper, DoesLoad, DoesSize, DoesStore, answered, number, stored, trap}
 use Rattle.w2c_base.specs.declared.value.ValType.TheVariants as type
-use Rattle.w2c_base.specs.declared.value.Value.{Value}
-use Rattle.w2c_base.specs.declared.value.Value.TheVariants.{I32, I64}
-use Rattle.w2c_base.specs.declared.trap.TrapKind.TheVariants.{MemoryOut}
-use Rattle.w2c_base.specs.Values.{value, type_of, equal_type}
-use Rattle.w2c_base.specs.LittleEndian.{little_endian, low_bytes, bytes_at, with_bytes}
-use Rattle.wasm_tree.specs.declared.operators.LoadOp.{LoadOp}
 use Rattle.wasm_tree.specs.declared.operators.LoadOp.TheVariants as load
-use Rattle.wasm_tree.specs.declared.operators.StoreOp.{StoreOp}
 use Rattle.wasm_tree.specs.declared.operators.StoreOp.TheVariants as store
-use Rattle.wasm_meaning.specs.Operators.{Answer, Gives, Traps}
 use Rattle.wasm_meaning.specs.Memories.{extended}
 use Rattle.wasm_tree.specs.Accesses.{load_access, store_access}
-use Rattle.c_tree.specs.declared.tree.CType.{CType}
-use Rattle.c_tree.specs.declared.tree.CType.TheVariants.{Void}
 use Rattle.c_tree.specs.declared.tree.COp.TheVariants as op
 use Rattle.c_tree.specs.declared.tree.Num.{Num}
 use Rattle.c_tree.specs.declared.tree.Num.TheVariants.{N32, N64}
 use Rattle.c_tree.specs.Tree as tree
-use Rattle.c_meaning.specs.State.{Name, ObjectAddress, CValue, Number, Pointer, Vars, Memory, Machine, Frame, Evaluated, Is}
-use Rattle.c_meaning.specs.Linking.{Program}
-use Rattle.c_meaning.specs.Machine.{memory_in}
-use Rattle.c_meaning.specs.Primitives.{primitive, get, put, on_memory}
-use Rattle.c_meaning.specs.Step.{evaluate_arg}
-use Rattle.c_meaning.specs.Run.{Pending, Progress, Going}
-use Rattle.c_meaning.proofs.Goes.{walk}
-use Rattle.c_prelude.specs.Pieces.{trap}
-use Rattle.c_prelude.specs.Helpers.{c_type, load_helper, store_helper, size_helper}
-use Rattle.c_prelude.specs.Calls.{call_begun, CallComesTo}
-use Rattle.c_prelude.specs.Operators.{number, answered, stored, DoesLoad, DoesStore, DoesSize}
 use Rattle.c_prelude.proofs.Computed.{computed}
 use Rattle.c_prelude.proofs.Widths.{widths, number_of-value, sides, seen}
 use Rattle.c_prelude.proofs.Extensions.{c_extend8_32, c_extend16_32, c_extend8_64, c_extend16_64, c_extend32_64}

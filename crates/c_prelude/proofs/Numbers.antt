@@ -1,9 +1,6 @@
 -- The order of signed numbers, and signed numbers by their patterns.
-use Rattle.std.proofs.Common.{◌≡◌, ℕ, suc, ◌+◌, ◌-◌, ◌%◌, ◌^◌, ◌<◌, ◌≤◌, arith}
-use Rattle.std.specs.Prelude.{pos, negsuc, int_lt, int_le, nat_lt, nat_le}
-use Rattle.std.proofs.lemmas.Bool.Decides.{nat_tests}
+use Rattle.c_prelude.proofs.Common.{◌≡◌, ℕ, suc, ◌+◌, ◌-◌, ◌%◌, ◌^◌, ◌<◌, ◌≤◌, pos, negsuc, nat_lt, nat_le, int_lt, int_le, arith, nat_tests, signed}
 use Rattle.std.proofs.lemmas.Int.{ints}
-use Rattle.wasm_meaning.specs.Operators.{signed}
 
 -- the order of signed numbers is that of the numbers half a turn on
 pub lt_s_32 : (x y : ℕ) → x < 2 ^ 32 → y < 2 ^ 32 → nat_lt ((x + 2147483648) % 4294967296) ((y + 2147483648) % 4294967296) ≡ int_lt

@@ -1,24 +1,10 @@
 -- The helper that counts ones.
-use Rattle.std.proofs.Common.{◌≡◌, ℕ, zero, suc, ◌-◌, ◌*◌, ◌/◌, ◌%◌, ◌^◌, ◌<◌, ◌≤◌, true, arith, refl, ap, ◌∙◌, Option, Some, List, [], ◌∷◌, codes}
-use Rattle.std.specs.Prelude.{nat_lt}
-use native.Mathlib.Nat.{mod-eq_of_lt}
-use lib.Count.{ones}
-use Rattle.std.proofs.lemmas.Nat.{pow_below}
-use Rattle.w2c_base.specs.declared.value.ValType.{ValType}
+use Rattle.c_prelude.proofs.Common.{◌≡◌, ℕ, zero, suc, ◌-◌, ◌*◌, ◌/◌, ◌%◌, ◌^◌, ◌<◌, ◌≤◌, true, List, [], ◌∷◌, nat_lt, Some, codes, Option, refl, ap, ◌∙◌, mod-eq_of_lt, arith, ones, pow_below, bits, value, ValType, step_on, walk, Program, Going, Progress, Number, c_type, number_helper, DoesOperator, num, Unary}
 use Rattle.w2c_base.specs.declared.value.ValType.TheVariants as type
-use Rattle.w2c_base.specs.Values.{bits, value}
 use Rattle.wasm_tree.specs.declared.operators.UnaryOp.TheVariants as unary_op
 use Rattle.c_tree.specs.declared.tree.COp.TheVariants as op
 use Rattle.c_tree.specs.Tree as tree
-use Rattle.c_meaning.specs.State.{Number}
-use Rattle.c_meaning.specs.Linking.{Program}
-use Rattle.c_meaning.specs.Run.{Progress, Going}
-use Rattle.c_meaning.proofs.Goes.{step_on, walk}
 use Rattle.c_prelude.specs.declared.rows.Form.TheVariants as form
-use Rattle.c_prelude.specs.Pieces.{num}
-use Rattle.c_prelude.specs.Rows.{Unary}
-use Rattle.c_prelude.specs.Helpers.{number_helper, c_type}
-use Rattle.c_prelude.specs.Operators.{DoesOperator}
 use Rattle.c_prelude.proofs.Computed.{computed}
 use Rattle.c_prelude.proofs.Widths.{widths, evaluate-num, seen}
 use Rattle.c_prelude.proofs.Halving.{below_test}

@@ -1,22 +1,8 @@
 -- The helpers of shifts and rotations.
-use Rattle.std.proofs.Common.{◌≡◌, ℕ, zero, suc, ◌+◌, ◌-◌, ◌*◌, ◌/◌, ◌%◌, ◌^◌, ◌<◌, ◌≤◌, true, false, arith, refl, sym, ap, ◌∙◌}
-use mathlib.Core.Logic.{inl, inr}
-use Rattle.std.specs.Prelude.{nat_lt, nat_eq, bit_or}
-use native.Mathlib.Nat.{mod-eq_of_lt, mod_self, add-mod_right, add-mul-div_right, div-add-mod', mod-lt, lt_of_mul-lt-mul_right, mul-mod_left, add-zero, zero-add, mul-one, div-one, div-eq_of_lt, sub-zero}
-use Rattle.std.proofs.lemmas.Nat.{or_shifted, shr_below, mod-pow-add, pow-add, pow_pos, div-mul-add, shl-shr, shr_le}
-use lib.Pow.{pow_mono}
-use lib.Bits.{or_self}
-use Rattle.std.proofs.lemmas.Bool.Decides.{nat_tests}
-use Rattle.w2c_base.specs.declared.value.ValType.{ValType}
+use Rattle.c_prelude.proofs.Common.{◌≡◌, ℕ, zero, suc, ◌+◌, ◌-◌, ◌*◌, ◌/◌, ◌%◌, ◌^◌, ◌<◌, ◌≤◌, true, false, nat_eq, nat_lt, bit_or, sym, refl, ap, ◌∙◌, inl, inr, add-zero, mod-lt, mod-eq_of_lt, lt_of_mul-lt-mul_right, div-add-mod', zero-add, mul-one, div-one, arith, pow_pos, pow_mono, pow-add, or_self, add-mod_right, add-mul-div_right, div-eq_of_lt, mod_self, mul-mod_left, sub-zero, nat_tests, div-mul-add, mod-pow-add, or_shifted, shl-shr, shr_below, shr_le, bits, ValType, Gives, shr_s, Machine, number_helper, DoesOperator, Binary}
 use Rattle.w2c_base.specs.declared.value.ValType.TheVariants as type
-use Rattle.w2c_base.specs.Values.{bits}
 use Rattle.wasm_tree.specs.declared.operators.BinaryOp.TheVariants as binary_op
-use Rattle.wasm_meaning.specs.Operators.{Gives, shr_s}
-use Rattle.c_meaning.specs.State.{Machine}
 use Rattle.c_prelude.specs.declared.rows.Form.TheVariants as form
-use Rattle.c_prelude.specs.Rows.{Binary}
-use Rattle.c_prelude.specs.Helpers.{number_helper}
-use Rattle.c_prelude.specs.Operators.{DoesOperator}
 use Rattle.c_prelude.proofs.Computed.{BeginsWith, computed_from}
 use Rattle.c_prelude.proofs.Widths.{widths, at_operands, twice, half_pos, answers, sides, bits-below}
 use Rattle.c_prelude.proofs.Signs.{is_low, is_high, pattern_of-pos}

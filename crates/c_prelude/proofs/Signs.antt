@@ -1,10 +1,5 @@
 -- Signed numbers of N bits by the numbers that C computes.
-use Rattle.std.proofs.Common.{◌≡◌, ◌≢◌, ◌⊎◌, ℕ, zero, suc, ◌+◌, ◌-◌, ◌*◌, ◌/◌, ◌%◌, ◌^◌, ◌<◌, ◌≤◌, true, false, arith, refl}
-use native.Mathlib.Nat.{mod-eq_of_lt, zero-mod, mod_self}
-use Rattle.std.specs.Prelude.{pos, negsuc, neg_ℤ, int_div, int_rem, nat_eq}
-use Rattle.std.proofs.lemmas.Bool.Decides.{nat_tests}
-use Rattle.w2c_base.specs.declared.trap.TrapKind.TheVariants.{DivByZero, IntOverflow}
-use Rattle.wasm_meaning.specs.Operators.{signed, pattern_of, overflows, div_s, rem_s, Gives, Traps}
+use Rattle.c_prelude.proofs.Common.{◌≡◌, ℕ, zero, suc, ◌+◌, ◌-◌, ◌*◌, ◌/◌, ◌%◌, ◌^◌, ◌<◌, ◌≤◌, true, false, ◌≢◌, ◌⊎◌, pos, negsuc, neg_ℤ, nat_eq, int_div, int_rem, refl, mod-eq_of_lt, arith, mod_self, zero-mod, nat_tests, DivByZero, IntOverflow, Gives, Traps, div_s, overflows, pattern_of, rem_s, signed}
 use Rattle.c_prelude.proofs.Numbers.{signed_low, signed_high}
 
 -- 0 - v in C

@@ -1,14 +1,6 @@
 -- The helper of a table's elements.
-use Rattle.std.proofs.Common.{◌≡◌, ◌≢◌, ◌⊎◌, ℕ, zero, suc, ◌<◌, ◌≤◌, true, false, arith, refl, Some, None, List, [], ◌∷◌, Option, length}
-use mathlib.Core.Logic.{inl, inr}
-use Rattle.std.specs.Prelude.{nat_le, nat_eq, slice_get}
-use Rattle.std.proofs.lemmas.Bool.Decides.{nat_tests, eqb_tells}
+use Rattle.c_prelude.proofs.Common.{◌≡◌, ℕ, zero, suc, ◌<◌, ◌≤◌, true, false, ◌≢◌, ◌⊎◌, List, [], ◌∷◌, length, nat_eq, nat_le, slice_get, Some, None, Option, refl, inl, inr, arith, eqb_tells, nat_tests, on_table, Element, Pointer, CallComesTo, element_helper, DoesElement, element_found, number}
 use Rattle.w2c_base.specs.declared.value.ValType.TheVariants as type
-use Rattle.c_meaning.specs.State.{Element, Pointer}
-use Rattle.c_meaning.specs.Primitives.{on_table}
-use Rattle.c_prelude.specs.Helpers.{element_helper}
-use Rattle.c_prelude.specs.Calls.{CallComesTo}
-use Rattle.c_prelude.specs.Operators.{number, element_found, DoesElement}
 use Rattle.c_prelude.proofs.Computed.{computed}
 
 -- the place i of a list

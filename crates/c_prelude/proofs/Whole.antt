@@ -1,10 +1,7 @@
 -- That a function is a helper where its parts are.
-use Rattle.std.proofs.Common.{◌≡◌, ℕ, List, true, Some, refl, sym}
-use Rattle.c_tree.specs.declared.tree.CType.{CType}
+use Rattle.c_prelude.proofs.Common.{◌≡◌, ℕ, true, List, Some, sym, refl, CType, helper_of, Helper}
 use Rattle.c_tree.specs.Tree as tree
-use Rattle.c_prelude.specs.declared.operation.Helper.{Helper}
 use Rattle.c_prelude.specs.declared.operation.Helper.TheVariants as helper
-use Rattle.c_prelude.specs.Helpers.{helper_of}
 use Rattle.c_prelude.specs.Bodies.{locals_of, stmts_of}
 
 abbrev static : tree.Func → Type 0

@@ -1,27 +1,10 @@
 -- What numbers of a type do, so that one proof serves both types.
-use Rattle.std.proofs.Common.{◌≡◌, ℕ, ◌-◌, ◌*◌, ◌^◌, ◌<◌, ◌≤◌, ◌%◌, Bool, true, false, arith, refl, subst, sym, ap, List, [], ◌∷◌, codes, if◌then◌else◌}
-use Rattle.std.specs.Prelude.{nat_le, nat_lt}
-use mathlib.Core.Logic.{◌⊎◌, inl, inr}
-use Rattle.std.proofs.lemmas.Bool.Decides.{leb_tells, nat_tests}
-use Rattle.w2c_base.specs.declared.value.ValType.{ValType}
+use Rattle.c_prelude.proofs.Common.{◌≡◌, ℕ, ◌-◌, ◌*◌, ◌%◌, ◌^◌, ◌<◌, ◌≤◌, Bool, true, false, ◌⊎◌, List, [], ◌∷◌, if◌then◌else◌, nat_lt, nat_le, codes, sym, refl, ap, subst, inl, inr, arith, leb_tells, nat_tests, bits, number_of, type_of, value, ValType, Value, I32, I64, Void, Answer, Program, of_type, CValue, Evaluated, Is, Machine, Number, Running, Vars, then_evaluate, evaluate, CallComesTo, c_type, answered, flag, num}
 use Rattle.w2c_base.specs.declared.value.ValType.TheVariants as type
-use Rattle.w2c_base.specs.declared.value.Value.{Value}
-use Rattle.w2c_base.specs.declared.value.Value.TheVariants.{I32, I64}
-use Rattle.w2c_base.specs.Values.{bits, value, type_of, number_of}
 use Rattle.c_tree.specs.declared.tree.COp.{COp}
 use Rattle.c_tree.specs.Tree as tree
-use Rattle.wasm_meaning.specs.Operators.{Answer}
-use Rattle.c_tree.specs.declared.tree.CType.TheVariants.{Void}
-use Rattle.c_meaning.specs.State.{CValue, Number, Vars, Machine, Running, Evaluated, Is, then_evaluate}
 use Rattle.w2c_base.proofs.Types.{type_equals_itself}
-use Rattle.c_meaning.specs.Machine.{of_type}
-use Rattle.c_prelude.specs.Helpers.{c_type}
-use Rattle.c_meaning.specs.Linking.{Program}
 use Rattle.c_meaning.specs.Operators.{operate, operate_at}
-use Rattle.c_meaning.specs.Step.{evaluate}
-use Rattle.c_prelude.specs.Pieces.{num, flag}
-use Rattle.c_prelude.specs.Calls.{CallComesTo}
-use Rattle.c_prelude.specs.Operators.{answered}
 
 pub evaluate-num : (p : Program) (m : Machine) (r : Running) (t : ValType) (n : ℕ) → evaluate p m r (num t n) ≡ Is (value t n)
 evaluate-num p m r type.I32 n = refl

@@ -1,27 +1,10 @@
 -- The helpers that count zeros.
-use Rattle.std.proofs.Common.{◌≡◌, ℕ, zero, suc, ◌+◌, ◌-◌, ◌*◌, ◌/◌, ◌%◌, ◌^◌, ◌<◌, ◌≤◌, true, arith, refl, sym, ap, ◌∙◌, Some, List, [], ◌∷◌, codes}
-use mathlib.Core.Logic.{inl, inr}
-use Rattle.std.specs.Prelude.{nat_lt, nat_eq, bit_and}
-use Rattle.std.proofs.lemmas.Bool.Decides.{eqb_tells}
-use lib.Count.{count_leading_zeros, count_trailing_zeros, trailing_of_zero}
-use Rattle.w2c_base.specs.declared.value.ValType.{ValType}
+use Rattle.c_prelude.proofs.Common.{◌≡◌, ℕ, zero, suc, ◌+◌, ◌-◌, ◌*◌, ◌/◌, ◌%◌, ◌^◌, ◌<◌, ◌≤◌, true, List, [], ◌∷◌, nat_eq, nat_lt, bit_and, Some, codes, sym, refl, ap, ◌∙◌, inl, inr, arith, count_leading_zeros, count_trailing_zeros, trailing_of_zero, eqb_tells, bits, value, ValType, Gives, truth, walk, Program, Going, Pending, Progress, Frame, Machine, Number, Vars, call_ended, c_type, number_helper, number_stmts, DoesOperator, answered, flag, num, Unary, Form}
 use Rattle.w2c_base.specs.declared.value.ValType.TheVariants as type
-use Rattle.w2c_base.specs.Values.{bits, value}
 use Rattle.wasm_tree.specs.declared.operators.UnaryOp.TheVariants as unary_op
-use Rattle.wasm_meaning.specs.Operators.{Gives, truth}
 use Rattle.c_tree.specs.declared.tree.COp.TheVariants as op
 use Rattle.c_tree.specs.Tree as tree
-use Rattle.c_meaning.specs.State.{Number, Vars, Machine, Frame}
-use Rattle.c_meaning.specs.Linking.{Program}
-use Rattle.c_meaning.specs.Run.{Pending, Progress, Going}
-use Rattle.c_meaning.proofs.Goes.{walk}
-use Rattle.c_prelude.specs.declared.rows.Form.{Form}
 use Rattle.c_prelude.specs.declared.rows.Form.TheVariants as form
-use Rattle.c_prelude.specs.Pieces.{num, flag}
-use Rattle.c_prelude.specs.Rows.{Unary}
-use Rattle.c_prelude.specs.Helpers.{number_helper, number_stmts, c_type}
-use Rattle.c_prelude.specs.Calls.{call_ended}
-use Rattle.c_prelude.specs.Operators.{DoesOperator, answered}
 use Rattle.c_prelude.proofs.Computed.{computed}
 use Rattle.c_prelude.proofs.Widths.{widths, evaluate-num, evaluate-flag, seen, sides, bits-below, twice, half_pos}
 use Rattle.c_prelude.proofs.Halving.{below_test, Shifted, shift-some, shift-none, shifted-some, shifted-none, counted, room, more_room, lowest, lowest-is}

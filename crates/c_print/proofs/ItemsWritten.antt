@@ -1,6 +1,5 @@
 -- The include line and the first items of a unit stand in the current file, and the others are left.
-use Rattle.std.proofs.Common.{◌≡◌, List, [], ◌∷◌, ◌++◌, append_assoc, append-nil, refl, sym, ◌∙◌, ap, subst, arith, Option}
-use Rattle.std.specs.List.{Contains}
+use Rattle.c_print.proofs.Common.{◌≡◌, List, [], ◌∷◌, ◌++◌, Contains, Option, sym, refl, ap, ◌∙◌, subst, append_assoc, append-nil, arith, front_passed, more_passed, none_passed, nothing_put, part_passed, fixed_text, Item, each, print_item_of, print_of}
 use Rattle.std.proofs.lemmas.List.Elements.{Contains-append_right}
 use Rattle.w2c_io.specs.Contents.{Name, Told, appending, AppendsPart}
 use Rattle.w2c_io.specs.declared.answers.WriteAnswer.{WriteAnswer}
@@ -8,12 +7,7 @@ use Rattle.w2c_io.specs.declared.answers.WriteAnswer.TheVariants as writing
 use Rattle.w2c_io.specs.Events.{Event}
 use Rattle.w2c_io.specs.Passed.{Passes, PutsText, PutsPart}
 use Rattle.w2c_io.proofs.Appending.{append_more, part_in_front, done_is_part, part_behind}
-use Rattle.w2c_io.proofs.Passed.{front_passed, more_passed, none_passed, nothing_put, part_passed}
 use Rattle.c_tree.specs.declared.token.Tok.TheVariants as tok
-use Rattle.c_tree.specs.Tree.{Item}
-use Rattle.c_tree.specs.Tokens.{fixed_text}
-use Rattle.c_tree.specs.Trees.{each}
-use Rattle.c_print.specs.Print.{print_of, print_item_of}
 
 pub record IsWritten (old now : Told) (current : Option Name) (all left : List Item) : Type 0 where
   pub given : List Item

@@ -1,3 +1,4 @@
+mod Common
 pub mod ItemsWritten
 pub mod Onto
 pub mod PageText

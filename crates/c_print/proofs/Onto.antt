@@ -1,13 +1,7 @@
 -- Tokens that are put at the end of a page, one list after another.
-use Rattle.std.proofs.Common.{◌≡◌, ℕ, ◌+◌, ◌<◌, List, [], ◌∷◌, ◌++◌, length, get_or, take, drop, drop-cons, map, append_assoc, refl, sym, ap, ◌∙◌, add-one}
-use Rattle.std.proofs.lemmas.List.{append-nil}
+use Rattle.c_print.proofs.Common.{◌≡◌, ℕ, ◌+◌, ◌<◌, List, [], ◌∷◌, ◌++◌, map, length, get_or, take, drop, sym, refl, ap, ◌∙◌, append_assoc, append-nil, add-one, drop-cons, Fixed, Token, Item, each, item_tokens, separated, ended, items_onto, printed, printed_onto, Page}
 use Rattle.c_tree.specs.declared.token.Tok.TheVariants as tok
-use Rattle.c_tree.specs.Tokens.{Token, Fixed}
-use Rattle.c_tree.specs.Tree.{Item}
-use Rattle.c_tree.specs.Trees.{each, separated, item_tokens}
 use Rattle.c_tree.proofs.Tested.{at_front}
-use Rattle.c_print.specs.declared.page.Page.{Page}
-use Rattle.c_print.specs.Page.{printed, printed_onto, ended, items_onto}
 
 pub onto_append : (page : Page) (xs ys : List Token) → printed_onto page (xs ++ ys) ≡ printed_onto (printed_onto page xs) ys
 onto_append page [] ys = refl

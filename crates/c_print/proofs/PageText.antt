@@ -1,15 +1,8 @@
 -- The text of a page on which tokens and items were put.
-use Rattle.std.proofs.Common.{◌≡◌, ℕ, List, [], ◌∷◌, ◌++◌, refl, sym, ap, ◌∙◌, append_assoc}
-use Rattle.std.proofs.lemmas.List.{append-nil}
+use Rattle.c_print.proofs.Common.{◌≡◌, ℕ, List, [], ◌∷◌, ◌++◌, sym, refl, ap, ◌∙◌, append_assoc, append-nil, laid, Fixed, Token, fixed_text, kind_of, token_text, Item, each, item_tokens, items_onto, printed_onto, gap, gap_between, print_item_of, Page}
 use Rattle.c_tree.specs.declared.token.Tok.TheVariants as tok
 use Rattle.c_tree.specs.declared.token.Kind.TheVariants as kind
-use Rattle.c_tree.specs.Tree.{Item}
-use Rattle.c_tree.specs.Tokens.{Token, Fixed, fixed_text, token_text, kind_of}
-use Rattle.c_tree.specs.Layout.{laid}
-use Rattle.c_tree.specs.Trees.{each, item_tokens}
-use Rattle.c_print.specs.declared.page.Page.{Page}
-use Rattle.c_print.specs.Print.{gap, gap_between, print_item_of}
-use Rattle.c_print.specs.Page.{printed, printed_onto, ended, items_onto}
+use Rattle.c_print.specs.Page.{printed, ended}
 
 -- an include line on an empty page
 pub include_put : printed (record { text = []; last = kind.Fixed tok.Include }) (Fixed tok.Include)

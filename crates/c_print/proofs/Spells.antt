@@ -1,21 +1,14 @@
 -- The text that is printed of a unit spells it.
-use Rattle.std.proofs.lemmas.List.{append-nil}
-use Rattle.std.proofs.Common.{◌≡◌, ℕ, ◌+◌, Bool, true, false, cond, ◌&&◌, List, [], ◌∷◌, ◌++◌, map, refl, sym, ap, ◌∙◌, append_assoc}
+use Rattle.c_print.proofs.Common.{◌≡◌, ℕ, ◌+◌, Bool, true, false, cond, ◌&&◌, List, [], ◌∷◌, ◌++◌, map, sym, refl, ap, ◌∙◌, append_assoc, append-nil, laid, CSpells, FitsItem, Formed, depth_limit, Fixed, Named, Number, Token, Wrong, kind_of, token_text, Item, each, item_tokens, unit_tokens, begins_list, closes, ends_block, ends_line, gap_between, is_named, opens, print_item_of, print_of}
 use Rattle.std.specs.List.{AllByRecursion}
 use Rattle.c_tree.specs.declared.token.Tok.TheVariants as tok
-use Rattle.c_tree.specs.Tree.{Item}
-use Rattle.c_tree.specs.Tokens.{Token, Fixed, Named, Number, Wrong, token_text, kind_of}
 use Rattle.c_tree.specs.Text.{lexeme, lexemes}
-use Rattle.c_tree.specs.Layout.{laid}
-use Rattle.c_tree.specs.Trees.{each, item_tokens, unit_tokens}
-use Rattle.c_tree.specs.Spelled.{CSpells, FitsItem, Formed, depth_limit}
-use Rattle.c_tree.proofs.OfEach.{of_contained}
 use Rattle.c_tree.proofs.Proper.{both_true, IsProper, EndsToken, IsReadAnywhere, reads, include_read, left_paren_read, left_bracket_read}
 use Rattle.c_tree.proofs.Laid.{tokens_from, KeepsApart, laid_tokens}
 use Rattle.c_tree.proofs.TextIsProper.{tokens_proper}
 use Rattle.c_tree.proofs.TreeIsProper.{AllProper, each_of}
 use Rattle.c_print.specs.ItemText.{IsItemOfUnit, SpellsItem}
-use Rattle.c_print.specs.Print.{opens, ends_line, closes, ends_block, is_named, begins_list, gap_between, print_item_of, print_of}
+use Rattle.w2c_base.proofs.OfEach.{of_contained}
 
 -- ---- what stands between two tokens keeps them apart
 

@@ -1,7 +1,6 @@
 -- Expressions and arguments where at least one more may stand, and where none may.
-use Rattle.std.proofs.Common.{◌≡◌, ℕ, zero, suc, ◌-◌, ◌<◌, List, Err, refl, arith}
+use Rattle.c_read.proofs.Common.{◌≡◌, ℕ, zero, suc, ◌-◌, ◌<◌, List, Err, refl, arith, Lexeme}
 use Rattle.c_tree.specs.declared.token.Part.TheVariants as part
-use Rattle.c_tree.specs.Text.{Lexeme}
 use Rattle.c_read.specs.Expressions.{expr, expr_of_parts, begins_expr, fault_without_room}
 use Rattle.c_read.specs.Arguments.{argument, argument_in, begins_argument}
 

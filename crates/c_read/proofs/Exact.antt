@@ -1,13 +1,5 @@
 -- What a reading takes is what the table takes, and its fault is the table's: the steps of such proofs.
-use Rattle.std.proofs.Common.{◌≡◌, ◌<◌, true, false, List, [], ◌∷◌, ◌++◌, length, Ok, Err, refl, sym, ap, subst, ◌∙◌, append_assoc, arith}
-use Rattle.std.proofs.lemmas.List.{append-nil}
-use Rattle.std.specs.List.{AllByRecursion}
-use Rattle.c_tree.specs.declared.token.CReadFault.{CReadFault}
-use Rattle.c_tree.specs.Tokens.{Token, Number}
-use Rattle.c_tree.specs.Text.{Lexeme, are_digits}
-use Rattle.c_tree.specs.Grammar.{Symbol, Stops, here, taken, opened, Takes, Becomes, Faulty, move, first, others}
-use Rattle.c_lex.specs.Cursor.{is_last}
-use Rattle.c_lex.specs.Reading.{Outcome, Parser, and_then}
+use Rattle.c_read.proofs.Common.{◌≡◌, ◌<◌, true, false, List, [], ◌∷◌, ◌++◌, length, Ok, Err, sym, refl, ap, ◌∙◌, subst, append_assoc, append-nil, arith, AllByRecursion, Becomes, Faulty, Stops, Symbol, Takes, first, here, move, opened, others, taken, Lexeme, are_digits, Number, Token, CReadFault, is_last, Outcome, Parser, and_then}
 
 -- From these symbols at ls the table comes to what is expected behind them, at ls'.
 pub record Goes (ss : List Symbol) (ls ls' : List Lexeme) : Type 0 where

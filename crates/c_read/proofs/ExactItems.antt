@@ -1,19 +1,12 @@
 -- Functions, items and units.
-use Rattle.std.proofs.Common.{◌≡◌, ℕ, Bool, true, false, cond, List, [], ◌∷◌, ◌++◌, Some, Ok, Err, refl, subst, append_assoc}
+use Rattle.c_read.proofs.Common.{◌≡◌, ℕ, Bool, true, false, cond, List, [], ◌∷◌, ◌++◌, Some, Ok, Err, refl, subst, append_assoc, Becomes, Of, One, OneByte, begins_type, expansion, first, move, Lexeme, Fixed, Named, Token, kind_of, close_tokens, each, item_tokens, local_tokens, maybe_name, param_tokens, separated, static_tokens, stmt_tokens, type_tokens, unit_tokens, Kind, CType, Outcome, and_then, expect, close_by, inner_by, item_by, not_end, rest_by, is_comma}
 use Rattle.c_tree.specs.declared.token.Tok.TheVariants as tok
 use Rattle.c_tree.specs.declared.token.Part.TheVariants as part
-use Rattle.c_tree.specs.declared.token.Kind.{Kind}
 use Rattle.c_tree.specs.declared.token.Kind.TheVariants as kind
-use Rattle.c_tree.specs.declared.tree.CType.{CType}
 use Rattle.c_tree.specs.declared.tree.CType.TheVariants as type
 use Rattle.c_tree.specs.Tree as tree
-use Rattle.c_tree.specs.Tokens.{Token, Fixed, Named, kind_of}
-use Rattle.c_tree.specs.Text.{Lexeme}
-use Rattle.c_tree.specs.Trees.{each, separated, type_tokens, stmt_tokens, local_tokens, maybe_name, param_tokens, close_tokens, static_tokens, item_tokens, unit_tokens}
-use Rattle.c_tree.specs.Grammar.{One, OneByte, Of, Becomes, move, first, expansion, begins_type}
-use Rattle.c_lex.specs.Reading.{Outcome, and_then, next_kind, expect, unexpected}
-use Rattle.c_read.specs.Lists.{is_comma}
-use Rattle.c_read.specs.Items.{byte, next_byte, more_bytes, array_bytes, array, pname, pname_by, param, next_param, more_params, params, declaration, declarations, body, close, close_by, function, rest, rest_by, static_rest, inner, inner_by, external, item, item_by, not_end, items, unit}
+use Rattle.c_lex.specs.Reading.{next_kind, unexpected}
+use Rattle.c_read.specs.Items.{byte, next_byte, more_bytes, array_bytes, array, pname, pname_by, param, next_param, more_params, params, declaration, declarations, body, close, function, rest, static_rest, inner, external, item, items, unit}
 use Rattle.c_read.proofs.Exact.{Exact, ExactAt, Proper, proper_behind, done, next, then_all, last, open_part, no_part}
 use Rattle.c_read.proofs.ExactTokens.{text, expect_exact, named, number_exact, plain_tokens, byte_exact, count_exact}
 use Rattle.c_read.proofs.ExactLists.{Lists, Tail, tail, pieces, pieces_alone, EndsAt, pieces_end}

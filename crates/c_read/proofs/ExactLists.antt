@@ -1,15 +1,9 @@
 -- Lists: pieces one after another, and pieces with commas between.
-use Rattle.std.proofs.Common.{◌≡◌, ℕ, zero, suc, ◌<◌, Bool, true, false, cond, List, [], ◌∷◌, ◌++◌, length, Ok, Err, refl, sym, subst, ◌∙◌, append_assoc, arith}
-use Rattle.std.proofs.lemmas.List.{append-nil}
+use Rattle.c_read.proofs.Common.{◌≡◌, ℕ, zero, suc, ◌<◌, Bool, true, false, cond, List, [], ◌∷◌, ◌++◌, length, Ok, Err, sym, refl, ◌∙◌, subst, append_assoc, append-nil, arith, Becomes, One, Symbol, first, move, Lexeme, Fixed, Token, kind_of, each, separated, Kind, Outcome, Parser, and_then, all, and_more, behind_comma, is_comma}
 use Rattle.c_tree.specs.declared.token.Tok.TheVariants as tok
-use Rattle.c_tree.specs.declared.token.Kind.{Kind}
 use Rattle.c_tree.specs.declared.token.Kind.TheVariants as kind
-use Rattle.c_tree.specs.Tokens.{Token, Fixed, kind_of}
-use Rattle.c_tree.specs.Text.{Lexeme}
-use Rattle.c_tree.specs.Trees.{each, separated}
-use Rattle.c_tree.specs.Grammar.{Symbol, One, Becomes, move, first}
-use Rattle.c_lex.specs.Reading.{Outcome, Parser, and_then, next_kind}
-use Rattle.c_read.specs.Lists.{many, all, is_comma, behind_comma, and_more}
+use Rattle.c_lex.specs.Reading.{next_kind}
+use Rattle.c_read.specs.Lists.{many}
 use Rattle.c_read.proofs.Exact.{Has, Exact, ExactAt, Proper, proper_behind, fewer, fails_before, join, done, last, open_part, open_before}
 use Rattle.c_read.proofs.ExactTokens.{text}
 

@@ -1,17 +1,12 @@
 -- Statements.
-use Rattle.std.proofs.Common.{◌≡◌, ℕ, true, false, List, [], ◌∷◌, ◌++◌, Option, Some, None, Ok, refl, append_assoc}
+use Rattle.c_read.proofs.Common.{◌≡◌, ℕ, true, false, List, [], ◌∷◌, ◌++◌, Some, None, Ok, Option, refl, append_assoc, Becomes, Of, One, Symbol, first, move, Lexeme, Fixed, Named, Token, kind_of, arg_tokens, case_tokens, each, goto_tokens, stmt_tokens, Kind, and_then, expect, after_by, assigned, is_case, not_brace, return_of, returned_by, statement_by}
 use Rattle.c_tree.specs.declared.token.Tok.TheVariants as tok
 use Rattle.c_tree.specs.declared.token.Part.TheVariants as part
-use Rattle.c_tree.specs.declared.token.Kind.{Kind}
 use Rattle.c_tree.specs.declared.token.Kind.TheVariants as kind
 use Rattle.c_tree.specs.Tree as tree
-use Rattle.c_tree.specs.Tokens.{Token, Fixed, Named, kind_of}
-use Rattle.c_tree.specs.Text.{Lexeme}
-use Rattle.c_tree.specs.Trees.{each, arg_tokens, goto_tokens, case_tokens, stmt_tokens}
-use Rattle.c_tree.specs.Grammar.{Symbol, One, Of, Becomes, move, first}
-use Rattle.c_lex.specs.Reading.{and_then, next_kind, expect, unexpected}
+use Rattle.c_lex.specs.Reading.{next_kind, unexpected}
 use Rattle.c_read.specs.Arguments.{depth, Right, Gives, Calls, through}
-use Rattle.c_read.specs.Statements.{jump, assigned, after, after_by, returned, returned_by, return_of, is_case, one_case, cases, default, default_by, switch, condition, set_star, call_through, statement, statement_by, not_brace, statements}
+use Rattle.c_read.specs.Statements.{jump, after, returned, one_case, cases, default, default_by, switch, condition, set_star, call_through, statement, statements}
 use Rattle.c_read.proofs.Exact.{Exact, Proper, done, next, behind, then_all, last, mapped, open_part, no_part}
 use Rattle.c_read.proofs.ExactTokens.{text, named, number_exact}
 use Rattle.c_read.proofs.ExactLists.{Lists, pieces, pieces_alone}

@@ -1,32 +1,18 @@
 -- Single tokens: fixed texts, names and numbers.
-use Rattle.std.proofs.Common.{◌≡◌, ℕ, ◌^◌, ◌<◌, ◌≤◌, Bool, true, false, cond, nat_lt, List, [], ◌∷◌, ◌++◌, Ok, Err, refl, sym, ap, subst, arith, rules}
-use Rattle.std.specs.List.{list_all}
-use Rattle.std.specs.Prelude.{not, ◌&&◌, ◌==◌}
+use Rattle.c_read.proofs.Common.{◌≡◌, ℕ, ◌^◌, ◌<◌, ◌≤◌, Bool, true, false, cond, not, ◌&&◌, List, [], ◌∷◌, ◌++◌, nat_lt, ◌==◌, Ok, Err, decimal, sym, refl, ap, subst, arith, rules, ltb-true, list_all, Becomes, Faulty, Of, One, OneByte, OneNumber, Symbol, Takes, first, fits, limit, move, others, value_of, Lexeme, are_digits, is_digit, Fixed, Named, Number, Token, Wrong, kind_of, num_token, NumberTooLarge, Unexpected, Kind, Suffix, Of32, Of64, OfPlain, Tok, is_last, Outcome, Parser, and_then, num_of, number_at, plain_at}
 use Rattle.std.proofs.lemmas.Bool.Decides.{nat_tests}
-use Rattle.std.specs.Fmt.{decimal}
 use Rattle.std.proofs.lemmas.Fmt.{decimal-digits_value}
 use Rattle.std.proofs.lemmas.Str.Parse.{IsNumeralModel, numerals_by_fold}
-use Rattle.std.proofs.lemmas.Bool.{ltb-true}
 use denote.Enum.Bare.{same_true}
 use Rattle.c_tree.specs.contracts.token.Tok.{the_type}
-use Rattle.c_tree.specs.declared.token.Tok.{Tok}
 use Rattle.c_tree.specs.declared.token.Tok.TheVariants as tok
 use Rattle.c_tree.specs.declared.token.Part.TheVariants as part
-use Rattle.c_tree.specs.declared.token.Kind.{Kind}
 use Rattle.c_tree.specs.declared.token.Kind.TheVariants as kind
-use Rattle.c_tree.specs.declared.token.Suffix.{Suffix}
-use Rattle.c_tree.specs.declared.token.Suffix.TheVariants.{OfPlain, Of32, Of64}
 use Rattle.c_tree.specs.declared.token.Wanted.TheVariants as wanted
-use Rattle.c_tree.specs.declared.token.CReadFault.TheVariants.{Unexpected, NumberTooLarge}
 use Rattle.c_tree.specs.declared.tree.Num.{Num}
 use Rattle.c_tree.specs.declared.tree.Num.TheVariants.{Plain}
-use Rattle.c_tree.specs.Tokens.{Token, Fixed, Named, Number, Wrong, kind_of}
-use Rattle.c_tree.specs.Text.{Lexeme, are_digits, is_digit}
-use Rattle.c_tree.specs.Trees.{num_token}
-use Rattle.c_tree.specs.Grammar.{Symbol, One, OneByte, OneNumber, Of, Takes, Becomes, Faulty, move, fits, first, others, limit, value_of}
 use Rattle.c_tree.proofs.Proper.{both_true}
-use Rattle.c_lex.specs.Cursor.{is_last}
-use Rattle.c_lex.specs.Reading.{Outcome, Parser, and_then, next_kind, unexpected, is_fixed, expect, name, name_at, number, number_at, plain, plain_at, num_of}
+use Rattle.c_lex.specs.Reading.{next_kind, unexpected, is_fixed, expect, name, name_at, number, plain}
 use Rattle.c_read.proofs.Exact.{Has, HasDigits, Proper, Exact, next, open_part, no_part, takes_one}
 
 -- ---- fixed texts

@@ -1,30 +1,16 @@
 -- What is read has its numbers within range, lists that are not empty, and no expression too deep.
-use Rattle.std.proofs.Common.{◌≡◌, ℕ, zero, suc, ◌^◌, ◌<◌, Bool, true, false, cond, nat_lt, List, [], ◌∷◌, length, Option, Some, None, Ok, Err, refl, arith}
-use Rattle.std.specs.List.{AllByRecursion}
-use Rattle.std.proofs.lemmas.Bool.{ltb-true}
-use Rattle.c_tree.specs.declared.token.Tok.{Tok}
+use Rattle.c_read.proofs.Common.{◌≡◌, ℕ, zero, suc, ◌^◌, ◌<◌, Bool, true, false, cond, List, [], ◌∷◌, length, nat_lt, Some, None, Ok, Err, Option, refl, arith, ltb-true, AllByRecursion, begins_type, first, limit, others, value_of, FitsArg, FitsBody, FitsCallee, FitsExpr, FitsItem, FitsNum, FitsStmt, Lexeme, Fixed, Named, Number, Token, Wrong, kind_of, CReadFault, NumberTooLarge, Kind, Part, Suffix, Of32, Of64, OfPlain, Tok, CType, Outcome, Parser, and_then, expect, num_of, number_at, plain_at, close_by, inner_by, item_by, not_end, rest_by, all, and_more, behind_comma, is_comma, after_by, assigned, is_case, not_brace, return_of, returned_by, statement_by}
 use Rattle.c_tree.specs.declared.token.Tok.TheVariants as tok
-use Rattle.c_tree.specs.declared.token.Part.{Part}
 use Rattle.c_tree.specs.declared.token.Part.TheVariants as part
-use Rattle.c_tree.specs.declared.token.Kind.{Kind}
 use Rattle.c_tree.specs.declared.token.Kind.TheVariants as kind
-use Rattle.c_tree.specs.declared.token.Suffix.{Suffix}
-use Rattle.c_tree.specs.declared.token.Suffix.TheVariants.{OfPlain, Of32, Of64}
-use Rattle.c_tree.specs.declared.token.CReadFault.{CReadFault}
-use Rattle.c_tree.specs.declared.token.CReadFault.TheVariants.{NumberTooLarge}
-use Rattle.c_tree.specs.declared.tree.CType.{CType}
-use Rattle.c_tree.specs.Tokens.{Token, Fixed, Named, Number, Wrong, kind_of}
-use Rattle.c_tree.specs.Text.{Lexeme}
 use Rattle.c_tree.specs.Tree as tree
-use Rattle.c_tree.specs.Grammar.{first, others, value_of, limit, begins_type}
-use Rattle.c_tree.specs.Spelled.{FitsNum, FitsExpr, FitsArg, FitsCallee, FitsStmt, FitsBody, FitsItem}
-use Rattle.c_lex.specs.Reading.{Outcome, Parser, and_then, next_kind, expect, name, number, number_at, plain, plain_at, num_of}
-use Rattle.c_read.specs.Lists.{many, all, is_comma, behind_comma, and_more}
+use Rattle.c_lex.specs.Reading.{next_kind, name, number, plain}
+use Rattle.c_read.specs.Lists.{many}
 use Rattle.c_read.specs.Expressions.{operator, index, index_by, operation, group, group_by, expr, expr_by, expr_of_parts}
 use Rattle.c_read.specs.Types.{ctype, types, more_types, next_type}
 use Rattle.c_read.specs.Arguments.{depth, agroup, agroup_by, argument_by, argument_in, argument, next_argument, more_arguments, arguments, arguments_by, Called, pointer_type, through, Right, Gives, Calls, rname, rname_by, rstar, rstar_by, rgroup, rgroup_by, right_in, right_by}
-use Rattle.c_read.specs.Statements.{jump, assigned, after, after_by, returned, returned_by, return_of, is_case, one_case, cases, default, switch, condition, set_star, call_through, statement, statement_by, not_brace, statements}
-use Rattle.c_read.specs.Items.{byte, next_byte, more_bytes, array_bytes, array, param, next_param, more_params, params, declaration, declarations, body, close, close_by, function, rest, rest_by, static_rest, inner, inner_by, external, item, item_by, not_end, items, unit}
+use Rattle.c_read.specs.Statements.{jump, after, returned, one_case, cases, default, switch, condition, set_star, call_through, statement, statements}
+use Rattle.c_read.specs.Items.{byte, next_byte, more_bytes, array_bytes, array, param, next_param, more_params, params, declaration, declarations, body, close, function, rest, static_rest, inner, external, item, items, unit}
 
 abbrev FitAt : {A : Type 0} → (A → Type 0) → Outcome A → Type 0
 FitAt fit (Ok p) = fit p.0

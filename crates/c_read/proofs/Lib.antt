@@ -1,3 +1,4 @@
+mod Common
 pub mod Deeper
 pub mod Exact
 pub mod ExactArguments

@@ -1,11 +1,6 @@
 -- Reading a list in a loop.
-use Rattle.std.proofs.Common.{◌≡◌, ℕ, zero, suc, ◌<◌, Bool, true, false, List, [], ◌∷◌, ◌++◌, length, Ok, Err, refl, sym, ap, ◌∙◌, append_assoc, arith}
-use Rattle.std.proofs.lemmas.List.{append-nil}
-use Rattle.c_tree.specs.declared.token.Kind.{Kind}
-use Rattle.c_tree.specs.declared.token.CReadFault.{CReadFault}
-use Rattle.c_tree.specs.Text.{Lexeme}
-use Rattle.c_lex.specs.Reading.{Outcome, Parser, and_then, next_kind}
-use Rattle.c_read.specs.Lists.{many, all, is_comma, and_more}
+use Rattle.c_read.proofs.Common.{◌≡◌, ℕ, zero, suc, ◌<◌, Bool, true, false, List, [], ◌∷◌, ◌++◌, length, Ok, Err, sym, refl, ap, ◌∙◌, append_assoc, append-nil, arith, Lexeme, CReadFault, Kind, Outcome, Parser, and_then, next_kind, all, and_more, is_comma}
+use Rattle.c_read.specs.Lists.{many}
 
 -- what was read before, and what is still read
 abbrev pub with_front : {A : Type 0} → List A → Outcome (List A) → Outcome (List A)

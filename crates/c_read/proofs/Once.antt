@@ -1,11 +1,5 @@
 -- A text has at most one first faulty token, and its fault is one of a token.
-use Rattle.std.proofs.Common.{◌≡◌, ℕ, zero, suc, Bool, true, false, cond, List, ◌∷◌, ◌++◌, Option, Some, None, sym, subst, ◌∙◌}
-use Rattle.c_tree.specs.declared.token.Part.{Part}
-use Rattle.c_tree.specs.declared.token.CReadFault.{CReadFault}
-use Rattle.c_tree.specs.declared.token.CReadFault.TheVariants.{UnitTooLong, Memory}
-use Rattle.c_tree.specs.Tokens.{kind_of}
-use Rattle.c_tree.specs.Text.{Lexeme}
-use Rattle.c_tree.specs.Grammar.{Symbol, One, OneByte, OneNumber, Of, Stops, here, taken, opened, Move, Takes, Becomes, Faulty, move, first, others, fits, taking, is_large, is_plain, is_byte, is_number, counts, counted, too_deep, becoming, expansion}
+use Rattle.c_read.proofs.Common.{◌≡◌, ℕ, zero, suc, Bool, true, false, cond, List, ◌∷◌, ◌++◌, Some, None, Option, sym, ◌∙◌, subst, Becomes, Faulty, Move, Of, One, OneByte, OneNumber, Stops, Symbol, Takes, becoming, counted, counts, expansion, first, fits, here, is_byte, is_large, is_number, is_plain, move, opened, others, taken, taking, too_deep, Lexeme, kind_of, CReadFault, Memory, UnitTooLong, Part}
 
 taken_back : (s : Symbol) (ss : List Symbol) (ls : List Lexeme) (f : CReadFault) → move s (first ls) ≡ Takes → Stops (s ∷ ss) ls f
     → Stops ss (others ls) f

@@ -1,23 +1,12 @@
 -- Whole texts: what was read of one is what it spells, and a fault is that of its first faulty token.
-use Rattle.std.specs.Prelude.{◌≢◌, Result, IfOk, IfErr, IsErrOf, MatchResult}
-use Rattle.std.proofs.Common.{◌≡◌, ◌⊎◌, inl, inr, ℕ, zero, suc, ◌+◌, true, false, List, [], ◌∷◌, ◌++◌, map, Ok, Err, refl, sym, ap, subst, ◌∙◌}
+use Rattle.c_read.proofs.Common.{◌≡◌, ℕ, zero, suc, ◌+◌, true, false, ◌≢◌, ◌⊎◌, List, [], ◌∷◌, ◌++◌, map, IfOk, IfErr, Ok, Err, Result, MatchResult, IsErrOf, sym, refl, ap, ◌∙◌, subst, inl, inr, One, first, opened, CSpells, CUpto, Begins, Front, Gap, Lexeme, front, lexeme, lexemes, Fixed, Named, Number, Token, Wrong, kind_of, unit_of, CReadFault, Memory, NumberTooLarge, TooDeep, Unexpected, UnitTooLong, is_last, Outcome, Reads, not_end, unit}
 use Rattle.c_tree.specs.declared.token.Tok.TheVariants as tok
-use Rattle.c_tree.specs.declared.token.CReadFault.{CReadFault}
-use Rattle.c_tree.specs.declared.token.CReadFault.TheVariants.{Unexpected, NumberTooLarge, TooDeep, UnitTooLong, Memory}
 use Rattle.c_tree.specs.Tree as tree
-use Rattle.c_tree.specs.Tokens.{Token, Fixed, Named, Number, Wrong, kind_of}
-use Rattle.c_tree.specs.Text.{Front, Gap, Begins, front, Lexeme, lexeme, lexemes}
 use Rattle.c_tree.specs.Text as texts
-use Rattle.c_tree.specs.Grammar.{One, opened, first}
-use Rattle.c_tree.specs.Spelled.{CSpells, CUpto}
 use Rattle.c_tree.proofs.TextIsProper.{IsGood, GoodFront, good_front}
 use Rattle.c_tree.specs.declared.tree.Item.{Item}
-use Rattle.c_tree.specs.View.{unit_of}
 use Rattle.c_tree.proofs.OneUnit.{one_unit}
 use Rattle.c_tree.proofs.NoFault.{no_fault}
-use Rattle.c_lex.specs.Cursor.{is_last}
-use Rattle.c_lex.specs.Reading.{Outcome, Reads}
-use Rattle.c_read.specs.Items.{unit, not_end}
 use Rattle.c_read.proofs.Exact.{Has, HasDigits, Proper}
 use Rattle.c_read.proofs.ExactItems.{unit_exact, unit_end}
 use Rattle.c_read.proofs.Fit.{unit_fit}

@@ -7,7 +7,7 @@ ghost use Rattle.c_read.specs.Arguments.{called_of, right_of};
 
 use crate::argument::{agroup, arguments};
 use crate::ctype::{ctype, types};
-use crate::expression::expr;
+use crate::expression::index;
 use c_lex::Cursor;
 use c_tree::{Arg, Args, CFuncType, CReadFault, Callee, Expr, Kind, Name, Part, Tok};
 use std::alloc::Global;
@@ -63,7 +63,7 @@ pub fn through(alloc: Global, cursor: &mut Cursor<'_>, room: usize) -> Result<Ca
 }
 
 /// What follows a name on a right side: an index, arguments, or nothing.
-#[tactic(auto, unfolding(crate::specs::Arguments::rname))]
+#[tactic(auto, unfolding(crate::specs::Arguments::rname, crate::specs::Expressions::index))]
 fn rname(
     alloc: Global,
     cursor: &mut Cursor<'_>,
@@ -74,12 +74,6 @@ fn rname(
     ensures kept { length cursor.new ≤ length cursor.old }
 {
     match cursor.peek() {
-        Kind::Fixed(Tok::LeftBracket) => {
-            cursor.expect(Tok::LeftBracket)?;
-            let index = Box::new(alloc, expr(alloc, cursor, room)?)?;
-            cursor.expect(Tok::RightBracket)?;
-            Ok(Right::Gives(Arg::Value(Expr::At(name, index))))
-        }
         Kind::Fixed(Tok::LeftParen) => {
             cursor.expect(Tok::LeftParen)?;
             let args = arguments(alloc, cursor, room)?;
@@ -89,7 +83,7 @@ fn rname(
                 args,
             }))
         }
-        _ => Ok(Right::Gives(Arg::Value(Expr::Name(name)))),
+        _ => Ok(Right::Gives(Arg::Value(index(alloc, cursor, room, name)?))),
     }
 }
 

@@ -1,22 +1,10 @@
 -- Labels, parameters and locals, definitions and types under a renaming.
-use Rattle.std.proofs.Common.{◌≡◌, ℕ, ◌-◌, ◌&&◌, Bool, true, false, if◌then◌else◌, List, [], ◌∷◌, ◌++◌, map, bytes_eq, Option, Some, None, option_map, refl, sym, ap, ◌∙◌}
-use Rattle.std.proofs.lemmas.List.{length-map, map-append}
-use Rattle.w2c_base.specs.declared.value.Value.{Value}
-use Rattle.w2c_base.specs.Lookup.{if_found}
+use Rattle.c_renaming.proofs.Common.{◌≡◌, ℕ, ◌-◌, Bool, true, false, ◌&&◌, List, [], ◌∷◌, ◌++◌, map, if◌then◌else◌, Some, None, Option, option_map, bytes_eq, sym, refl, ap, ◌∙◌, length-map, map-append, if_found, Value, func_type_of, Num, Definition, initial_of, of_type, zero_of, CValue, FuncPointer, Name, Number, Pointer, Running, Vars, after_label, are_of_types, bind, equal_number, first_vars, label_of, locals_of, numbers, param_names, param_types, place_of, Each, Holds, KeptStmt, KeptValue, KeptVars, KeepsNames, Renaming, address, place}
 use Rattle.c_tree.specs.declared.tree.CType.{CType}
 use Rattle.c_tree.specs.declared.tree.CType.TheVariants as type
-use Rattle.c_tree.specs.declared.tree.Num.{Num}
 use Rattle.c_tree.specs.declared.tree.Num.TheVariants.{N32, N64, Plain}
 use Rattle.c_tree.specs.Tree as tree
-use Rattle.c_tree.specs.Scope.{func_type_of}
-use Rattle.c_meaning.specs.State.{Name, CValue, Number, Pointer, FuncPointer, Vars, Running}
-use Rattle.c_meaning.specs.Linking.{Definition}
-use Rattle.c_meaning.specs.Machine.{zero_of, initial_of, of_type}
-use Rattle.c_meaning.specs.Step.{after_label, equal_number, label_of, param_names, param_types, are_of_types, bind, locals_of, first_vars, numbers, place_of}
-use Rattle.c_renaming.specs.Renaming.{Renaming, address, place}
 use Rattle.c_renaming.specs.Renamed as renamed
-use Rattle.c_renaming.specs.Kept.{Each, Holds, KeptStmt, KeptValue, KeptVars}
-use Rattle.c_renaming.specs.Renames.{KeepsNames}
 
 pub place-running : (ρ : Renaming) (r : Running) (rest : List tree.Stmt)
     → place_of (renamed.running ρ r) (map (renamed.stmt ρ r.unit) rest) ≡ place ρ (place_of r rest)

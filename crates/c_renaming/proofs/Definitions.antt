@@ -1,18 +1,8 @@
 -- The definitions of a part, and what is found among them.
-use Rattle.std.proofs.Common.{◌≡◌, ℕ, ◌+◌, ◌&&◌, Bool, true, false, if◌then◌else◌, List, [], ◌∷◌, ◌++◌, length, map, filter, bytes_eq, is_some, Option, Some, None, option_map, refl, sym, ap, ◌∙◌, subst, arith}
-use Rattle.std.specs.Prelude.{filter_map, zip, slice_get}
-use Rattle.std.specs.List.{range_with_len}
-use Rattle.std.specs.Option.{option_or}
-use Rattle.std.proofs.lemmas.List.Elements.{filter_map-append, filter-append}
+use Rattle.c_renaming.proofs.Common.{◌≡◌, ℕ, ◌+◌, Bool, true, false, ◌&&◌, List, [], ◌∷◌, ◌++◌, map, length, is_some, if◌then◌else◌, slice_get, Some, None, filter, Option, option_map, zip, filter_map, bytes_eq, sym, refl, ap, ◌∙◌, subst, arith, filter-append, filter_map-append, bytes_eq-Decides, range_with_len, option_or, first-append, or_map, Definition, defined, defined_for_all, definition_of, is_external, typed, Name, Each, IsApart, Numbered, Placed, item_stays, part, Renaming}
 use Rattle.c_tree.specs.Tree as tree
-use Rattle.c_meaning.specs.State.{Name}
-use Rattle.c_meaning.specs.Linking.{Definition, definition_of, is_external, defined, defined_for_all, typed}
 use Rattle.c_meaning.proofs.Fronts.{zip_from}
-use Rattle.std.proofs.lemmas.Slice.Eq.{bytes_eq-Decides}
-use Rattle.c_renaming.specs.Renaming.{Renaming}
 use Rattle.c_renaming.specs.Renamed as renamed
-use Rattle.c_renaming.specs.Kept.{Each}
-use Rattle.c_renaming.specs.Parts.{item_stays, part, Numbered, IsApart, Placed}
 
 -- definitions of items with the numbers from k on
 abbrev pub definitions_from : ℕ → List tree.Item → List Definition
@@ -26,17 +16,9 @@ definitions-append k xs ys = ap (filter_map definition_of) (zip_from k xs ys)
 abbrev first : {A : Type 0} → List A → Option A
 first items = slice_get items 0
 
-pub first-append : {A : Type 0} (xs ys : List A) → first (xs ++ ys) ≡ option_or (first xs) (first ys)
-first-append [] ys = refl
-first-append (x ∷ xs) ys = refl
-
 pub first-map : {A B : Type 0} (f : A → B) (xs : List A) → first (map f xs) ≡ option_map f (first xs)
 first-map f [] = refl
 first-map f (x ∷ xs) = refl
-
-pub or_map : {A B : Type 0} (f : A → B) (o p : Option A) → option_or (option_map f o) (option_map f p) ≡ option_map f (option_or o p)
-or_map f None p = refl
-or_map f (Some a) p = refl
 
 pub or_none : {A : Type 0} (o : Option A) → option_or o None ≡ o
 or_none None = refl

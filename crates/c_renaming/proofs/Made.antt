@@ -1,23 +1,11 @@
 -- A program that is made of another's renamed parts is renamed.
-use Rattle.std.proofs.Common.{◌≡◌, ℕ, ◌+◌, Bool, true, false, if◌then◌else◌, List, [], ◌∷◌, ◌++◌, map, filter, bytes_eq, is_some, Option, Some, None, option_map, refl, sym, ap, ◌∙◌, subst}
-use Rattle.std.specs.Prelude.{filter_map, flat_map, slice_get}
-use Rattle.std.specs.Option.{option_or}
-use Rattle.std.proofs.lemmas.Slice.Eq.{bytes_eq-Decides}
-use Rattle.w2c_base.specs.Lookup.{if_found, numbered}
-use Rattle.w2c_base.specs.Run.{Host}
+use Rattle.c_renaming.proofs.Common.{◌≡◌, ℕ, ◌+◌, Bool, true, false, List, [], ◌∷◌, map, is_some, if◌then◌else◌, slice_get, Some, None, filter, Option, option_map, flat_map, filter_map, bytes_eq, sym, refl, ap, ◌∙◌, subst, bytes_eq-Decides, option_or, is_some_map, or_map, if_found, numbered, Host, func_type_of, Definition, HostSymbol, Program, array_bytes, array_named, defined, definition_at, external_func, func_named, func_type, host_symbol, host_symbols, typed, FuncAddress, Name, UnitFunc, Elsewhere, Here, KeepsExternals, StandsFor, definer, Each, Holds, KeptDefinition, KeptFunc, IsMadeOf, KeptBody, KeptItem, PlacedAt, KeepsNames, Renames, Renaming, address}
 use Rattle.c_tree.specs.Tree as tree
-use Rattle.c_tree.specs.Scope.{func_type_of}
-use Rattle.c_meaning.specs.State.{Name, FuncAddress, UnitFunc}
-use Rattle.c_meaning.specs.Linking.{Program, Definition, HostSymbol, defined, typed, func_type, definition_at, array_bytes, array_named, host_symbols, host_symbol, external_func, func_named}
-use Rattle.c_renaming.specs.Renaming.{Renaming, address}
 use Rattle.c_renaming.specs.Renamed as renamed
-use Rattle.c_renaming.specs.Kept.{Each, Holds, KeptFunc, KeptDefinition}
-use Rattle.c_renaming.specs.Renames.{KeepsNames, Renames}
-use Rattle.c_renaming.specs.Parts.{KeptBody, KeptItem, PlacedAt, IsMadeOf}
-use Rattle.c_renaming.specs.Externals.{definer, StandsFor, Here, Elsewhere, KeepsExternals}
 use Rattle.c_renaming.proofs.Begins.{arrays_placed, fresh_same}
 use Rattle.c_renaming.proofs.Bodies.{func_type_of-func}
-use Rattle.c_renaming.proofs.Definitions.{definitions_from, or_map, defined_placed, typed_placed}
+use Rattle.c_renaming.proofs.Definitions.{definitions_from, defined_placed, typed_placed}
+use Rattle.c_renaming.proofs.Each.{each-append, or_kept}
 
 abbrev first : {A : Type 0} → List A → Option A
 first items = slice_get items 0
@@ -57,10 +45,6 @@ definition_kept ρ u stays x is k (tree.Function f ∷ items) kept = go f.body k
 abbrev IsHosts : Renaming → HostSymbol → Type 0
 IsHosts ρ s = (address ρ s.address ≡ s.address) × KeptFunc ρ s.address
 
-each-append : {A : Type 0} (P : A → Type 0) (xs ys : List A) → Each P xs → Each P ys → Each P (xs ++ ys)
-each-append P [] ys first second = second
-each-append P (x ∷ xs) ys first second = (first.0, each-append P xs ys first.1 second)
-
 each-map : {A B : Type 0} (P : B → Type 0) (f : A → B) → ((a : A) → P (f a)) → (xs : List A) → Each P (map f xs)
 each-map P f holds [] = tt
 each-map P f holds (x ∷ xs) = (holds x, each-map P f holds xs)
@@ -84,10 +68,6 @@ host_is : (ρ : Renaming) (p : Program) (x : Name) → Holds (IsHosts ρ) (host_
 host_is ρ p x = each-found (IsHosts ρ) (λ s. bytes_eq s.symbol x) (host_symbols p.hosts) (are_hosts ρ p.hosts)
 
 -- ---- what a name stands for
-
-or_kept : {A : Type 0} (P : A → Type 0) (o p : Option A) → Holds P o → Holds P p → Holds P (option_or o p)
-or_kept P None p a b = b
-or_kept P (Some x) p a b = a
 
 -- a unit's own function, else one of external linkage
 abbrev own_or_external : Program → ℕ → Name → Option Definition → Option FuncAddress
@@ -113,10 +93,6 @@ defined_there p u x is = go (slice_get p.units u) is
 some_own : (p : Program) (u : ℕ) (x : Name) (o : Option Definition) → is_some o ≡ true → own_or_external p u x o ≡ Some (UnitFunc u x)
 some_own p u x None is = cc
 some_own p u x (Some d) is = refl
-
-is_some-map : {A B : Type 0} (f : A → B) (o : Option A) → is_some (option_map f o) ≡ is_some o
-is_some-map f None = refl
-is_some-map f (Some a) = refl
 
 module _ (ρ : Renaming) (p q : Program) (names : KeepsNames ρ) (made : IsMadeOf ρ p q) where
   definitions_made : (u : ℕ) (x : Name) → ρ.defines u x ≡ true
@@ -234,7 +210,7 @@ module _ (ρ : Renaming) (p q : Program) (names : KeepsNames ρ) (made : IsMadeO
     functions_made u x (Here defines there) =
         let unit_is : is_some (slice_get p.units u) ≡ true = defined_there p u x there in
         let there' : is_some (definition_at q (ρ.unit u) (ρ.func u x)) ≡ true = ap is_some (definitions_made u x defines)
-        ∙ is_some-map (renamed.definition ρ u) (definition_at p u x) ∙ there in
+        ∙ is_some_map (renamed.definition ρ u) (definition_at p u x) ∙ there in
         named_there q (ρ.unit u) (ρ.func u x) (unit_there u unit_is)
         ∙ some_own q (ρ.unit u) (ρ.func u x) (definition_at q (ρ.unit u) (ρ.func u x)) there'
         ∙ sym (ap (option_map (address ρ)) (named_there p u x unit_is ∙ some_own p u x (definition_at p u x) there))

@@ -1,26 +1,14 @@
 -- What names of functions stand for in the one unit that units become.
-use Rattle.std.proofs.Common.{◌≡◌, ℕ, suc, ◌+◌, ◌&&◌, not, Bool, true, false, if◌then◌else◌, List, [], ◌∷◌, ◌++◌, length, map, filter, bytes_eq, is_some, Option, Some, None, option_map, refl, sym, ap, ◌∙◌, subst, arith, append_assoc}
-use Rattle.std.specs.Prelude.{⊤, zip, flat_map, slice_get}
-use Rattle.std.specs.List.{range_with_len}
-use Rattle.std.proofs.lemmas.Slice.Eq.{bytes_eq-Decides}
-use Rattle.w2c_base.proofs.Conjunctions.{both_hold}
-use Rattle.w2c_base.specs.Lookup.{if_found}
+use Rattle.c_renaming.proofs.Common.{◌≡◌, ℕ, suc, ◌+◌, Bool, true, false, not, ◌&&◌, List, [], ◌∷◌, ◌++◌, map, length, is_some, if◌then◌else◌, slice_get, Some, None, filter, Option, option_map, zip, flat_map, bytes_eq, sym, refl, ap, ◌∙◌, subst, append_assoc, arith, bytes_eq-Decides, range_with_len, ⊤, both_hold, if_found, Definition, Program, defined, defined_for_all, definition_at, is_external, is_init, primitive, FuncAddress, Name, UnitFunc, Elsewhere, Here, KeepsExternals, StandsFor, definer, Each, KeptFunc, Foreign, KeepsSeen, MayMerge, MayUse, Own, WhereDefined, joined, merged, merging, Renames, Renaming}
 use Rattle.c_tree.specs.Tree as tree
-use Rattle.c_meaning.specs.State.{Name, FuncAddress, UnitFunc}
-use Rattle.c_meaning.specs.Linking.{Program, Definition, defined, defined_for_all, definition_at, is_external, is_init}
-use Rattle.c_meaning.specs.Primitives.{primitive}
-use Rattle.c_renaming.specs.Renaming.{Renaming}
 use Rattle.c_renaming.specs.Renamed as renamed
-use Rattle.c_renaming.specs.Kept.{Each, KeptFunc}
-use Rattle.c_renaming.specs.Renames.{Renames}
-use Rattle.c_renaming.specs.Externals.{definer, StandsFor, Here, Elsewhere, KeepsExternals}
-use Rattle.c_renaming.specs.Merging.{merging, joined, merged, WhereDefined, KeepsSeen, MayUse, Own, Foreign, MayMerge}
 use Rattle.c_renaming.proofs.Definitions.{definitions_from}
 use Rattle.c_renaming.proofs.Made.{made_renames}
-use Rattle.c_renaming.proofs.Merged.{each-append, each_joined, merged_made}
+use Rattle.c_renaming.proofs.Merged.{each_joined, merged_made}
 use Rattle.c_renaming.proofs.MergedNames.{definer_merged, inits_merged}
 use Rattle.c_renaming.proofs.Merging.{merging_names}
 use Rattle.c_renaming.proofs.Trimmed.{Found, position_found}
+use Rattle.c_renaming.proofs.Each.{each-append}
 
 abbrev first : {A : Type 0} → List A → Option A
 first items = slice_get items 0

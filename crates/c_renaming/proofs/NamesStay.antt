@@ -1,13 +1,7 @@
 -- No statement changes which objects there are, and in which order.
-use Rattle.std.proofs.Common.{◌≡◌, ℕ, List, [], ◌∷◌, map, refl, ap}
-use Rattle.w2c_base.specs.Run.{Reply, Event, Init}
+use Rattle.c_renaming.proofs.Common.{◌≡◌, ℕ, List, [], ◌∷◌, map, refl, ap, Event, Init, Reply, Program, SymbolCall, fresh, objects_of, c_run, c_start, entries_of, Objects, declared_names, names_of}
 use Rattle.c_tree.specs.Tree as tree
-use Rattle.c_meaning.specs.State.{Objects}
-use Rattle.c_meaning.specs.Linking.{Program, SymbolCall}
-use Rattle.c_meaning.specs.Machine.{objects_of, fresh}
-use Rattle.c_meaning.specs.Run.{c_start, c_run, entries_of}
 use Rattle.c_meaning.proofs.StepsKeep.{KeptByObjects, OfMachine, ShownAlike, names_of_entries, units_kept, entry_keeps, after_keeps}
-use Rattle.c_renaming.specs.ObjectNames.{names_of, declared_names}
 
 alike : ShownAlike names_of
 alike = record {

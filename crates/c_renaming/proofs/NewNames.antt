@@ -1,13 +1,7 @@
 -- New names tell their unit and their old name.
-use Rattle.std.proofs.Common.{◌≡◌, ℕ, zero, suc, ◌+◌, ◌-◌, ◌<◌, Bool, true, false, if◌then◌else◌, List, [], ◌∷◌, ◌++◌, map, bytes_eq, Some, None, refl, sym, ap, ◌∙◌, subst, arith}
+use Rattle.c_renaming.proofs.Common.{◌≡◌, ℕ, zero, suc, ◌+◌, ◌-◌, ◌<◌, Bool, true, false, List, [], ◌∷◌, ◌++◌, map, if◌then◌else◌, Some, None, bytes_eq, sym, refl, ap, ◌∙◌, subst, arith, bytes_eq-Decides, named, Effect, primitive, primitives, CValue, Machine, Name, Each, TellsUnits}
 use Rattle.std.specs.Int.Digits.{digits_of, number_from_digits, AllBelowBase}
 use Rattle.std.proofs.lemmas.Int.Digits.{all_below_base_digits_of, number_digits_of}
-use Rattle.std.proofs.lemmas.Slice.Eq.{bytes_eq-Decides}
-use Rattle.w2c_base.specs.Lookup.{named}
-use Rattle.c_meaning.specs.State.{Name, CValue, Machine}
-use Rattle.c_meaning.specs.Primitives.{Effect, primitive, primitives}
-use Rattle.c_renaming.specs.Kept.{Each}
-use Rattle.c_renaming.specs.Merging.{TellsUnits}
 use Rattle.c_renaming.specs.NewNames.{decimal_text, name_in, is_outside}
 
 -- ---- a number's digits

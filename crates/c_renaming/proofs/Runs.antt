@@ -1,21 +1,6 @@
 -- Runs are the same on both sides.
-use Rattle.std.proofs.Common.{◌≡◌, ℕ, zero, suc, ◌+◌, List, [], ◌∷◌, ◌++◌, length, map, Option, Some, None, option_map, refl, sym, ap, ◌∙◌, subst}
-use Rattle.std.specs.Prelude.{zip}
-use Rattle.std.specs.List.{range_with_len}
-use Rattle.std.proofs.lemmas.List.{map-append}
-use Rattle.w2c_base.specs.declared.value.Value.{Value}
-use Rattle.w2c_base.specs.Lookup.{numbered}
-use Rattle.w2c_base.specs.Run.{Reply, Phase, Init, Call, call_ended}
-use Rattle.c_meaning.specs.State.{FuncAddress, CValue, Number, Pointer, FuncPointer, Machine, Stuck}
-use Rattle.c_meaning.specs.Linking.{Program, SymbolCall, init_functions, called_func}
-use Rattle.c_meaning.specs.Machine.{fresh, with_trail}
-use Rattle.c_meaning.specs.Step.{Step, Next, Back, Stops, call, c_step}
-use Rattle.c_meaning.specs.Run.{Outcome, Ended, Stopped, OutOfSteps, Entry, Pending, Progress, Going, Over, over, begun, begin_entry, told_end, came_back, go_on, after, run_of, c_start, c_run, entries_of}
-use Rattle.c_renaming.specs.Renaming.{Renaming, address}
+use Rattle.c_renaming.proofs.Common.{◌≡◌, ℕ, zero, suc, ◌+◌, List, [], ◌∷◌, ◌++◌, map, length, Some, None, Option, option_map, zip, sym, refl, ap, ◌∙◌, subst, map-append, range_with_len, numbered, Call, Init, Phase, Reply, call_ended, Value, Program, SymbolCall, called_func, init_functions, fresh, with_trail, Ended, Entry, Going, OutOfSteps, Outcome, Over, Pending, Progress, Stopped, after, begin_entry, begun, c_run, c_start, came_back, entries_of, go_on, over, run_of, told_end, CValue, FuncAddress, FuncPointer, Machine, Number, Pointer, Stuck, Back, Next, Step, Stops, c_step, call, Each, Holds, KeptFunc, KeptValue, KeepsBegins, KeepsMeanings, KeepsNames, Renames, Renaming, address, SameMachine, SameRun, SameState, SameStep}
 use Rattle.c_renaming.specs.Renamed as renamed
-use Rattle.c_renaming.specs.Kept.{Each, Holds, KeptFunc, KeptValue}
-use Rattle.c_renaming.specs.Same.{SameMachine, SameState, SameStep, SameRun}
-use Rattle.c_renaming.specs.Renames.{KeepsNames, KeepsMeanings, KeepsBegins, Renames}
 use Rattle.c_renaming.proofs.Changes.{same_trail}
 use Rattle.c_renaming.proofs.Steps.{call_same, c_step_same}
 

@@ -1,24 +1,8 @@
 -- One statement comes to the same on both sides.
-use Rattle.std.proofs.Common.{◌≡◌, ℕ, ◌==◌, Bool, true, false, if◌then◌else◌, List, [], ◌∷◌, map, bytes_eq, is_some, Option, Some, None, option_map, refl, sym, ap, ◌∙◌, subst}
-use Rattle.std.specs.Prelude.{slice_get}
-use Rattle.w2c_base.specs.declared.value.Value.{Value}
-use Rattle.w2c_base.specs.declared.value.Value.TheVariants.{I32, I64}
+use Rattle.c_renaming.proofs.Common.{◌≡◌, ℕ, Bool, true, false, List, [], ◌∷◌, map, is_some, if◌then◌else◌, ◌==◌, slice_get, Some, None, Option, option_map, bytes_eq, sym, refl, ap, ◌∙◌, subst, is_some_map, if_found, named, with_named, Ask, Event, Gave, Host, HostTrapped, Reply, Trail, asked, equal_types, is_result, number_of, types_of, Value, I32, I64, same_func_type, Definition, Program, definition_at, func_named, func_type, host_type, var_in, with_depth, with_trail, with_var, Effect, Gives, IsUndefined, NoEffect, Traps, primitive, Asks, Bad, CValue, Evaluated, Frame, FuncAddress, FuncPointer, HostFunc, Is, Machine, Name, NoRule, Number, Place, Pointer, Running, State, Stuck, Trapped, Undefined, UnitFunc, Vars, found, of_one_type, then_evaluate, Step, Stops, act, after_label, as_object, ask, assign, assign_depth, at_rest, begin, c_step, call, call_callee, call_named, call_through, depth_name, evaluate, evaluate_arg, evaluate_args, first_vars, give, in_unit, is_returned, jump, label_of, next, numbers, place_of, put_in, replied, returned, take_effect, value_of, with_value, with_vars, Each, Holds, KeptArg, KeptCallee, KeptDefinition, KeptFrames, KeptFunc, KeptRunning, KeptStmt, KeptValue, KeptVars, KeepsMeanings, KeepsNames, Renaming, address, place, SameMachine, SameState, SameStep}
 use Rattle.w2c_base.specs.declared.signature.FuncType.{FuncType}
-use Rattle.w2c_base.specs.Values.{number_of, types_of, equal_types, is_result}
-use Rattle.w2c_base.specs.Lookup.{if_found, named, with_named}
-use Rattle.w2c_base.specs.Run.{Reply, Gave, HostTrapped, Ask, Event, Host, Trail, asked}
 use Rattle.c_tree.specs.Tree as tree
-use Rattle.c_tree.specs.Runtime.{same_func_type}
-use Rattle.c_meaning.specs.State.{Name, FuncAddress, UnitFunc, HostFunc, CValue, Number, Pointer, FuncPointer, Vars, Machine, Running, Frame, Place, Trapped, Undefined, Asks, Stuck, Evaluated, Is, Bad, NoRule, then_evaluate, found, of_one_type, State}
-use Rattle.c_meaning.specs.Linking.{Program, Definition, func_named, definition_at, host_type, func_type}
-use Rattle.c_meaning.specs.Machine.{var_in, with_var, with_depth, with_trail}
-use Rattle.c_meaning.specs.Primitives.{Effect, Gives, Traps, IsUndefined, NoEffect, primitive}
-use Rattle.c_meaning.specs.Step.{Step, Stops, depth_name, in_unit, value_of, as_object, evaluate, evaluate_arg, evaluate_args, place_of, with_value, at_rest, with_vars, next, assign_depth, put_in, assign, after_label, jump, give, is_returned, returned, first_vars, begin, numbers, replied, ask, call, take_effect, call_named, call_through, call_callee, label_of, act, c_step}
-use Rattle.c_renaming.specs.Renaming.{Renaming, address, place}
 use Rattle.c_renaming.specs.Renamed as renamed
-use Rattle.c_renaming.specs.Kept.{Each, Holds, KeptFunc, KeptArg, KeptCallee, KeptStmt, KeptDefinition, KeptValue, KeptVars, KeptRunning, KeptFrames}
-use Rattle.c_renaming.specs.Same.{SameMachine, SameState, SameStep}
-use Rattle.c_renaming.specs.Renames.{KeepsNames, KeepsMeanings}
 use Rattle.c_renaming.proofs.Bodies.{place-running, after_label-stmts, after_label-kept, label_of-cases, first_vars-definition, first_vars-kept, numbers-values, of_type-value}
 use Rattle.c_renaming.proofs.Changes.{same_var, same_depth, same_trail}
 use Rattle.c_renaming.proofs.Effects.{SameEffect, Simulates, primitives_simulate}
@@ -27,10 +11,6 @@ use Rattle.c_renaming.proofs.Evaluation.{come_to, as_object-value, named-vars, w
 
 abbrev frames : Renaming → List Frame → List Frame
 frames ρ below = map (renamed.frame ρ) below
-
-is_some-map : {A B : Type 0} (f : A → B) (o : Option A) → is_some (option_map f o) ≡ is_some o
-is_some-map f None = refl
-is_some-map f (Some a) = refl
 
 come_to_itself : {A : Type 0} (v : Evaluated A) → v ≡ come_to (λ a. a) v
 come_to_itself (Is a) = refl
@@ -176,7 +156,7 @@ module _ (ρ : Renaming) (p q : Program) (names : KeepsNames ρ) (meanings : Kee
       by_depth true is = assign_depth_same r v below running rest
       by_depth false is =
           subst (λ b. SameStep ρ (local m r x v below (is_some (named x r.vars))) (local n r' x' v' below' b))
-          (sym (ap is_some (named-vars ρ names r.unit x r.vars) ∙ is_some-map (renamed.value ρ) (named x r.vars)))
+          (sym (ap is_some (named-vars ρ names r.unit x r.vars) ∙ is_some_map (renamed.value ρ) (named x r.vars)))
           (by_local (is_some (named x r.vars)) is)
 
   pub give_same : (v : Option CValue) (below : List Frame) → Holds (KeptValue ρ) v → KeptFrames ρ below

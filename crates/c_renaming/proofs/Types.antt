@@ -1,18 +1,6 @@
 -- Types of functions, and which calls fit, are the same on both sides.
-use Rattle.std.proofs.Common.{◌≡◌, ◌&&◌, Bool, false, List, [], ◌∷◌, Option, Some, None, option_map, refl, ap, ◌∙◌}
-use Rattle.std.specs.Prelude.{slice_get}
-use Rattle.std.specs.List.{list_all, list_any}
-use Rattle.w2c_base.specs.Lookup.{if_found}
-use Rattle.w2c_base.specs.Run.{Host}
-use Rattle.w2c_base.specs.Values.{is_number, types_of}
+use Rattle.c_renaming.proofs.Common.{◌≡◌, Bool, false, ◌&&◌, List, [], ◌∷◌, slice_get, Some, None, Option, option_map, refl, ap, ◌∙◌, list_all, list_any, if_found, Host, is_number, types_of, same_type, same_types, U32, U64, Void, Program, SymbolCall, c_func_type_of, c_params_of, called_func, fits, func_type, FuncAddress, HostFunc, UnitFunc, Holds, KeptFunc, KeepsMeanings, Renames, Renaming, address}
 use Rattle.c_tree.specs.Tree as tree
-use Rattle.c_tree.specs.Runtime.{same_type, same_types}
-use Rattle.c_tree.specs.declared.tree.CType.TheVariants.{Void, U32, U64}
-use Rattle.c_meaning.specs.State.{FuncAddress, UnitFunc, HostFunc}
-use Rattle.c_meaning.specs.Linking.{Program, SymbolCall, func_type, called_func, c_params_of, c_func_type_of, fits}
-use Rattle.c_renaming.specs.Renaming.{Renaming, address}
-use Rattle.c_renaming.specs.Kept.{Holds, KeptFunc}
-use Rattle.c_renaming.specs.Renames.{KeepsMeanings, Renames}
 
 module _ (ρ : Renaming) (p q : Program) (meanings : KeepsMeanings ρ p q) where
   pub func_type_same : (f : FuncAddress) → KeptFunc ρ f → func_type q (address ρ f) ≡ func_type p f

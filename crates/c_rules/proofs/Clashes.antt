@@ -1,19 +1,10 @@
 -- Whether an item clashes with an earlier one is told by the first of its name and by what is
 -- defined, where the earlier ones do not clash.
-use Rattle.std.proofs.Common.{◌≡◌, ℕ, Bool, true, false, ◌&&◌, ◌||◌, ◌==◌, if◌then◌else◌, List, [], ◌∷◌, ◌++◌, bytes_eq, Option, Some, None, refl, sym, ap, ◌∙◌}
-use Rattle.std.specs.Prelude.{not}
-use Rattle.std.specs.List.{list_all, list_any}
-use Rattle.std.proofs.Common.{arith}
+use Rattle.c_rules.proofs.Common.{◌≡◌, ℕ, Bool, true, false, not, ◌&&◌, ◌||◌, List, [], ◌∷◌, ◌++◌, if◌then◌else◌, ◌==◌, Some, None, Option, bytes_eq, sym, refl, ap, ◌∙◌, arith, list_all, list_any, named, are_alike, has_body, may_both_stand, same_func_type, same_type, same_types, func_type_of, name_of, CType, by_names, defined_of, none_clash, stands_behind}
 use Rattle.std.proofs.lemmas.Bool.Decides.{nat_tests}
 use Rattle.std.proofs.lemmas.Slice.Eq.{bytes_eq-Decides}
 use Rattle.w2c_base.proofs.Conjunctions.{left_holds, right_holds}
-use Rattle.w2c_base.specs.Lookup.{named}
-use Rattle.c_tree.specs.declared.tree.CType.{CType}
 use Rattle.c_tree.specs.Tree as tree
-use Rattle.c_tree.specs.Runtime.{same_type, same_types, same_func_type}
-use Rattle.c_tree.specs.Scope.{name_of, func_type_of}
-use Rattle.c_tree.specs.Rules.{has_body, are_alike, may_both_stand}
-use Rattle.c_rules.specs.UnitNames.{by_names, defined_of, stands_behind, none_clash}
 use Rattle.c_rules.proofs.Defined.{defined_front}
 
 -- ---- of truth values

@@ -1,11 +1,6 @@
 -- What a unit defines, item by item.
-use Rattle.std.proofs.Common.{◌≡◌, ℕ, Bool, true, false, ◌&&◌, ◌||◌, if◌then◌else◌, List, [], ◌∷◌, bytes_eq, Some, None, refl, ap, ◌∙◌}
-use Rattle.std.specs.List.{list_any, cons_option}
+use Rattle.c_rules.proofs.Common.{◌≡◌, ℕ, Bool, true, false, ◌&&◌, ◌||◌, List, [], ◌∷◌, if◌then◌else◌, Some, None, bytes_eq, refl, ap, ◌∙◌, cons_option, list_any, either_way, defines, has_body, name_of, defined_of}
 use Rattle.c_tree.specs.Tree as tree
-use Rattle.c_tree.specs.Scope.{name_of}
-use Rattle.c_tree.specs.Rules.{has_body, defines}
-use Rattle.name_table.proofs.NameTables.{either_way}
-use Rattle.c_rules.specs.UnitNames.{defined_of}
 
 pub defined_front : (q : List ℕ) (x : tree.Item) (items : List tree.Item)
     → list_any (bytes_eq q) (defined_of (x ∷ items))

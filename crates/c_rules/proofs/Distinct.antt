@@ -1,17 +1,7 @@
 -- Lists without two equal items, from the end on.
-use Rattle.std.proofs.Common.{◌≡◌, ℕ, zero, suc, ◌+◌, Bool, true, false, ◌&&◌, ◌||◌, if◌then◌else◌, List, [], ◌∷◌, drop, bytes_eq, is_some, Option, Some, None, refl, sym, ap, ◌∙◌, add-one}
-use Rattle.std.specs.Prelude.{not, slice_get}
+use Rattle.c_rules.proofs.Common.{◌≡◌, ℕ, zero, suc, ◌+◌, Bool, true, false, not, ◌&&◌, ◌||◌, List, [], ◌∷◌, drop, is_some, if◌then◌else◌, slice_get, Some, None, Option, bytes_eq, sym, refl, ap, ◌∙◌, list_any, named, either_way, are_distinct}
 use Rattle.std.specs.Option.{option_or}
-use Rattle.std.specs.List.{list_any}
-use Rattle.w2c_base.specs.Lookup.{named}
-use Rattle.c_tree.specs.Rules.{are_distinct}
-use Rattle.name_table.proofs.NameTables.{either_way}
-
--- the list from an item on
-pub drop_front : {A : Type 0} (xs : List A) (i : ℕ) (x : A) → slice_get xs i ≡ Some x → drop i xs ≡ x ∷ drop (i + 1) xs
-drop_front [] i x at = absurd cc
-drop_front (y ∷ xs) zero x at = let e : y ≡ x = cc in ap (λ z. z ∷ xs) e
-drop_front (y ∷ xs) (suc i) x at = drop_front xs i x at ∙ ap (λ n. x ∷ drop n xs) (add-one i) ∙ rw (add-one (suc i)) refl
+use Rattle.w2c_base.proofs.Places.{drop_front}
 
 -- where the end is not distinct, the whole is not
 pub distinct_end : (names : List (List ℕ)) (j : ℕ) → are_distinct (drop j names) ≡ false → are_distinct names ≡ false

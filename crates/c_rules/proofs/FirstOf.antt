@@ -1,10 +1,7 @@
 -- The first of what each item of a list gives.
-use Rattle.std.proofs.Common.{◌≡◌, ℕ, zero, suc, ◌+◌, ◌<◌, ◌≤◌, Bool, true, false, if◌then◌else◌, List, [], ◌∷◌, ◌++◌, length, get_or, drop, map, Option, Some, None, refl, sym, ap, ◌∙◌, arith}
-use Rattle.std.specs.Prelude.{filter, flat_map, not, slice_get, option_map, zip}
-use Rattle.std.specs.List.{range_with_len}
-use Rattle.w2c_base.specs.Lookup.{numbered}
-use Rattle.c_tree.specs.FirstBroken.{broken_of}
+use Rattle.c_rules.proofs.Common.{◌≡◌, ℕ, zero, suc, ◌+◌, ◌<◌, ◌≤◌, Bool, true, false, not, List, [], ◌∷◌, ◌++◌, map, length, get_or, drop, if◌then◌else◌, slice_get, Some, None, filter, Option, option_map, zip, flat_map, sym, refl, ap, ◌∙◌, arith, range_with_len, numbered, broken_of}
 use Rattle.c_rules.specs.FirstRule.{first_rule}
+use Rattle.w2c_base.proofs.NumberedLists.{numbered_past}
 
 -- the first of the rules that do not hold
 pub first_broken_of : {P : Type 0} (rules : List (ℕ × (P → Bool))) (p : P) → slice_get (broken_of rules p) 0 ≡ first_rule rules p
@@ -46,12 +43,6 @@ numbered_front view k (y ∷ xs) (suc i) x lt is =
     numbered_front view (k + 1) xs i x (omega arith) is
     ∙ ap (λ n. (n, view x) ∷ drop (suc (i + 1)) (zip (range_with_len k (length (map view (y ∷ xs)))) (map view (y ∷ xs)))) e
     ∙ ap (λ m. (k + suc i, view x) ∷ drop m (zip (range_with_len k (length (map view (y ∷ xs)))) (map view (y ∷ xs)))) next
-
-numbered_past : {B : Type 0} (k : ℕ) (ys : List B) (i : ℕ) → length ys ≤ i → drop i (zip (range_with_len k (length ys)) ys) ≡ []
-numbered_past k [] zero le = refl
-numbered_past k [] (suc i) le = refl
-numbered_past k (y ∷ ys) zero le = absurd (omega arith)
-numbered_past k (y ∷ ys) (suc i) le = numbered_past (k + 1) ys i (omega arith)
 
 module _ {A B C : Type 0} (view : A → B) (gives : ℕ × B → List C) (xs : List A) (i : ℕ) where
   pub first_end : (whole : Option C) → length (map view xs) ≤ i → slice_get (flat_map gives (drop i (numbered (map view xs)))) 0 ≡ whole

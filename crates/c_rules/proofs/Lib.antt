@@ -1,3 +1,4 @@
+mod Common
 pub mod Clashes
 pub mod Defined
 pub mod Distinct

@@ -1,14 +1,9 @@
 -- The first broken rule, from one statement or item to the next.
-use Rattle.std.proofs.Common.{◌≡◌, ℕ, ◌+◌, ◌<◌, ◌≤◌, Bool, true, false, if◌then◌else◌, List, [], length, get_or, drop, map, take, Option, Some, None, refl, sym, ap, ◌∙◌}
-use Rattle.std.specs.Prelude.{option_map, slice_get, flat_map}
-use Rattle.w2c_base.specs.Lookup.{numbered}
+use Rattle.c_rules.proofs.Common.{◌≡◌, ℕ, ◌+◌, ◌<◌, ◌≤◌, Bool, true, false, List, [], map, length, get_or, take, drop, if◌then◌else◌, slice_get, Some, None, Option, option_map, flat_map, sym, refl, ap, ◌∙◌, numbered, BrokenAt, broken_in_body, broken_in_item, broken_in_stmt, broken_of, first_broken, Place, is_declared_once, item_rules, stmt_rules, Scope}
 use Rattle.c_tree.specs.declared.tree.Stmt.{Stmt}
 use Rattle.c_tree.specs.declared.tree.Item.{Item}
 use Rattle.c_tree.specs.Tree as tree
 use Rattle.c_tree.specs.View.{item_of, stmt_of}
-use Rattle.c_tree.specs.Scope.{Scope}
-use Rattle.c_tree.specs.Rules.{Place, item_rules, stmt_rules, is_declared_once}
-use Rattle.c_tree.specs.FirstBroken.{BrokenAt, broken_of, broken_in_stmt, broken_in_body, broken_in_item, first_broken}
 use Rattle.c_rules.specs.FirstRule.{stmt_breaks, item_breaks, first_in_stmts, first_in_body, first_in_items, func_in}
 use Rattle.c_rules.proofs.FirstOf as first
 

@@ -1,8 +1,6 @@
 -- Two lists of types, type by type.
-use Rattle.std.proofs.Common.{◌≡◌, ◌≢◌, ℕ, suc, ◌+◌, ◌<◌, ◌≤◌, Bool, true, false, ◌&&◌, List, [], ◌∷◌, length, get_or, drop, map, refl, sym, ap, ◌∙◌, arith}
+use Rattle.c_rules.proofs.Common.{◌≡◌, ℕ, suc, ◌+◌, ◌<◌, ◌≤◌, Bool, true, false, ◌&&◌, ◌≢◌, List, [], ◌∷◌, map, length, get_or, drop, sym, refl, ap, ◌∙◌, arith, same_type, same_types, CType}
 use Rattle.std.proofs.lemmas.List.{drop_all, length-map}
-use Rattle.c_tree.specs.declared.tree.CType.{CType}
-use Rattle.c_tree.specs.Runtime.{same_type, same_types}
 use Rattle.c_tree.proofs.Tested.{at_front}
 
 -- as many of both

@@ -54,17 +54,8 @@ fn absorb_locals(salt: &mut Salted, locals: &[(CType, Name, Num)]) {
 /// Takes in the labels of statements.
 pub fn absorb_labels(salt: &mut Salted, stmts: &[Stmt]) {
     for stmt in stmts {
-        match stmt {
-            Stmt::Label(name) => salt.absorb(name.as_slice()),
-            Stmt::Null
-            | Stmt::Set(_, _)
-            | Stmt::SetStar(_, _)
-            | Stmt::Call(_, _, _)
-            | Stmt::Goto(_)
-            | Stmt::If(_, _, _, _)
-            | Stmt::Switch(_, _, _)
-            | Stmt::ReturnNone
-            | Stmt::Return(_) => {}
+        if let Some(name) = stmt.label() {
+            salt.absorb(name);
         }
     }
 }

@@ -1,11 +1,7 @@
 -- What the tables of file scope find behind one more item.
-use Rattle.std.proofs.Common.{◌≡◌, ℕ, zero, suc, ◌+◌, ◌<◌, ◌||◌, List, [], ◌∷◌, ◌++◌, length, get_or, take, map, is_some, Option, sym, ap, ◌∙◌, add-one, arith}
-use Rattle.std.specs.Prelude.{filter_map, option_map, bytes_eq}
+use Rattle.c_scope.proofs.Common.{◌≡◌, ℕ, zero, suc, ◌+◌, ◌<◌, ◌||◌, List, [], ◌∷◌, ◌++◌, map, length, get_or, take, is_some, Option, option_map, filter_map, bytes_eq, sym, ap, ◌∙◌, add-one, arith, option_or, named, among-append, named-append}
 use Rattle.std.specs.List.{list_any}
-use Rattle.std.specs.Option.{option_or}
 use Rattle.std.proofs.lemmas.List.Elements.{filter_map-append}
-use Rattle.w2c_base.specs.Lookup.{named}
-use Rattle.name_table.proofs.Lookups.{named-append, among-append}
 
 pub take_next : {A B : Type 0} (f : A → B) (xs : List A) (i : ℕ) (x : A) → i < length xs → x ≡ get_or xs i x
     → take (i + 1) (map f xs) ≡ take i (map f xs) ++ f x ∷ []

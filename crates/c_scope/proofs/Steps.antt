@@ -1,10 +1,9 @@
 -- Loops over a list that keep 'what is made, and what the rest gives, is the whole'.
-use Rattle.std.proofs.Common.{◌≡◌, ℕ, zero, suc, arith, ◌+◌, ◌<◌, ◌≤◌, Bool, true, false, if◌then◌else◌, List, [], ◌∷◌, ◌++◌, length, get_or, drop, map, bytes_eq, Option, Some, None, refl, sym, ap, ◌∙◌}
-use Rattle.std.specs.Option.{option_or}
+use Rattle.c_scope.proofs.Common.{◌≡◌, ℕ, ◌+◌, ◌<◌, ◌≤◌, Bool, true, false, List, [], ◌++◌, map, length, get_or, drop, if◌then◌else◌, Some, None, Option, bytes_eq, sym, refl, ap, ◌∙◌, option_or, named, or_none}
 use Rattle.std.proofs.lemmas.List.{drop_all}
-use Rattle.w2c_base.specs.Lookup.{named}
+use Rattle.w2c_base.proofs.Places.{read_again}
+use Rattle.w2c_base.proofs.Options.{or_assoc}
 use Rattle.c_tree.proofs.Tested.{at_front}
-use Rattle.name_table.proofs.Lookups.{or_assoc, or_none}
 
 -- ---- a search by name
 
@@ -47,12 +46,6 @@ pub enters_all : {A B : Type 0} (f : A → List ℕ × B) (table : List (List �
     → Enters table (map f (drop i xs)) (map f xs) → (q : List ℕ) → named q table ≡ named q (map f xs)
 enters_all f table xs i past enters q =
     sym (or_none (named q table)) ∙ ap (λ ys. option_or (named q table) (named q (map f ys))) (sym (drop_all i xs past)) ∙ enters q
-
--- an item of a list, whatever else would be read past its end
-read_again : {A : Type 0} (xs : List A) (i : ℕ) (d : A) → i < length xs → get_or xs i d ≡ get_or xs i (get_or xs i d)
-read_again [] i d lt = absurd (omega arith)
-read_again (y ∷ xs) zero d lt = refl
-read_again (y ∷ xs) (suc i) d lt = read_again xs i d (omega arith)
 
 pub enters_at : {A B : Type 0} (f : A → List ℕ × B) (before after : List (List ℕ × B)) (xs : List A) (i : ℕ) (d : A) → i < length xs
     → ((q : List ℕ) → named q after ≡ option_or (named q before)

@@ -1,28 +1,10 @@
 -- An argument of a type evaluates to a value of it, or to what is undefined.
-use Rattle.std.proofs.Common.{◌≡◌, ◌&&◌, Bool, true, false, List, [], ◌∷◌, is_some, Option, Some, None, refl, sym, ap, ◌∙◌, subst}
-use Rattle.std.specs.Prelude.{◌||◌, flat_map}
-use Rattle.std.specs.List.{list_all}
-use Rattle.std.proofs.lemmas.Bool.{and_parts, false≢true, or_left, or_right}
-use Rattle.std.proofs.lemmas.List.Folds.{list_all-append}
-use Rattle.w2c_base.specs.declared.value.Value.{Value}
-use Rattle.w2c_base.specs.declared.value.Value.TheVariants.{I32, I64}
-use Rattle.w2c_base.specs.Lookup.{if_found, named}
-use Rattle.c_tree.specs.declared.tree.CType.{CType}
+use Rattle.c_sound.proofs.Common.{◌≡◌, Bool, true, false, ◌&&◌, ◌||◌, List, [], ◌∷◌, is_some, Some, None, Option, flat_map, sym, refl, ap, ◌∙◌, subst, and_parts, false≢true, or_left, or_right, list_all-append, list_all, by_test, if_found, named, Value, I32, I64, arg_has_type, arg_suits, arg_uses, args_suit, expr_uses, has_same_type, has_type, is_known, same_type, Compares, HasType, IllTyped, IsElement, Scope, Typing, common_type, file_functions, file_variables, is_comparison, is_number_type, is_object_type, may_be_narrowed, number_type, op_typing, pointed_by, pointer_to, type_of, typed_if, typing_of, value_type, value_typing, variables, COp, CType, N32, N64, Plain, Program, is_object, memory_in, of_type, table_in, var_in, CValue, FuncPointer, Is, Machine, Name, Number, ObjectAddress, Pointer, Running, then_evaluate, evaluate, evaluate_arg, evaluate_args, in_unit, value_of, OfType, OfTypes, ScopeOf, TypedMachine, VarsOf, own_variables, type_at}
 use Rattle.c_tree.specs.declared.tree.CType.TheVariants as type
-use Rattle.c_tree.specs.declared.tree.COp.{COp}
-use Rattle.c_tree.specs.declared.tree.Num.TheVariants.{N32, N64, Plain}
 use Rattle.c_tree.specs.Tree as tree
-use Rattle.c_tree.specs.Runtime.{same_type}
-use Rattle.c_tree.specs.Scope.{Scope, Typing, HasType, Compares, IsElement, IllTyped, number_type, file_variables, file_functions, variables, is_object_type, is_number_type, is_comparison, may_be_narrowed, common_type, op_typing, value_type, value_typing, typed_if, typing_of, type_of, pointed_by, pointer_to}
-use Rattle.c_tree.specs.Rules.{is_known, expr_uses, arg_uses, arg_suits, args_suit, arg_has_type, has_type, has_same_type}
-use Rattle.c_meaning.specs.State.{Name, ObjectAddress, CValue, Number, Pointer, FuncPointer, Machine, Running, Is, then_evaluate}
-use Rattle.c_meaning.specs.Linking.{Program}
-use Rattle.c_meaning.specs.Machine.{of_type, var_in, memory_in, table_in, is_object}
-use Rattle.c_meaning.specs.Step.{in_unit, value_of, evaluate, evaluate_arg, evaluate_args}
-use Rattle.c_sound.proofs.Choices.{by_test, by_option}
+use Rattle.c_sound.proofs.Choices.{by_option}
 use Rattle.c_sound.proofs.SameTypes.{type_same}
 use Rattle.c_sound.proofs.Evaluates.{Comes, comes_then, IsSuch, value_is, evaluates, one_type, narrowed, pointed_number}
-use Rattle.c_sound.specs.Typed.{OfType, OfTypes, VarsOf, TypedMachine, ScopeOf, own_variables, type_at}
 
 pub such_is_value : (p : Program) (t : CType) (v : Value) → IsSuch (HasType t) v → OfType p t (Number v)
 such_is_value p type.U32 (I32 n) h = record { is = refl; points = tt }

@@ -1,19 +1,8 @@
 -- A value goes where one of its type is taken: at an assignment, and at the end of a call.
-use Rattle.std.proofs.Common.{◌≡◌, true, false, List, [], ◌∷◌, bytes_eq, Option, Some, None, refl, sym, ap, ◌∙◌, subst}
-use Rattle.std.proofs.lemmas.Bool.{both_ways}
-use Rattle.w2c_base.specs.Lookup.{named, with_named}
-use Rattle.c_tree.specs.declared.tree.CType.{CType}
-use Rattle.c_tree.specs.Scope.{variables, is_object_type}
-use Rattle.c_tree.specs.Rules.{is_void}
-use Rattle.c_meaning.specs.State.{Name, CValue, Vars, Machine, Running, Frame, Stuck}
-use Rattle.c_meaning.specs.Linking.{Program}
-use Rattle.c_meaning.specs.Machine.{with_var}
-use Rattle.c_meaning.specs.Step.{Stops, in_unit, next, with_vars, assign, assign_depth, give, is_returned, returned}
-use Rattle.c_sound.proofs.Choices.{by_test}
+use Rattle.c_sound.proofs.Common.{◌≡◌, true, false, List, [], ◌∷◌, Some, None, Option, bytes_eq, sym, refl, ap, ◌∙◌, subst, both_ways, by_test, named, with_named, is_void, is_object_type, variables, CType, Program, with_var, CValue, Frame, Machine, Name, Running, Stuck, Vars, Stops, assign, assign_depth, give, in_unit, is_returned, next, returned, with_vars, Gives, OfType, Takes, TypedBelow, TypedMachine, TypedRunning, TypedStep, VarsOf, own_variables}
 use Rattle.c_sound.proofs.Evaluates.{Stands, IsDepth, IsOwn, IsOfFile, stands, own_holds, own_not}
 use Rattle.c_sound.proofs.Changes.{one_type_of, var_keeps, depth_keeps}
 use Rattle.c_sound.proofs.Primitives.{narrow}
-use Rattle.c_sound.specs.Typed.{OfType, Gives, VarsOf, TypedMachine, TypedRunning, TypedBelow, TypedStep, Takes, own_variables}
 
 -- another value of its type for a variable of a function's own
 own_set : (p : Program) (declared : List (Name × CType)) (vars : Vars) (name : Name) (t : CType) (v : CValue) → VarsOf p declared vars

@@ -1,35 +1,17 @@
 -- A function that takes arguments of its parameters' types begins, or its host is asked.
-use Rattle.std.proofs.Common.{◌≡◌, ℕ, Bool, true, false, if◌then◌else◌, List, [], ◌∷◌, ◌++◌, map, is_some, Option, Some, None, option_map, refl, sym, ap, ◌∙◌, subst}
-use Rattle.std.specs.List.{list_all}
-use Rattle.std.proofs.lemmas.Bool.{and_parts, false≢true}
-use Rattle.w2c_base.specs.declared.value.ValType.{ValType}
+use Rattle.c_sound.proofs.Common.{◌≡◌, ℕ, Bool, true, false, List, [], ◌∷◌, ◌++◌, map, is_some, if◌then◌else◌, Some, None, Option, option_map, sym, refl, ap, ◌∙◌, subst, and_parts, false≢true, list_all, named, Ask, Event, Gave, HostTrapped, Reply, asked, is_number, types_of, ValType, Value, I32, I64, number_suits, proper_types, same_func_type, Scope, file_functions, functions, local_variables, param_variables, CType, Num, N32, N64, Plain, Definition, Program, c_func_type_of, c_params_of, c_result_of, c_type_of, func_named, func_type, host_type, initial_of, with_trail, Asks, CValue, Frame, FuncAddress, FuncPointer, HostFunc, Machine, Name, Number, Place, Pointer, Stuck, Undefined, UnitFunc, Vars, Step, Stops, are_of_types, ask, begin, bind, call, call_named, call_through, first_vars, give, locals_of, next, numbers, param_names, param_types, replied, take_effect, Callable, Gives, OfType, OfTypes, ScopeOf, TypedBelow, TypedMachine, TypedProgram, TypedStep, VarsOf}
 use Rattle.w2c_base.specs.declared.value.ValType.TheVariants as val
-use Rattle.w2c_base.specs.declared.value.Value.{Value}
-use Rattle.w2c_base.specs.declared.value.Value.TheVariants.{I32, I64}
 use Rattle.w2c_base.specs.declared.signature.FuncType.{FuncType}
-use Rattle.w2c_base.specs.Values.{types_of, type_of, equal_type, equal_types, is_number, is_result}
-use Rattle.w2c_base.specs.Lookup.{named}
-use Rattle.w2c_base.specs.Run.{Reply, Gave, HostTrapped, Ask, Event, asked}
-use Rattle.c_tree.specs.declared.tree.CType.{CType}
+use Rattle.w2c_base.specs.Values.{type_of, equal_type, equal_types, is_result}
 use Rattle.c_tree.specs.declared.tree.CType.TheVariants as type
-use Rattle.c_tree.specs.declared.tree.Num.{Num}
-use Rattle.c_tree.specs.declared.tree.Num.TheVariants.{N32, N64, Plain}
 use Rattle.c_tree.specs.Tree as tree
 use Rattle.c_tree.specs.Runtime as header
-use Rattle.c_tree.specs.Runtime.{same_func_type}
-use Rattle.c_tree.specs.Scope.{Scope, file_functions, functions, param_variables, local_variables}
-use Rattle.c_tree.specs.Rules.{proper_types, number_suits}
-use Rattle.c_meaning.specs.State.{Name, FuncAddress, UnitFunc, HostFunc, CValue, Number, Pointer, FuncPointer, Vars, Machine, Frame, Place, Stuck, Undefined, Asks}
-use Rattle.c_meaning.specs.Linking.{Program, Definition, func_named, func_type, host_type, c_type_of, c_params_of, c_result_of, c_func_type_of}
-use Rattle.c_meaning.specs.Machine.{initial_of, with_trail}
 use Rattle.c_meaning.specs.Primitives as prim
-use Rattle.c_meaning.specs.Step.{Step, Stops, next, give, first_vars, are_of_types, bind, param_names, param_types, locals_of, begin, numbers, replied, ask, call, take_effect, call_named, call_through}
 use Rattle.c_sound.proofs.Choices.{by_option, named_behind, named_in_front, same_some}
 use Rattle.c_sound.proofs.SameTypes.{func_types_same}
 use Rattle.c_sound.proofs.Changes.{trail_keeps}
 use Rattle.c_sound.proofs.Primitives.{TypedEffect, primitive_typed}
 use Rattle.c_sound.proofs.Assigns.{give_typed}
-use Rattle.c_sound.specs.Typed.{OfType, OfTypes, Gives, VarsOf, TypedMachine, TypedProgram, Callable, TypedBelow, TypedStep, ScopeOf}
 
 -- ---- the variables with which a function begins
 

@@ -1,18 +1,7 @@
 -- A machine stays typed where an object gets another value of its type.
-use Rattle.std.proofs.Common.{◌≡◌, ◌≢◌, ◌⊎◌, inl, inr, ℕ, zero, suc, true, List, [], ◌∷◌, bytes_eq, is_some, Option, Some, None, slice_get, slice_set, refl, sym, ap, ◌∙◌, subst}
-use Rattle.std.proofs.lemmas.Bool.{cases_eq}
-use Rattle.std.proofs.lemmas.Slice.Eq.{bytes_eq-Decides}
-use Rattle.w2c_base.specs.declared.value.Value.TheVariants.{I32, I64}
-use Rattle.w2c_base.specs.Lookup.{if_found, named, with_named}
-use Rattle.w2c_base.specs.Run.{Trail}
-use Rattle.c_tree.specs.declared.tree.CType.{CType}
+use Rattle.c_sound.proofs.Common.{◌≡◌, ℕ, zero, suc, true, ◌≢◌, ◌⊎◌, List, [], ◌∷◌, is_some, slice_get, slice_set, Some, None, Option, bytes_eq, sym, refl, ap, ◌∙◌, subst, inl, inr, cases_eq, bytes_eq-Decides, by_test, if_found, named, with_named, Trail, I32, I64, CType, named-with_another, named-with_named, Program, memory_in, of_type, table_in, var_in, with_depth, with_memory, with_objects, with_table, with_trail, with_var, CValue, FuncPointer, Machine, Memory, Name, Number, ObjectAddress, Objects, Pointer, Table, of_one_type, HoldFuncs, OfType, TypedMachine, type_at}
 use Rattle.c_tree.specs.declared.tree.CType.TheVariants as type
-use Rattle.c_meaning.specs.State.{Name, ObjectAddress, CValue, Number, Pointer, FuncPointer, Memory, Table, Objects, Machine, of_one_type}
-use Rattle.c_meaning.specs.Linking.{Program}
-use Rattle.c_meaning.specs.Machine.{of_type, with_objects, with_depth, with_trail, with_var, with_memory, with_table, var_in, memory_in, table_in}
-use Rattle.c_meaning.proofs.Lookups.{named-with_named, named-with_another}
-use Rattle.c_sound.proofs.Choices.{by_test, by_option, same_some}
-use Rattle.c_sound.specs.Typed.{OfType, HoldFuncs, TypedMachine, type_at}
+use Rattle.c_sound.proofs.Choices.{by_option, same_some}
 
 -- values of one type
 pub one_type_of : (p : Program) (t : CType) (v w : CValue) → OfType p t v → OfType p t w → of_one_type v w ≡ true

@@ -1,11 +1,5 @@
 -- By cases: on a test, on what may be there, and on names beside which something stands.
-use Rattle.std.proofs.Common.{◌≡◌, Bool, true, false, List, [], ◌∷◌, ◌++◌, bytes_eq, Option, Some, None, refl}
-use Rattle.w2c_base.specs.Lookup.{named}
-use Rattle.c_meaning.specs.State.{Name}
-
-pub by_test : {P : Type 0} (b : Bool) → (b ≡ true → P) → (b ≡ false → P) → P
-by_test true yes_ no_ = yes_ refl
-by_test false yes_ no_ = no_ refl
+use Rattle.c_sound.proofs.Common.{◌≡◌, List, [], ◌∷◌, ◌++◌, Some, None, Option, bytes_eq, refl, by_test, named, Name}
 
 pub by_option : {A P : Type 0} (o : Option A) → (o ≡ None → P) → ((a : A) → o ≡ Some a → P) → P
 by_option None none some_ = none refl

@@ -1,21 +1,9 @@
 -- The definitions of a unit that keeps the rules: those of one name are one, and its declarations have its type.
-use Rattle.std.proofs.Common.{◌≡◌, inl, inr, ℕ, zero, suc, ◌<◌, ◌&&◌, Bool, true, false, not, List, [], ◌∷◌, take, bytes_eq, is_some, Some, option_map, slice_get, refl, sym, ap, ◌∙◌, subst}
-use Rattle.std.specs.Prelude.{◌||◌}
-use Rattle.std.specs.List.{list_all, list_any}
-use Rattle.std.specs.Option.{option_or}
-use Rattle.std.proofs.lemmas.Bool.{and_parts, false≢true, or_cases, cases_order}
-use Rattle.std.proofs.lemmas.Slice.Eq.{bytes_eq-Decides}
-use Rattle.w2c_base.specs.Lookup.{numbered}
+use Rattle.c_sound.proofs.Common.{◌≡◌, ℕ, zero, suc, ◌<◌, Bool, true, false, not, ◌&&◌, ◌||◌, List, [], ◌∷◌, take, is_some, slice_get, Some, option_map, bytes_eq, sym, refl, ap, ◌∙◌, subst, inl, inr, and_parts, cases_order, false≢true, or_cases, bytes_eq-Decides, list_all, list_any, option_or, numbered_at, numbered, KeepsRules, are_alike, defines, has_body, may_both_stand, same_func_type, func_type_of, name_of, Definition, defined, defined_for_all, definition_of, definitions, is_external, typed, Name}
 use Rattle.c_tree.specs.Tree as tree
-use Rattle.c_tree.specs.Scope.{name_of, func_type_of}
-use Rattle.c_tree.specs.Rules.{has_body, are_alike, may_both_stand, defines}
-use Rattle.c_tree.specs.FirstBroken.{KeepsRules}
-use Rattle.c_tree.specs.Runtime.{same_func_type}
-use Rattle.c_meaning.specs.State.{Name}
-use Rattle.c_meaning.specs.Linking.{Definition, definition_of, definitions, defined, defined_for_all, typed, is_external}
 use Rattle.c_sound.proofs.Choices.{by_option}
 use Rattle.c_sound.proofs.SameTypes.{func_types_same}
-use Rattle.c_sound.proofs.Lists.{numbered_at, at_numbered, kept_from, kept_at, first_from, first_there, take_has}
+use Rattle.c_sound.proofs.Lists.{at_numbered, kept_from, kept_at, first_from, first_there, take_has}
 use Rattle.c_sound.proofs.Kept.{item_kept}
 
 pub passes_at : {A : Type 0} (test : A → Bool) (xs : List A) → list_all test xs ≡ true → (i : ℕ) (x : A) → slice_get xs i ≡ Some x

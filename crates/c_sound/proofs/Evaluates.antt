@@ -1,34 +1,12 @@
 -- An expression that has a type evaluates to a value of it, or to what is undefined.
-use Rattle.std.proofs.Common.{◌≡◌, ℕ, ◌&&◌, ◌==◌, ◌*◌, ◌/◌, ◌%◌, ◌^◌, nat_lt, Bool, true, false, if◌then◌else◌, List, [], ◌∷◌, ◌++◌, bytes_eq, is_some, Option, Some, None, slice_get, refl, sym, ap, ◌∙◌, subst, append_assoc}
-use Rattle.std.specs.Prelude.{⊤}
-use Rattle.std.specs.List.{list_all}
-use Rattle.std.proofs.lemmas.Bool.{and_parts, both_ways, false≢true}
-use Rattle.std.proofs.lemmas.List.Folds.{list_all-append}
-use Rattle.std.proofs.lemmas.Slice.Eq.{bytes_eq-Decides}
-use Rattle.w2c_base.specs.declared.value.ValType.{ValType}
+use Rattle.c_sound.proofs.Common.{◌≡◌, ℕ, ◌*◌, ◌/◌, ◌%◌, ◌^◌, Bool, true, false, ◌&&◌, List, [], ◌∷◌, ◌++◌, is_some, if◌then◌else◌, nat_lt, ◌==◌, slice_get, Some, None, Option, bytes_eq, sym, refl, ap, ◌∙◌, subst, append_assoc, and_parts, both_ways, false≢true, list_all-append, bytes_eq-Decides, list_all, ⊤, by_test, if_found, named, bits, number_of, value, ValType, Value, I32, I64, expr_uses, is_known, same_type, Compares, HasType, IllTyped, IsElement, Scope, Typing, arrays, common_type, file_variables, is_among, is_number_type, is_object_type, local_variables, may_be_narrowed, name_typing, number_type, op_typing, param_variables, pointed_by, pointer_to, typed_if, typing_of, value_typing, variables, COp, CType, N32, N64, Plain, bytes_differ, Program, array_named, c_type_of, var_in, Bad, CValue, Evaluated, FuncPointer, Is, Machine, Name, NoRule, Number, Pointer, Running, Vars, found, then_evaluate, as_number, as_object, depth_name, element, evaluate, in_unit, number_in, value_of, OfType, ScopeOf, TypedMachine, VarsOf, own_variables, type_at}
 use Rattle.w2c_base.specs.declared.value.ValType.TheVariants as val
-use Rattle.w2c_base.specs.declared.value.Value.{Value}
-use Rattle.w2c_base.specs.Values.{bits, value, number_of}
-use Rattle.w2c_base.specs.declared.value.Value.TheVariants.{I32, I64}
-use Rattle.w2c_base.specs.Lookup.{if_found, named}
-use Rattle.c_tree.specs.declared.tree.CType.{CType}
 use Rattle.c_tree.specs.declared.tree.CType.TheVariants as type
-use Rattle.c_tree.specs.declared.tree.COp.{COp}
 use Rattle.c_tree.specs.declared.tree.COp.TheVariants as op
-use Rattle.c_tree.specs.declared.tree.Num.TheVariants.{N32, N64, Plain}
 use Rattle.c_tree.specs.Tree as tree
-use Rattle.c_tree.specs.Runtime.{same_type}
-use Rattle.c_tree.specs.Scope.{Scope, Typing, HasType, Compares, IsElement, IllTyped, is_among, param_variables, local_variables, file_variables, variables, arrays, is_object_type, is_number_type, may_be_narrowed, number_type, common_type, op_typing, name_typing, typed_if, value_typing, typing_of, pointed_by, pointer_to}
-use Rattle.c_tree.specs.Rules.{is_known, expr_uses}
-use Rattle.c_meaning.specs.State.{Name, CValue, Number, Pointer, FuncPointer, Vars, Machine, Running, Evaluated, Is, Bad, NoRule, then_evaluate, found}
-use Rattle.c_meaning.specs.Linking.{Program, array_named, c_type_of}
-use Rattle.c_meaning.specs.Machine.{var_in}
 use Rattle.c_meaning.specs.Operators.{operate, operate_at}
-use Rattle.c_meaning.specs.Step.{depth_name, in_unit, value_of, number_in, as_number, as_object, element, evaluate}
-use Rattle.c_meaning.proofs.Lookups.{bytes_differ}
-use Rattle.c_sound.proofs.Choices.{by_test, by_option, named_behind, named_in_front, same_some}
+use Rattle.c_sound.proofs.Choices.{by_option, named_behind, named_in_front, same_some}
 use Rattle.c_sound.proofs.SameTypes.{type_same}
-use Rattle.c_sound.specs.Typed.{OfType, VarsOf, TypedMachine, ScopeOf, own_variables, type_at}
 
 -- A rule applies, and what is found is good.
 abbrev pub Comes : {A : Type 0} → (A → Type 0) → Evaluated A → Type 0

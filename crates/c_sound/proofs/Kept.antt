@@ -1,21 +1,9 @@
 -- What the rules that a unit keeps say of each item and of each statement.
-use Rattle.std.proofs.Common.{◌≡◌, ℕ, suc, ◌+◌, ◌==◌, ◌&&◌, Bool, true, not, if◌then◌else◌, List, [], ◌∷◌, length, map, filter, flat_map, take, Option, Some, None, slice_get, refl, sym, ap, ◌∙◌, subst, arith}
-use Rattle.std.specs.Prelude.{◌||◌}
-use Rattle.std.specs.List.{AllByRecursion, list_all}
-use Rattle.std.proofs.lemmas.Bool.{and_parts}
-use Rattle.w2c_base.specs.Lookup.{numbered}
+use Rattle.c_sound.proofs.Common.{◌≡◌, ℕ, suc, ◌+◌, Bool, true, not, ◌&&◌, ◌||◌, List, [], ◌∷◌, map, length, take, if◌then◌else◌, ◌==◌, slice_get, Some, None, filter, Option, flat_map, sym, refl, ap, ◌∙◌, subst, arith, and_parts, AllByRecursion, list_all, append_none, map_none, numbered_at, by_test, numbered, BrokenAt, KeepsRules, broken_in_body, broken_in_item, broken_in_stmt, broken_of, broken_rules, cases_suit, ends_body, if_any, is_own_name, labels_of, local_names, Scope, is_among, Sound, SoundStmt, switch_suits}
 use Rattle.c_tree.specs.Tree as tree
-use Rattle.c_tree.specs.Scope.{Scope, is_among}
-use Rattle.c_tree.specs.Rules.{Place, StmtPlace, item_rules, stmt_rules, is_declared_once, names_are_free, types_are_proper, first_values_suit, is_defined_if_static, own_names_are_distinct, body_is_not_empty, labels_are_there, names_are_known, expressions_are_typed, types_agree, cases_are_distinct, last_ends_body, if_any, label_of, labels_of, labels_named, earlier_stmts, stmt_is_typed, stmt_suits, cases_suit, case_value, are_distinct_numbers, ends_body}
+use Rattle.c_tree.specs.Rules.{Place, StmtPlace, item_rules, stmt_rules, is_declared_once, names_are_free, types_are_proper, first_values_suit, is_defined_if_static, own_names_are_distinct, body_is_not_empty, labels_are_there, names_are_known, expressions_are_typed, types_agree, cases_are_distinct, last_ends_body, label_of, labels_named, earlier_stmts, stmt_is_typed, stmt_suits, case_value, are_distinct_numbers, file_name_is_free}
 use Rattle.c_tree.specs.Scope as place
-use Rattle.c_tree.specs.FirstBroken.{BrokenAt, KeepsRules, broken_of, broken_in_stmt, broken_in_body, broken_in_item, broken_rules}
-use Rattle.c_sound.proofs.Choices.{by_test}
-use Rattle.c_sound.proofs.Lists.{append_none, cons_not_none, flat_none, none_first, numbered_at}
-use Rattle.c_sound.specs.Typed.{Sound, SoundStmt, switch_suits}
-
-map_none : {A B : Type 0} (f : A → B) (xs : List A) → map f xs ≡ [] → xs ≡ []
-map_none f [] e = refl
-map_none f (x ∷ xs) e = absurd (cons_not_none (f x) (map f xs) e)
+use Rattle.c_sound.proofs.Lists.{cons_not_none, flat_none, none_first}
 
 -- where no rule is broken each holds
 each_kept : {P : Type 0} (rules : List (ℕ × (P → Bool))) (p : P) → broken_of rules p ≡ []
@@ -89,6 +77,10 @@ module _ (items : List tree.Item) (keeps : KeepsRules items) where
       (each_kept item_rules (record { unit = items; number = k; item = item })
       (map_none (broken k 0) (broken_of item_rules (record { unit = items; number = k; item = item }))
       (append_none (parts_of k item) (broken_in_body items k item) (none_broken k item at)).0))
+
+  pub free_names : (k : ℕ) (item : tree.Item) → slice_get items k ≡ Some item
+      → (file_name_is_free item ≡ true) × (list_all is_own_name (local_names item) ≡ true)
+  free_names k item at = and_parts (file_name_is_free item) (list_all is_own_name (local_names item)) (item_kept k item at).free
 
   abbrev scope_at : ℕ → tree.Func → tree.Body → Scope
   scope_at k f b = record { declared = take (k + 1) items; func = f; body = b }

@@ -1,3 +1,4 @@
+mod Common
 pub mod Choices
 pub mod SameTypes
 pub mod Lists

@@ -1,11 +1,6 @@
 -- What stands in lists, by its place: in those that are numbered, filtered and joined.
-use Rattle.std.proofs.Common.{◌≡◌, ℕ, zero, suc, ◌+◌, ◌<◌, Bool, true, false, List, [], ◌∷◌, ◌++◌, length, zip, filter, flat_map, filter_map, take, bytes_eq, Option, Some, None, slice_get, refl, sym, ap, ◌∙◌, subst, arith}
-use Rattle.std.specs.List.{AllByRecursion, range_with_len, cons_option}
-use Rattle.std.proofs.lemmas.Bool.{false≢true}
-use Rattle.std.proofs.lemmas.Slice.Eq.{bytes_eq-Decides}
-use Rattle.w2c_base.specs.Lookup.{named, numbered}
-use Rattle.c_meaning.specs.State.{Name}
-use Rattle.c_sound.proofs.Choices.{by_test, by_option}
+use Rattle.c_sound.proofs.Common.{◌≡◌, ℕ, zero, suc, ◌+◌, ◌<◌, Bool, true, false, List, [], ◌∷◌, length, take, slice_get, Some, None, filter, Option, zip, flat_map, filter_map, bytes_eq, sym, refl, ap, ◌∙◌, subst, arith, false≢true, bytes_eq-Decides, cons_option, range_with_len, append_none, by_test, named, numbered, Name}
+use Rattle.c_sound.proofs.Choices.{by_option}
 
 abbrev is_nothing : {A : Type 0} → List A → Bool
 is_nothing [] = true
@@ -13,10 +8,6 @@ is_nothing (x ∷ xs) = false
 
 pub cons_not_none : {A : Type 0} (x : A) (xs : List A) → x ∷ xs ≡ [] → ⊥
 cons_not_none x xs e = false≢true (ap is_nothing e)
-
-pub append_none : {A : Type 0} (xs ys : List A) → xs ++ ys ≡ [] → (xs ≡ []) × (ys ≡ [])
-append_none [] ys e = (refl, e)
-append_none (x ∷ xs) ys e = absurd (cons_not_none x (xs ++ ys) e)
 
 pub flat_none : {A B : Type 0} (f : A → List B) (xs : List A) → flat_map f xs ≡ [] → (i : ℕ) (x : A) → slice_get xs i ≡ Some x → f x ≡ []
 flat_none f [] e i x at = absurd cc
@@ -29,17 +20,6 @@ none_first (x ∷ xs) e = absurd cc
 
 -- ---- with numbers
 
-numbers_up : {A : Type 0} (a : ℕ) (xs : List A) (i : ℕ) (x : A) → slice_get xs i ≡ Some x
-    → slice_get (zip (range_with_len a (length xs)) xs) i ≡ Some (a + i, x)
-numbers_up a [] i x at = absurd cc
-numbers_up a (y ∷ xs) zero x at =
-    let e : a ≡ a + 0 = omega arith in
-    let same : y ≡ x = cc in
-    ap (λ z. Some (a, z)) same ∙ ap (λ n. Some (n, x)) e
-numbers_up a (y ∷ xs) (suc i) x at =
-    let e : a + 1 + i ≡ a + suc i = omega arith in
-    numbers_up (a + 1) xs i x at ∙ ap (λ n. Some (n, x)) e
-
 numbers_down : {A : Type 0} (a : ℕ) (xs : List A) (i : ℕ) (entry : ℕ × A)
     → slice_get (zip (range_with_len a (length xs)) xs) i ≡ Some entry → (x : A) × (slice_get xs i ≡ Some x) × (entry ≡ (a + i, x))
 numbers_down a [] i entry at = absurd cc
@@ -51,9 +31,6 @@ numbers_down a (y ∷ xs) (suc i) entry at =
     let e : a + 1 + i ≡ a + suc i = omega arith in
     let behind = numbers_down (a + 1) xs i entry at in
     (behind.0, behind.1, behind.2 ∙ ap (λ n. (n, behind.0)) e)
-
-pub numbered_at : {A : Type 0} (xs : List A) (i : ℕ) (x : A) → slice_get xs i ≡ Some x → slice_get (numbered xs) i ≡ Some (i, x)
-numbered_at xs i x at = let e : 0 + i ≡ i = omega arith in numbers_up 0 xs i x at ∙ ap (λ n. Some (n, x)) e
 
 pub at_numbered : {A : Type 0} (xs : List A) (i : ℕ) (entry : ℕ × A) → slice_get (numbered xs) i ≡ Some entry
     → (x : A) × (slice_get xs i ≡ Some x) × (entry ≡ (i, x))
@@ -157,14 +134,3 @@ named_front {A} {B} g (suc n) (x ∷ xs) name y e = by_option (g x)
     ∙ by_test (bytes_eq z.0 name)
     (λ is. rw is (rw is at f))
     (λ is. rw is (named_front g n xs name y (rw is at f))))
-
--- ---- all
-
-pub all_from : {A : Type 0} (P : A → Type 0) (xs : List A) → ((i : ℕ) (x : A) → slice_get xs i ≡ Some x → P x) → AllByRecursion P xs
-all_from P [] h = tt
-all_from P (x ∷ xs) h = (h 0 x refl, all_from P xs (λ i y at. h (suc i) y at))
-
-pub all_at : {A : Type 0} (P : A → Type 0) (xs : List A) → AllByRecursion P xs → (i : ℕ) (x : A) → slice_get xs i ≡ Some x → P x
-all_at P [] h i x at = absurd cc
-all_at P (y ∷ xs) h zero x at = subst P (let f : y ≡ x = cc in f) h.0
-all_at P (y ∷ xs) h (suc i) x at = all_at P xs h.1 i x at

@@ -1,28 +1,12 @@
 -- A primitive that takes arguments of its parameters' types has an effect, and gives a value of its type.
-use Rattle.std.proofs.Common.{◌≡◌, ℕ, zero, suc, ◌==◌, ◌||◌, ◌+◌, ◌*◌, ◌/◌, nat_le, nat_lt, min, Bool, true, false, if◌then◌else◌, List, [], ◌∷◌, ◌++◌, length, replicate, find, bytes_eq, Option, Some, None, option_map, slice_get, slice_set, is_some, refl, sym, ap, ◌∙◌, subst}
-use Rattle.std.specs.Prelude.{⊤}
-use Rattle.std.proofs.lemmas.Bool.{false≢true}
-use Rattle.w2c_base.specs.declared.value.ValType.{ValType}
+use Rattle.c_sound.proofs.Common.{◌≡◌, ℕ, zero, suc, ◌+◌, ◌*◌, ◌/◌, min, Bool, true, false, ◌||◌, List, [], ◌∷◌, ◌++◌, length, replicate, is_some, if◌then◌else◌, nat_lt, nat_le, ◌==◌, slice_get, slice_set, Some, None, Option, option_map, find, bytes_eq, sym, refl, ap, ◌∙◌, subst, false≢true, ⊤, by_test, named, code_of, value, TrapKind, ValType, I32, I64, proper_types, pointer_to, CType, Program, c_type_of, func_type, memory_in, table_in, with_memory, with_table, CValue, Element, FuncAddress, FuncPointer, Machine, Memory, Name, Number, ObjectAddress, Pointer, Table, Gives, HoldFuncs, HoldsFunc, OfType, OfTypes, TypedMachine}
 use Rattle.w2c_base.specs.declared.value.ValType.TheVariants as val
-use Rattle.w2c_base.specs.declared.value.Value.TheVariants.{I32, I64}
-use Rattle.w2c_base.specs.declared.trap.TrapKind.{TrapKind}
-use Rattle.w2c_base.specs.Trap.{code_of}
-use Rattle.w2c_base.specs.Values.{value}
 use Rattle.w2c_base.specs.LittleEndian.{little_endian, low_bytes, bytes_at, with_bytes}
-use Rattle.w2c_base.specs.Lookup.{named}
-use Rattle.c_tree.specs.declared.tree.CType.{CType}
 use Rattle.c_tree.specs.declared.tree.CType.TheVariants as type
 use Rattle.c_tree.specs.Tree as tree
 use Rattle.c_tree.specs.Runtime as header
-use Rattle.c_tree.specs.Scope.{pointer_to}
-use Rattle.c_tree.specs.Rules.{proper_types}
-use Rattle.c_meaning.specs.State.{Name, FuncAddress, ObjectAddress, CValue, Number, Pointer, FuncPointer, Memory, Element, Table, Machine}
-use Rattle.c_meaning.specs.Linking.{Program, c_type_of, func_type}
-use Rattle.c_meaning.specs.Machine.{memory_in, with_memory, table_in, with_table}
 use Rattle.c_meaning.specs.Primitives as prim
-use Rattle.c_sound.proofs.Choices.{by_test}
 use Rattle.c_sound.proofs.Changes.{memory_keeps, table_keeps}
-use Rattle.c_sound.specs.Typed.{OfType, OfTypes, Gives, HoldsFunc, HoldFuncs, TypedMachine}
 
 -- The effect is one, and what it gives is of the type.
 abbrev pub TypedEffect : Program → CType → prim.Effect → Type 0

@@ -1,29 +1,13 @@
 -- A run of a typed program is never stuck.
-use Rattle.std.proofs.Common.{◌≡◌, ◌≢◌, ℕ, zero, suc, ◌&&◌, Bool, true, false, List, [], ◌∷◌, ◌++◌, length, map, zip, is_some, Option, Some, None, option_map, refl, sym, ap, ◌∙◌, subst}
-use Rattle.std.specs.List.{AllByRecursion, list_any, list_all, range_with_len, position_from}
-use Rattle.std.proofs.lemmas.Bool.{and_parts, false≢true}
-use Rattle.w2c_base.specs.declared.value.Value.{Value}
-use Rattle.w2c_base.specs.declared.value.Value.TheVariants.{I32, I64}
-use Rattle.w2c_base.specs.Values.{is_number, type_of, types_of}
-use Rattle.w2c_base.specs.Lookup.{if_found, numbered}
-use Rattle.w2c_base.specs.Run.{Reply, Phase, Init, Call, call_ended}
-use Rattle.c_tree.specs.declared.tree.CType.{CType}
+use Rattle.c_sound.proofs.Common.{◌≡◌, ℕ, zero, suc, Bool, true, false, ◌&&◌, ◌≢◌, List, [], ◌∷◌, map, length, is_some, Some, None, Option, option_map, zip, sym, refl, ap, ◌∙◌, subst, and_parts, false≢true, AllByRecursion, list_all, list_any, position_from, range_with_len, all_append, if_found, numbered, Call, Init, Phase, Reply, call_ended, is_number, types_of, Value, I32, I64, is_void, proper_types, same_type, same_types, CType, Definition, Program, SymbolCall, c_params_of, c_type_of, called_func, defined_for_all, definition_at, fits, func_type, init_functions, fresh, of_type, CRun, Ended, Entry, Going, OutOfSteps, Outcome, Over, Pending, Progress, Stopped, after, begin_entry, begun, c_start, came_back, entries_of, go_on, over, run_of, told_end, Asks, CValue, FuncAddress, FuncPointer, Machine, Number, ObjectAddress, Pointer, State, Stop, Stuck, Trapped, Undefined, UnitFunc, Vars, Back, Next, Step, Stops, begin, c_step, call, first_vars, next, AllFit, NeverStuck, Begins, Gives, IsVoid, OfType, OfTypes, TypedMachine, TypedPhase, TypedProgram, TypedRun, TypedStep, may_end}
+use Rattle.w2c_base.specs.Values.{type_of}
 use Rattle.c_tree.specs.declared.tree.CType.TheVariants as type
 use Rattle.c_tree.specs.Tree as tree
-use Rattle.c_tree.specs.Runtime.{same_type, same_types}
-use Rattle.c_tree.specs.Rules.{is_void, proper_types}
-use Rattle.c_meaning.specs.State.{FuncAddress, UnitFunc, ObjectAddress, CValue, Number, Pointer, FuncPointer, Vars, Machine, State, Stop, Trapped, Undefined, Asks, Stuck}
-use Rattle.c_meaning.specs.Linking.{Program, Definition, SymbolCall, fits, called_func, func_type, definition_at, c_type_of, c_params_of, init_functions, defined_for_all}
-use Rattle.c_meaning.specs.Machine.{of_type, fresh}
-use Rattle.c_meaning.specs.Step.{Step, Next, Back, Stops, begin, first_vars, next, call, c_step}
-use Rattle.c_meaning.specs.Run.{CRun, Outcome, Ended, Stopped, OutOfSteps, Entry, Pending, Progress, Going, Over, over, begun, begin_entry, told_end, came_back, go_on, after, run_of, entries_of, c_start}
 use Rattle.c_sound.proofs.Choices.{by_option}
 use Rattle.c_sound.proofs.SameTypes.{type_same, types_same}
 use Rattle.c_sound.proofs.Changes.{trail_keeps, units_keep}
 use Rattle.c_sound.proofs.Calls.{call_typed}
 use Rattle.c_sound.proofs.Statements.{step_typed}
-use Rattle.c_sound.specs.NeverStuck.{AllFit, NeverStuck}
-use Rattle.c_sound.specs.Typed.{Begins, OfType, OfTypes, Gives, IsVoid, TypedMachine, TypedPhase, TypedProgram, TypedRun, TypedStep, may_end}
 
 pub record GoesWell (p : Program) (pending : Pending) (s : State) : Type 0 where
   pub now : TypedPhase p pending.phase s
@@ -79,10 +63,6 @@ no_function type.U64 a e f = false≢true f
 no_function _ a e f = false≢true e
 
 -- ---- lists
-
-pub all_join : {A : Type 0} (P : A → Type 0) (xs ys : List A) → AllByRecursion P xs → AllByRecursion P ys → AllByRecursion P (xs ++ ys)
-all_join P [] ys h k = k
-all_join P (x ∷ xs) ys h k = (h.0, all_join P xs ys h.1 k)
 
 pub all_numbered : {A B : Type 0} (P : A → Type 0) (Q : B → Type 0) (f : ℕ × A → B) (ks : List ℕ) (xs : List A)
     → ((k : ℕ) (x : A) → P x → Q (f (k, x))) → AllByRecursion P xs → AllByRecursion Q (map f (zip ks xs))
@@ -224,7 +204,7 @@ module _ (p : Program) (program : TypedProgram p) where
       }))
 
   pub entries_begin : (calls : List SymbolCall) → AllFit p calls → AllByRecursion (Begins p) (entries_of p calls)
-  entries_begin calls fit = all_join (Begins p)
+  entries_begin calls fit = all_append (Begins p)
       (map (λ (f : ℕ × FuncAddress). record { phase = Init f.0; func = Some f.1; args = [] }) (numbered (init_functions p)))
       (map (λ (c : ℕ × SymbolCall). record { phase = Call c.0; func = called_func p c.1; args = c.1.args }) (numbered calls))
       (all_numbered (IsVoid p) (Begins p) (λ (f : ℕ × FuncAddress). record { phase = Init f.0; func = Some f.1; args = [] })

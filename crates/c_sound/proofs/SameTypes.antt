@@ -1,10 +1,7 @@
 -- Types that are equal by the test for it are equal.
-use Rattle.std.proofs.Common.{◌≡◌, true, List, [], ◌∷◌, refl, ap, ◌∙◌}
-use Rattle.std.proofs.lemmas.Bool.{and_parts, false≢true}
-use Rattle.c_tree.specs.declared.tree.CType.{CType}
+use Rattle.c_sound.proofs.Common.{◌≡◌, true, List, [], ◌∷◌, refl, ap, ◌∙◌, and_parts, false≢true, same_func_type, same_type, same_types, CType}
 use Rattle.c_tree.specs.declared.tree.CType.TheVariants as type
 use Rattle.c_tree.specs.Tree as tree
-use Rattle.c_tree.specs.Runtime.{same_type, same_types, same_func_type}
 
 pub type_same : (t u : CType) → same_type t u ≡ true → t ≡ u
 type_same type.Void type.Void e = refl

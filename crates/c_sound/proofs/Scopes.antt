@@ -1,26 +1,13 @@
 -- Names of a unit that keeps the rules, in a program that links, stand for what the unit declares.
-use Rattle.std.proofs.Common.{◌≡◌, ℕ, zero, suc, ◌+◌, Bool, true, false, not, if◌then◌else◌, List, [], ◌∷◌, ◌++◌, map, filter_map, flat_map, take, bytes_eq, is_some, Option, Some, None, option_map, slice_get, refl, sym, ap, ◌∙◌, subst, inl, inr}
-use Rattle.std.specs.List.{AllByRecursion, list_all, cons_option}
-use Rattle.std.specs.Option.{option_or}
-use Rattle.std.proofs.lemmas.Bool.{and_parts, false≢true, or_cases, both_ways, not-true}
-use Rattle.std.proofs.lemmas.Slice.Eq.{bytes_eq-Decides}
-use Rattle.w2c_base.specs.Lookup.{if_found, named, numbered}
-use Rattle.c_tree.specs.declared.tree.CType.{CType}
+use Rattle.c_sound.proofs.Common.{◌≡◌, ℕ, zero, suc, ◌+◌, Bool, true, false, not, List, [], ◌∷◌, ◌++◌, map, take, is_some, if◌then◌else◌, slice_get, Some, None, Option, option_map, flat_map, filter_map, bytes_eq, sym, refl, ap, ◌∙◌, subst, inl, inr, and_parts, both_ways, false≢true, not-true, or_cases, bytes_eq-Decides, AllByRecursion, cons_option, list_all, option_or, append_none, numbered_at, by_test, if_found, named, numbered, KeepsRules, body_variables, is_own_name, is_runtime_name, is_symbol, same_func_type, array_of, func_type_of, function_of, is_among, local_variables, param_variables, variable_of, CType, Definition, LinkRefusal, NotDefined, Program, TypeDiffers, array_bytes, defined, external_func, external_functions, func_named, func_type, link_refusal, typed, CValue, FuncAddress, Machine, Name, UnitFunc, depth_name, ScopeOf}
 use Rattle.c_tree.specs.Tree as tree
-use Rattle.c_tree.specs.Runtime.{same_func_type}
-use Rattle.c_tree.specs.Scope.{is_among, variable_of, array_of, function_of, func_type_of, param_variables, local_variables}
-use Rattle.c_tree.specs.Rules.{is_runtime_name, is_symbol, is_own_name, file_name_is_free, body_variables, local_names}
-use Rattle.c_tree.specs.FirstBroken.{KeepsRules}
-use Rattle.c_meaning.specs.State.{Name, FuncAddress, UnitFunc, CValue, Machine}
-use Rattle.c_meaning.specs.Linking.{Program, Definition, LinkRefusal, array_bytes, defined, external_func, external_functions, func_named, func_type, link_refusal, twice, typed, unresolved, NotDefined, TypeDiffers}
+use Rattle.c_meaning.proofs.Links.{all_twice, all_unresolved, program_unresolved, refusal_stands}
 use Rattle.c_meaning.specs.Primitives as prim
-use Rattle.c_meaning.specs.Step.{depth_name}
-use Rattle.c_sound.proofs.Choices.{by_test, by_option, not_both}
+use Rattle.c_sound.proofs.Choices.{by_option, not_both}
 use Rattle.c_sound.proofs.SameTypes.{func_types_same}
-use Rattle.c_sound.proofs.Lists.{append_none, cons_not_none, flat_none, none_first, numbered_at, kept_at, named_from, named_front, take_keeps}
-use Rattle.c_sound.proofs.Kept.{item_kept}
+use Rattle.c_sound.proofs.Lists.{cons_not_none, flat_none, none_first, kept_at, named_from, named_front, take_keeps}
+use Rattle.c_sound.proofs.Kept.{free_names}
 use Rattle.c_sound.proofs.Defined.{defined_names, names_type, is_listed, names_typed, typed_names, static_defined}
-use Rattle.c_sound.specs.Typed.{ScopeOf}
 
 -- ---- names of primitives
 
@@ -138,13 +125,7 @@ external_of item = elim item [
 ]
 
 module _ (p : Program) (links : link_refusal p ≡ None) where
-  abbrev all_twice : List LinkRefusal
-  all_twice = flat_map (λ (u : ℕ × List tree.Item). flat_map (twice p u.0) (external_functions u.1)) (numbered p.units)
-
-  abbrev all_unresolved : List LinkRefusal
-  all_unresolved = flat_map (λ (u : ℕ × List tree.Item). flat_map (unresolved p u.0) (external_functions u.1)) (numbered p.units)
-
-  resolves : (u : ℕ) (g : tree.Func) → unresolved p u g ≡ []
+  resolves : (u : ℕ) (g : tree.Func) → program_unresolved p u g ≡ []
       → (f : FuncAddress) × (external_func p g.name ≡ Some f) × (func_type p f ≡ Some (func_type_of g))
   resolves u g e = by_option (external_func p g.name)
       (λ none. absurd (cons_not_none (NotDefined u g.name) [] (sym (ap (λ o. refusals (if_found o (func_type p))) none) ∙ e)))
@@ -167,25 +148,23 @@ module _ (p : Program) (links : link_refusal p ≡ None) where
       → slice_get items i ≡ Some (tree.Function g) → g.is_static ≡ false
       → (f : FuncAddress) × (external_func p g.name ≡ Some f) × (func_type p f ≡ Some (func_type_of g))
   linked u items i g at_u at_i shown =
-      let none : all_unresolved ≡ [] = (append_none all_twice all_unresolved (none_first (all_twice ++ all_unresolved) links)).1 in
-      let of_unit : flat_map (unresolved p u) (external_functions items) ≡ [] =
-      flat_none (λ (u : ℕ × List tree.Item). flat_map (unresolved p u.0) (external_functions u.1)) (numbered p.units) none u (u, items)
+      let none : all_unresolved p ≡ [] =
+      (append_none (all_twice p) (all_unresolved p) (none_first (all_twice p ++ all_unresolved p) (sym (refusal_stands p) ∙ links))).1 in
+      let of_unit : flat_map (program_unresolved p u) (external_functions items) ≡ [] =
+      flat_none (λ (u : ℕ × List tree.Item). flat_map (program_unresolved p u.0) (external_functions u.1)) (numbered p.units) none u
+      (u, items)
       (numbered_at p.units u items at_u) in
       let listed = kept_at external_of items i (tree.Function g) g at_i (ap (λ (b : Bool). if b then None else Some g) shown) in
-      resolves u g (flat_none (unresolved p u) (external_functions items) of_unit listed.0 g listed.1)
+      resolves u g (flat_none (program_unresolved p u) (external_functions items) of_unit listed.0 g listed.1)
 
   module _ (u : ℕ) (items : List tree.Item) (at_u : slice_get p.units u ≡ Some items) (keeps : KeepsRules items) where
-    free : (k : ℕ) (item : tree.Item) → slice_get items k ≡ Some item
-        → (file_name_is_free item ≡ true) × (list_all is_own_name (local_names item) ≡ true)
-    free k item at = and_parts (file_name_is_free item) (list_all is_own_name (local_names item)) (item_kept items keeps k item at).free
-
     -- a function of the unit is none of the runtime
     no_primitive : (k : ℕ) (g : tree.Func) → slice_get items k ≡ Some (tree.Function g) → prim.primitive g.name ≡ None
     no_primitive k g at = by_option (prim.primitive g.name)
         (λ none. none)
         (λ does there.
         let kinds = reserved_in prim.primitives g.name does reserved there in
-        let named_so = (free k (tree.Function g) at).0 in
+        let named_so = (free_names items keeps k (tree.Function g) at).0 in
         by_test g.is_static
         (λ static.
         let own : is_own_name g.name ≡ true =
@@ -247,7 +226,8 @@ module _ (p : Program) (links : link_refusal p ≡ None) where
     var_of_item name ty k (tree.Function g) at e = absurd cc
     var_of_item name ty k (tree.Var t n number) at e =
         let same : (n, t) ≡ (name, ty) = cc in
-        subst (λ (x : Name). is_own_name x ≡ true) (ap (λ (x : Name × CType). x.0) same) (free k (tree.Var t n number) at).0
+        subst (λ (x : Name). is_own_name x ≡ true) (ap (λ (x : Name × CType). x.0) same)
+        (free_names items keeps k (tree.Var t n number) at).0
 
     -- the scope of a function of the unit
     pub scope_is : (k : ℕ) (f : tree.Func) (b : tree.Body) → slice_get items k ≡ Some (tree.Function f) → f.body ≡ Some b
@@ -272,7 +252,7 @@ module _ (p : Program) (links : link_refusal p ≡ None) where
       own = own_none (param_variables f ++ local_variables b)
           (subst (λ (vars : List (Name × CType)). list_all is_own_name (map (λ (v : Name × CType). v.0) vars) ≡ true)
           (body_vars f.is_static f.result f.name f.params f.body ∙ ap (λ o. param_variables f ++ locals_in o) is)
-          (free k (tree.Function f) at).1);
+          (free_names items keeps k (tree.Function f) at).1);
       file = by_option (named depth_name (filter_map variable_of (take (k + 1) items)))
           (λ none. none)
           (λ t there.

@@ -1,24 +1,10 @@
 -- The objects of units that keep the rules begin with values of their types.
-use Rattle.std.proofs.Common.{◌≡◌, ℕ, Bool, true, false, if◌then◌else◌, List, [], ◌∷◌, map, filter_map, bytes_eq, Option, Some, None, option_map, slice_get, refl, sym, ap, ◌∙◌, subst}
-use Rattle.std.specs.Prelude.{⊤}
-use Rattle.std.specs.List.{AllByRecursion, cons_option}
-use Rattle.std.proofs.lemmas.Bool.{false≢true}
+use Rattle.c_sound.proofs.Common.{◌≡◌, ℕ, Bool, true, false, List, [], ◌∷◌, map, if◌then◌else◌, slice_get, Some, None, Option, option_map, filter_map, bytes_eq, sym, refl, ap, ◌∙◌, subst, false≢true, AllByRecursion, cons_option, ⊤, by_test, if_found, named, Reply, I32, I64, if_any, is_void, number_suits, is_object_type, variable_of, CType, Num, Program, file_memory, file_table, file_var, fresh, initial_of, no_memory, no_table, objects_of, zero_of, CValue, FuncPointer, Memory, Name, Number, ObjectAddress, Objects, Pointer, Table, OfType, TypedMachine, type_at}
 use Rattle.std.proofs.lemmas.Option.{slice_get-map}
-use Rattle.w2c_base.specs.declared.value.Value.TheVariants.{I32, I64}
-use Rattle.w2c_base.specs.Lookup.{if_found, named}
-use Rattle.w2c_base.specs.Run.{Reply}
-use Rattle.c_tree.specs.declared.tree.CType.{CType}
 use Rattle.c_tree.specs.declared.tree.CType.TheVariants as type
-use Rattle.c_tree.specs.declared.tree.Num.{Num}
 use Rattle.c_tree.specs.Tree as tree
-use Rattle.c_tree.specs.Scope.{variable_of, is_object_type}
-use Rattle.c_tree.specs.Rules.{if_any, number_suits, is_void}
-use Rattle.c_meaning.specs.State.{Name, ObjectAddress, CValue, Number, Pointer, FuncPointer, Memory, Table, Objects}
-use Rattle.c_meaning.specs.Linking.{Program}
-use Rattle.c_meaning.specs.Machine.{zero_of, initial_of, file_var, file_memory, file_table, no_memory, no_table, objects_of, fresh}
-use Rattle.c_sound.proofs.Choices.{by_test, by_option}
+use Rattle.c_sound.proofs.Choices.{by_option}
 use Rattle.c_sound.proofs.Calls.{first_value}
-use Rattle.c_sound.specs.Typed.{OfType, TypedMachine, type_at}
 
 -- a variable that is not void, with a first value of its type if it has one
 abbrev pub StartsWell : tree.Item → Type 0

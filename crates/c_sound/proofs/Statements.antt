@@ -1,30 +1,10 @@
 -- A statement of a typed state is never stuck, and the next state is typed.
-use Rattle.std.proofs.Common.{◌≡◌, ◌≢◌, inl, inr, ◌==◌, ◌&&◌, Bool, true, false, if◌then◌else◌, List, [], ◌∷◌, ◌++◌, map, bytes_eq, codes, find, is_some, Option, Some, None, refl, sym, ap, ◌∙◌, subst}
-use Rattle.std.specs.Prelude.{not, flat_map}
-use Rattle.std.specs.List.{list_all}
-use Rattle.std.proofs.lemmas.Bool.{and_parts, false≢true, not-true, or_cases, both_ways}
-use Rattle.std.proofs.lemmas.List.Folds.{list_all-append}
-use Rattle.std.proofs.lemmas.Slice.Eq.{bytes_eq-Decides}
-use Rattle.w2c_base.specs.declared.value.Value.{Value}
-use Rattle.w2c_base.specs.declared.value.Value.TheVariants.{I32}
-use Rattle.w2c_base.specs.declared.trap.TrapKind.{TrapKind}
-use Rattle.w2c_base.specs.Trap.{code_of}
-use Rattle.w2c_base.specs.Values.{number_of}
-use Rattle.w2c_base.specs.Lookup.{named}
-use Rattle.c_tree.specs.declared.tree.CType.{CType}
+use Rattle.c_sound.proofs.Common.{◌≡◌, Bool, true, false, not, ◌&&◌, ◌≢◌, List, [], ◌∷◌, ◌++◌, map, is_some, if◌then◌else◌, ◌==◌, Some, None, codes, Option, find, flat_map, bytes_eq, sym, refl, ap, ◌∙◌, subst, inl, inr, and_parts, both_ways, false≢true, not-true, or_cases, list_all-append, bytes_eq-Decides, list_all, by_test, named, code_of, number_of, TrapKind, Value, I32, arg_has_type, arg_suits, arg_uses, args_suit, call_suits, callee_type, callee_uses, cases_suit, ends_body, expr_uses, has_same_type, has_type, if_any, is_known, is_void, labels_of, may_be_assigned, may_be_called, number_suits, points_to_number, proper_types, target_suits, target_uses, same_type, Compares, HasType, IllTyped, IsElement, Scope, Typing, common_type, file_functions, functions, is_among, is_comparison, is_number_type, is_object_type, may_be_narrowed, pointed_by, type_of, typing_of, value_type, variables, COp, CType, Program, var_in, with_var, Bad, CValue, Evaluated, Frame, Is, Machine, Name, NoRule, Number, Place, Running, State, Stuck, found, then_evaluate, Step, Stops, act, after_label, as_object, assign, at_rest, c_step, call_callee, call_through, equal_number, evaluate, evaluate_arg, evaluate_args, jump, label_of, next, place_of, put_in, returned, take_effect, value_of, with_value, OfType, OfTypes, Sound, SoundStmt, Takes, TypedBelow, TypedMachine, TypedProgram, TypedRunning, TypedState, TypedStep, type_at}
 use Rattle.c_tree.specs.declared.tree.CType.TheVariants as type
-use Rattle.c_tree.specs.declared.tree.COp.{COp}
 use Rattle.c_tree.specs.Tree as tree
 use Rattle.c_tree.specs.Runtime as header
-use Rattle.c_tree.specs.Runtime.{same_type}
-use Rattle.c_tree.specs.Scope.{Scope, Typing, HasType, Compares, IsElement, IllTyped, may_be_narrowed, value_type, file_functions, is_among, variables, functions, is_object_type, is_number_type, is_comparison, pointed_by, common_type, typing_of, type_of}
-use Rattle.c_tree.specs.Rules.{is_known, is_void, has_type, has_same_type, if_any, proper_types, labels_of, ends_body, expr_uses, arg_uses, callee_uses, target_uses, arg_has_type, arg_suits, args_suit, may_be_assigned, points_to_number, may_be_called, callee_type, call_suits, target_suits, cases_suit, number_suits}
-use Rattle.c_meaning.specs.State.{Name, CValue, Number, Machine, Running, Frame, State, Place, Stuck, Evaluated, Is, Bad, NoRule, then_evaluate, found}
-use Rattle.c_meaning.specs.Linking.{Program}
-use Rattle.c_meaning.specs.Machine.{with_var, var_in}
 use Rattle.c_meaning.specs.Primitives as prim
-use Rattle.c_meaning.specs.Step.{take_effect, Step, Stops, value_of, as_object, evaluate, evaluate_arg, evaluate_args, place_of, with_value, at_rest, next, put_in, assign, after_label, jump, returned, call_callee, call_through, equal_number, label_of, act, c_step}
-use Rattle.c_sound.proofs.Choices.{by_test, by_option, named_behind, same_some}
+use Rattle.c_sound.proofs.Choices.{by_option, named_behind, same_some}
 use Rattle.c_sound.proofs.Lists.{cons_not_none}
 use Rattle.c_sound.proofs.SameTypes.{type_same}
 use Rattle.c_sound.proofs.Evaluates.{Comes, IsSuch, value_is, evaluates, pointed_number, plain_number, object_of}
@@ -33,7 +13,6 @@ use Rattle.c_sound.proofs.Changes.{one_type_of, var_keeps}
 use Rattle.c_sound.proofs.Primitives.{TypedEffect, primitive_typed}
 use Rattle.c_sound.proofs.Assigns.{assign_typed, returned_typed}
 use Rattle.c_sound.proofs.Calls.{named_call_typed, through_typed}
-use Rattle.c_sound.specs.Typed.{OfType, OfTypes, TypedMachine, TypedProgram, Sound, SoundStmt, TypedRunning, TypedBelow, TypedState, TypedStep, Takes, type_at}
 
 -- ---- labels
 

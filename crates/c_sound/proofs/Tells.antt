@@ -1,11 +1,6 @@
 -- The events of a run that goes on begin with those so far: a step tells nothing, or one ask of a host, and the end of a
 -- listed call tells one event more.
-use Rattle.std.proofs.Common.{◌≡◌, ℕ, List, [], ◌∷◌, ◌++◌, append_assoc, refl, sym, ap, ◌∙◌, subst}
-use Rattle.std.proofs.lemmas.List.{append-nil}
-use Rattle.w2c_base.specs.Run.{Asked, CallEnded, Event}
-use Rattle.c_meaning.specs.State.{Objects}
-use Rattle.c_meaning.specs.Linking.{Program}
-use Rattle.c_meaning.specs.Run.{Progress, Going, Over, after, run_of}
+use Rattle.c_sound.proofs.Common.{◌≡◌, ℕ, List, [], ◌∷◌, ◌++◌, sym, refl, ap, ◌∙◌, subst, append_assoc, append-nil, Asked, CallEnded, Event, Program, Going, Over, Progress, after, run_of, Objects}
 use Rattle.c_meaning.proofs.StepsKeep.{trail_kept, after_keeps}
 use Rattle.c_sound.specs.Events.{events_of}
 

@@ -1,8 +1,5 @@
 -- What is given back, and the begin of a function of a unit, leave the trail as it is.
-use Rattle.std.proofs.Common.{◌≡◌, ℕ, List, Option, refl}
-use Rattle.w2c_base.specs.Run.{Trail}
-use Rattle.c_meaning.specs.State.{CValue, Machine, Frame}
-use Rattle.c_meaning.specs.Linking.{Definition}
+use Rattle.c_sound.proofs.Common.{◌≡◌, ℕ, List, Option, refl, Trail, Definition, CValue, Frame, Machine}
 use Rattle.c_meaning.specs.Step as step
 use Rattle.c_meaning.proofs.StepsKeep as kept
 pub use Rattle.c_meaning.proofs.StepsKeep.{there_or_not}

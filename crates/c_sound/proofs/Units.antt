@@ -1,29 +1,14 @@
 -- Linked units that keep the rules are a typed program.
-use Rattle.std.proofs.Common.{◌≡◌, ◌≢◌, ℕ, suc, ◌+◌, ◌&&◌, nat_le, true, not, List, [], ◌∷◌, length, map, filter, flat_map, take, is_some, Option, Some, None, option_map, slice_get, refl, sym, ap, ◌∙◌, subst}
-use Rattle.std.specs.Prelude.{◌||◌}
-use Rattle.std.specs.List.{AllByRecursion, list_all}
-use Rattle.std.proofs.lemmas.Bool.{and_parts, false≢true, not-true}
-use Rattle.w2c_base.specs.Lookup.{if_found, numbered}
-use Rattle.c_tree.specs.declared.tree.CType.{CType}
+use Rattle.c_sound.proofs.Common.{◌≡◌, ℕ, suc, ◌+◌, true, not, ◌&&◌, ◌||◌, ◌≢◌, List, [], ◌∷◌, map, length, take, is_some, nat_le, slice_get, Some, None, filter, Option, option_map, flat_map, sym, refl, ap, ◌∙◌, subst, and_parts, false≢true, not-true, AllByRecursion, list_all, all_append, all_at, all_from, by_test, if_found, numbered, KeepsRules, are_distinct, hides_none, if_any, is_result_type, is_value_type, is_void, local_names, locals_have_values, locals_suit, params_are_named, proper_params, proper_types, same_func_type, func_type_of, CType, Definition, Program, defined, definition_at, definitions, func_type, init_functions, is_external, is_init, is_init_symbol, link_refusal, typed, Name, UnitFunc, param_types, KeepRules, Callable, IsVoid, TypedProgram}
 use Rattle.c_tree.specs.declared.tree.CType.TheVariants as type
 use Rattle.c_tree.specs.Tree as tree
-use Rattle.c_tree.specs.Runtime.{same_func_type}
-use Rattle.c_tree.specs.Scope.{func_type_of}
-use Rattle.c_tree.specs.Rules.{if_any, is_value_type, is_result_type, is_void, proper_params, proper_types, locals_have_values, locals_suit, local_names, params_are_named, are_distinct, hides_none}
-use Rattle.c_tree.specs.FirstBroken.{KeepsRules}
-use Rattle.c_meaning.specs.State.{Name, UnitFunc}
-use Rattle.c_meaning.specs.Linking.{Program, Definition, defined, definitions, definition_at, func_type, init_functions, is_external, is_init, is_init_symbol, link_refusal, typed}
-use Rattle.c_meaning.specs.Step.{param_types}
-use Rattle.c_sound.proofs.Choices.{by_test, by_option}
+use Rattle.c_sound.proofs.Choices.{by_option}
 use Rattle.c_sound.proofs.SameTypes.{func_types_same}
-use Rattle.c_sound.proofs.Lists.{all_at, all_from, at_numbered}
+use Rattle.c_sound.proofs.Lists.{at_numbered}
 use Rattle.c_sound.proofs.Kept.{item_kept, stmt_kept, sound_body}
 use Rattle.c_sound.proofs.Defined.{IsDefinition, defined_names, names_defined, names_type, is_listed, listed_is, names_typed, typed_names}
 use Rattle.c_sound.proofs.Scopes.{scope_is, unit_type}
-use Rattle.c_sound.proofs.Runs.{all_join}
 use Rattle.c_sound.proofs.Starts.{StartsWell, starts}
-use Rattle.c_sound.specs.NeverStuck.{KeepRules}
-use Rattle.c_sound.specs.Typed.{Callable, IsVoid, TypedProgram}
 
 -- ---- parameters
 
@@ -56,7 +41,7 @@ not_empty stmts e empty = false≢true (sym (ap (λ (xs : List tree.Stmt). nat_l
 
 module _ (p : Program) (keep : KeepRules p) (links : link_refusal p ≡ None) where
   unit_keeps : (u : ℕ) (items : List tree.Item) → slice_get p.units u ≡ Some items → KeepsRules items
-  unit_keeps u items at = all_at KeepsRules p.units keep u items at
+  unit_keeps u items at = all_at KeepsRules p.units u items keep at
 
   -- ---- definitions
 
@@ -153,7 +138,7 @@ module _ (p : Program) (keep : KeepRules p) (links : link_refusal p ≡ None) wh
   inits_of [] each = tt
   inits_of (u ∷ units) each =
       let others = inits_of units (λ j entry at. each (suc j) entry at) in
-      all_join (IsVoid p) (map (λ (d : Definition). UnitFunc u.0 d.func.name) (filter is_init (definitions u.1)))
+      all_append (IsVoid p) (map (λ (d : Definition). UnitFunc u.0 d.func.name) (filter is_init (definitions u.1)))
       (flat_map (λ (u : ℕ × List tree.Item). map (λ (d : Definition). UnitFunc u.0 d.func.name) (filter is_init (definitions u.1))) units)
       (void_inits u.0 (definitions u.1) (λ j d at is. is_void_init u.0 u.1 (each 0 u refl) j d at is)) others
 

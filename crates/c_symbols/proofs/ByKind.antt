@@ -1,12 +1,7 @@
 -- Lists of what stands in a module, each of one kind, that are made in one pass.
-use Rattle.std.proofs.Common.{◌≡◌, ℕ, ◌+◌, ◌<◌, ◌≤◌, Bool, true, false, if◌then◌else◌, List, [], ◌∷◌, ◌++◌, append_assoc, append-nil, length, get_or, drop, map, filter, refl, sym, ap, ◌∙◌, arith}
-use Rattle.w2c_base.specs.declared.value.ValType.{ValType}
-use Rattle.wasm_tree.specs.declared.entries.Import.{Import}
+use Rattle.c_symbols.proofs.Common.{◌≡◌, ℕ, ◌+◌, ◌<◌, ◌≤◌, Bool, true, false, List, [], ◌∷◌, ◌++◌, map, length, get_or, drop, if◌then◌else◌, filter, sym, refl, ap, ◌∙◌, append_assoc, append-nil, arith, drop_all, ValType, func_of_import, global_of_import, is_global_import, Import, at_front}
 use Rattle.wasm_tree.specs.declared.entries.ImportKind.{ImportKind}
 use Rattle.wasm_tree.specs.declared.entries.ImportKind.TheVariants.{Func as ImportFunc, Table as ImportTable, Memory as ImportMemory, Global as ImportGlobal}
-use Rattle.wasm_tree.specs.IndexSpaces.{is_global_import, func_of_import, global_of_import}
-use Rattle.std.proofs.lemmas.List.{drop_all}
-use Rattle.c_tree.proofs.Tested.{at_front}
 
 pub kind_next : {A B : Type 0} (p : A → Bool) (f : A → B) (before after whole : List B) (name : B) (xs items : List A) (i : ℕ) (x : A)
     → items ≡ xs → i < length items → x ≡ get_or items i x → name ≡ f x → after ≡ before ++ map (λ j. name) (filter p (x ∷ []))

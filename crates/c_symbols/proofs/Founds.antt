@@ -1,16 +1,12 @@
 -- Tables of symbols that grow.
-use Rattle.std.proofs.Common.{◌≡◌, ℕ, ◌+◌, ◌<◌, ◌≤◌, Bool, true, false, if◌then◌else◌, List, [], ◌∷◌, ◌++◌, length, get_or, drop, map, bytes_eq, Option, Some, None, refl, sym, ap, ◌∙◌, arith}
-use Rattle.std.specs.Prelude.{option_map}
-use Rattle.std.proofs.lemmas.List.{drop_all}
+use Rattle.c_symbols.proofs.Common.{◌≡◌, ℕ, ◌+◌, ◌<◌, ◌≤◌, Bool, true, false, List, [], ◌∷◌, ◌++◌, map, length, get_or, drop, if◌then◌else◌, Some, None, Option, option_map, bytes_eq, sym, refl, ap, ◌∙◌, arith, drop_all, at_front, Name, Typed}
 use Rattle.std.specs.Option.{option_or}
 use Rattle.w2c_base.specs.Lookup.{named}
-use Rattle.c_tree.specs.Scope.{Name}
-use Rattle.c_tree.proofs.Tested.{at_front}
-use Rattle.name_table.proofs.Lookups.{or_assoc, or_none, named-append}
-use Rattle.c_symbols.specs.Symbols.{Typed}
+use Rattle.name_table.proofs.Lookups.{or_none, named-append}
 use Rattle.c_symbols.specs.declared.types.SymbolType.{SymbolType}
 use Rattle.c_symbols.specs.Typed.{type_of}
 use Rattle.c_symbols.specs.Found.{FindsTypes, FindsMore}
+use Rattle.w2c_base.proofs.Options.{or_assoc}
 
 pub entered : (after before : List (Name × SymbolType)) (name : Name) (ty : SymbolType)
     → ((q : Name) → named q after ≡ option_or (named q before) (if bytes_eq name q then Some ty else None))

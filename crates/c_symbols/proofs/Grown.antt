@@ -1,6 +1,5 @@
 -- Lists that a loop makes item by item.
-use Rattle.std.proofs.Common.{◌≡◌, ◌∙◌, ℕ, zero, suc, ◌+◌, ◌<◌, Bool, true, false, if◌then◌else◌, List, [], ◌∷◌, ◌++◌, append_assoc, length, get_or, drop, filter, map, flat_map, refl, sym, ap}
-use Rattle.std.proofs.lemmas.List.{drop_more}
+use Rattle.c_symbols.proofs.Common.{◌≡◌, ℕ, zero, suc, ◌+◌, ◌<◌, Bool, true, false, List, [], ◌∷◌, ◌++◌, map, length, get_or, drop, if◌then◌else◌, filter, flat_map, sym, refl, ap, ◌∙◌, append_assoc, drop_more}
 
 -- what is read with another element in reserve
 pub read_again : {A : Type 0} (xs : List A) (i : ℕ) (d : A) → get_or xs i d ≡ get_or xs i (get_or xs i d)

@@ -1,3 +1,4 @@
+mod Common
 pub mod Grown
 pub mod ByKind
 pub mod SameTypes

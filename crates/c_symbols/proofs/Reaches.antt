@@ -1,8 +1,6 @@
 -- The symbols of a module's imports, import by import.
-use Rattle.std.proofs.Common.{◌≡◌, ℕ, ◌+◌, ◌<◌, ◌≤◌, Bool, List, ◌++◌, length, get_or, drop, map, filter, Option, refl}
-use Rattle.wasm_tree.specs.declared.entries.Import.{Import}
+use Rattle.c_symbols.proofs.Common.{◌≡◌, ℕ, ◌+◌, ◌<◌, ◌≤◌, Bool, List, ◌++◌, map, length, get_or, drop, filter, Option, refl, Import, Name}
 use Rattle.wasm_meaning.specs.LinkedSet.{NamedModule}
-use Rattle.c_tree.specs.Scope.{Name}
 use Rattle.c_symbols.specs.Reached.{usable_symbol}
 use Rattle.c_symbols.specs.Usable.{if_kind}
 use Rattle.c_symbols.proofs.ByKind.{kind_next, none_more}

@@ -1,11 +1,8 @@
 -- Types of functions that are compared.
-use Rattle.std.proofs.Common.{◌≡◌, ◌<◌, Bool, true, false, ◌&&◌, List, [], ◌∷◌, length, map, refl, ap, ◌∙◌, arith}
-use Rattle.w2c_base.specs.declared.value.ValType.{ValType}
+use Rattle.c_symbols.proofs.Common.{◌≡◌, ◌<◌, Bool, true, false, ◌&&◌, List, [], ◌∷◌, map, length, refl, ap, ◌∙◌, arith, ValType, same_type, same_types, c_params_of, c_type_of}
 use Rattle.w2c_base.specs.declared.value.ValType.TheVariants.{I32, I64}
 use Rattle.c_tree.specs.declared.tree.CType.TheVariants as c_type
-use Rattle.c_tree.specs.Runtime.{same_type, same_types}
 use Rattle.c_tree.specs.Rules.{proper_types}
-use Rattle.c_meaning.specs.Linking.{c_type_of, c_params_of}
 
 and_false : (b : Bool) → false ≡ (b && false)
 and_false true = refl

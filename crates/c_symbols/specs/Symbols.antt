@@ -21,12 +21,9 @@ use Rattle.c_tree.specs.declared.tree.CType.TheVariants as type
 use Rattle.c_tree.specs.Tree as tree
 use Rattle.c_tree.specs.Runtime.{same_func_type}
 use Rattle.c_tree.specs.Scope.{Name, is_among}
-use Rattle.c_meaning.specs.Linking.{c_params_of, c_result_of}
+pub use Rattle.c_meaning.specs.Linking.{c_func_type_of as c_func_type}
 
 -- ---- types
-
-abbrev pub c_func_type : FuncType → tree.FuncType
-c_func_type ty = record { params = c_params_of ty.params; result = c_result_of ty.result }
 
 -- of a function that may have no type: then as if it had no parameters and no result
 abbrev pub c_func_type_if : Option FuncType → tree.FuncType

@@ -1,29 +1,12 @@
 -- What a statement comes to, from what its parts come to.
-use Rattle.std.proofs.Common.{◌≡◌, ◌-◌, ◌<◌, ◌==◌, Bool, true, false, not, if◌then◌else◌, ℕ, zero, suc, ◌+◌, List, [], ◌∷◌, length, drop, Option, Some, None, Err, Result, refl, sym, ap, ◌∙◌, arith}
-use Rattle.std.specs.Prelude.{slice_get}
-use Rattle.std.proofs.lemmas.Option.{slice_get_within}
-use Rattle.std.proofs.lemmas.List.{length-drop}
-use Rattle.w2c_base.specs.declared.value.Value.{Value}
-use Rattle.w2c_base.specs.Values.{number_of}
+use Rattle.c_thread.proofs.Common.{◌≡◌, ℕ, zero, suc, ◌+◌, ◌-◌, ◌<◌, Bool, true, false, not, List, [], ◌∷◌, length, drop, if◌then◌else◌, ◌==◌, slice_get, Some, None, Err, Option, Result, sym, refl, ap, ◌∙◌, arith, length-drop, slice_get_within, Trail, number_of, Value, Program, Bad, CValue, Evaluated, Is, Machine, Name, NoRule, Place, Running, Stuck, Undefined, Waiting, then_evaluate, Step, Stops, act, assign, at_rest, c_step, call_callee, evaluate, evaluate_args, jump, label_of, next, returned, Naming, Held, act-behind_labels, behind_labels, IsNext, stmts_at, stmts_of, assigned_to, below_in, failed, items_at, machine_in, place_in, running_in, state_in, all_evaluated, held_evaluated, LinkedFrame}
 use Rattle.c_tree.specs.declared.tree.COp.{COp}
 use Rattle.c_tree.specs.Tree as tree
-use Rattle.c_meaning.specs.State.{Name, CValue, Machine, Running, Frame as Waiting, Place, Stuck, Undefined, Evaluated, Is, Bad, NoRule, then_evaluate}
-use Rattle.c_meaning.specs.Linking.{Program}
-use Rattle.c_meaning.specs.Step.{Step, Stops, next, act, assign, at_rest, c_step, call_callee, evaluate, evaluate_arg, evaluate_args, jump, label_of, place_of, returned, value_of, with_value}
-use Rattle.c_objects.specs.declared.held.Held.{Held}
-use Rattle.c_objects.specs.Views.{Naming}
+use Rattle.c_meaning.specs.Step.{evaluate_arg, place_of, value_of, with_value}
 use Rattle.c_machine.specs.declared.evaluation.Fault.{Fault}
 use Rattle.c_machine.specs.declared.evaluation.Fault.TheVariants as fault
-use Rattle.c_thread.specs.declared.linked.LinkedFrame.{LinkedFrame}
-use Rattle.c_thread.specs.Linked.{assigned_to, below_in, failed, items_at, machine_in, place_in, running_in, state_in}
 use Rattle.c_machine.specs.Scope.{evaluated}
-use Rattle.c_thread.specs.Sights.{all_evaluated, held_evaluated}
 use Rattle.c_thread.specs.declared.linked.LinkedThread.{LinkedThread}
-use Rattle.c_machine.specs.Names.{behind_labels}
-use Rattle.c_machine.specs.Tables.{IsNext}
-use Rattle.c_machine.specs.Threads.{stmts_at, stmts_of}
-use Rattle.c_machine.proofs.Jumps.{act-behind_labels}
-use Rattle.w2c_base.specs.Run.{Trail}
 
 -- the place of the statement in front of the position
 pub place_is : (names : Naming) (p : Program) (f : LinkedFrame) (rest : List tree.Stmt) (s : tree.Stmt) → 0 < f.at

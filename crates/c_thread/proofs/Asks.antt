@@ -1,17 +1,7 @@
 -- Arguments of hosts are numbers.
-use Rattle.std.proofs.Common.{◌≡◌, if◌then◌else◌, ℕ, ◌+◌, ◌≤◌, List, [], ◌∷◌, ◌++◌, append_assoc, length, drop, map, Option, Some, None, refl, sym, ap, ◌∙◌}
-use Rattle.std.specs.Prelude.{slice_get, option_map}
-use Rattle.std.proofs.lemmas.List.{append-nil, drop_all}
-use Rattle.w2c_base.specs.declared.value.Value.{Value}
-use Rattle.w2c_base.specs.Values.{equal_types, types_of}
+use Rattle.c_thread.proofs.Common.{◌≡◌, ℕ, ◌+◌, ◌≤◌, List, [], ◌∷◌, ◌++◌, map, length, drop, if◌then◌else◌, slice_get, Some, None, Option, option_map, sym, refl, ap, ◌∙◌, append_assoc, append-nil, drop_all, drop_front, equal_types, types_of, Value, Program, host_type, CValue, Machine, Stuck, Waiting, Step, Stops, ask, numbers, replied, Naming, value_of, Held}
 use Rattle.w2c_base.specs.declared.signature.FuncType.{FuncType}
-use Rattle.c_meaning.specs.Linking.{Program, host_type}
-use Rattle.c_meaning.specs.State.{CValue, Machine, Frame as Waiting, Stuck}
-use Rattle.c_meaning.specs.Step.{Step, Stops, ask, numbers, replied}
-use Rattle.c_objects.specs.declared.held.Held.{Held}
 use Rattle.c_objects.specs.declared.held.Held.TheVariants as held
-use Rattle.c_objects.specs.Views.{Naming, value_of}
-use Rattle.c_machine.proofs.NameTables.{drop_front}
 
 -- the numbers so far are those of the first i values
 abbrev pub Counts : Naming → List Held → ℕ → List Value → Type 0

@@ -1,25 +1,8 @@
 -- Assignments in linked units.
-use Rattle.std.proofs.Common.{◌≡◌, ℕ, suc, ◌+◌, ◌-◌, ◌<◌, Bool, true, false, if◌then◌else◌, List, [], ◌∷◌, map, bytes_eq, Option, Some, None, refl, sym, ap, ◌∙◌, arith}
+use Rattle.c_thread.proofs.Common.{◌≡◌, ℕ, suc, ◌+◌, ◌-◌, ◌<◌, Bool, true, false, List, [], ◌∷◌, map, get_or, is_some, if◌then◌else◌, slice_get, slice_set, Some, None, Option, option_map, zip, bytes_eq, sym, refl, ap, ◌∙◌, arith, option_or, if_found, named, with_named, Trail, with_var, Machine, Name, Running, Stuck, Waiting, of_one_type, Stops, assign, depth_name, in_unit, next, with_vars, get_mapped, set_mapped, var_found, AreStored, machine_of, var_at, Naming, UnitNames, address_of, object_name, value_of, Held, ObjectId, UnitObjects, entry_from, named-zip, with_named-zip, Finds, entry_in, number_in, assigned_in_unit, held_vars, put_at}
 use Rattle.std.proofs.lemmas.Slice.Eq.{bytes_eq-Decides}
-use Rattle.std.specs.Prelude.{slice_get, slice_set, get_or, is_some, option_map, zip}
-use Rattle.std.specs.Option.{option_or}
-use Rattle.w2c_base.specs.Lookup.{if_found, named, with_named}
-use Rattle.w2c_base.specs.Run.{Trail}
-use Rattle.c_meaning.specs.State.{Name, Machine, Running, Frame as Waiting, Stuck, of_one_type}
-use Rattle.c_meaning.specs.Machine.{with_var}
-use Rattle.c_meaning.specs.Step.{Stops, assign, depth_name, in_unit, next, with_vars}
-use Rattle.c_objects.specs.declared.held.Held.{Held}
 use Rattle.c_objects.specs.declared.held.Object.TheVariants as object
-use Rattle.c_objects.specs.declared.held.ObjectId.{ObjectId}
-use Rattle.c_objects.specs.declared.store.UnitObjects.{UnitObjects}
-use Rattle.c_objects.specs.Stores.{machine_of, var_at, AreStored}
-use Rattle.c_objects.specs.Views.{Naming, UnitNames, address_of, object_name, value_of}
-use Rattle.c_objects.proofs.Machines.{var_found}
-use Rattle.c_objects.proofs.Elements.{get_mapped, set_mapped}
-use Rattle.c_thread.specs.Linked.{assigned_in_unit, held_vars, put_at}
-use Rattle.c_machine.specs.Names.{Finds, entry_in, number_in}
 use Rattle.c_thread.proofs.Seen.{var_seen}
-use Rattle.c_machine.proofs.Variables.{named-zip, with_named-zip, entry_from}
 
 -- the name at the number that is found
 pub name_from : (k i : ℕ) (q : Name) (xs : List Name) → entry_in k q (map Some xs) ≡ Some i → get_or xs (i - k) [] ≡ q

@@ -1,19 +1,6 @@
 -- A function of linked units that begins.
-use Rattle.std.proofs.Common.{◌≡◌, ℕ, Bool, true, false, if◌then◌else◌, drop, List, ◌++◌, map, Option, Some, None, sym, ap, ◌∙◌}
-use Rattle.std.specs.Prelude.{option_map}
-use Rattle.w2c_base.specs.Lookup.{if_found}
-use Rattle.c_tree.specs.declared.tree.CType.{CType}
+use Rattle.c_thread.proofs.Common.{◌≡◌, ℕ, Bool, true, false, List, ◌++◌, map, drop, if◌then◌else◌, Some, None, Option, option_map, sym, ap, ◌∙◌, if_found, CType, Definition, Program, Machine, Name, Running, Stuck, Vars, Waiting, Step, Stops, are_of_types, begin, bind, locals_of, next, param_names, param_types, Naming, value_of, Held, defines, fitting, bind_all, local_name, local_names, WithLocals, definition_in, names_at, result_at, stmts_at, held_vars, items_at}
 use Rattle.c_tree.specs.Tree as tree
-use Rattle.c_meaning.specs.State.{Name, Vars, Machine, Running, Frame as Waiting, Stuck}
-use Rattle.c_meaning.specs.Linking.{Program, Definition}
-use Rattle.c_meaning.specs.Step.{Step, Stops, next, are_of_types, begin, bind, locals_of, param_names, param_types}
-use Rattle.c_objects.specs.declared.held.Held.{Held}
-use Rattle.c_objects.specs.Views.{Naming, value_of}
-use Rattle.c_thread.specs.Linked.{held_vars, items_at}
-use Rattle.c_machine.specs.Names.{local_name, local_names}
-use Rattle.c_machine.specs.Threads.{definition_in, names_at, result_at, stmts_at, WithLocals}
-use Rattle.c_machine.proofs.Begins.{defines, fitting}
-use Rattle.c_machine.proofs.Locals.{bind_all}
 
 module _ (names : Naming) (p : Program) (items : List tree.Item) (u i : ℕ) (own : items_at p u ≡ items) (values : List Held)
     (m : Machine) (below : List Waiting) where

@@ -1,3 +1,4 @@
+mod Common
 pub mod Acts
 pub mod Asks
 pub mod Assigns

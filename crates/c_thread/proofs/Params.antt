@@ -1,12 +1,6 @@
 -- Arguments of the types of parameters, one parameter after the other.
-use Rattle.std.proofs.Common.{◌≡◌, ℕ, ◌+◌, ◌≤◌, ◌==◌, Bool, true, false, ◌&&◌, List, [], ◌∷◌, length, drop, map, Some, None, is_some, refl, ap, ◌∙◌, arith}
-use Rattle.std.specs.Prelude.{slice_get}
-use Rattle.std.proofs.lemmas.List.{drop_all}
+use Rattle.c_thread.proofs.Common.{◌≡◌, ℕ, ◌+◌, ◌≤◌, Bool, true, false, ◌&&◌, List, [], ◌∷◌, map, length, drop, is_some, ◌==◌, slice_get, Some, None, refl, ap, ◌∙◌, arith, drop_all, drop_front, of_type, CValue, are_of_types, param_types}
 use Rattle.c_tree.specs.Tree as tree
-use Rattle.c_meaning.specs.State.{CValue}
-use Rattle.c_meaning.specs.Machine.{of_type}
-use Rattle.c_meaning.specs.Step.{are_of_types, param_types}
-use Rattle.c_machine.proofs.NameTables.{drop_front}
 
 module _ {V : Type 0} (view : V → CValue) where
   -- from the i-th parameter on

@@ -1,15 +1,5 @@
 -- Returns in linked units.
-use Rattle.std.proofs.Common.{◌≡◌, Bool, if◌then◌else◌, ◌-◌, List, [], ◌∷◌, ◌++◌, map, Option, Some, None, ap, ◌∙◌}
-use Rattle.std.specs.Prelude.{slice_get}
-use Rattle.std.proofs.lemmas.List.{reverse-append}
-use Rattle.c_tree.specs.declared.tree.CType.{CType}
-use Rattle.c_meaning.specs.State.{Name, CValue, Machine, Running, Frame as Waiting, Stuck}
-use Rattle.c_meaning.specs.Linking.{Program}
-use Rattle.c_meaning.specs.Step.{Step, Stops, next, assign, give, is_returned, returned}
-use Rattle.c_objects.specs.Views.{Naming}
-use Rattle.c_thread.specs.declared.linked.LinkedFrame.{LinkedFrame}
-use Rattle.c_thread.specs.Linked.{below_in, items_at, running_in, waiting_in}
-use Rattle.c_machine.specs.Threads.{stmts_at, target_of}
+use Rattle.c_thread.proofs.Common.{◌≡◌, ◌-◌, Bool, List, [], ◌∷◌, ◌++◌, map, if◌then◌else◌, slice_get, Some, None, Option, ap, ◌∙◌, reverse-append, CType, Program, CValue, Machine, Name, Running, Stuck, Waiting, Step, Stops, assign, give, is_returned, next, returned, Naming, stmts_at, target_of, below_in, items_at, running_in, waiting_in, LinkedFrame}
 
 module _ (names : Naming) (p : Program) where
   pub below-push : (frames : List LinkedFrame) (f : LinkedFrame)

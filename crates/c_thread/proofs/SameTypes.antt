@@ -1,21 +1,5 @@
 -- Two lists of types, type by type.
-use Rattle.std.proofs.Common.{◌≡◌, ◌≢◌, ℕ, zero, suc, ◌+◌, ◌<◌, ◌≤◌, Bool, true, false, ◌&&◌, List, [], ◌∷◌, length, drop, refl, sym, ap, ◌∙◌, arith}
-use Rattle.std.specs.Prelude.{slice_get}
-use Rattle.std.proofs.lemmas.List.{drop_all}
-use Rattle.c_tree.specs.declared.tree.CType.{CType}
-use Rattle.c_tree.specs.Runtime.{same_type, same_types}
-use Rattle.c_thread.specs.FuncTypes.{agree_at}
-
--- as many of both
-pub same_many : (types others : List CType) → length types ≢ length others → same_types types others ≡ false
-same_many [] [] n = absurd (n refl)
-same_many [] (a ∷ others) n = refl
-same_many (t ∷ types) [] n = refl
-same_many (t ∷ types) (a ∷ others) n = go (same_type t a) (same_many types others (λ e. n (ap suc e)))
-  where
-    go : (b : Bool) → same_types types others ≡ false → (b && same_types types others) ≡ false
-    go true e = e
-    go false e = refl
+use Rattle.c_thread.proofs.Common.{◌≡◌, ℕ, zero, suc, ◌+◌, ◌<◌, ◌≤◌, Bool, true, false, ◌&&◌, List, [], ◌∷◌, length, drop, slice_get, sym, refl, ap, ◌∙◌, arith, drop_all, same_types, CType, agree_at}
 
 front : (types others : List CType) (i : ℕ) → i < length types → i < length others
     → same_types (drop i types) (drop i others)

@@ -1,20 +1,6 @@
 -- What the tables of a unit find is what the meaning of C finds by name.
-use Rattle.std.proofs.Common.{◌≡◌, ℕ, zero, suc, ◌+◌, Bool, true, false, if◌then◌else◌, List, [], ◌∷◌, length, map, bytes_eq, Option, Some, None, refl, sym, ap, subst, ◌∙◌, arith}
-use Rattle.std.specs.Prelude.{slice_get, is_some, option_map, zip}
-use Rattle.std.specs.Option.{option_or}
-use Rattle.w2c_base.specs.Lookup.{if_found, named}
-use Rattle.w2c_base.specs.Run.{Trail}
-use Rattle.c_meaning.specs.State.{Name}
-use Rattle.c_meaning.specs.Machine.{var_in}
-use Rattle.c_objects.specs.declared.held.Held.{Held}
+use Rattle.c_thread.proofs.Common.{◌≡◌, ℕ, zero, suc, ◌+◌, Bool, true, false, List, [], ◌∷◌, map, length, is_some, if◌then◌else◌, slice_get, Some, None, Option, option_map, zip, bytes_eq, sym, refl, ap, ◌∙◌, subst, arith, option_or, if_found, named, Trail, var_in, Name, get_mapped, units_at, units_past, AreStored, IsStored, machine_of, var_at, Naming, UnitNames, value_of, Held, UnitObjects, named-zip, Finds, entry_in, number_in}
 use Rattle.c_objects.specs.declared.held.Object.TheVariants as object
-use Rattle.c_objects.specs.declared.store.UnitObjects.{UnitObjects}
-use Rattle.c_objects.specs.Stores.{machine_of, var_at, AreStored, IsStored}
-use Rattle.c_objects.specs.Views.{Naming, UnitNames, value_of}
-use Rattle.c_objects.proofs.Elements.{get_mapped}
-use Rattle.c_objects.proofs.Stores.{units_at, units_past}
-use Rattle.c_machine.specs.Names.{Finds, entry_in, number_in}
-use Rattle.c_machine.proofs.Variables.{named-zip}
 
 abbrev no_value : Option Held
 no_value = None

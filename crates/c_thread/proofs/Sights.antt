@@ -1,31 +1,10 @@
 -- The scope of a function that runs sees what the meaning of C says.
-use Rattle.std.proofs.Common.{◌≡◌, ℕ, ◌-◌, Bool, true, false, if◌then◌else◌, List, [], map, bytes_eq, Option, Some, None, refl, sym, ap, ◌∙◌, arith}
-use Rattle.std.proofs.lemmas.List.{length-map}
-use Rattle.std.specs.Prelude.{◌||◌, slice_get, get_or, is_some, option_map}
-use Rattle.std.specs.Option.{option_or}
-use Rattle.w2c_base.specs.Lookup.{if_found, named}
-use Rattle.w2c_base.specs.Run.{Trail}
-use Rattle.c_tree.specs.View.{unit_of}
-use Rattle.c_meaning.specs.State.{Name, ObjectAddress, Machine, Running}
-use Rattle.c_meaning.specs.Linking.{Program, array_named, func_named}
-use Rattle.c_meaning.specs.Machine.{var_in, is_object}
-use Rattle.c_meaning.specs.Step.{depth_name, in_unit}
-use Rattle.c_meaning.specs.Step.{value_of as value_in}
-use Rattle.c_objects.specs.declared.held.Held.{Held}
+use Rattle.c_thread.proofs.Common.{◌≡◌, ℕ, ◌-◌, Bool, true, false, ◌||◌, List, [], map, get_or, is_some, if◌then◌else◌, slice_get, Some, None, Option, option_map, bytes_eq, sym, refl, ap, ◌∙◌, arith, length-map, option_or, if_found, named, Trail, unit_of, Program, array_named, func_named, is_object, var_in, Machine, Name, ObjectAddress, Running, depth_name, in_unit, value_in, var_found, units_at, AreStored, machine_of, objects_of, var_at, Naming, UnitNames, address_of, func_of, object_name, value_of, Held, ObjectId, Finds, number_in, AreObjectTables, held_vars, items_at, Sees, bytes_in, func_in, held_in, item_bytes, object_in, sight_of, UnitScope}
 use Rattle.w2c_base.specs.declared.value.Value.TheVariants.{I32}
 use Rattle.c_objects.specs.declared.held.Held.TheVariants as held
 use Rattle.c_objects.specs.declared.held.Object.{Object}
 use Rattle.c_objects.specs.declared.held.Object.TheVariants as object
-use Rattle.c_objects.specs.declared.held.ObjectId.{ObjectId}
 use Rattle.c_objects.specs.Objects.{memory_of, table_of}
-use Rattle.c_objects.specs.Stores.{machine_of, objects_of, var_at, AreStored}
-use Rattle.c_objects.specs.Views.{Naming, UnitNames, address_of, func_of, object_name, value_of}
-use Rattle.c_objects.proofs.Machines.{var_found}
-use Rattle.c_objects.proofs.Stores.{units_at}
-use Rattle.c_thread.specs.declared.scope.UnitScope.{UnitScope}
-use Rattle.c_thread.specs.Linked.{items_at, held_vars, AreObjectTables}
-use Rattle.c_machine.specs.Names.{Finds, number_in}
-use Rattle.c_thread.specs.Sights.{held_in, bytes_in, func_in, object_in, item_bytes, sight_of, Sees}
 use Rattle.c_thread.proofs.Assigns.{held_named, name_from}
 use Rattle.c_thread.proofs.Seen.{present, stored_for, var_seen}
 

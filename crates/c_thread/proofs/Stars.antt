@@ -1,15 +1,9 @@
 -- What is seen, in the meaning of C.
-use Rattle.std.proofs.Common.{◌≡◌, Some, refl}
-use Rattle.std.specs.Prelude.{option_map}
+use Rattle.c_thread.proofs.Common.{◌≡◌, Some, option_map, refl, Program, Machine, Name, Running, evaluate, Naming, ObjectId, Sees, Sight}
 use Rattle.c_tree.specs.Tree as tree
-use Rattle.c_meaning.specs.State.{Name, Machine, Running}
-use Rattle.c_meaning.specs.Linking.{Program}
-use Rattle.c_meaning.specs.Step.{evaluate, number_in}
+use Rattle.c_meaning.specs.Step.{number_in}
 use Rattle.c_objects.specs.declared.held.Held.TheVariants as held
-use Rattle.c_objects.specs.declared.held.ObjectId.{ObjectId}
-use Rattle.c_objects.specs.Views.{Naming}
 use Rattle.c_objects.specs.Views.{value_of as held_of}
-use Rattle.c_thread.specs.Sights.{Sight, Sees}
 
 -- what a pointer points to
 pub star_sees : (names : Naming) (s : Sight) (p : Program) (m : Machine) (r : Running) → Sees names s p m r → (name : Name) (at : ObjectId)

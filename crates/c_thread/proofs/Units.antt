@@ -1,13 +1,7 @@
 -- The items and the tables of the units of a list.
-use Rattle.std.proofs.Common.{◌≡◌, ℕ, zero, suc, List, [], ◌∷◌, ◌++◌, map, Option, Some, None, refl, sym, ap, subst, ◌∙◌}
-use Rattle.std.specs.Prelude.{slice_get}
+use Rattle.c_thread.proofs.Common.{◌≡◌, ℕ, zero, suc, List, [], ◌∷◌, ◌++◌, map, slice_get, Some, None, Option, sym, refl, ap, ◌∙◌, subst, unit_of, Program, Naming, IsTables, HaveUnitTables, IsLinked, items_at}
 use Rattle.c_tree.specs.Tree as tree
-use Rattle.c_tree.specs.View.{unit_of}
-use Rattle.c_meaning.specs.Linking.{Program}
-use Rattle.c_objects.specs.Views.{Naming}
 use Rattle.c_thread.specs.declared.control.LinkedUnit.{LinkedUnit}
-use Rattle.c_thread.specs.Linked.{items_at, HaveUnitTables, IsLinked}
-use Rattle.c_machine.specs.Tables.{IsTables}
 
 abbrev item_list : Option (List tree.Item) → List tree.Item
 item_list None = []

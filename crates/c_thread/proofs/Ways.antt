@@ -1,10 +1,5 @@
 -- One statement more on the way of a run.
-use Rattle.std.proofs.Common.{◌≡◌, ℕ, ◌+◌, ◌-◌, ◌<◌, ◌≤◌, subst, arith}
-use Rattle.c_meaning.specs.State.{State}
-use Rattle.c_meaning.specs.Linking.{Program}
-use Rattle.c_meaning.specs.Step.{Step, c_step}
-use Rattle.c_meaning.specs.Run.{Going, Pending, Progress, go_on}
-use Rattle.c_meaning.specs.Reaches.{Reaches}
+use Rattle.c_thread.proofs.Common.{◌≡◌, ℕ, ◌+◌, ◌-◌, ◌<◌, ◌≤◌, subst, arith, Program, Reaches, Going, Pending, Progress, go_on, State, Step, c_step}
 use Rattle.c_meaning.proofs.Ways.{join, step, stays}
 
 pub on_its_way : (p : Program) (pending : Pending) (start : Progress) (s : State) (o : Step) (first left : ℕ) → 0 < left

@@ -1,15 +1,10 @@
 -- The broken rules of a unit stand in order: by the item, in it by the statement, and there by the
 -- rule's number. So the first in the list comes before every other one.
-use Rattle.std.specs.Prelude.{◌≡◌, refl, ℕ, ◌+◌, ◌≤◌, Bool, true, false, not, if◌then◌else◌, List, [], ◌∷◌, ◌++◌, length, map, filter, flat_map, zip, take, slice_get, Option, Some, None}
-use Rattle.std.specs.List.{AllByRecursion, Contains, range_with_len}
-use Rattle.std.proofs.Common.{inl, inr, arith, ap, sym, subst, ◌∙◌}
+use Rattle.c_tree.proofs.Common.{◌≡◌, ℕ, ◌+◌, ◌≤◌, Bool, true, false, not, List, [], ◌∷◌, ◌++◌, map, length, take, if◌then◌else◌, slice_get, Some, None, Contains, filter, Option, zip, flat_map, sym, refl, ap, ◌∙◌, subst, inl, inr, arith, AllByRecursion, range_with_len, all_append, of_contained, of_each, BrokenAt, BrokenRule, IsFirstBroken, IsNotBehind, broken_in_body, broken_in_item, broken_in_stmt, broken_of, broken_rules, first_broken}
 use Rattle.w2c_base.specs.Lookup.{numbered}
 use Rattle.c_tree.specs.Tree as tree
 use Rattle.c_tree.specs.Scope.{Scope}
 use Rattle.c_tree.specs.Rules.{item_rules, stmt_rules}
-use Rattle.c_tree.specs.FirstBroken.{BrokenAt, BrokenRule, IsFirstBroken, IsNotBehind}
-use Rattle.c_tree.specs.FirstBroken.{broken_of, broken_in_stmt, broken_in_body, broken_in_item, broken_rules, first_broken}
-use Rattle.c_tree.proofs.OfEach.{of_each, of_both, of_contained}
 use Rattle.c_tree.proofs.FirstBroken.{is_broken, one_first}
 
 -- ---- lists in order
@@ -24,7 +19,7 @@ ordered_append : (P Q : BrokenAt → Type 0) → ((a b : BrokenAt) → P a → Q
     → AllByRecursion P xs × Ordered xs → AllByRecursion Q ys × Ordered ys → Ordered (xs ++ ys)
 ordered_append P Q before [] ys one two = two.1
 ordered_append P Q before (a ∷ xs) ys one two = (
-  of_both (IsNotBehind a) xs ys one.1.0 (of_each Q (IsNotBehind a) (λ b is. before a b one.0.0 is) ys two.0),
+  all_append (IsNotBehind a) xs ys one.1.0 (of_each Q (IsNotBehind a) (λ b is. before a b one.0.0 is) ys two.0),
   ordered_append P Q before xs ys (one.0.1, one.1.1) two,
 )
 
@@ -33,7 +28,7 @@ both_in_order : (P Q R : BrokenAt → Type 0) → ((a b : BrokenAt) → P a → 
     → ((a : BrokenAt) → P a → R a) → ((a : BrokenAt) → Q a → R a) → (xs ys : List BrokenAt)
     → AllByRecursion P xs × Ordered xs → AllByRecursion Q ys × Ordered ys → AllByRecursion R (xs ++ ys) × Ordered (xs ++ ys)
 both_in_order P Q R before left right xs ys one two = (
-  of_both R xs ys (of_each P R left xs one.0) (of_each Q R right ys two.0),
+  all_append R xs ys (of_each P R left xs one.0) (of_each Q R right ys two.0),
   ordered_append P Q before xs ys one two,
 )
 

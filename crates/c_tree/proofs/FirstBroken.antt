@@ -1,9 +1,6 @@
 -- The first broken rule is one, and it is broken.
-use Rattle.std.specs.Prelude.{◌≡◌, refl, ℕ, ◌<◌, ◌≤◌, ◌⊎◌, List, [], ◌∷◌, Some, None, slice_get}
-use Rattle.std.specs.List.{Contains}
-use Rattle.std.proofs.Common.{arith}
+use Rattle.c_tree.proofs.Common.{◌≡◌, ℕ, ◌<◌, ◌≤◌, ◌⊎◌, List, [], ◌∷◌, slice_get, Some, None, Contains, refl, arith, BrokenAt, BrokenRule, IsFirstBroken, IsNotBehind, KeepsRules, broken_rules, first_broken}
 use Rattle.c_tree.specs.Tree as tree
-use Rattle.c_tree.specs.FirstBroken.{BrokenAt, BrokenRule, IsFirstBroken, IsNotBehind, KeepsRules, first_broken, broken_rules}
 
 same_item : (i s k j t m : ℕ) → (i < j) ⊎ ((i ≡ j) × (s < t)) ⊎ ((i ≡ j) × (s ≡ t) × (k ≤ m))
     → (j < i) ⊎ ((j ≡ i) × (t < s)) ⊎ ((j ≡ i) × (t ≡ s) × (m ≤ k)) → i ≡ j

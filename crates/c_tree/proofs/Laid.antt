@@ -1,9 +1,5 @@
 -- The tokens of a text that is laid out with gaps that keep its tokens apart.
-use Rattle.std.proofs.Common.{◌≡◌, ℕ, ◌+◌, List, [], ◌∷◌, ◌++◌, map, refl, ap, ◌∙◌, append_assoc}
-use Rattle.std.specs.List.{AllByRecursion}
-use Rattle.c_tree.specs.Tokens.{Token, token_text}
-use Rattle.c_tree.specs.Text.{lexeme, lexemes}
-use Rattle.c_tree.specs.Layout.{laid}
+use Rattle.c_tree.proofs.Common.{◌≡◌, ℕ, ◌+◌, List, [], ◌∷◌, ◌++◌, map, refl, ap, ◌∙◌, append_assoc, AllByRecursion, laid, lexeme, lexemes, Token, token_text}
 use Rattle.c_tree.proofs.Proper.{IsProper, EndsToken, reads}
 
 abbrev pub tokens_from : ℕ → ℕ → List ℕ → List Token

@@ -1,10 +1,11 @@
+mod Common
 pub mod BrokenInOrder
 pub mod FirstBroken
 pub mod Laid
 pub mod Names
 pub mod NoFault
-pub mod OfEach
 pub mod OneUnit
+pub mod OnlyVoid
 pub mod Passes
 pub mod PassesExpressions
 pub mod PassesStatements

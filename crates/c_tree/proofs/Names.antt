@@ -1,14 +1,5 @@
 -- Words of two forms are names: a letter and a number, and what begins as an external function does.
-use Rattle.std.proofs.Common.{◌≡◌, ◌≢◌, ℕ, ◌^◌, ◌<◌, Bool, true, false, ◌&&◌, List, [], ◌∷◌, ◌++◌, map, refl, ap, arith}
-use Rattle.std.specs.Prelude.{codes, not, ◌==◌}
-use Rattle.std.specs.List.{list_any, list_all}
-use Rattle.std.specs.Str.{bytes_eq}
-use Rattle.std.specs.Fmt.{decimal}
-use Rattle.std.proofs.lemmas.Bool.Decides.{nat_tests}
-use Rattle.std.proofs.lemmas.Bool.{not-true}
-use Rattle.c_tree.specs.Tokens.{fixed_text}
-use Rattle.c_tree.specs.Text.{is_digit, is_letter, is_word_byte, are_digits, key_words, other_words}
-use Rattle.c_tree.specs.WellFormed.{is_key_word, IsName}
+use Rattle.c_tree.proofs.Common.{◌≡◌, ℕ, ◌^◌, ◌<◌, Bool, true, false, not, ◌&&◌, ◌≢◌, List, [], ◌∷◌, ◌++◌, map, ◌==◌, codes, decimal, bytes_eq, refl, ap, arith, not-true, nat_tests, list_all, list_any, are_digits, is_digit, is_letter, is_word_byte, key_words, other_words, fixed_text, IsName, is_key_word}
 use Rattle.c_tree.proofs.Proper.{both_true, digits_words, all_digits}
 use Rattle.c_tree.proofs.TreeIsProper.{decimal_digits}
 

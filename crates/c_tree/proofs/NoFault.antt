@@ -1,22 +1,9 @@
 -- A text that spells a unit has no first fault.
-use Rattle.std.proofs.Common.{◌≡◌, ℕ, suc, ◌^◌, ◌<◌, length, Bool, true, false, List, [], ◌∷◌, ◌++◌, Option, Some, None, refl, arith, append_assoc}
-use Rattle.std.specs.Prelude.{nat_lt}
-use Rattle.std.specs.List.{AllByRecursion}
-use Rattle.std.proofs.lemmas.Bool.Decides.{nat_tests}
+use Rattle.c_tree.proofs.Common.{◌≡◌, ℕ, suc, ◌^◌, ◌<◌, Bool, true, false, List, [], ◌∷◌, ◌++◌, length, nat_lt, Some, None, Option, refl, append_assoc, arith, nat_tests, AllByRecursion, always, Becomes, Of, One, OneByte, Symbol, Takes, move, CSpells, CUpto, FitsBody, FitsItem, FitsNum, FitsStmt, FitsValue, lexeme, lexemes, Fixed, Named, Token, close_tokens, each, item_tokens, local_tokens, maybe_name, num_token, param_tokens, separated, static_tokens, stmt_tokens, type_tokens, unit_tokens, value_tokens, CReadFault, CType, Num, Plain}
 use Rattle.c_tree.specs.declared.token.Tok.TheVariants as tok
 use Rattle.c_tree.specs.declared.token.Part.TheVariants as part
-use Rattle.c_tree.specs.declared.token.CReadFault.{CReadFault}
-use Rattle.c_tree.specs.declared.tree.CType.{CType}
 use Rattle.c_tree.specs.declared.tree.CType.TheVariants as type
-use Rattle.c_tree.specs.declared.tree.Num.{Num}
-use Rattle.c_tree.specs.declared.tree.Num.TheVariants.{Plain}
 use Rattle.c_tree.specs.Tree as tree
-use Rattle.c_tree.specs.Tokens.{Token, Fixed, Named}
-use Rattle.c_tree.specs.Trees.{each, separated, type_tokens, num_token, stmt_tokens, local_tokens, maybe_name, param_tokens, close_tokens, static_tokens, value_tokens, item_tokens, unit_tokens}
-use Rattle.c_tree.specs.Text.{lexeme, lexemes}
-use Rattle.c_tree.specs.Grammar.{Symbol, One, OneByte, Of, Takes, Becomes, move}
-use Rattle.c_tree.specs.Spelled.{FitsNum, FitsStmt, FitsBody, FitsValue, FitsItem, CSpells, CUpto}
-use Rattle.c_tree.proofs.SameStatements.{always}
 use Rattle.c_tree.proofs.OneUnit.{body_front, func_front, array_front, byte_tokens}
 use Rattle.c_tree.proofs.Passes.{Passes, take, become, become_none, become_any, nothing, BehindType, type_passes, pieces_pass}
 use Rattle.c_tree.proofs.PassesExpressions.{number_passes, value_decimal}

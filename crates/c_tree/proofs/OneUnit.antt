@@ -1,17 +1,10 @@
 -- A text spells at most one unit: units with the same tokens are the same.
-use Rattle.std.proofs.Common.{◌≡◌, ◌∙◌, ℕ, ◌<◌, Bool, true, false, List, [], ◌∷◌, ◌++◌, Option, Some, None, refl, ap, append_assoc, arith}
-use Rattle.std.specs.List.{AllByRecursion}
+use Rattle.c_tree.proofs.Common.{◌≡◌, ℕ, ◌<◌, Bool, true, false, List, [], ◌∷◌, ◌++◌, Some, None, Option, refl, ap, ◌∙◌, append_assoc, arith, AllByRecursion, always, CSpells, FitsBody, FitsItem, FitsNum, FitsStmt, FitsValue, depth_limit, Fixed, Named, Token, close_tokens, each, func_tokens, item_tokens, local_tokens, maybe_name, num_token, param_tokens, separated, static_tokens, stmt_tokens, type_tokens, value_tokens, CType, Num, Plain}
 use Rattle.c_tree.specs.declared.token.Tok.TheVariants as tok
-use Rattle.c_tree.specs.declared.tree.CType.{CType}
-use Rattle.c_tree.specs.declared.tree.Num.{Num}
-use Rattle.c_tree.specs.declared.tree.Num.TheVariants.{Plain}
 use Rattle.c_tree.specs.Tree as tree
-use Rattle.c_tree.specs.Tokens.{Token, Fixed, Named}
-use Rattle.c_tree.specs.Trees.{each, separated, type_tokens, num_token, stmt_tokens, local_tokens, maybe_name, param_tokens, close_tokens, static_tokens, func_tokens, value_tokens, item_tokens}
-use Rattle.c_tree.specs.Spelled.{FitsNum, FitsStmt, FitsBody, FitsValue, FitsItem, CSpells, depth_limit}
 use Rattle.c_tree.proofs.SameLists.{NotFirst, IsOne, Anything, same_each, same_separated}
 use Rattle.c_tree.proofs.SameWords.{same_num, same_type, type_first}
-use Rattle.c_tree.proofs.SameStatements.{same_pair, always, same_stmt, stmt_no_brace, stmt_no_type}
+use Rattle.c_tree.proofs.SameStatements.{same_pair, same_stmt, stmt_no_brace, stmt_no_type}
 
 -- ---- local variables
 

@@ -1,16 +1,8 @@
 -- The table passes tokens without a fault: its steps, numbers and types.
-use Rattle.std.proofs.Common.{◌≡◌, ℕ, List, [], ◌∷◌, ◌++◌, map, refl, subst, append_assoc}
-use Rattle.std.specs.List.{AllByRecursion}
-use Rattle.c_tree.specs.declared.token.Tok.{Tok}
+use Rattle.c_tree.proofs.Common.{◌≡◌, ℕ, List, [], ◌∷◌, ◌++◌, map, refl, subst, append_assoc, AllByRecursion, Becomes, Move, Of, Stops, Symbol, Takes, first, here, move, opened, taken, Lexeme, lexeme, Fixed, Token, Wrong, each, separated, type_tokens, CReadFault, Tok, CType}
 use Rattle.c_tree.specs.declared.token.Tok.TheVariants as tok
 use Rattle.c_tree.specs.declared.token.Part.TheVariants as part
-use Rattle.c_tree.specs.declared.token.CReadFault.{CReadFault}
-use Rattle.c_tree.specs.declared.tree.CType.{CType}
 use Rattle.c_tree.specs.declared.tree.CType.TheVariants as type
-use Rattle.c_tree.specs.Tokens.{Token, Fixed, Wrong}
-use Rattle.c_tree.specs.Trees.{type_tokens, each, separated}
-use Rattle.c_tree.specs.Text.{Lexeme, lexeme}
-use Rattle.c_tree.specs.Grammar.{Symbol, Of, Move, Takes, Becomes, move, first, Stops, here, taken, opened}
 
 -- The table comes to no fault at these tokens.
 pub record Passes (ss : List Symbol) (ts : List Token) : Type 0 where

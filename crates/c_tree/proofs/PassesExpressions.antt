@@ -1,23 +1,9 @@
 -- The table passes the tokens of numbers, expressions and arguments without a fault.
-use Rattle.std.proofs.Common.{◌≡◌, ℕ, zero, suc, ◌^◌, ◌<◌, true, List, [], ◌∷◌, ◌++◌, refl, ap, arith, append_assoc}
-use Rattle.std.specs.Prelude.{nat_lt}
-use Rattle.std.specs.Fmt.{decimal}
-use Rattle.std.specs.Str.Parse.{AllDigits}
-use Rattle.std.proofs.lemmas.Bool.Decides.{nat_tests}
-use Rattle.std.proofs.lemmas.Fmt.{digits_value-decimal}
-use Rattle.std.proofs.lemmas.Str.Parse.{FoldsDigits, numerals_by_fold, tells_digits}
+use Rattle.c_tree.proofs.Common.{◌≡◌, ℕ, zero, suc, ◌^◌, ◌<◌, true, List, [], ◌∷◌, ◌++◌, nat_lt, decimal, refl, ap, append_assoc, arith, nat_tests, digits_value-decimal, FoldsDigits, numerals_by_fold, tells_digits, AllDigits, Becomes, Of, One, OneNumber, Symbol, Takes, move, operation, value_of, FitsArg, FitsExpr, FitsNum, lexeme, Fixed, Token, arg_tokens, expr_tokens, num_token, op_token, COp, Num, N32, N64, Plain}
 use Rattle.c_tree.specs.declared.token.Tok.TheVariants as tok
 use Rattle.c_tree.specs.declared.token.Part.TheVariants as part
-use Rattle.c_tree.specs.declared.tree.Num.{Num}
-use Rattle.c_tree.specs.declared.tree.Num.TheVariants.{N32, N64, Plain}
-use Rattle.c_tree.specs.declared.tree.COp.{COp}
 use Rattle.c_tree.specs.declared.tree.COp.TheVariants as op
 use Rattle.c_tree.specs.Tree as tree
-use Rattle.c_tree.specs.Tokens.{Token, Fixed}
-use Rattle.c_tree.specs.Trees.{num_token, op_token, expr_tokens, arg_tokens}
-use Rattle.c_tree.specs.Text.{lexeme}
-use Rattle.c_tree.specs.Spelled.{FitsNum, FitsExpr, FitsArg}
-use Rattle.c_tree.specs.Grammar.{Symbol, One, OneNumber, Of, Takes, Becomes, move, value_of, operation}
 use Rattle.c_tree.proofs.Passes.{Passes, take, become, become_none}
 
 -- ---- numbers

@@ -1,16 +1,9 @@
 -- The table passes the tokens of statements without a fault.
-use Rattle.std.proofs.Common.{◌≡◌, ℕ, suc, ◌-◌, ◌<◌, length, List, [], ◌∷◌, ◌++◌, Some, None, refl, subst, arith, append_assoc}
-use Rattle.std.specs.List.{AllByRecursion}
+use Rattle.c_tree.proofs.Common.{◌≡◌, ℕ, suc, ◌-◌, ◌<◌, List, [], ◌∷◌, ◌++◌, length, Some, None, refl, subst, append_assoc, arith, AllByRecursion, always, Of, One, Symbol, FitsArg, FitsNum, FitsStmt, Fixed, Named, Token, arg_tokens, case_tokens, each, goto_tokens, op_token, separated, stmt_tokens, type_tokens, CType, N32, N64, Plain}
 use Rattle.c_tree.specs.declared.token.Tok.TheVariants as tok
 use Rattle.c_tree.specs.declared.token.Part.TheVariants as part
-use Rattle.c_tree.specs.declared.tree.CType.{CType}
-use Rattle.c_tree.specs.declared.tree.Num.TheVariants.{N32, N64, Plain}
 use Rattle.c_tree.specs.Tree as tree
-use Rattle.c_tree.specs.Tokens.{Token, Fixed, Named}
-use Rattle.c_tree.specs.Trees.{each, separated, type_tokens, op_token, arg_tokens, goto_tokens, case_tokens, stmt_tokens}
-use Rattle.c_tree.specs.Spelled.{FitsNum, FitsArg, FitsStmt}
-use Rattle.c_tree.specs.Grammar.{Symbol, One, Of}
-use Rattle.c_tree.proofs.SameStatements.{always, through_front, call_front, if_front, switch_front}
+use Rattle.c_tree.proofs.SameStatements.{through_front, call_front, if_front, switch_front}
 use Rattle.c_tree.proofs.Passes.{Passes, take, become, become_any, BehindType, type_passes, pieces_pass}
 use Rattle.c_tree.proofs.PassesExpressions.{BehindExpr, behind_op, paren, semicolon, number_passes, op_passes, expr_passes, arg_passes, right_passes}
 

@@ -1,20 +1,11 @@
 -- A token that a text may hold is read from its own text as itself, where what follows ends it.
-use Rattle.std.proofs.Common.{◌≡◌, ℕ, ◌+◌, Bool, true, false, cond, ◌&&◌, ◌||◌, List, [], ◌∷◌, ◌++◌, length, map, refl, sym, ap, subst, ◌∙◌, arith, rules}
-use Rattle.std.specs.Prelude.{◌==◌, nat_le, not, IsTrue}
-use Rattle.std.specs.List.{list_any, list_all, AllByRecursion}
-use Rattle.std.specs.Str.{bytes_eq}
-use Rattle.std.proofs.lemmas.Bool.Decides.{nat_tests}
-use Rattle.std.proofs.lemmas.Bool.{not-true}
+use Rattle.c_tree.proofs.Common.{◌≡◌, ℕ, ◌+◌, Bool, true, false, cond, not, ◌&&◌, ◌||◌, List, [], ◌∷◌, ◌++◌, map, length, IsTrue, nat_le, ◌==◌, bytes_eq, sym, refl, ap, ◌∙◌, subst, arith, rules, not-true, nat_tests, AllByRecursion, list_all, list_any, all_append, of_each, Begins, Lexeme, and_then, are_digits, comment_end, comment_front, front, is_blank, is_digit, is_letter, is_word_byte, key_word_among, key_words, lexeme, lexemes, long_signs, longer, number_token, one_sign, other_words, past, run, run_token, short_signs, sign_front, two_sign, word_token, Fixed, Named, Number, Token, Wrong, fixed_text, same_tok, suffix_text, token_text, IsName, Tok}
 use denote.Enum.Bare.{same_true}
 use Rattle.c_tree.specs.contracts.token.Tok.{the_type}
-use Rattle.c_tree.specs.declared.token.Tok.{Tok}
 use Rattle.c_tree.specs.declared.token.Tok.TheVariants as tok
 use Rattle.c_tree.specs.declared.token.Suffix.{Suffix}
 use Rattle.c_tree.specs.declared.token.Suffix.TheVariants.{OfPlain, Of32, Of64}
-use Rattle.c_tree.specs.Tokens.{Token, Fixed, Named, Number, Wrong, fixed_text, suffix_text, token_text, same_tok}
-use Rattle.c_tree.specs.Text.{run, past, is_digit, is_letter, is_word_byte, is_blank, key_words, other_words, key_word_among, word_token, are_digits, number_token, run_token, one_sign, two_sign, short_signs, long_signs, Begins, sign_front, comment_front, comment_end, longer, front, Lexeme, lexeme, and_then, lexemes}
-use Rattle.c_tree.specs.WellFormed.{IsName}
-use Rattle.c_tree.proofs.OfEach.{of_each, of_both}
+use Rattle.w2c_base.proofs.Tests.{all_join}
 
 -- ---- tests
 
@@ -133,10 +124,6 @@ word_suffix OfPlain = refl
 word_suffix Of32 = refl
 word_suffix Of64 = refl
 
-all_append : (p : ℕ → Bool) (xs ys : List ℕ) → list_all p xs ≡ true → list_all p ys ≡ true → list_all p (xs ++ ys) ≡ true
-all_append p [] ys a b = b
-all_append p (x ∷ xs) ys a b = let h = both_true (p x) (list_all p xs) a in rw (h.0, all_append p xs ys h.1 b) refl
-
 digit_word : (b : ℕ) → is_digit b ≡ true → is_word_byte b ≡ true
 digit_word b h = grind (arith, nat_tests)
 
@@ -177,7 +164,7 @@ number_read s [] e rest place stop = absurd cc
 number_read s (d ∷ ds) e rest place stop =
     let all = both_true (is_digit d) (list_all is_digit ds) (all_digits (d ∷ ds) e) in
     let w : List ℕ = ds ++ suffix_text s in
-    let words : list_all is_word_byte w ≡ true = all_append is_word_byte ds (suffix_text s) (digits_words ds all.1) (word_suffix s) in
+    let words : list_all is_word_byte w ≡ true = all_join is_word_byte ds (suffix_text s) (digits_words ds all.1) (word_suffix s) in
     let whole : run is_word_byte (w ++ rest) ≡ w = run_all w rest words stop in
     let begins : front d (w ++ rest) ≡ Begins (run_token (d ∷ run is_word_byte (w ++ rest))) (length (run is_word_byte (w ++ rest))) =
     rw (digit_blank d all.0, digit_letter d all.0, all.0) refl in
@@ -372,8 +359,8 @@ IsFixedRead t = IsRead (Fixed t)
 fixed_read : AllByRecursion IsFixedRead fixed_toks
 fixed_read = (
   λ rest place stop. include_read rest place,
-  of_both IsFixedRead key_words (short_signs ++ long_signs) (of_each IsWord IsFixedRead key_word_read key_words words_are)
-      (of_both IsFixedRead short_signs long_signs (of_each IsShort IsFixedRead short_read short_signs shorts_are)
+  all_append IsFixedRead key_words (short_signs ++ long_signs) (of_each IsWord IsFixedRead key_word_read key_words words_are)
+      (all_append IsFixedRead short_signs long_signs (of_each IsShort IsFixedRead short_read short_signs shorts_are)
       (of_each IsFixedReadAnywhere IsFixedRead (λ t any rest place stop. any rest place) long_signs longs_read)),
 )
 

@@ -1,17 +1,12 @@
 -- The definitions at worked texts.
-use Rattle.std.proofs.Common.{false, [], ◌∷◌, Some, refl, lit<}
-use Rattle.std.specs.Prelude.{codes}
-use Rattle.std.proofs.lemmas.Fmt.{decimal_digit}
+use Rattle.c_tree.proofs.Common.{false, [], ◌∷◌, Some, codes, refl, lit<, decimal_digit, here, opened, taken, CSpells, CUpto, N32}
 use Rattle.c_tree.specs.declared.token.Part.TheVariants as part
 use Rattle.c_tree.specs.declared.token.Tok.TheVariants as tok
 use Rattle.c_tree.specs.declared.token.Wanted.TheVariants as wanted
 use Rattle.c_tree.specs.declared.token.CReadFault.TheVariants.{Unexpected, NumberTooLarge}
 use Rattle.c_tree.specs.declared.tree.CType.TheVariants as type
 use Rattle.c_tree.specs.declared.tree.COp.TheVariants as op
-use Rattle.c_tree.specs.declared.tree.Num.TheVariants.{N32}
 use Rattle.c_tree.specs.Tree as tree
-use Rattle.c_tree.specs.Grammar.{here, taken, opened}
-use Rattle.c_tree.specs.Spelled.{CSpells, CUpto}
 
 -- u32 q(u32 x, u32 y) { u32 z = 0u; z = (x / y); return z; }
 division : tree.Item

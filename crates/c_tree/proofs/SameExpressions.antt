@@ -1,13 +1,7 @@
 -- Expressions and arguments with the same tokens are the same.
-use Rattle.std.proofs.Common.{◌≡◌, ℕ, zero, suc, List, [], ◌∷◌, ◌++◌, append_assoc}
-use Rattle.c_tree.specs.declared.token.Tok.{Tok}
+use Rattle.c_tree.proofs.Common.{◌≡◌, ℕ, zero, suc, List, [], ◌∷◌, ◌++◌, append_assoc, FitsArg, FitsExpr, Fixed, Named, Token, arg_tokens, expr_tokens, num_token, op_token, Tok, Num, N32, N64, Plain}
 use Rattle.c_tree.specs.declared.token.Tok.TheVariants as tok
-use Rattle.c_tree.specs.declared.tree.Num.{Num}
-use Rattle.c_tree.specs.declared.tree.Num.TheVariants.{N32, N64, Plain}
 use Rattle.c_tree.specs.Tree as tree
-use Rattle.c_tree.specs.Tokens.{Token, Fixed, Named}
-use Rattle.c_tree.specs.Trees.{num_token, op_token, expr_tokens, arg_tokens}
-use Rattle.c_tree.specs.Spelled.{FitsExpr, FitsArg}
 use Rattle.c_tree.proofs.SameLists.{NotFirst}
 use Rattle.c_tree.proofs.SameWords.{same_num, same_op, op_no_bracket}
 

@@ -1,10 +1,6 @@
 -- Lists of pieces with the same tokens are the same, where the pieces are.
-use Rattle.std.proofs.Common.{◌≡◌, List, [], ◌∷◌, ◌++◌, refl, append_assoc}
-use Rattle.std.specs.List.{AllByRecursion}
-use Rattle.c_tree.specs.declared.token.Tok.{Tok}
+use Rattle.c_tree.proofs.Common.{◌≡◌, List, [], ◌∷◌, ◌++◌, refl, append_assoc, AllByRecursion, Fixed, Token, each, separated, Tok}
 use Rattle.c_tree.specs.declared.token.Tok.TheVariants as tok
-use Rattle.c_tree.specs.Tokens.{Token, Fixed}
-use Rattle.c_tree.specs.Trees.{each, separated}
 
 -- tokens that do not begin with this one
 abbrev pub NotFirst : Tok → List Token → Type 0

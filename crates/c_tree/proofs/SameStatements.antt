@@ -1,13 +1,7 @@
 -- Statements with the same tokens are the same.
-use Rattle.std.proofs.Common.{◌≡◌, ◌∙◌, ℕ, ◌-◌, List, [], ◌∷◌, ◌++◌, Some, None, refl, ap, append_assoc}
-use Rattle.std.specs.List.{AllByRecursion}
+use Rattle.c_tree.proofs.Common.{◌≡◌, ℕ, ◌-◌, List, [], ◌∷◌, ◌++◌, Some, None, refl, ap, ◌∙◌, append_assoc, AllByRecursion, always, FitsArg, FitsExpr, FitsNum, FitsStmt, Fixed, Named, Token, arg_tokens, call_tokens, callee_tokens, case_tokens, each, expr_tokens, goto_tokens, op_token, separated, stmt_tokens, through_tokens, type_tokens, COp, CType}
 use Rattle.c_tree.specs.declared.token.Tok.TheVariants as tok
-use Rattle.c_tree.specs.declared.tree.CType.{CType}
-use Rattle.c_tree.specs.declared.tree.COp.{COp}
 use Rattle.c_tree.specs.Tree as tree
-use Rattle.c_tree.specs.Tokens.{Token, Fixed, Named}
-use Rattle.c_tree.specs.Trees.{each, separated, type_tokens, op_token, expr_tokens, arg_tokens, through_tokens, callee_tokens, call_tokens, goto_tokens, case_tokens, stmt_tokens}
-use Rattle.c_tree.specs.Spelled.{FitsNum, FitsExpr, FitsArg, FitsStmt}
 use Rattle.c_tree.proofs.SameLists.{NotFirst, IsOne, Anything, same_each, same_separated}
 use Rattle.c_tree.proofs.SameWords.{same_num, same_op, op_no_bracket, same_type, type_first, type_no_name}
 use Rattle.c_tree.proofs.SameExpressions.{num_not_fixed, num_not_named, expr_first, arg_first, same_expr, same_arg}
@@ -17,10 +11,6 @@ pair a b = (a, b)
 
 pub same_pair : {A B : Type 0} (x y : A × B) → x.0 ≡ y.0 → x.1 ≡ y.1 → x ≡ y
 same_pair x y e f = ap (λ a. pair a x.1) e ∙ ap (λ b. pair y.0 b) f
-
-pub always : {A : Type 0} (xs : List A) → AllByRecursion (λ x. Unit {0}) xs
-always [] = tt
-always (x ∷ xs) = (tt, always xs)
 
 -- ---- calls
 

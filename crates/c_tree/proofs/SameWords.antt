@@ -1,17 +1,8 @@
 -- Types, numbers and operators with the same tokens are the same.
-use Rattle.std.proofs.Common.{◌≡◌, ℕ, Bool, true, false, List, [], ◌∷◌, ◌++◌, refl, ap, arith}
-use Rattle.std.proofs.lemmas.Fmt.{decimal_injective}
-use Rattle.c_tree.specs.declared.token.Tok.{Tok}
+use Rattle.c_tree.proofs.Common.{◌≡◌, ℕ, Bool, true, false, List, [], ◌∷◌, ◌++◌, refl, ap, arith, decimal_injective, FitsNum, Fixed, Named, Token, num_token, op_token, type_tokens, Tok, COp, CType, Num, N32, N64, Plain}
 use Rattle.c_tree.specs.declared.token.Tok.TheVariants as tok
-use Rattle.c_tree.specs.declared.tree.CType.{CType}
 use Rattle.c_tree.specs.declared.tree.CType.TheVariants as type
-use Rattle.c_tree.specs.declared.tree.Num.{Num}
-use Rattle.c_tree.specs.declared.tree.Num.TheVariants.{N32, N64, Plain}
-use Rattle.c_tree.specs.declared.tree.COp.{COp}
 use Rattle.c_tree.specs.declared.tree.COp.TheVariants as op
-use Rattle.c_tree.specs.Tokens.{Token, Fixed, Named}
-use Rattle.c_tree.specs.Trees.{type_tokens, num_token, op_token}
-use Rattle.c_tree.specs.Spelled.{FitsNum}
 use Rattle.c_tree.proofs.SameLists.{NotFirst}
 
 -- ---- numbers

@@ -1,8 +1,6 @@
 -- What the tests of well formed units tell.
-use Rattle.std.proofs.Common.{◌≡◌, ℕ, suc, ◌+◌, ◌<◌, Bool, true, false, ◌&&◌, ◌||◌, List, [], ◌∷◌, length, get_or, drop, drop-cons, map, refl, sym, ap, ◌∙◌, add-one}
-use Rattle.std.specs.List.{list_all, list_any}
+use Rattle.c_tree.proofs.Common.{◌≡◌, ℕ, suc, ◌+◌, ◌<◌, Bool, true, false, ◌&&◌, ◌||◌, List, [], ◌∷◌, map, length, get_or, drop, sym, refl, ap, ◌∙◌, add-one, drop-cons, list_all, list_any, expr_formed}
 use Rattle.c_tree.specs.Tree as tree
-use Rattle.c_tree.specs.Tests.{expr_formed}
 
 pub list_all_map : {A B : Type 0} (p : B → Bool) (view : A → B) (xs : List A) → list_all p (map view xs) ≡ list_all (λ x. p (view x)) xs
 list_all_map p view [] = refl

@@ -1,15 +1,6 @@
 -- A unit passes the test of well formed units exactly where it is one.
-use Rattle.std.proofs.Common.{◌≡◌, ℕ, zero, suc, ◌-◌, ◌^◌, ◌<◌, Bool, true, false, ◌&&◌, List, [], ◌∷◌, length, get_or, Fits, w8, Option, Some, None, refl, sym, subst, arith}
-use Rattle.std.specs.Prelude.{nat_lt}
-use Rattle.std.specs.List.{list_all, AllByRecursion}
-use Rattle.std.proofs.lemmas.Bool.{ltb-true}
-use Rattle.std.proofs.lemmas.Bool.Decides.{nat_tests}
-use Rattle.c_tree.specs.declared.tree.Num.{Num}
-use Rattle.c_tree.specs.declared.tree.Num.TheVariants.{N32, N64, Plain}
+use Rattle.c_tree.proofs.Common.{◌≡◌, ℕ, zero, suc, ◌-◌, ◌^◌, ◌<◌, Bool, true, false, ◌&&◌, List, [], ◌∷◌, length, get_or, nat_lt, Some, None, Option, sym, refl, subst, arith, w8, Fits, ltb-true, nat_tests, AllByRecursion, list_all, FitsArg, FitsBody, FitsCallee, FitsExpr, FitsItem, FitsNum, FitsStmt, FitsValue, depth_limit, arg_formed, body_formed, bytes_formed, call_formed, callee_formed, case_formed, expr_formed, is_byte, item_formed, local_formed, named_if_any, number_fits, param_formed, stmt_formed, value_formed, IsNamedIfAny, IsWellFormed, NamedArg, NamedBody, NamedCallee, NamedExpr, NamedItem, NamedStmt, is_name, Num, N32, N64, Plain}
 use Rattle.c_tree.specs.Tree as tree
-use Rattle.c_tree.specs.Spelled.{FitsNum, FitsExpr, FitsArg, FitsCallee, FitsStmt, FitsBody, FitsValue, FitsItem, depth_limit}
-use Rattle.c_tree.specs.WellFormed.{is_name, IsNamedIfAny, NamedExpr, NamedArg, NamedCallee, NamedStmt, NamedBody, NamedItem, IsWellFormed}
-use Rattle.c_tree.specs.Tests.{number_fits, expr_formed, arg_formed, callee_formed, named_if_any, case_formed, call_formed, stmt_formed, local_formed, param_formed, body_formed, value_formed, is_byte, bytes_formed, item_formed}
 use Rattle.c_tree.proofs.Proper.{both_true}
 use Rattle.c_tree.proofs.Tested.{no_room}
 use Rattle.c_tree.proofs.TreeIsProper.{both, NamedCase, FitsCase, NamedLocal, FitsLocal, NamedParam}

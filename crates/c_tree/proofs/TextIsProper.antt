@@ -1,13 +1,6 @@
 -- Each token of a text but the end and what is wrong is proper.
-use Rattle.std.proofs.Common.{◌≡◌, ℕ, zero, suc, ◌+◌, ◌⊎◌, inl, inr, Bool, true, false, cond, ◌&&◌, List, [], ◌∷◌, ◌++◌, map, Option, Some, None, refl, ap, subst}
-use Rattle.std.specs.Prelude.{codes, ◌==◌, not}
-use Rattle.std.specs.List.{list_any, list_all, AllByRecursion}
-use Rattle.std.specs.Str.{bytes_eq}
-use Rattle.c_tree.specs.declared.token.Tok.{Tok}
+use Rattle.c_tree.proofs.Common.{◌≡◌, ℕ, zero, suc, ◌+◌, Bool, true, false, cond, not, ◌&&◌, ◌⊎◌, List, [], ◌∷◌, ◌++◌, map, ◌==◌, Some, None, codes, Option, bytes_eq, refl, ap, subst, inl, inr, AllByRecursion, list_all, list_any, Begins, Front, Gap, Lexeme, and_then, are_digits, comment_end, comment_front, front, is_blank, is_digit, is_include, is_letter, is_word_byte, key_word_among, key_words, lexemes, long_signs, longer, number_token, one_sign, other_words, past, run, short_signs, sign_among, sign_front, tokens, two_sign, word_token, Fixed, Named, Number, Token, Wrong, fixed_text, IsName, Tok}
 use Rattle.c_tree.specs.declared.token.Tok.TheVariants as tok
-use Rattle.c_tree.specs.Tokens.{Token, Fixed, Named, Number, Wrong, fixed_text}
-use Rattle.c_tree.specs.Text.{run, past, is_digit, is_letter, is_word_byte, is_blank, key_words, other_words, key_word_among, word_token, are_digits, number_token, one_sign, two_sign, sign_among, short_signs, long_signs, longer, Front, Gap, Begins, comment_end, comment_front, sign_front, is_include, front, Lexeme, and_then, lexemes, tokens}
-use Rattle.c_tree.specs.WellFormed.{IsName}
 use Rattle.c_tree.proofs.Proper.{IsProper, is_fixed}
 use Rattle.c_tree.proofs.Laid.{tokens_from}
 

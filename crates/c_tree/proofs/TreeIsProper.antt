@@ -1,25 +1,9 @@
 -- The tokens of a unit are proper exactly where its names are names and its numbers are within their types.
-use Rattle.std.proofs.Common.{◌≡◌, ℕ, zero, suc, ◌-◌, ◌^◌, ◌<◌, ◌≤◌, Bool, true, false, List, [], ◌∷◌, ◌++◌, get_or, Option, Some, None, refl, arith}
-use Rattle.std.specs.Prelude.{◌==◌}
-use Rattle.std.specs.List.{list_all, AllByRecursion}
-use Rattle.std.specs.Fmt.{decimal}
-use Rattle.std.specs.Str.Parse.{AllDigits, IsNumeral}
-use Rattle.std.proofs.lemmas.Bool.Decides.{nat_tests}
-use Rattle.std.proofs.lemmas.Fmt.{decimal_is_IsNumeral, first_decimal, decimal_digit}
-use Rattle.std.proofs.lemmas.Str.Parse.{digit_from_value}
+use Rattle.c_tree.proofs.Common.{◌≡◌, ℕ, zero, suc, ◌-◌, ◌^◌, ◌<◌, ◌≤◌, Bool, true, false, List, [], ◌∷◌, ◌++◌, get_or, ◌==◌, Some, None, decimal, Option, refl, arith, nat_tests, decimal_digit, decimal_is_IsNumeral, first_decimal, digit_from_value, AllByRecursion, list_all, AllDigits, IsNumeral, always, FitsArg, FitsBody, FitsExpr, FitsItem, FitsNum, FitsStmt, FitsValue, are_digits, is_digit, Fixed, Named, Token, arg_tokens, call_tokens, callee_tokens, case_tokens, close_tokens, each, expr_tokens, goto_tokens, item_tokens, local_tokens, maybe_name, num_token, op_token, param_tokens, separated, static_tokens, stmt_tokens, type_tokens, unit_tokens, value_tokens, IsName, IsNamedIfAny, NamedArg, NamedBody, NamedCallee, NamedExpr, NamedItem, NamedStmt, COp, CType, Num, N32, N64, Plain}
 use Rattle.c_tree.specs.declared.token.Tok.TheVariants as tok
-use Rattle.c_tree.specs.declared.tree.CType.{CType}
 use Rattle.c_tree.specs.declared.tree.CType.TheVariants as type
-use Rattle.c_tree.specs.declared.tree.Num.{Num}
-use Rattle.c_tree.specs.declared.tree.Num.TheVariants.{N32, N64, Plain}
-use Rattle.c_tree.specs.declared.tree.COp.{COp}
 use Rattle.c_tree.specs.declared.tree.COp.TheVariants as op
 use Rattle.c_tree.specs.Tree as tree
-use Rattle.c_tree.specs.Tokens.{Token, Fixed, Named}
-use Rattle.c_tree.specs.Text.{are_digits, is_digit}
-use Rattle.c_tree.specs.Trees.{each, separated, type_tokens, num_token, op_token, expr_tokens, arg_tokens, callee_tokens, call_tokens, goto_tokens, case_tokens, stmt_tokens, local_tokens, maybe_name, param_tokens, close_tokens, static_tokens, value_tokens, item_tokens, unit_tokens}
-use Rattle.c_tree.specs.Spelled.{FitsNum, FitsExpr, FitsArg, FitsStmt, FitsBody, FitsValue, FitsItem}
-use Rattle.c_tree.specs.WellFormed.{IsName, IsNamedIfAny, NamedExpr, NamedArg, NamedCallee, NamedStmt, NamedBody, NamedItem}
 use Rattle.c_tree.proofs.Proper.{IsProper}
 
 abbrev pub AllProper : List Token → Type 0
@@ -147,10 +131,6 @@ arg_proper : (d : ℕ) (a : tree.Arg) → NamedArg a × FitsArg d a → AllPrope
 arg_proper d (tree.Value e) is = expr_proper e d is.0 is.1
 arg_proper d (tree.Address n) is = (refl, (is.0, tt))
 arg_proper d (tree.OfFunction n) is = (refl, (refl, (refl, (is.0, tt))))
-
-always : {A : Type 0} (xs : List A) → AllByRecursion (λ x. Unit {0}) xs
-always [] = tt
-always (x ∷ xs) = (tt, always xs)
 
 types_proper : (ts : List CType) → AllProper (separated type_tokens ts)
 types_proper ts = separated_proper type_tokens (λ t. Unit {0}) (λ t is. type_proper t) ts (always ts)

@@ -1,12 +1,7 @@
 -- Some text spells a unit exactly where it is well formed.
-use Rattle.std.proofs.Common.{List, [], ◌∷◌, ◌++◌, refl}
+use Rattle.c_tree.proofs.Common.{List, [], ◌∷◌, ◌++◌, refl, laid, Formed, depth_limit, Fixed, token_text, each, item_tokens, unit_tokens, IsWellFormed}
 use Rattle.c_tree.specs.declared.token.Tok.TheVariants as tok
 use Rattle.c_tree.specs.Tree as tree
-use Rattle.c_tree.specs.Tokens.{Fixed, token_text}
-use Rattle.c_tree.specs.Trees.{each, item_tokens, unit_tokens}
-use Rattle.c_tree.specs.Layout.{laid}
-use Rattle.c_tree.specs.Spelled.{Formed, depth_limit}
-use Rattle.c_tree.specs.WellFormed.{IsWellFormed}
 use Rattle.c_tree.proofs.Laid.{laid_tokens, blank_apart}
 use Rattle.c_tree.proofs.TextIsProper.{tokens_proper}
 use Rattle.c_tree.proofs.TreeIsProper.{unit_proper, unit_named}

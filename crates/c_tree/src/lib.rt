@@ -10,7 +10,7 @@ mod token;
 mod tree;
 mod unit;
 
-pub use name::words_that_are_names;
+pub use name::{KEY_WORDS, is_other_word, words_that_are_names};
 pub use rule_cases::{
     declaration_cases, ending_cases, expression_cases, name_cases, order_cases, type_cases,
     use_cases,

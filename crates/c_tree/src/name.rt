@@ -1,28 +1,35 @@
 // Which words are names.
-ghost use Rattle.std.specs.Prelude.{◌≡◌, ◌≢◌, ◌^◌, ◌<◌, ℕ, true, List, ◌∷◌, ◌++◌, codes};
+ghost use Rattle.std.specs.Prelude.{◌≡◌, ◌≢◌, ◌^◌, ◌<◌, ℕ, true, List, ◌∷◌, ◌++◌, codes, map};
 ghost use Rattle.std.specs.Fmt.{decimal};
 ghost use Rattle.std.specs.List.{list_all, list_any};
 ghost use Rattle.std.specs.Str.{bytes_eq};
-ghost use Rattle.c_tree.specs.Text.{is_letter, is_word_byte};
+ghost use Rattle.c_tree.specs.Text.{is_letter, is_word_byte, other_words};
+ghost use Rattle.c_tree.specs.Tokens.{fixed_text};
 ghost use Rattle.c_tree.specs.WellFormed.{is_key_word, is_name, IsName};
 
-/// The key words of the subset, then the other ones of C11.
-const KEY_WORDS: [&[u8]; 50] = [
-    b"static",
-    b"const",
-    b"void",
-    b"u8",
-    b"u32",
-    b"u64",
-    b"w2c_mem",
-    b"w2c_tab",
-    b"w2c_fn",
-    b"goto",
-    b"if",
-    b"switch",
-    b"case",
-    b"default",
-    b"return",
+use crate::token::Tok;
+
+/// The key words of the subset.
+pub const KEY_WORDS: [Tok; 15] = [
+    Tok::WordStatic,
+    Tok::WordConst,
+    Tok::WordVoid,
+    Tok::WordU8,
+    Tok::WordU32,
+    Tok::WordU64,
+    Tok::WordW2cMem,
+    Tok::WordW2cTab,
+    Tok::WordW2cFn,
+    Tok::WordGoto,
+    Tok::WordIf,
+    Tok::WordSwitch,
+    Tok::WordCase,
+    Tok::WordDefault,
+    Tok::WordReturn,
+];
+
+/// The other key words of C11 (6.4.1).
+const OTHER_WORDS: [&[u8]; 35] = [
     b"auto",
     b"break",
     b"char",
@@ -73,7 +80,26 @@ pub fn is_name(name: &[u8]) -> bool
 fn is_key_word(word: &[u8]) -> bool
     ensures { result ≡ is_key_word word.now }
 {
-    is_among(word, &KEY_WORDS)
+    is_text_among(word, &KEY_WORDS) || is_other_word(word)
+}
+
+// Whether a word is the text of one of these tokens.
+fn is_text_among(word: &[u8], toks: &[Tok]) -> bool
+    ensures { result ≡ list_any (bytes_eq word.now) (map fixed_text toks.now) }
+{
+    for tok in toks {
+        if word == tok.text() {
+            return true;
+        }
+    }
+    false
+}
+
+/// Whether a word is one of the other key words of C11 (6.4.1).
+pub fn is_other_word(word: &[u8]) -> bool
+    ensures { result ≡ list_any (bytes_eq word.now) other_words }
+{
+    is_among(word, &OTHER_WORDS)
 }
 
 fn is_among(word: &[u8], words: &[&[u8]]) -> bool

@@ -1,4 +1,9 @@
 // The tree of a unit, from its items down to expressions, and the content of a header.
+ghost use Rattle.std.specs.Prelude.{◌≡◌};
+ghost use Rattle.std.specs.Option.{option_copied};
+ghost use Rattle.c_tree.specs.Rules.{label_of};
+ghost use Rattle.c_tree.specs.View.{stmt_of};
+
 use std::boxed::Box;
 use w2c_base::{Bytes, Sequence};
 
@@ -109,6 +114,26 @@ pub enum Stmt {
     Switch(Expr, Cases, Name),
     ReturnNone,
     Return(Arg),
+}
+
+impl Stmt {
+    /// The name of the label that a statement is.
+    pub fn label(&self) -> Option<&[u8]>
+        ensures { option_copied result ≡ label_of (stmt_of self.now) }
+    {
+        match self {
+            Stmt::Label(name) => Some(name.as_slice()),
+            Stmt::Null
+            | Stmt::Set(_, _)
+            | Stmt::SetStar(_, _)
+            | Stmt::Call(_, _, _)
+            | Stmt::Goto(_)
+            | Stmt::If(_, _, _, _)
+            | Stmt::Switch(_, _, _)
+            | Stmt::ReturnNone
+            | Stmt::Return(_) => None,
+        }
+    }
 }
 
 /// Statements in order.

@@ -1,25 +1,14 @@
 -- Units in which one is trimmed run as before.
-use Rattle.std.proofs.Common.{◌≡◌, ℕ, zero, suc, ◌-◌, ◌==◌, Bool, true, false, not, if◌then◌else◌, List, [], ◌∷◌, ◌++◌, length, map, take, slice_get, Option, Some, None, option_map, refl, sym, ap, ◌∙◌, subst, arith}
-use Rattle.std.proofs.lemmas.Bool.{eqb-true}
-use Rattle.w2c_base.specs.Lookup.{if_found, named}
-use Rattle.w2c_base.specs.Run.{Host, Reply}
+use Rattle.c_trim.proofs.Common.{◌≡◌, ℕ, zero, suc, ◌-◌, Bool, true, false, not, List, [], ◌∷◌, ◌++◌, map, length, take, if◌then◌else◌, ◌==◌, slice_get, Some, None, Option, option_map, sym, refl, ap, ◌∙◌, subst, arith, eqb-true, by_test, if_found, named, Host, Reply, Name, Program, SymbolCall, file_memory, file_table, file_var, objects_of, CRun, Ended, OutOfSteps, Outcome, Stopped, c_run, Asks, CValue, Element, FuncAddress, FuncPointer, HostFunc, Number, Objects, Pointer, Stop, Stuck, Table, Trapped, Undefined, UnitFunc, AreDistinct, ObjectNames, declared_names, names_of, Renaming, address, AllKeepRules, RunsAlike, among, left_out, new_number, new_outcome, new_stop, TellsNeeded, kept, stays}
 use Rattle.c_tree.specs.Tree as tree
-use Rattle.c_tree.specs.Scope.{Name}
-use Rattle.c_meaning.specs.State.{FuncAddress, UnitFunc, HostFunc, CValue, Number, Pointer, FuncPointer, Table, Element, Objects, Stop, Trapped, Undefined, Asks, Stuck}
-use Rattle.c_meaning.specs.Linking.{Program, SymbolCall}
-use Rattle.c_meaning.specs.Machine.{file_var, file_memory, file_table, objects_of}
-use Rattle.c_meaning.specs.Run.{CRun, Outcome, Ended, Stopped, OutOfSteps, c_run}
-use Rattle.c_renaming.specs.Renaming.{Renaming, address}
 use Rattle.c_renaming.specs.Renamed as renamed
 use Rattle.c_renaming.specs.Same.{SameRun}
-use Rattle.c_renaming.specs.ObjectNames.{ObjectNames, AreDistinct, names_of, declared_names}
 use Rattle.c_renaming.specs.Trimming as whole
 use Rattle.c_renaming.proofs.LookUps.{same_objects}
 use Rattle.c_renaming.proofs.NamesStay.{names_stay}
 use Rattle.c_renaming.proofs.Runs.{runs_same}
-use Rattle.c_trim.specs.Trim.{stays, kept, TellsNeeded}
-use Rattle.c_trim.specs.Runs.{among, left_out, new_number, new_stop, new_outcome, AllKeepRules, RunsAlike}
-use Rattle.c_trim.proofs.Lists.{by_test, map_left}
+use Rattle.w2c_base.proofs.Options.{option_itself, map_itself}
+use Rattle.c_trim.proofs.Lists.{map_left}
 use Rattle.c_trim.proofs.RulesHold.{rules_hold}
 use Rattle.c_trim.proofs.Distinct.{names_distinct, var_declares, memory_declares, table_declares}
 use Rattle.c_trim.proofs.KeptText.{AreNamed}
@@ -63,14 +52,6 @@ at_place f g (a ∷ xs) (b ∷ ys) e (suc i) x there =
     record { item = found.item; there = found.there; is = found.is }
 
 -- ---- a renaming without new names leaves values as they are
-
-option_itself : {A : Type 0} (f : A → A) → ((a : A) → f a ≡ a) → (o : Option A) → option_map f o ≡ o
-option_itself f same None = refl
-option_itself f same (Some a) = ap Some (same a)
-
-map_itself : {A : Type 0} (f : A → A) → ((a : A) → f a ≡ a) → (xs : List A) → map f xs ≡ xs
-map_itself f same [] = refl
-map_itself f same (x ∷ xs) = λ i. same x i ∷ map_itself f same xs i
 
 module _ (p : Program) (used stay : whole.Stays) where
   abbrev σ : Renaming

@@ -1,19 +1,10 @@
 -- In a unit that keeps the rules no two objects of a kind have one name.
-use Rattle.std.proofs.Common.{◌≡◌, ◌||◌, Bool, true, false, not, List, [], ◌∷◌, ◌++◌, length, map, filter_map, bytes_eq, Option, Some, None, option_map, refl, sym, ap, ◌∙◌, subst}
-use Rattle.std.specs.Prelude.{⊤}
-use Rattle.std.specs.List.{AllByRecursion, list_all, cons_option}
-use Rattle.std.proofs.lemmas.Slice.Eq.{bytes_eq-Decides}
-use Rattle.w2c_base.proofs.Conjunctions.{both_hold}
-use Rattle.c_tree.specs.declared.tree.CType.{CType}
+use Rattle.c_trim.proofs.Common.{◌≡◌, Bool, true, false, not, ◌||◌, List, [], ◌∷◌, ◌++◌, map, length, Some, None, Option, option_map, filter_map, bytes_eq, sym, refl, ap, ◌∙◌, subst, list_all-append, bytes_eq-Decides, AllByRecursion, cons_option, list_all, ⊤, both_hold, of_each, by_test, Name, name_of, CType, file_memory, file_table, file_var, CValue, Memory, Table, AreDistinct}
 use Rattle.c_tree.specs.declared.tree.CType.TheVariants as type
 use Rattle.c_tree.specs.Tree as tree
-use Rattle.c_tree.specs.Scope.{Name, name_of}
 use Rattle.c_tree.specs.Rules as rule
-use Rattle.c_meaning.specs.State.{CValue, Memory, Table}
-use Rattle.c_meaning.specs.Machine.{file_var, file_memory, file_table}
 use Rattle.c_renaming.specs.Kept as text
-use Rattle.c_renaming.specs.ObjectNames.{AreDistinct}
-use Rattle.c_trim.proofs.Lists.{by_test, each, all_of_both, take_front}
+use Rattle.c_trim.proofs.Lists.{take_front}
 use Rattle.c_trim.proofs.RulesHold.{ItemsHold, moved}
 
 -- the two may be declared one after the other
@@ -25,10 +16,10 @@ follow_all : (before items : List tree.Item) → ItemsHold (before ++ items) (le
 follow_all before [] hold = tt
 follow_all before (y ∷ items) hold = (
   sym (ap (list_all (λ x. may_follow x y)) (take_front before (y ∷ items))) ∙ hold.0.0.0,
-  each (λ (z : tree.Item). list_all (λ x. may_follow x z) (before ++ y ∷ []) ≡ true)
+  of_each (λ (z : tree.Item). list_all (λ x. may_follow x z) (before ++ y ∷ []) ≡ true)
       (λ (z : tree.Item). list_all (λ x. may_follow x z) before ≡ true)
       (λ z e. (both_hold (list_all (λ x. may_follow x z) before) (list_all (λ x. may_follow x z) (y ∷ []))
-      (sym (all_of_both (λ x. may_follow x z) before (y ∷ [])) ∙ e)).0) items
+      (sym (list_all-append (λ x. may_follow x z) before (y ∷ [])) ∙ e)).0) items
       (follow_all (before ++ y ∷ []) items (moved before y items hold.1)),
 )
 
@@ -39,10 +30,10 @@ InOrder (x ∷ items) = AllByRecursion (λ (y : tree.Item). may_follow x y ≡ t
 pub in_order : (before items : List tree.Item) → ItemsHold (before ++ items) (length before) items → InOrder items
 in_order before [] hold = tt
 in_order before (x ∷ items) hold = (
-  each (λ (z : tree.Item). list_all (λ y. may_follow y z) (before ++ x ∷ []) ≡ true) (λ (z : tree.Item). may_follow x z ≡ true)
+  of_each (λ (z : tree.Item). list_all (λ y. may_follow y z) (before ++ x ∷ []) ≡ true) (λ (z : tree.Item). may_follow x z ≡ true)
       (λ z e. (both_hold (may_follow x z) true
       (both_hold (list_all (λ y. may_follow y z) before) (list_all (λ y. may_follow y z) (x ∷ []))
-      (sym (all_of_both (λ y. may_follow y z) before (x ∷ [])) ∙ e)).1).0) items
+      (sym (list_all-append (λ y. may_follow y z) before (x ∷ [])) ∙ e)).1).0) items
       (follow_all (before ++ x ∷ []) items (moved before x items hold.1)),
   in_order (before ++ x ∷ []) items (moved before x items hold.1),
 )

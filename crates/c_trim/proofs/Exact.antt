@@ -1,19 +1,8 @@
 -- Where all that is needed was reached, what was reached is what stays of the unit.
-use Rattle.std.proofs.Common.{◌≡◌, ◌⊎◌, inl, inr, ℕ, zero, suc, ◌+◌, ◌&&◌, ◌||◌, Bool, true, false, not, if◌then◌else◌, List, [], ◌∷◌, length, bytes_eq, is_some, slice_get, Option, Some, None, refl, sym, ap, ◌∙◌, subst, arith}
-use Rattle.std.specs.Prelude.{slice_index_or, zip}
-use Rattle.std.specs.List.{AllByRecursion, list_any, position_from, range_with_len}
-use Rattle.std.proofs.lemmas.List.{take_all}
-use Rattle.std.proofs.lemmas.Slice.Eq.{bytes_eq-Decides}
-use Rattle.w2c_base.proofs.Conjunctions.{both_hold}
-use Rattle.w2c_base.specs.Lookup.{numbered}
+use Rattle.c_trim.proofs.Common.{◌≡◌, ℕ, zero, suc, ◌+◌, Bool, true, false, not, ◌&&◌, ◌||◌, ◌⊎◌, List, [], ◌∷◌, length, is_some, if◌then◌else◌, slice_get, slice_index_or, Some, None, Option, zip, bytes_eq, sym, refl, ap, ◌∙◌, subst, inl, inr, arith, take_all, bytes_eq-Decides, AllByRecursion, list_any, position_from, range_with_len, both_hold, all_at, all_from, by_test, same_tests, numbered, KeepsRules, defines, has_body, Name, is_among, name_of, AreAllReached, KnowsDefiners, Reached, definer, is_in, is_reached, IsNeeded, IsTrimmed, body_functions, is_external, item_functions, kept, leads, names, stays}
 use Rattle.c_tree.specs.Tree as tree
-use Rattle.c_tree.specs.FirstBroken.{KeepsRules}
 use Rattle.c_tree.specs.Rules as rule
-use Rattle.c_tree.specs.Rules.{defines, has_body}
-use Rattle.c_tree.specs.Scope.{Name, is_among, name_of}
-use Rattle.c_trim.specs.Trim.{IsNeeded, IsTrimmed, body_functions, is_external, item_functions, kept, leads, names, stays}
-use Rattle.c_trim.specs.Marks.{Reached, KnowsDefiners, definer, is_in, is_reached, AreAllReached}
-use Rattle.c_trim.proofs.Lists.{by_test, both_and, or_left, or_right}
+use Rattle.c_trim.proofs.Lists.{both_and, or_left, or_right}
 use Rattle.c_trim.proofs.RulesHold.{ItemsHold, item_at, rules_hold}
 use Rattle.c_trim.proofs.KeptText.{AreNamed, are_named}
 use Rattle.c_trim.proofs.Distinct.{InOrder, in_order, may_follow}
@@ -73,15 +62,6 @@ there_from test k (y ∷ xs) (suc i) x there e =
     or_right (test (k, y)) (list_any test (from (k + 1) xs))
     (there_from test (k + 1) xs i x there (subst (λ m. test (m, x) ≡ true) n e))
 
-each_place : {A : Type 0} (P : A → Type 0) (xs : List A) → ((i : ℕ) (x : A) → slice_get xs i ≡ Some x → P x) → AllByRecursion P xs
-each_place P [] holds = tt
-each_place P (x ∷ xs) holds = (holds 0 x refl, each_place P xs (λ i. holds (suc i)))
-
-at_place : {A : Type 0} (P : A → Type 0) (xs : List A) (i : ℕ) (x : A) → AllByRecursion P xs → slice_get xs i ≡ Some x → P x
-at_place P [] i x all there = cc
-at_place P (y ∷ xs) zero x all there = let same : y ≡ x = cc in subst P same all.0
-at_place P (y ∷ xs) (suc i) x all there = at_place P xs i x all.1 there
-
 -- ---- a function is defined once
 
 both_define : (x y : tree.Item) (name : Name) → defines name x ≡ true → defines name y ≡ true → may_follow x y ≡ true → ⊥
@@ -109,7 +89,7 @@ one_definer_from name k (x ∷ items) order zero item there e =
     ap (λ b. if b then Some k else position_from (defines name) (k + 1) items) (ap (defines name) same ∙ e) ∙ ap Some n
 one_definer_from name k (x ∷ items) order (suc i) item there e =
     by_test (defines name x)
-    (λ is. absurd (both_define x item name is e (at_place (λ (y : tree.Item). may_follow x y ≡ true) items i item order.0 there)))
+    (λ is. absurd (both_define x item name is e (all_at (λ (y : tree.Item). may_follow x y ≡ true) items i item order.0 there)))
     (λ is. let n : k + 1 + i ≡ k + suc i = omega arith in
     ap (λ b. if b then Some k else position_from (defines name) (k + 1) items) is
     ∙ one_definer_from name (k + 1) items order.1 i item there e ∙ ap Some n)
@@ -234,11 +214,6 @@ module _ (unit : List tree.Item) (keeps : KeepsRules unit) (table : List (Name �
 
   -- ---- the same stays
 
-  alike : (b c : Bool) → (b ≡ true → c ≡ true) → (c ≡ true → b ≡ true) → b ≡ c
-  alike true c there back = sym (there refl)
-  alike false true there back = back refl
-  alike false false there back = refl
-
   same_name : (f : tree.Func) (i : ℕ) → slice_get unit i ≡ Some (tree.Function f) → f.is_static ≡ true → needed f.name
       ≡ is_reached table r.0 f.name
   same_name f i there static =
@@ -247,7 +222,7 @@ module _ (unit : List tree.Item) (keeps : KeepsRules unit) (table : List (Name �
       let m : ℕ = found.0 in
       let reach_is : is_reached table r.0 f.name ≡ flag r.0 m =
       ap (λ (o : Option ℕ). elim o as (λ _. Bool) [ None ↦ false | Some j ↦ slice_index_or r.0 j false ]) (knows f.name ∙ found.1) in
-      alike (needed f.name) (flag r.0 m)
+      same_tests (needed f.name) (flag r.0 m)
       (λ is. let need = is_needed f.name is in flagged need.chain f.name need.leads_there m found.1)
       (λ is. back (defined_at unit f.name m found.1) is) ∙ sym reach_is
     where
@@ -263,10 +238,10 @@ module _ (unit : List tree.Item) (keeps : KeepsRules unit) (table : List (Name �
 
           by : name_of d.item ≡ f.name → (is_external d.item ≡ true) ⊎ IsNeeded unit (name_of d.item) → needed f.name ≡ true
           by name (inl external) =
-              let symbol = external_symbol d.item external (at_place (λ (item : tree.Item). rule.file_name_is_free item
+              let symbol = external_symbol d.item external (all_at (λ (item : tree.Item). rule.file_name_is_free item
               ≡ true) unit m d.item free d.there) in
               absurd (never (rule.is_symbol f.name) (ap rule.is_symbol (sym name) ∙ symbol)
-              (static_own f static (at_place (λ (item : tree.Item). rule.file_name_is_free item
+              (static_own f static (all_at (λ (item : tree.Item). rule.file_name_is_free item
               ≡ true) unit i (tree.Function f) free there)))
             where
               never : (b : Bool) → b ≡ true → b ≡ false → ⊥
@@ -292,7 +267,7 @@ module _ (unit : List tree.Item) (keeps : KeepsRules unit) (table : List (Name �
   trimmed_by = record {
     needed = needed;
     tells = λ x. (is_needed x, λ need. tells_needed need.chain x need.leads_there);
-    is = same_kept unit (each_place (λ (item : tree.Item). stays needed item ≡ stays (is_reached table r.0) item) unit same_item);
+    is = same_kept unit (all_from (λ (item : tree.Item). stays needed item ≡ stays (is_reached table r.0) item) unit same_item);
   }
 
 pub needed_kept : (items unit : List tree.Item) → items ≡ unit → KeepsRules unit → (table : List (Name × ℕ)) → KnowsDefiners table items

@@ -1,10 +1,6 @@
 -- A trimmed unit in the place of the given one.
-use Rattle.std.proofs.Common.{◌≡◌, List, length, sym, subst}
+use Rattle.c_trim.proofs.Common.{◌≡◌, List, length, sym, subst, fits, link_refusal, c_run, RunsAlike, RunsInPlaceOf, among, IsTrimmed}
 use Rattle.c_tree.specs.Tree as tree
-use Rattle.c_meaning.specs.Linking.{fits, link_refusal}
-use Rattle.c_meaning.specs.Run.{c_run}
-use Rattle.c_trim.specs.Trim.{IsTrimmed}
-use Rattle.c_trim.specs.Runs.{among, RunsAlike, RunsInPlaceOf}
 use Rattle.c_trim.proofs.Links.{same_link, same_fits}
 use Rattle.c_trim.proofs.AlikeRuns.{runs_alike}
 

@@ -1,18 +1,9 @@
 -- What stays of a unit keeps the rules that the unit keeps, where the functions that it names stay.
-use Rattle.std.proofs.Common.{◌≡◌, ℕ, ◌+◌, ◌&&◌, ◌||◌, Bool, true, false, not, if◌then◌else◌, List, [], ◌∷◌, ◌++◌, length, map, filter_map, take, bytes_eq, is_some, Option, Some, None, refl, sym, ap, ◌∙◌, subst, append_assoc}
-use Rattle.std.specs.List.{AllByRecursion, list_all, list_any}
-use Rattle.std.proofs.lemmas.List.{append-nil}
-use Rattle.std.proofs.lemmas.List.Elements.{filter-append}
-use Rattle.std.proofs.lemmas.Slice.Eq.{bytes_eq-Decides}
-use Rattle.w2c_base.proofs.Conjunctions.{both_hold}
-use Rattle.w2c_base.specs.Lookup.{named}
+use Rattle.c_trim.proofs.Common.{◌≡◌, ℕ, ◌+◌, Bool, true, false, not, ◌&&◌, ◌||◌, List, [], ◌∷◌, ◌++◌, map, length, take, is_some, if◌then◌else◌, Some, None, Option, filter_map, bytes_eq, sym, refl, ap, ◌∙◌, subst, append_assoc, append-nil, length_push, filter-append, bytes_eq-Decides, AllByRecursion, list_all, list_any, both_hold, named, KeepsRules, Name, is_among, name_of, body_functions, item_functions, kept, stays}
 use Rattle.c_tree.specs.Tree as tree
 use Rattle.c_tree.specs.Scope as scope
-use Rattle.c_tree.specs.Scope.{Name, name_of, is_among}
 use Rattle.c_tree.specs.Rules as rule
-use Rattle.c_tree.specs.FirstBroken.{KeepsRules}
-use Rattle.c_trim.specs.Trim.{body_functions, item_functions, stays, kept}
-use Rattle.c_trim.proofs.Lists.{both_and, all_where, all_left, any_left, any_map, not_true, or_right, any_of_left, map_left, take_front, take_next, one_longer}
+use Rattle.c_trim.proofs.Lists.{both_and, all_where, all_left, any_left, any_map, not_true, or_right, any_of_left, map_left, take_front, take_next}
 use Rattle.c_trim.proofs.RulesHold.{Hold, ItemHolds, ItemsHold, TextHolds, BodyHolds, item_at, moved, rules_hold, keeps_rules}
 use Rattle.c_trim.proofs.SameScope.{Each, AgreeOn, stmts_hold}
 
@@ -191,7 +182,7 @@ module _ (needed : Name → Bool) where
           → ItemsHold all (length (kept needed before)) (if b then x ∷ kept needed items else kept needed items)
       by true is rest = (
         item_holds before x items is (closed.0 is) hold.0,
-        subst (λ (k : ℕ). ItemsHold all k (kept needed items)) (one_longer (kept needed before) x) (back true is rest),
+        subst (λ (k : ℕ). ItemsHold all k (kept needed items)) (length_push (kept needed before) x) (back true is rest),
       )
       by false is rest =
           subst (λ (l : List tree.Item). ItemsHold all (length l) (kept needed items))

@@ -1,23 +1,11 @@
 -- The text of a unit that keeps the rules takes no address of w2c_depth, and what of it stays names functions that stay.
-use Rattle.std.proofs.Common.{◌≡◌, ℕ, zero, suc, ◌+◌, ◌||◌, Bool, true, false, not, if◌then◌else◌, List, [], ◌∷◌, ◌++◌, flat_map, filter_map, take, bytes_eq, is_some, Option, Some, None, refl, sym, ap, ◌∙◌}
-use Rattle.std.specs.Prelude.{⊤}
-use Rattle.std.specs.List.{AllByRecursion, list_all}
-use Rattle.std.proofs.lemmas.Slice.Eq.{bytes_eq-Decides}
-use Rattle.w2c_base.proofs.Conjunctions.{both_hold}
-use Rattle.w2c_base.specs.Lookup.{named, if_found}
-use Rattle.c_tree.specs.declared.tree.CType.{CType}
+use Rattle.c_trim.proofs.Common.{◌≡◌, ℕ, zero, suc, ◌+◌, Bool, true, false, not, ◌||◌, List, [], ◌∷◌, ◌++◌, take, is_some, if◌then◌else◌, Some, None, Option, flat_map, filter_map, bytes_eq, sym, refl, ap, ◌∙◌, list_all-append, bytes_eq-Decides, AllByRecursion, list_all, ⊤, both_hold, all_split, by_test, if_found, named, same_type, Name, Scope, file_variables, functions, name_of, pointer_to, variables, CType, KeptBody, KeptItem, Renaming, arg_functions, body_functions, callee_functions, stmt_functions}
 use Rattle.c_tree.specs.Tree as tree
-use Rattle.c_tree.specs.Runtime.{same_type}
 use Rattle.c_tree.specs.Scope as scope
-use Rattle.c_tree.specs.Scope.{Name, Scope, name_of, variables, file_variables, functions, pointer_to}
 use Rattle.c_tree.specs.Rules as rule
 use Rattle.c_meaning.specs.Step.{depth_name}
-use Rattle.c_renaming.specs.Renaming.{Renaming}
 use Rattle.c_renaming.specs.Kept as text
 use Rattle.c_renaming.specs.Kept.{KeptArg, KeptCallee, KeptStmt}
-use Rattle.c_renaming.specs.Parts.{KeptBody, KeptItem}
-use Rattle.c_trim.specs.Trim.{arg_functions, callee_functions, stmt_functions, body_functions}
-use Rattle.c_trim.proofs.Lists.{by_test, all_of_both, both_append}
 use Rattle.c_trim.proofs.RulesHold.{StmtsHold, BodyHolds, TextHolds, ItemsHold, scope_at}
 use Rattle.c_trim.proofs.SameScope.{Each}
 
@@ -94,7 +82,7 @@ module _ (ρ : Renaming) (u : ℕ) (s : Scope) (none : named depth_name (file_va
   kept_args [] (a ∷ args) used suits = cc
   kept_args (t ∷ types) [] used suits = cc
   kept_args (t ∷ types) (a ∷ args) used suits =
-      let two = both_append (λ (x : Name). ρ.uses u x ≡ true) (arg_functions a) (flat_map arg_functions args) used in
+      let two = all_split (λ (x : Name). ρ.uses u x ≡ true) (arg_functions a) (flat_map arg_functions args) used in
       let both = both_hold (rule.arg_suits s t a) (rule.args_suit s types args) suits in
       (kept_arg t a two.0 both.0, kept_args types args two.1 both.1)
 
@@ -126,12 +114,12 @@ module _ (ρ : Renaming) (u : ℕ) (s : Scope) (none : named depth_name (file_va
       kept_set a used (named x (variables s))
       (both_hold (is_some (named x (variables s))) (list_all (rule.is_known s) (rule.arg_uses a)) known).0 suits
   kept_stmt (tree.Call target f args) used known suits =
-      let two = both_append (λ (x : Name). ρ.uses u x ≡ true) (callee_functions f) (flat_map arg_functions args) used in
+      let two = all_split (λ (x : Name). ρ.uses u x ≡ true) (callee_functions f) (flat_map arg_functions args) used in
       let behind : List rule.Use = rule.callee_uses f ++ flat_map rule.arg_uses args in
       let rest = both_hold (list_all (rule.is_known s) (rule.target_uses target)) (list_all (rule.is_known s) behind)
-      (sym (all_of_both (rule.is_known s) (rule.target_uses target) behind) ∙ known) in
+      (sym (list_all-append (rule.is_known s) (rule.target_uses target) behind) ∙ known) in
       let callee = both_hold (list_all (rule.is_known s) (rule.callee_uses f)) (list_all (rule.is_known s) (flat_map rule.arg_uses args))
-      (sym (all_of_both (rule.is_known s) (rule.callee_uses f) (flat_map rule.arg_uses args)) ∙ rest.1) in
+      (sym (list_all-append (rule.is_known s) (rule.callee_uses f) (flat_map rule.arg_uses args)) ∙ rest.1) in
       (kept_callee f two.0, kept_call target args two.1 (rule.callee_type s f) (callee_there f callee.0) suits)
   kept_stmt (tree.Return a) used known suits =
       kept_arg s.func.result a used (both_hold (not (rule.is_void s.func.result)) (rule.arg_suits s s.func.result a) suits).1
@@ -147,7 +135,7 @@ module _ (ρ : Renaming) (u : ℕ) (s : Scope) (none : named depth_name (file_va
       → text.Each (KeptStmt ρ u) stmts
   kept_stmts k [] used hold = tt
   kept_stmts k (stmt ∷ stmts) used hold =
-      let two = both_append (λ (x : Name). ρ.uses u x ≡ true) (stmt_functions stmt) (flat_map stmt_functions stmts) used in
+      let two = all_split (λ (x : Name). ρ.uses u x ≡ true) (stmt_functions stmt) (flat_map stmt_functions stmts) used in
       let known : list_all (rule.is_known s) (rule.stmt_uses stmt) ≡ true = hold.0.1.1.1.0 in
       let suits : rule.stmt_suits s stmt ≡ true = sym (ap (λ b. not b || rule.stmt_suits s stmt) known) ∙ hold.0.1.1.1.1.1.0 in
       (kept_stmt stmt two.0 known suits, kept_stmts (k + 1) stmts two.1 hold.1)

@@ -1,20 +1,10 @@
 -- Units in which one is trimmed link as before, and the same calls fit.
-use Rattle.std.proofs.Common.{◌≡◌, ℕ, zero, suc, ◌+◌, ◌&&◌, ◌||◌, Bool, true, false, not, if◌then◌else◌, List, [], ◌∷◌, ◌++◌, length, flat_map, take, is_some, slice_get, Option, Some, None, refl, sym, ap, ◌∙◌}
-use Rattle.std.specs.Prelude.{zip}
-use Rattle.std.specs.List.{list_any, range_with_len}
-use Rattle.w2c_base.specs.Lookup.{if_found}
-use Rattle.w2c_base.specs.Run.{Host}
+use Rattle.c_trim.proofs.Common.{◌≡◌, ℕ, zero, suc, ◌+◌, Bool, true, false, not, ◌&&◌, ◌||◌, List, [], ◌∷◌, ◌++◌, length, take, is_some, if◌then◌else◌, slice_get, Some, None, Option, zip, flat_map, sym, refl, ap, ◌∙◌, list_any, range_with_len, if_found, Host, same_func_type, Name, func_type_of, LinkRefusal, NotDefined, Program, SymbolCall, Twice, TypeDiffers, defined_for_all, external_func, external_functions, fits, func_type, host_symbol, link_refusal, externals, made, names_kept, test_same, Renaming, AllKeepRules, among, TellsNeeded, kept, stays}
 use Rattle.c_tree.specs.Tree as tree
-use Rattle.c_tree.specs.Runtime.{same_func_type}
-use Rattle.c_tree.specs.Scope.{Name, func_type_of}
-use Rattle.c_meaning.specs.Linking.{Program, SymbolCall, LinkRefusal, NotDefined, Twice, TypeDiffers, defined_for_all, external_func, external_functions, fits, func_type, host_symbol, link_refusal, twice, unresolved}
-use Rattle.c_renaming.specs.Renaming.{Renaming}
+use Rattle.c_meaning.proofs.Links.{program_twice, program_unresolved, refusal_stands}
 use Rattle.c_renaming.specs.Trimming as whole
 use Rattle.c_renaming.proofs.Made.{external_same, external_kept}
-use Rattle.c_renaming.proofs.Trimmed.{made, externals, names_kept, test_same}
 use Rattle.c_renaming.proofs.Types.{calls_fit, type_found}
-use Rattle.c_trim.specs.Trim.{stays, kept, TellsNeeded}
-use Rattle.c_trim.specs.Runs.{among, AllKeepRules}
 use Rattle.c_trim.proofs.Lists.{map_left}
 use Rattle.c_trim.proofs.Programs as program
 
@@ -104,32 +94,32 @@ module _ (before after : List (List tree.Item)) (hosts : List Host) (unit : List
       ∙ type_found ρ p (whole.trimmed p stay) (program.renames before after hosts unit needed tells keeps).meanings (external_func p x)
       (external_kept ρ p (whole.trimmed p stay) (names_kept p used stay) (made p used stay may) (externals p used stay may) x)
 
-  same_twice : (u : ℕ) (f : tree.Func) → twice q u f ≡ twice p u f
+  same_twice : (u : ℕ) (f : tree.Func) → program_twice q u f ≡ program_twice p u f
   same_twice u f = ap (λ b. if is_some f.body && (is_some (host_symbol p f.name) || b) then Twice u f.name ∷ [] else [])
       (any_same (kept needed unit) unit after (λ items. is_some (defined_for_all items f.name)) (test f.name) u before)
 
-  same_unresolved : (u : ℕ) (f : tree.Func) → unresolved q u f ≡ unresolved p u f
+  same_unresolved : (u : ℕ) (f : tree.Func) → program_unresolved q u f ≡ program_unresolved p u f
   same_unresolved u f = ap (λ o. elim o as (λ _. List LinkRefusal) [
     | None ↦ NotDefined u f.name ∷ []
     | Some ty ↦ if same_func_type ty (func_type_of f) then [] else TypeDiffers u f.name ∷ []
   ]) (same_type f.name)
 
   pub same_link : link_refusal q ≡ link_refusal p
-  same_link = λ i. slice_get (twices i ++ others i) 0
+  same_link = refusal_stands q ∙ (λ i. slice_get (twices i ++ others i) 0) ∙ sym (refusal_stands p)
     where
-      twices : from (λ u items. flat_map (twice q u) (external_functions items)) 0 q.units
-          ≡ from (λ u items. flat_map (twice p u) (external_functions items)) 0 p.units
-      twices = from_same (kept needed unit) unit after (λ u items. flat_map (twice q u) (external_functions items))
-          (λ u items. flat_map (twice p u) (external_functions items))
-          (λ u items. each_flat (twice q u) (twice p u) (same_twice u) (external_functions items))
-          (λ u. ap (flat_map (twice p u)) (same_externals needed unit)) 0 before
+      twices : from (λ u items. flat_map (program_twice q u) (external_functions items)) 0 q.units
+          ≡ from (λ u items. flat_map (program_twice p u) (external_functions items)) 0 p.units
+      twices = from_same (kept needed unit) unit after (λ u items. flat_map (program_twice q u) (external_functions items))
+          (λ u items. flat_map (program_twice p u) (external_functions items))
+          (λ u items. each_flat (program_twice q u) (program_twice p u) (same_twice u) (external_functions items))
+          (λ u. ap (flat_map (program_twice p u)) (same_externals needed unit)) 0 before
 
-      others : from (λ u items. flat_map (unresolved q u) (external_functions items)) 0 q.units
-          ≡ from (λ u items. flat_map (unresolved p u) (external_functions items)) 0 p.units
-      others = from_same (kept needed unit) unit after (λ u items. flat_map (unresolved q u) (external_functions items))
-          (λ u items. flat_map (unresolved p u) (external_functions items))
-          (λ u items. each_flat (unresolved q u) (unresolved p u) (same_unresolved u) (external_functions items))
-          (λ u. ap (flat_map (unresolved p u)) (same_externals needed unit)) 0 before
+      others : from (λ u items. flat_map (program_unresolved q u) (external_functions items)) 0 q.units
+          ≡ from (λ u items. flat_map (program_unresolved p u) (external_functions items)) 0 p.units
+      others = from_same (kept needed unit) unit after (λ u items. flat_map (program_unresolved q u) (external_functions items))
+          (λ u items. flat_map (program_unresolved p u) (external_functions items))
+          (λ u items. each_flat (program_unresolved q u) (program_unresolved p u) (same_unresolved u) (external_functions items))
+          (λ u. ap (flat_map (program_unresolved p u)) (same_externals needed unit)) 0 before
 
   pub same_fits : (c : SymbolCall) → fits q c ≡ fits p c
   same_fits c = ap (λ r. fits r c) (sym trimmed_is)

@@ -1,10 +1,5 @@
 -- Lists of which some elements are left out, and what holds of each element.
-use Rattle.std.proofs.Common.{◌≡◌, ℕ, suc, ◌+◌, ◌&&◌, ◌||◌, Bool, true, false, not, if◌then◌else◌, List, [], ◌∷◌, ◌++◌, length, map, filter, filter_map, take, bytes_eq, slice_get, Option, Some, None, refl, sym, ap, ◌∙◌, arith}
-use Rattle.std.specs.List.{AllByRecursion, list_all, list_any}
-use Rattle.std.specs.List.{cons_option}
-use Rattle.std.specs.Option.{option_or}
-use Rattle.w2c_base.proofs.Conjunctions.{both_hold}
-use Rattle.w2c_base.specs.Lookup.{named}
+use Rattle.c_trim.proofs.Common.{◌≡◌, ℕ, suc, ◌+◌, Bool, true, false, not, ◌&&◌, ◌||◌, List, [], ◌∷◌, ◌++◌, map, length, take, if◌then◌else◌, slice_get, Some, None, filter, Option, filter_map, bytes_eq, sym, refl, ap, ◌∙◌, arith, AllByRecursion, cons_option, list_all, list_any, option_or, both_hold, of_each, named}
 
 pub both_and : (a b : Bool) → a ≡ true → b ≡ true → (a && b) ≡ true
 both_and a b left right = λ i. left i && right i
@@ -20,33 +15,12 @@ pub and_false : (a b : Bool) → b ≡ false → (a && b) ≡ false
 and_false true b e = e
 and_false false b e = refl
 
-pub by_test : {P : Type 0} (b : Bool) → (b ≡ true → P) → (b ≡ false → P) → P
-by_test true holds fails = holds refl
-by_test false holds fails = fails refl
-
-pub each : {A : Type 0} (P Q : A → Type 0) → ((a : A) → P a → Q a) → (xs : List A) → AllByRecursion P xs → AllByRecursion Q xs
-each P Q go [] all = tt
-each P Q go (x ∷ xs) all = (go x all.0, each P Q go xs all.1)
-
-pub both_append : {A : Type 0} (P : A → Type 0) (xs ys : List A) → AllByRecursion P (xs ++ ys) → AllByRecursion P xs × AllByRecursion P ys
-both_append P [] ys all = (tt, all)
-both_append P (x ∷ xs) ys all = let two = both_append P xs ys all.1 in ((all.0, two.0), two.1)
-
 pub all_where : {A : Type 0} (p q : A → Bool) → ((a : A) → p a ≡ true → q a ≡ true) → (xs : List A) → list_all p xs ≡ true
     → list_all q xs ≡ true
 all_where p q go [] e = refl
 all_where p q go (x ∷ xs) e =
     let two = both_hold (p x) (list_all p xs) e in
     both_and (q x) (list_all q xs) (go x two.0) (all_where p q go xs two.1)
-
-pub all_of_both : {A : Type 0} (p : A → Bool) (xs ys : List A) → list_all p (xs ++ ys) ≡ (list_all p xs && list_all p ys)
-all_of_both p [] ys = refl
-all_of_both {A} p (x ∷ xs) ys = by (p x) (all_of_both p xs ys)
-  where
-    by : (b : Bool) → list_all p (xs ++ ys) ≡ (list_all p xs && list_all p ys)
-        → (b && list_all p (xs ++ ys)) ≡ ((b && list_all p xs) && list_all p ys)
-    by true behind = behind
-    by false behind = refl
 
 pub all_left : {A : Type 0} (p keep : A → Bool) (xs : List A) → list_all p xs ≡ true → list_all p (filter keep xs) ≡ true
 all_left p keep [] e = refl
@@ -115,7 +89,7 @@ pub any_of_each : {A : Type 0} (xs : List A) → AllByRecursion (λ (a : A). (te
 any_of_each [] = tt
 any_of_each {A} (x ∷ xs) = (
   λ test e. or_left (test x) (list_any test xs) e,
-  each (λ (a : A). (test : A → Bool) → test a ≡ true → list_any test xs ≡ true)
+  of_each (λ (a : A). (test : A → Bool) → test a ≡ true → list_any test xs ≡ true)
       (λ (a : A). (test : A → Bool) → test a ≡ true → list_any test (x ∷ xs) ≡ true)
       (λ a there test e. or_right (test x) (list_any test xs) (there test e)) xs (any_of_each xs),
 )
@@ -130,23 +104,11 @@ take_next (x ∷ xs) y ys =
     let e : suc (length xs) + 1 ≡ suc (length xs + 1) = omega arith in
     ap (λ n. take n (x ∷ (xs ++ y ∷ ys))) e ∙ ap (λ l. x ∷ l) (take_next xs y ys)
 
-pub one_longer : {A : Type 0} (xs : List A) (x : A) → length (xs ++ x ∷ []) ≡ length xs + 1
-one_longer [] x = refl
-one_longer (y ∷ xs) x = let e : suc (length xs + 1) ≡ suc (length xs) + 1 = omega arith in ap suc (one_longer xs x) ∙ e
-
 -- ---- lists of nothing
 
 pub first_none : {A : Type 0} (xs : List A) → slice_get xs 0 ≡ None → xs ≡ []
 first_none [] e = refl
 first_none (x ∷ xs) e = cc
-
-pub append_none : {A : Type 0} (xs ys : List A) → xs ++ ys ≡ [] → (xs ≡ []) × (ys ≡ [])
-append_none [] ys e = (refl, e)
-append_none (x ∷ xs) ys e = cc
-
-pub map_none : {A B : Type 0} (f : A → B) (xs : List A) → map f xs ≡ [] → xs ≡ []
-map_none f [] e = refl
-map_none f (x ∷ xs) e = cc
 
 named-append : {A : Type 0} (name : List ℕ) (xs ys : List (List ℕ × A)) → named name (xs ++ ys) ≡ option_or (named name xs) (named name ys)
 named-append name [] ys = refl

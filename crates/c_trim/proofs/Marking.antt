@@ -1,10 +1,5 @@
 -- What reaching functions by their names comes to, name by name.
-use Rattle.std.proofs.Common.{◌≡◌, ℕ, zero, suc, ◌+◌, ◌<◌, ◌≤◌, Bool, true, false, if◌then◌else◌, List, [], ◌∷◌, ◌++◌, length, map, flat_map, take, drop, get_or, Some, None, refl, sym, ap, ◌∙◌, arith}
-use Rattle.std.specs.Option.{option_or}
-use Rattle.std.specs.List.{position_from}
-use Rattle.w2c_base.specs.Lookup.{named}
-use Rattle.c_tree.specs.Scope.{Name}
-use Rattle.c_trim.specs.Marks.{Reached, with_item, with_names}
+use Rattle.c_trim.proofs.Common.{◌≡◌, ℕ, zero, suc, ◌+◌, ◌<◌, ◌≤◌, Bool, true, false, List, [], ◌∷◌, ◌++◌, map, length, get_or, take, drop, if◌then◌else◌, Some, None, flat_map, sym, refl, ap, ◌∙◌, arith, position_from, option_or, named, Name, Reached, with_item, with_names}
 use Rattle.c_trim.proofs.Steps.{drop_one}
 
 pub with_both : (table : List (Name × ℕ)) (xs ys : List Name) (r : Reached) → with_names table (xs ++ ys) r

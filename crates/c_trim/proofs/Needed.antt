@@ -1,16 +1,10 @@
 -- What is needed in a unit: what stays of the unit names that alone, and it is needed in what stays too.
-use Rattle.std.proofs.Common.{◌≡◌, ◌&&◌, ◌||◌, Bool, true, false, not, if◌then◌else◌, List, [], ◌∷◌, filter, bytes_eq, refl, sym, ap, ◌∙◌, subst}
-use Rattle.std.specs.List.{AllByRecursion, list_any}
-use Rattle.std.proofs.lemmas.Slice.Eq.{bytes_eq-Decides}
-use Rattle.w2c_base.proofs.Conjunctions.{both_hold}
+use Rattle.c_trim.proofs.Common.{◌≡◌, Bool, true, false, not, ◌&&◌, ◌||◌, List, [], ◌∷◌, if◌then◌else◌, filter, bytes_eq, sym, refl, ap, ◌∙◌, subst, bytes_eq-Decides, AllByRecursion, list_any, both_hold, of_each, same_tests, KeepsRules, Name, is_among, name_of, IsNeeded, IsTrimmed, TellsNeeded, is_external, item_functions, kept, leads, names, stays}
 use Rattle.c_tree.specs.Tree as tree
-use Rattle.c_tree.specs.Scope.{Name, name_of, is_among}
-use Rattle.c_tree.specs.FirstBroken.{KeepsRules}
 use Rattle.c_tree.specs.Spelled.{Formed, FitsItem, depth_limit}
 use Rattle.c_tree.specs.WellFormed.{IsWellFormed, NamedItem}
 use Rattle.c_tree.proofs.WellFormedUnits as whole
-use Rattle.c_trim.specs.Trim.{item_functions, is_external, names, leads, IsNeeded, stays, kept, TellsNeeded, IsTrimmed}
-use Rattle.c_trim.proofs.Lists.{both_and, or_right, each, any_left, any_of_each}
+use Rattle.c_trim.proofs.Lists.{both_and, or_right, any_left, any_of_each}
 use Rattle.c_trim.proofs.SameScope.{Each}
 use Rattle.c_trim.proofs.KeptRules.{IsClosed, kept_keeps_rules}
 
@@ -19,7 +13,7 @@ itself x = (bytes_eq-Decides x x).1 refl
 
 -- each name of a list is among them
 each_among : (xs : List Name) → AllByRecursion (λ (x : Name). is_among x xs ≡ true) xs
-each_among xs = each (λ (x : Name). (test : Name → Bool) → test x ≡ true → list_any test xs ≡ true)
+each_among xs = of_each (λ (x : Name). (test : Name → Bool) → test x ≡ true → list_any test xs ≡ true)
     (λ (x : Name). is_among x xs ≡ true) (λ x there. there (bytes_eq x) (itself x)) xs (any_of_each xs)
 
 module _ (unit : List tree.Item) (needed : Name → Bool) (tells : TellsNeeded unit needed) where
@@ -49,8 +43,8 @@ module _ (unit : List tree.Item) (needed : Name → Bool) (tells : TellsNeeded u
           })
 
   pub closed : IsClosed needed unit
-  closed = each IsThere (λ (item : tree.Item). stays needed item ≡ true → Each needed (item_functions item))
-      (λ item there stay. each (λ (x : Name). is_among x (item_functions item) ≡ true) (λ (x : Name). needed x ≡ true)
+  closed = of_each IsThere (λ (item : tree.Item). stays needed item ≡ true → Each needed (item_functions item))
+      (λ item there stay. of_each (λ (x : Name). is_among x (item_functions item) ≡ true) (λ (x : Name). needed x ≡ true)
       (named_needed item there stay) (item_functions item) (each_among (item_functions item))) unit (any_of_each unit)
 
   -- ---- in what stays
@@ -113,13 +107,8 @@ pub one_trimmed : (unit one other : List tree.Item) → IsTrimmed unit one → I
 one_trimmed unit one other left right = left.is ∙ same unit ∙ sym right.is
   where
     same_test : (x : Name) → left.needed x ≡ right.needed x
-    same_test x = alike (left.needed x) (right.needed x)
+    same_test x = same_tests (left.needed x) (right.needed x)
         (λ is. (right.tells x).1 ((left.tells x).0 is)) (λ is. (left.tells x).1 ((right.tells x).0 is))
-      where
-        alike : (b c : Bool) → (b ≡ true → c ≡ true) → (c ≡ true → b ≡ true) → b ≡ c
-        alike true c there back = sym (there refl)
-        alike false true there back = back refl
-        alike false false there back = refl
 
     same_stays : (item : tree.Item) → stays left.needed item ≡ stays right.needed item
     same_stays (tree.Array name count bytes) = refl

@@ -1,23 +1,12 @@
 -- A unit among others, trimmed, makes a program from which functions are left out that no text uses.
-use Rattle.std.proofs.Common.{◌≡◌, ◌≢◌, ℕ, ◌+◌, ◌<◌, ◌==◌, ◌&&◌, ◌||◌, Bool, true, false, not, if◌then◌else◌, List, [], ◌∷◌, ◌++◌, length, map, filter_map, is_some, Option, Some, None, refl, sym, ap, ◌∙◌, subst, arith}
-use Rattle.std.specs.Prelude.{slice_get, zip, option_map}
-use Rattle.std.specs.List.{AllByRecursion, cons_option, range_with_len}
-use Rattle.std.proofs.lemmas.Bool.{eqb-true, eq-eqb}
-use Rattle.w2c_base.proofs.Conjunctions.{both_hold}
-use Rattle.w2c_base.specs.Run.{Host}
+use Rattle.c_trim.proofs.Common.{◌≡◌, ℕ, ◌+◌, ◌<◌, Bool, true, false, not, ◌&&◌, ◌||◌, ◌≢◌, List, [], ◌∷◌, ◌++◌, map, length, is_some, if◌then◌else◌, ◌==◌, slice_get, Some, None, Option, option_map, zip, filter_map, sym, refl, ap, ◌∙◌, subst, arith, eq-eqb, eqb-true, AllByRecursion, cons_option, range_with_len, both_hold, of_each, by_test, Host, Name, Program, trimmed_renames, KeptItem, item_stays, Renaming, AllKeepRules, among, TellsNeeded, body_functions, kept, stays}
 use Rattle.c_tree.specs.Tree as tree
-use Rattle.c_tree.specs.Scope.{Name}
 use Rattle.c_tree.specs.Rules as rule
-use Rattle.c_meaning.specs.Linking.{Program, Definition, definition_of, definition_at, is_external}
-use Rattle.c_renaming.specs.Renaming.{Renaming}
+use Rattle.c_meaning.specs.Linking.{Definition, definition_of, definition_at, is_external}
 use Rattle.c_renaming.specs.Renames.{Renames}
 use Rattle.c_renaming.specs.Kept as text
-use Rattle.c_renaming.specs.Parts.{item_stays, KeptItem}
 use Rattle.c_renaming.specs.Trimming as whole
-use Rattle.c_renaming.proofs.Trimmed.{trimmed_renames}
-use Rattle.c_trim.specs.Trim.{body_functions, stays, kept, TellsNeeded}
-use Rattle.c_trim.specs.Runs.{among, AllKeepRules}
-use Rattle.c_trim.proofs.Lists.{by_test, both_and, or_left, or_right, each}
+use Rattle.c_trim.proofs.Lists.{both_and, or_left, or_right}
 use Rattle.c_trim.proofs.RulesHold.{rules_hold}
 use Rattle.c_trim.proofs.SameScope.{Each}
 use Rattle.c_trim.proofs.KeptRules.{IsClosed}
@@ -135,7 +124,7 @@ module _ (before after : List (List tree.Item)) (hosts : List Host) (unit : List
           go (tree.Array name count bytes ∷ l) free all = (tt, go l free.1 all.1)
           go (tree.Var ty name number ∷ l) free all = (tt, go l free.1 all.1)
           go (tree.Function f ∷ l) free all = (
-            λ is. each (λ (x : Name). needed x ≡ true) (λ (x : Name). used u x ≡ true)
+            λ is. of_each (λ (x : Name). needed x ≡ true) (λ (x : Name). used u x ≡ true)
                 (λ x is. is_used x (here x ∙ or_right (rule.is_symbol x) (needed x) is)) (body_functions f.body)
                 (all.0 (sym (same_stays needed (tree.Function f) free.0) ∙ sym (here f.name) ∙ is)),
             go l free.1 all.1,

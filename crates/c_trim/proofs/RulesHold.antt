@@ -1,13 +1,8 @@
 -- A unit keeps the rules where each of its items and statements does.
-use Rattle.std.proofs.Common.{◌≡◌, ℕ, ◌+◌, Bool, true, false, not, if◌then◌else◌, List, [], ◌∷◌, ◌++◌, length, map, filter, flat_map, take, Option, Some, None, slice_get, refl, sym, ap, ◌∙◌, subst, append_assoc}
-use Rattle.std.specs.Prelude.{zip, ⊤}
-use Rattle.std.specs.List.{AllByRecursion, range_with_len}
-use Rattle.w2c_base.specs.Lookup.{numbered}
+use Rattle.c_trim.proofs.Common.{◌≡◌, ℕ, ◌+◌, Bool, true, false, not, List, [], ◌∷◌, ◌++◌, map, length, take, if◌then◌else◌, slice_get, Some, None, filter, Option, zip, flat_map, sym, refl, ap, ◌∙◌, subst, append_assoc, length_push, AllByRecursion, range_with_len, ⊤, numbered, BrokenAt, KeepsRules, broken_in_body, broken_in_item, broken_in_stmt, broken_of, broken_rules, Place, StmtPlace, item_rules, stmt_rules, Scope}
 use Rattle.c_tree.specs.Tree as tree
-use Rattle.c_tree.specs.Scope.{Scope}
-use Rattle.c_tree.specs.Rules.{Place, StmtPlace, item_rules, stmt_rules}
-use Rattle.c_tree.specs.FirstBroken.{BrokenAt, KeepsRules, broken_of, broken_in_stmt, broken_in_body, broken_in_item, broken_rules}
-use Rattle.c_trim.proofs.Lists.{first_none, append_none, map_none, one_longer}
+use Rattle.w2c_base.proofs.Nothing.{append_none, map_none}
+use Rattle.c_trim.proofs.Lists.{first_none}
 
 -- each rule holds at a place
 abbrev pub Hold : {P : Type 0} → List (ℕ × (P → Bool)) → P → Type 0
@@ -141,4 +136,4 @@ pub moved : (before : List tree.Item) (x : tree.Item) (items : List tree.Item) �
     → ItemsHold ((before ++ x ∷ []) ++ items) (length (before ++ x ∷ [])) items
 moved before x items hold =
     subst (λ (l : List tree.Item). ItemsHold l (length (before ++ x ∷ [])) items) (sym (append_assoc before (x ∷ []) items))
-    (subst (λ (k : ℕ). ItemsHold (before ++ x ∷ items) k items) (sym (one_longer before x)) hold)
+    (subst (λ (k : ℕ). ItemsHold (before ++ x ∷ items) k items) (sym (length_push before x)) hold)

@@ -1,18 +1,11 @@
 -- Rules of a statement in two scopes that differ in functions alone which the statement does not name.
-use Rattle.std.proofs.Common.{◌≡◌, ℕ, ◌+◌, ◌&&◌, ◌||◌, Bool, true, false, not, List, [], ◌∷◌, ◌++◌, flat_map, filter_map, is_some, Option, Some, None, refl, sym, ap, ◌∙◌}
-use Rattle.std.specs.Prelude.{codes, map}
-use Rattle.std.specs.List.{AllByRecursion, list_all}
-use Rattle.w2c_base.specs.Lookup.{if_found, named}
-use Rattle.c_tree.specs.declared.tree.CType.{CType}
+use Rattle.c_trim.proofs.Common.{◌≡◌, ℕ, ◌+◌, Bool, true, false, not, ◌&&◌, ◌||◌, List, [], ◌∷◌, ◌++◌, map, is_some, Some, None, codes, Option, flat_map, filter_map, sym, refl, ap, ◌∙◌, list_all-append, AllByRecursion, list_all, all_split, if_found, named, primitives, same_type, Name, Scope, arrays, file_functions, functions, is_among, is_comparison, is_object_type, pointed_by, pointer_to, type_of, typing_of, variables, CType, arg_functions, callee_functions, stmt_functions}
 use Rattle.c_tree.specs.declared.tree.CType.TheVariants as type
 use Rattle.c_tree.specs.Tree as tree
-use Rattle.c_tree.specs.Runtime.{same_type, primitives}
 use Rattle.c_tree.specs.Scope as scope
-use Rattle.c_tree.specs.Scope.{Name, Scope, variables, arrays, file_functions, functions, pointed_by, pointer_to, is_comparison, is_object_type, type_of, typing_of, is_among}
 use Rattle.c_tree.specs.Rules as rule
-use Rattle.c_trim.specs.Trim.{arg_functions, callee_functions, stmt_functions}
 use Rattle.c_trim.proofs.RulesHold.{Hold, StmtsHold, stmt_at}
-use Rattle.c_trim.proofs.Lists.{all_of_both, both_append, named_in_front}
+use Rattle.c_trim.proofs.Lists.{named_in_front}
 
 abbrev pub Each : (Name → Bool) → List Name → Type 0
 Each needed xs = AllByRecursion (λ (x : Name). needed x ≡ true) xs
@@ -60,7 +53,7 @@ module _ (needed : Name → Bool) (old new : List tree.Item) (agree : AgreeOn ne
       → list_all (rule.is_known s') others ≡ list_all (rule.is_known s) others
       → list_all (rule.is_known s') (uses ++ others) ≡ list_all (rule.is_known s) (uses ++ others)
   all_append uses others left right =
-      all_of_both (rule.is_known s') uses others ∙ (λ i. left i && right i) ∙ sym (all_of_both (rule.is_known s) uses others)
+      list_all-append (rule.is_known s') uses others ∙ (λ i. left i && right i) ∙ sym (list_all-append (rule.is_known s) uses others)
 
   known_variable : (x : Name) → rule.is_known s' (rule.AsVariable x) ≡ rule.is_known s (rule.AsVariable x)
   known_variable x = ap is_some (type_named x)
@@ -99,7 +92,7 @@ module _ (needed : Name → Bool) (old new : List tree.Item) (agree : AgreeOn ne
       ≡ known (flat_map rule.arg_uses args)
   known_args [] all = refl
   known_args (a ∷ args) all =
-      let two = both_append (λ (x : Name). needed x ≡ true) (arg_functions a) (flat_map arg_functions args) all in
+      let two = all_split (λ (x : Name). needed x ≡ true) (arg_functions a) (flat_map arg_functions args) all in
       all_append (rule.arg_uses a) (flat_map rule.arg_uses args) (known_arg a two.0) (known_args args two.1)
 
   known_callee : (f : tree.Callee) → Each needed (callee_functions f) → known' (rule.callee_uses f) ≡ known (rule.callee_uses f)
@@ -114,7 +107,7 @@ module _ (needed : Name → Bool) (old new : List tree.Item) (agree : AgreeOn ne
   known_stmt (tree.Set x a) all = known_one (rule.AsVariable x) (rule.arg_uses a) (known_variable x) (known_arg a all)
   known_stmt (tree.SetStar x e) all = known_one (rule.AsVariable x) (rule.expr_uses e) (known_variable x) (known_expr e)
   known_stmt (tree.Call target f args) all =
-      let two = both_append (λ (x : Name). needed x ≡ true) (callee_functions f) (flat_map arg_functions args) all in
+      let two = all_split (λ (x : Name). needed x ≡ true) (callee_functions f) (flat_map arg_functions args) all in
       all_append (rule.target_uses target) (rule.callee_uses f ++ flat_map rule.arg_uses args) (known_target target)
       (all_append (rule.callee_uses f) (flat_map rule.arg_uses args) (known_callee f two.0) (known_args args two.1))
   known_stmt (tree.If op left right x) all = all_append (rule.expr_uses left) (rule.expr_uses right) (known_expr left) (known_expr right)
@@ -181,7 +174,7 @@ module _ (needed : Name → Bool) (old new : List tree.Item) (agree : AgreeOn ne
   same_suits [] (a ∷ args) all = refl
   same_suits (t ∷ types) [] all = refl
   same_suits (t ∷ types) (a ∷ args) all =
-      let two = both_append (λ (x : Name). needed x ≡ true) (arg_functions a) (flat_map arg_functions args) all in
+      let two = all_split (λ (x : Name). needed x ≡ true) (arg_functions a) (flat_map arg_functions args) all in
       λ i. same_suit t a two.0 i && same_suits types args two.1 i
 
   same_callee : (f : tree.Callee) → Each needed (callee_functions f) → rule.callee_type s' f ≡ rule.callee_type s f
@@ -207,7 +200,7 @@ module _ (needed : Name → Bool) (old new : List tree.Item) (agree : AgreeOn ne
       ∙ same_set a all (named x (variables s))
   same_stmt_suits (tree.SetStar x e) all = λ i. rule.if_any (if_found (type_named x i) pointed_by) (rule.has_same_type (same_type_of e i))
   same_stmt_suits (tree.Call target f args) all =
-      let two = both_append (λ (x : Name). needed x ≡ true) (callee_functions f) (flat_map arg_functions args) all in
+      let two = all_split (λ (x : Name). needed x ≡ true) (callee_functions f) (flat_map arg_functions args) all in
       ap (λ o. rule.if_any o (rule.call_suits s' target args)) (same_callee f two.0) ∙ same_call target args two.1 (rule.callee_type s f)
   same_stmt_suits tree.ReturnNone all = refl
   same_stmt_suits (tree.Return a) all = ap (λ b. not (rule.is_void func.result) && b) (same_suit func.result a all)
@@ -249,5 +242,5 @@ module _ (needed : Name → Bool) (old new : List tree.Item) (agree : AgreeOn ne
       → StmtsHold s' k stmts
   stmts_hold k [] all hold = tt
   stmts_hold k (stmt ∷ stmts) all hold =
-      let two = both_append (λ (x : Name). needed x ≡ true) (stmt_functions stmt) (flat_map stmt_functions stmts) all in
+      let two = all_split (λ (x : Name). needed x ≡ true) (stmt_functions stmt) (flat_map stmt_functions stmts) all in
       (stmt_holds k stmt two.0 hold.0, stmts_hold (k + 1) stmts two.1 hold.1)

@@ -1,18 +1,6 @@
 -- Reaching functions keeps what the marks say, and goes on for as long as there are items.
-use Rattle.std.proofs.Common.{◌≡◌, ◌⊎◌, inl, inr, ℕ, zero, suc, ◌+◌, ◌<◌, ◌≤◌, ◌==◌, ◌&&◌, ◌||◌, Bool, true, false, if◌then◌else◌, List, [], ◌∷◌, ◌++◌, length, take, bytes_eq, slice_get, Option, Some, None, refl, sym, ap, ◌∙◌, subst, arith, append_assoc, length-append, ◌-◌}
-use Rattle.std.specs.Prelude.{slice_set, slice_index_or}
-use Rattle.std.specs.List.{list_any}
-use Rattle.std.proofs.lemmas.List.{append-nil}
-use Rattle.std.proofs.lemmas.Bool.{eqb-true, eq-eqb}
-use Rattle.std.proofs.lemmas.Slice.Eq.{bytes_eq-Decides}
-use Rattle.w2c_base.proofs.Conjunctions.{both_hold}
-use Rattle.w2c_base.specs.Lookup.{named}
+use Rattle.c_trim.proofs.Common.{◌≡◌, ℕ, zero, suc, ◌+◌, ◌-◌, ◌<◌, ◌≤◌, Bool, true, false, ◌&&◌, ◌||◌, ◌⊎◌, List, [], ◌∷◌, ◌++◌, length, take, if◌then◌else◌, ◌==◌, slice_get, slice_index_or, slice_set, Some, None, Option, bytes_eq, sym, refl, ap, ◌∙◌, subst, inl, inr, append_assoc, append-nil, arith, length-append, eq-eqb, eqb-true, bytes_eq-Decides, list_any, both_hold, named, defines, has_body, Name, is_among, name_of, Found, position_found, AreReached, BegunTo, FollowedTo, IsWanted, KnowsDefiners, Reached, begins, definer, functions_at, is_in, unreached, with_item, with_names, IsNeeded, is_external, item_functions, names}
 use Rattle.c_tree.specs.Tree as tree
-use Rattle.c_tree.specs.Rules.{defines, has_body}
-use Rattle.c_tree.specs.Scope.{Name, is_among, name_of}
-use Rattle.c_renaming.proofs.Trimmed.{Found, position_found}
-use Rattle.c_trim.specs.Trim.{IsNeeded, is_external, item_functions, names}
-use Rattle.c_trim.specs.Marks.{Reached, KnowsDefiners, definer, with_item, with_names, is_in, IsWanted, AreReached, BegunTo, FollowedTo, begins, functions_at, unreached}
 use Rattle.c_trim.proofs.Lists.{both_and, or_left, or_right, any_of_both}
 
 abbrev flag : List Bool → ℕ → Bool

@@ -1,2 +1,3 @@
+mod Common
 pub mod Suits
 pub mod Tested

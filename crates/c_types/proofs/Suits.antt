@@ -1,10 +1,9 @@
 -- Arguments, each beside the type of its parameter.
-use Rattle.std.proofs.Common.{◌≡◌, ◌≢◌, ℕ, suc, ◌+◌, ◌<◌, ◌≤◌, Bool, true, false, ◌&&◌, List, [], ◌∷◌, length, get_or, drop, map, refl, sym, ap, ◌∙◌, arith}
+use Rattle.c_types.proofs.Common.{◌≡◌, ℕ, suc, ◌+◌, ◌<◌, ◌≤◌, Bool, true, false, ◌&&◌, ◌≢◌, List, [], ◌∷◌, map, length, get_or, drop, sym, refl, ap, ◌∙◌, arith, arg_suits, args_suit}
 use Rattle.std.proofs.lemmas.List.{drop_all, length-map}
 use Rattle.c_tree.specs.declared.tree.CType.{CType}
 use Rattle.c_tree.specs.Tree as tree
 use Rattle.c_tree.specs.Scope.{Scope}
-use Rattle.c_tree.specs.Rules.{arg_suits, args_suit}
 use Rattle.c_tree.proofs.Tested.{at_front}
 
 -- as many arguments as parameters

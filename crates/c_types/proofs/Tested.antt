@@ -1,7 +1,5 @@
 -- Tests of all items of a list that is made of others.
-use Rattle.std.proofs.Common.{◌≡◌, Bool, true, false, ◌&&◌, List, [], ◌∷◌, ◌++◌, map, refl, ap, ◌∙◌}
-use Rattle.std.specs.Prelude.{flat_map}
-use Rattle.std.specs.List.{list_all}
+use Rattle.c_types.proofs.Common.{◌≡◌, Bool, true, false, ◌&&◌, List, [], ◌∷◌, ◌++◌, map, flat_map, refl, ap, ◌∙◌, list_all}
 
 pub all_append : {A : Type 0} (p : A → Bool) (xs ys : List A) → list_all p (xs ++ ys) ≡ (list_all p xs && list_all p ys)
 all_append p [] ys = refl
@@ -21,10 +19,6 @@ all_one p x = go (p x)
 
 pub all_first : {A : Type 0} (p : A → Bool) (x : A) (xs : List A) → list_all p (x ∷ xs) ≡ (p x && list_all p xs)
 all_first p x xs = refl
-
-pub all_mapped : {A B : Type 0} (p : B → Bool) (view : A → B) (xs : List A) → list_all p (map view xs) ≡ list_all (λ x. p (view x)) xs
-all_mapped p view [] = refl
-all_mapped p view (x ∷ xs) = ap (λ b. p (view x) && b) (all_mapped p view xs)
 
 -- what each item gives, joined
 pub all_of_each : {A B C : Type 0} (p : C → Bool) (f : B → List C) (view : A → B) (xs : List A)

@@ -85,7 +85,7 @@ fn is_element(found: Option<CType>) -> bool
 
 /// Whether the expressions of a statement have types, and its other parts are of the kinds that
 /// their places need.
-#[tactic(auto, using(crate::proofs::Tested::all_mapped))]
+#[tactic(auto, using(c_tree::proofs::Tested::list_all_map))]
 pub fn stmt_is_typed(s: &Scope, stmt: &Stmt) -> bool
     ensures { result ≡ stmt_is_typed (scope_of s.now) (stmt_of stmt.now) }
 {

@@ -1,17 +1,6 @@
 -- Functions that give pointers.
-use Rattle.std.proofs.Common.{◌≡◌, ℕ, List, map, Option, Some, None, refl, ap, ◌∙◌}
-use Rattle.std.specs.Prelude.{slice_get, option_map}
-use Rattle.std.proofs.lemmas.Option.{slice_get-map}
-use Rattle.wasm_tree.specs.declared.entries.Import.{Import}
-use Rattle.wasm_meaning.specs.LinkedSet.{NamedModule}
-use Rattle.c_tree.specs.Scope.{Name}
+use Rattle.c_unit.proofs.Common.{◌≡◌, ℕ, List, map, slice_get, Some, None, Option, option_map, refl, ap, ◌∙◌, slice_get-map, Export, ExportGlobal, ExportMemory, ExportTable, Import, Name, NamedModule, global_name, memory_name, table_name, Typed, export_symbol, export_type, global_imports, memory_imports, table_imports, accessor_by, accessor, export_func}
 use Rattle.c_symbols.specs.Reached.{usable_symbol}
-use Rattle.c_symbols.specs.Symbols.{Typed, export_symbol, export_type, table_imports, memory_imports, global_imports}
-use Rattle.alike.specs.Alike.{memory_name, table_name, global_name}
-use Rattle.wasm_tree.specs.declared.entries.Export.{Export}
-use Rattle.wasm_tree.specs.declared.entries.ExportKind.TheVariants.{Table as ExportTable, Memory as ExportMemory, Global as ExportGlobal}
-use Rattle.c_unit.specs.Exports.{accessor, export_func}
-use Rattle.c_unit.specs.Accessors.{accessor_by}
 
 -- what stands at an index of a list that was made item by item
 reached_at : {A B : Type 0} (f : A → B) (names : List B) (imports : List A) (index : ℕ) → names ≡ map f imports

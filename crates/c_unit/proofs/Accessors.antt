@@ -1,34 +1,11 @@
 -- Each exported and each imported table, memory and global is reached: its function gives the owner's pointer,
 -- through as many units as pass it on.
-use Rattle.std.proofs.Common.{◌≡◌, ℕ, zero, suc, ◌+◌, ◌*◌, ◌<◌, Bool, true, if◌then◌else◌, List, [], ◌∷◌, Option, Some, None, option_map, slice_get, refl, sym, ap, ◌∙◌, subst, arith}
-use Rattle.w2c_base.specs.declared.value.ValType.{ValType}
+use Rattle.c_unit.proofs.Common.{◌≡◌, ℕ, zero, suc, ◌+◌, ◌*◌, ◌<◌, Bool, true, List, [], ◌∷◌, if◌then◌else◌, slice_get, Some, None, Option, option_map, sym, refl, ap, ◌∙◌, subst, arith, at_index, ValType, export_symbol_of, SymbolKind, global_type_in, imported_globals, Export, ExportKind, ExportFunc, ExportGlobal, ExportMemory, ExportTable, Import, ImportKind, ImportFunc, ImportGlobal, ImportMemory, ImportTable, Module, Name, func_type_of, CType, Plain, External, GlobalAddress, IndexSpaces, IsFunc, IsGlobal, IsMemory, IsTable, LinkedSet, NamedModule, global_type, import_at, instances, Program, definition_at, external_func, func_named, func_type, primitive, FuncAddress, ObjectAddress, UnitFunc, first_global, global_name, memory_name, table_name, accessor_type, export_symbol, export_type, global_accessor_type, import_symbol, import_type, is_usable, ResolvesAs, accessor, export_func, external, passes_on, result_name, usable_symbol, IsAcceptedSet, program_of}
 use Rattle.w2c_base.specs.declared.value.ValType.TheVariants as val
-use Rattle.w2c_base.specs.Lookup.{at_index}
-use Rattle.w2c_mangle.specs.declared.symbol.SymbolKind.{SymbolKind}
 use Rattle.w2c_mangle.specs.declared.symbol.SymbolKind.TheVariants as symbol
-use Rattle.w2c_mangle.specs.Symbols.{export_symbol_of}
-use Rattle.wasm_tree.specs.declared.tree.Module.{Module}
-use Rattle.wasm_tree.specs.declared.entries.Import.{Import}
-use Rattle.wasm_tree.specs.declared.entries.Export.{Export}
-use Rattle.wasm_tree.specs.declared.entries.ImportKind.{ImportKind}
-use Rattle.wasm_tree.specs.declared.entries.ImportKind.TheVariants.{Func as ImportFunc, Table as ImportTable, Memory as ImportMemory, Global as ImportGlobal}
-use Rattle.wasm_tree.specs.declared.entries.ExportKind.{ExportKind}
-use Rattle.wasm_tree.specs.declared.entries.ExportKind.TheVariants.{Func as ExportFunc, Table as ExportTable, Memory as ExportMemory, Global as ExportGlobal}
-use Rattle.wasm_tree.specs.IndexSpaces.{global_type_in, imported_globals}
 use Rattle.wasm_meaning.specs.LinkedSet as link
-use Rattle.wasm_meaning.specs.LinkedSet.{LinkedSet, NamedModule, External, IndexSpaces, GlobalAddress, IsFunc, IsTable, IsMemory, IsGlobal, instances, import_at, global_type}
-use Rattle.c_tree.specs.declared.tree.CType.{CType}
 use Rattle.c_tree.specs.declared.tree.CType.TheVariants as c_type
-use Rattle.c_tree.specs.declared.tree.Num.TheVariants.{Plain}
 use Rattle.c_tree.specs.Tree as tree
-use Rattle.c_tree.specs.Scope.{Name, func_type_of}
-use Rattle.c_meaning.specs.State.{FuncAddress, UnitFunc, ObjectAddress}
-use Rattle.c_meaning.specs.Linking.{Program, definition_at, external_func, func_named, func_type}
-use Rattle.c_meaning.specs.Primitives.{primitive}
-use Rattle.alike.specs.Alike.{memory_name, table_name, global_name, first_global}
-use Rattle.c_symbols.specs.Symbols.{accessor_type, global_accessor_type, import_symbol, import_type, is_usable, export_symbol, export_type}
-use Rattle.c_unit.specs.Exports.{result_name, export_func, passes_on, external, accessor, usable_symbol}
-use Rattle.c_unit.specs.Sets.{IsAcceptedSet, program_of}
 use Rattle.c_unit.proofs.Defined.{IsExternal, export_external, export_is_no_primitive, kind_of, kind_of_global, symbol_is}
 use Rattle.c_unit.proofs.Instances.{IsPlaced, spaces_at}
 use Rattle.c_unit.proofs.Linked.{ExportedBy}
@@ -39,7 +16,6 @@ use Rattle.c_unit.proofs.Accessor.{IsPointer, of_table, of_memory, of_u32, of_u6
 use Rattle.c_unit.proofs.Pointers.{target_of, ByImport, TableCase, ImportedTable, OwnTable, table_case, MemoryCase, ImportedMemory, OwnMemory, memory_case, GlobalCase, ImportedGlobal, OwnGlobal, global_case}
 use Rattle.c_unit.proofs.Globals.{GlobalTyped, global_typed}
 use Rattle.c_unit.proofs.Small.{some_same}
-use Rattle.c_body.proofs.Spaces.{ResolvesAs}
 
 -- ---- the kind of an export by what it stands for
 

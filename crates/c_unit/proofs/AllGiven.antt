@@ -1,11 +1,7 @@
 -- Items that are given one after the other make the unit.
-use Rattle.std.proofs.Common.{◌≡◌, suc, ◌<◌, List, [], ◌∷◌, ◌++◌, append_assoc, append-nil, length, Option, Some, None, refl, sym, ap, arith, ◌∙◌}
-use Rattle.std.specs.Prelude.{option_map}
-use Rattle.std.proofs.lemmas.List.{map_push}
+use Rattle.c_unit.proofs.Common.{◌≡◌, suc, ◌<◌, List, [], ◌∷◌, ◌++◌, length, Some, None, Option, option_map, sym, refl, ap, ◌∙◌, append_assoc, append-nil, arith, map_push, item_of, unit_of, Given}
 use Rattle.c_tree.specs.declared.tree.Item.{Item}
 use Rattle.c_tree.specs.Tree as tree
-use Rattle.c_tree.specs.View.{item_of, unit_of}
-use Rattle.c_unit.specs.Tails.{Given}
 
 pub put_next : (unit grown : List Item) (item : Item) (found : Option Item) (before after all : List tree.Item) → found ≡ Some item
     → Given (option_map item_of found) before after → grown ≡ unit ++ item ∷ [] → unit_of unit ++ before ≡ all

@@ -1,20 +1,8 @@
 -- All imports are taken: then the pointers of the unit are set.
-use Rattle.std.proofs.Common.{◌≡◌, ℕ, suc, ◌+◌, ◌^◌, ◌<◌, ◌||◌, not, Bool, true, false, if◌then◌else◌, List, [], ◌∷◌, ◌++◌, length, map, filter, Some, slice_get, refl, sym, ap, ◌∙◌, subst, arith, codes, append_assoc}
-use Rattle.std.specs.List.{AllByRecursion}
-use Rattle.std.proofs.lemmas.Option.{none-some, slice_get_within}
-use Rattle.w2c_base.specs.Run.{Trail}
-use Rattle.wasm_tree.specs.declared.entries.Import.{Import}
-use Rattle.wasm_tree.specs.declared.entries.ImportKind.{ImportKind}
-use Rattle.wasm_tree.specs.declared.entries.ImportKind.TheVariants.{Func as ImportFunc, Table as ImportTable, Memory as ImportMemory, Global as ImportGlobal}
-use Rattle.wasm_tree.specs.IndexSpaces.{imported_globals, is_func_import, is_table_import, is_memory_import, is_global_import}
-use Rattle.wasm_meaning.specs.LinkedSet.{LinkedSet, NamedModule}
+use Rattle.c_unit.proofs.Common.{◌≡◌, ℕ, suc, ◌+◌, ◌^◌, ◌<◌, Bool, true, false, not, ◌||◌, List, [], ◌∷◌, ◌++◌, map, length, if◌then◌else◌, slice_get, Some, codes, filter, sym, refl, ap, ◌∙◌, subst, append_assoc, arith, none-some, slice_get_within, AllByRecursion, Trail, imported_globals, is_func_import, is_global_import, is_memory_import, is_table_import, Import, ImportKind, ImportFunc, ImportGlobal, ImportMemory, ImportTable, LinkedSet, NamedModule, Take, Task, global_name, memory_name, table_name, global_imports, memory_imports, table_imports, asks_something, has_test, set_pointer, take_stmts, takes_from, test_limits}
 use Rattle.wasm_meaning.specs.Store as store
-use Rattle.wasm_meaning.specs.Run.{Task, Take}
 use Rattle.c_tree.specs.Tree as c
 use Rattle.c_meaning.specs.State as state
-use Rattle.alike.specs.Alike.{memory_name, table_name, global_name}
-use Rattle.c_symbols.specs.Symbols.{table_imports, memory_imports, global_imports}
-use Rattle.c_unit.specs.Init.{set_pointer, test_limits, take_stmts, takes_from, asks_something, has_test}
 use Rattle.c_unit.proofs.InitStatements.{Seat}
 use Rattle.c_unit.proofs.InitRuns.{FollowsTask, FollowsTasks, and_others}
 use Rattle.c_unit.proofs.TakeTasks.{IsTakenAs, AreTaken, IsLow, next_number, IsTaking, table_follows, memory_follows, global_follows}

@@ -1,20 +1,7 @@
 -- The declaration of a body's function is that of its index and type.
-use Rattle.std.proofs.Common.{◌≡◌, ℕ, suc, List, [], ◌∷◌, map, Option, Some, None, refl, sym, ap, true, ◌∙◌}
-use Rattle.std.specs.Prelude.{option_map, unwrap_or}
-use Rattle.w2c_base.specs.declared.value.ValType.{ValType}
-use Rattle.w2c_base.specs.declared.signature.FuncType.{FuncType}
-use Rattle.wasm_tree.specs.declared.entries.BodyEntry.{BodyEntry}
-use Rattle.wasm_meaning.specs.LinkedSet.{NamedModule}
+use Rattle.c_unit.proofs.Common.{◌≡◌, ℕ, suc, true, List, [], ◌∷◌, map, Some, None, Option, option_map, unwrap_or, sym, refl, ap, ◌∙◌, if_found, FuncType, ValType, type_in, BodyEntry, FuncEntry, Module, NamedModule, c_params_of, c_result_of, c_type_of, func_name, body_of, defined_at, func_of, params_of, no_name, prototype, bare_params, prototype_of}
 use Rattle.c_tree.specs.Tree as tree
-use Rattle.c_meaning.specs.Linking.{c_type_of, c_params_of, c_result_of}
-use Rattle.alike.specs.Alike.{func_name}
-use Rattle.wasm_tree.specs.declared.tree.Module.{Module}
-use Rattle.wasm_tree.specs.declared.entries.FuncEntry.{FuncEntry}
-use Rattle.wasm_tree.specs.IndexSpaces.{type_in}
-use Rattle.w2c_base.specs.Lookup.{if_found}
-use Rattle.c_body.specs.Body.{params_from, params_of, func_of, body_of, defined_at, no_func}
-use Rattle.c_unit.specs.Items.{no_name, prototype}
-use Rattle.c_unit.specs.Prototypes.{bare_params, prototype_of}
+use Rattle.c_body.specs.Body.{params_from, no_func}
 
 bare_from : (k : ℕ) (types : List ValType) → map no_name (params_from k types) ≡ bare_params (map c_type_of types)
 bare_from k [] = refl

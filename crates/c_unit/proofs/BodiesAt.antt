@@ -1,31 +1,11 @@
 -- What stands behind the functions of a module that is accepted: each has a type and a body that is typed.
-use Rattle.std.proofs.Common.{◌≡◌, ℕ, zero, suc, ◌+◌, ◌-◌, ◌<◌, ◌≤◌, ◌^◌, refl, ap, ◌∙◌, subst, arith, true, Bool, List, [], ◌∷◌, length, Option, Some, None, option_map}
-use Rattle.std.specs.Prelude.{slice_get, zip, flat_map, is_none, unwrap_or}
-use Rattle.std.specs.List.{list_any}
-use Rattle.w2c_base.specs.declared.value.ValType.{ValType}
-use Rattle.w2c_base.specs.declared.signature.FuncType.{FuncType}
-use Rattle.w2c_base.specs.Lookup.{if_found}
-use Rattle.wasm_tree.specs.Instructions.{Code}
-use Rattle.wasm_tree.specs.declared.tree.Module.{Module}
-use Rattle.wasm_tree.specs.declared.entries.TypeEntry.{TypeEntry}
-use Rattle.wasm_tree.specs.declared.entries.FuncEntry.{FuncEntry}
-use Rattle.wasm_tree.specs.declared.entries.BodyEntry.{BodyEntry}
-use Rattle.wasm_tree.specs.IndexSpaces.{type_in, declared_locals, imported_funcs}
-use Rattle.wasm_tree.proofs.BehindImports.{defined_behind_imports}
-use Rattle.wasm_meaning.specs.LinkedSet.{NamedModule}
+use Rattle.c_unit.proofs.Common.{◌≡◌, ℕ, zero, suc, ◌+◌, ◌-◌, ◌^◌, ◌<◌, ◌≤◌, Bool, true, List, [], ◌∷◌, length, is_none, slice_get, Some, None, Option, option_map, zip, flat_map, unwrap_or, refl, ap, ◌∙◌, subst, arith, same_Some, list_any, none_at, all_at, if_found, FuncType, ValType, defined_behind_imports, declared_locals, imported_funcs, type_in, Code, BodyEntry, FuncEntry, TypeEntry, Module, body_context, context_of, fault_if, unknown_import_type, unknown_types, bodies_of, Void, NamedModule, body_of, func_of, most_operands, BodyHasLimits, HasLimits, IsAccepted}
 use Rattle.wasm_valid.specs.declared.fault.ValidCause.TheVariants as cause
-use Rattle.wasm_valid.specs.Context.{context_of, body_context}
 use Rattle.wasm_valid.specs.Typing.{values, BodyHasType}
-use Rattle.wasm_valid.specs.Verdict.{IsTyped, AreTyped, bodies_of}
-use Rattle.wasm_valid.specs.ModuleFaults.{fault_if, unknown_import_type, unknown_types, module_faults}
-use Rattle.c_body.specs.Limits.{HasLimits, BodyHasLimits}
+use Rattle.wasm_valid.specs.Verdict.{IsTyped, AreTyped}
+use Rattle.wasm_valid.specs.ModuleFaults.{module_faults}
 use Rattle.c_body.specs.Stack.{peak}
-use Rattle.c_body.specs.Body.{func_of, body_of, most_operands}
-use Rattle.c_unit.specs.Sets.{IsAccepted}
-use Rattle.c_unit.proofs.Small.{no_left, no_right, none_at, no_fault, there_is}
-use Rattle.c_body.proofs.Lists.{all_at}
-use Rattle.c_tree.specs.declared.tree.CType.TheVariants.{Void}
-use Rattle.std.proofs.lemmas.Option.{same_Some}
+use Rattle.c_unit.proofs.Small.{no_left, no_right, no_fault, there_is}
 use Rattle.std.proofs.lemmas.Map.Keys.{any_passes_from_place}
 use Rattle.c_unit.proofs.AcceptedLimits.{accepted_limits}
 
@@ -69,6 +49,10 @@ few_params m w x ty e = by (slice_get m.types x) refl e
     by None f g = absurd cc
     by (Some t) f g = let h : t.ty ≡ ty = cc in subst (λ (u : FuncType). length u.params ≤ 60) h
         (all_at (λ (t : TypeEntry). length t.ty.params ≤ 60) m.types x t w.params f)
+
+pub few_found : (m : Module) → HasLimits m → (o : Option ℕ) (ty : FuncType) → if_found o (type_in m) ≡ Some ty → length ty.params ≤ 60
+few_found m w None ty e = absurd cc
+few_found m w (Some x) ty e = few_params m w x ty e
 
 -- ---- each function
 

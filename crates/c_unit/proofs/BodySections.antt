@@ -1,44 +1,16 @@
 -- The prototypes and the functions of bodies keep the rules in a module's unit.
-use Rattle.std.proofs.Common.{◌≡◌, ◌≢◌, ℕ, suc, ◌+◌, ◌-◌, ◌<◌, ◌≤◌, ◌^◌, ◌||◌, ◌⊎◌, inl, inr, refl, sym, ap, ◌∙◌, subst, arith, append_assoc, true, false, not, List, [], ◌∷◌, ◌++◌, length, map, None}
-use Rattle.std.proofs.lemmas.List.{length-append}
-use Rattle.std.proofs.lemmas.List.Folds.{list_any-append}
-use Rattle.std.specs.Prelude.{bytes_eq}
-use Rattle.std.specs.List.{AllByRecursion, list_any, list_all}
-use Rattle.w2c_base.specs.declared.value.ValType.{ValType}
+use Rattle.c_unit.proofs.Common.{◌≡◌, ℕ, suc, ◌+◌, ◌-◌, ◌^◌, ◌<◌, ◌≤◌, true, false, not, ◌||◌, ◌≢◌, ◌⊎◌, List, [], ◌∷◌, ◌++◌, map, length, None, bytes_eq, sym, refl, ap, ◌∙◌, subst, inl, inr, append_assoc, arith, length-append, or_left, or_right, list_any-append, AllByRecursion, list_all, list_any, all_append, all_map, FuncType, ValType, declared_locals, imported_funcs, Module, defines, is_value_type, may_both_stand, proper_params, same_type, same_types, name_of, param_variables, CType, NamedModule, c_result_of, func_name, helper_of, declared_symbols, FileKnows, body_keeps_rules, class, after_typed, result_type, lettered, body_of, func_of, params_of, helpers_of, pointers_of, bodies, data_of, declaration, objects_of, prototype, IsAccepted}
 use Rattle.w2c_base.specs.declared.value.ValType.TheVariants.{I32, I64}
-use Rattle.w2c_base.specs.declared.signature.FuncType.{FuncType}
-use Rattle.wasm_tree.specs.declared.tree.Module.{Module}
-use Rattle.wasm_tree.specs.IndexSpaces.{declared_locals, imported_funcs}
-use Rattle.wasm_meaning.specs.LinkedSet.{NamedModule}
-use Rattle.c_tree.specs.declared.tree.CType.{CType}
 use Rattle.c_tree.specs.declared.tree.CType.TheVariants as type
 use Rattle.c_tree.specs.Tree as tree
-use Rattle.c_tree.specs.Runtime.{same_type, same_types}
-use Rattle.c_tree.specs.Scope.{name_of, param_variables}
-use Rattle.c_tree.specs.Rules.{may_both_stand, defines, is_value_type, proper_params}
-use Rattle.c_meaning.specs.Linking.{c_result_of}
-use Rattle.alike.specs.Alike.{func_name}
-use Rattle.c_prelude.specs.Helpers.{helper_of}
-use Rattle.c_symbols.specs.Symbols.{declared_symbols}
-use Rattle.c_body.specs.Objects.{pointers_of}
-use Rattle.c_body.specs.Needs.{helpers_of}
-use Rattle.c_body.specs.Body.{func_of, body_of, params_from, params_of}
-use Rattle.c_body.proofs.Heights.{after_typed}
-use Rattle.c_body.proofs.BodyRules.{FileKnows, body_keeps_rules}
+use Rattle.c_body.specs.Body.{params_from}
 use Rattle.c_body.proofs.RulesOfFunctions.{all_at}
-use Rattle.c_body.proofs.RulesOfLabels.{lettered}
-use Rattle.c_body.proofs.Classes.{class}
-use Rattle.c_unit.specs.Items.{objects_of, data_of, declaration, prototype, bodies}
-use Rattle.c_unit.specs.Sets.{IsAccepted}
 use Rattle.c_unit.proofs.BodiesAt.{BodyAt, body_at, few_locals, few_operands}
 use Rattle.c_unit.proofs.Pairs.{AllPairs, pairs_at, all_range, pairs_range}
 use Rattle.c_unit.proofs.ItemRules.{AllShow, Keeps, Apart, apart_joined, apart_classes, apart_names, once, declared_func, declaration_keeps}
 use Rattle.c_unit.proofs.Sections.{AllClass, tabs_class, mems_class, globals_class, pointers_class, data_class, declared_class, prototypes_class, bodies_class, helpers_class, body_name, few_funcs}
 use Rattle.c_unit.proofs.PlainItems.{ItemKeeps, NotSame, NoClass, other_class, section_keeps}
 use Rattle.c_unit.proofs.NeedsDeclared.{all_known}
-use Rattle.c_body.proofs.Lists.{all_append, all_map}
-use Rattle.std.proofs.lemmas.Bool.{or_left, or_right}
-use Rattle.c_body.proofs.RulesOfCode.{result_type}
 
 abbrev Proto : tree.Func → tree.Func
 Proto x = record {

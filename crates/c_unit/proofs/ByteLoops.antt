@@ -1,9 +1,6 @@
 -- Segments with bytes have a loop.
-use Rattle.std.proofs.Common.{◌≡◌, ℕ, ◌<◌, ◌≤◌, List, [], ◌∷◌, ◌++◌, append_assoc, length, refl, ap, ◌∙◌, arith}
-use Rattle.wasm_tree.specs.declared.tree.Module.{Module}
-use Rattle.wasm_tree.specs.declared.entries.SegmentEntry.{SegmentEntry}
+use Rattle.c_unit.proofs.Common.{◌≡◌, ℕ, ◌<◌, ◌≤◌, List, [], ◌∷◌, ◌++◌, length, refl, ap, ◌∙◌, append_assoc, arith, SegmentEntry, Module, write_data}
 use Rattle.c_tree.specs.Tree as tree
-use Rattle.c_unit.specs.Init.{write_data}
 use Rattle.c_unit.specs.Loops.{byte_loop, byte_parts}
 
 pub bytes_there : (m : Module) (number : ℕ) (d : SegmentEntry) → 0 < length d.bytes

@@ -1,10 +1,6 @@
 -- Expressions by their only instruction.
-use Rattle.std.proofs.Common.{◌≡◌, Option, Some, None, refl, ap, arith}
-use Rattle.wasm_tree.specs.declared.tree.Module.{Module}
-use Rattle.wasm_tree.specs.Instructions.{Code, Kind, end_code, then_code, I32Const, I64Const, GlobalGet}
+use Rattle.c_unit.proofs.Common.{◌≡◌, Some, None, Option, refl, ap, arith, Code, GlobalGet, I32Const, I64Const, Kind, end_code, then_code, Module, constant_expr, constant_by, single_of}
 use Rattle.wasm_tree.specs.Appended.{InstrTree, code_length, instr_at}
-use Rattle.c_unit.specs.Init.{constant_expr}
-use Rattle.c_unit.specs.Single.{single_of, constant_by}
 
 pub by_single : (m : Module) (code : Code) → constant_by m (single_of code) ≡ constant_expr m code
 by_single m end_code = refl

@@ -1,33 +1,10 @@
 -- What the unit of a checked module counts has room in its numbers: indexes, parameters and items.
-use Rattle.std.proofs.Common.{◌≡◌, ℕ, suc, ◌+◌, ◌<◌, ◌≤◌, ◌^◌, Bool, true, false, if◌then◌else◌, List, [], ◌∷◌, ◌++◌, length, length-append, map, flat_map, zip, slice_get, Option, Some, None, refl, sym, ap, ◌∙◌, arith}
-use Rattle.std.proofs.lemmas.Option.{slice_get_within, slice_get-map}
-use Rattle.std.proofs.lemmas.List.FromFn.{length-map-range_with_len}
-use Rattle.std.specs.List.{list_any, range_with_len}
-use Rattle.w2c_base.specs.declared.signature.FuncType.{FuncType}
-use Rattle.w2c_base.specs.Lookup.{if_found, numbered}
-use Rattle.wasm_tree.specs.declared.tree.Module.{Module}
-use Rattle.wasm_tree.specs.declared.entries.TypeEntry.{TypeEntry}
-use Rattle.wasm_tree.specs.declared.entries.BodyEntry.{BodyEntry}
-use Rattle.wasm_tree.specs.declared.entries.LimitsEntry.{LimitsEntry}
-use Rattle.wasm_tree.specs.declared.entries.SegmentEntry.{SegmentEntry}
-use Rattle.wasm_tree.specs.IndexSpaces.{is_func_import, is_table_import, is_memory_import, is_global_import, imported_funcs, imported_globals, type_in, func_space, func_type_in, table_of_import, memory_of_import}
+use Rattle.c_unit.proofs.Common.{◌≡◌, ℕ, suc, ◌+◌, ◌^◌, ◌<◌, ◌≤◌, Bool, true, false, List, [], ◌∷◌, ◌++◌, map, length, if◌then◌else◌, slice_get, Some, None, Option, zip, flat_map, sym, refl, ap, ◌∙◌, arith, length-append, length-map-range_with_len, slice_get-map, slice_get_within, list_any, range_with_len, if_found, numbered, FuncType, func_space, func_type_in, imported_funcs, imported_globals, is_func_import, is_global_import, is_memory_import, is_table_import, memory_of_import, table_of_import, type_in, BodyEntry, LimitsEntry, SegmentEntry, TypeEntry, Module, WithinLimits, IsValid, Name, is_among, NamedModule, HELPERS, declared_symbols, declared_type, firsts, global_imports, import_symbol, memory_imports, symbol_type, table_imports, filter_few, body_of, any_in, calls_helper, helpers_of, pointers_of, bodies, data_item, data_of, items, objects_of}
 use Rattle.wasm_spelling.specs.Places.{IsFormed}
-use Rattle.wasm_spelling.specs.Within.{WithinLimits}
 use Rattle.wasm_spelling.proofs.WithinPlaces.{formed_is_within}
-use Rattle.wasm_valid.specs.Verdict.{IsValid}
-use Rattle.wasm_meaning.specs.LinkedSet.{NamedModule}
 use Rattle.c_tree.specs.Tree as tree
-use Rattle.c_tree.specs.Scope.{Name, is_among}
-use Rattle.c_prelude.specs.declared.operation.TheConstants.{HELPERS}
-use Rattle.c_body.specs.Body.{body_of}
-use Rattle.c_body.specs.Labels.{any_in}
-use Rattle.c_body.specs.Needs.{calls_helper, helpers_of}
-use Rattle.c_body.specs.Objects.{pointers_of}
 use Rattle.c_body.specs.Ready.{HaveFewParams}
-use Rattle.c_symbols.specs.Symbols.{import_symbol, global_imports, memory_imports, table_imports, firsts, declared_symbols, declared_type, symbol_type}
-use Rattle.c_body.proofs.Lists.{filter_few}
 use Rattle.c_unit.specs.Entries.{entries}
-use Rattle.c_unit.specs.Items.{objects_of, data_item, data_of, bodies, items}
 use Rattle.c_unit.proofs.Counts.{map_length}
 use Rattle.c_unit.proofs.Sections.{few_tables, few_memories}
 

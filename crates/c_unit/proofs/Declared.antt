@@ -1,43 +1,15 @@
 -- The variables that a unit declares for its module, and its arrays of data, are found by their names (C11, 6.9.2).
-use Rattle.std.proofs.Common.{◌≡◌, ◌≢◌, ℕ, zero, suc, ◌+◌, ◌^◌, ◌<◌, Bool, true, false, if◌then◌else◌, List, [], ◌∷◌, ◌++◌, length, map, filter_map, flat_map, zip, Option, Some, None, option_map, is_some, slice_get, bytes_eq, refl, sym, ap, ◌∙◌, subst, arith, append_assoc}
-use Rattle.std.specs.Prelude.{⊤}
-use Rattle.std.specs.List.{AllByRecursion, range_with_len, cons_option}
-use Rattle.std.proofs.lemmas.Option.{same_Some, none-some, slice_get_within}
-use Rattle.std.proofs.lemmas.Fmt.{decimal_injective}
-use Rattle.w2c_base.specs.declared.value.ValType.{ValType}
+use Rattle.c_unit.proofs.Common.{◌≡◌, ℕ, zero, suc, ◌+◌, ◌^◌, ◌<◌, Bool, true, false, ◌≢◌, List, [], ◌∷◌, ◌++◌, map, length, is_some, if◌then◌else◌, slice_get, Some, None, Option, option_map, zip, flat_map, filter_map, bytes_eq, sym, refl, ap, ◌∙◌, subst, append_assoc, arith, decimal_injective, none-some, same_Some, slice_get_within, AllByRecursion, cons_option, range_with_len, ⊤, all_append, get_within, some_first, if_found, named, numbered, value, ValType, global_space, imported_global_space, imported_globals, GlobalEntry, LimitsEntry, SegmentEntry, Module, Name, CType, LinkedSet, NamedModule, bytes_differ, bytes_equal, array_bytes, array_named, c_type_of, global_name, memory_name, table_name, global_imports, memory_imports, pointer_type, table_imports, vars_in, get_behind, get_left, get_mapped, global_count, pointer_name, pointers_of, data_name, zero_like, data_of, items, objects_of, IsAccepted, program_of}
 use Rattle.w2c_base.specs.declared.value.ValType.TheVariants as type
-use Rattle.w2c_base.specs.Values.{value}
-use Rattle.w2c_base.specs.Lookup.{if_found, named, numbered}
-use Rattle.wasm_tree.specs.declared.tree.Module.{Module}
-use Rattle.wasm_tree.specs.declared.entries.LimitsEntry.{LimitsEntry}
-use Rattle.wasm_tree.specs.declared.entries.GlobalEntry.{GlobalEntry}
-use Rattle.wasm_tree.specs.declared.entries.SegmentEntry.{SegmentEntry}
-use Rattle.wasm_tree.specs.IndexSpaces.{global_space, imported_global_space, imported_globals}
-use Rattle.wasm_meaning.specs.LinkedSet.{LinkedSet, NamedModule}
-use Rattle.c_tree.specs.declared.tree.CType.{CType}
 use Rattle.c_tree.specs.declared.tree.CType.TheVariants as c_type
 use Rattle.c_tree.specs.Tree as c
-use Rattle.c_tree.specs.Scope.{Name}
 use Rattle.c_meaning.specs.State as state
-use Rattle.c_meaning.specs.Linking.{c_type_of, array_bytes, array_named}
 use Rattle.c_meaning.specs.Machine as machine
-use Rattle.c_meaning.proofs.Lookups.{bytes_equal, bytes_differ}
-use Rattle.alike.specs.Alike.{memory_name, table_name, global_name}
-use Rattle.c_body.specs.Names.{pointer_name}
-use Rattle.c_symbols.specs.Symbols.{table_imports, memory_imports, global_imports, pointer_type}
-use Rattle.c_body.specs.Objects.{pointers_of}
-use Rattle.c_unit.specs.Init.{data_name}
-use Rattle.c_unit.specs.Items.{objects_of, data_of, items}
-use Rattle.c_unit.specs.Sets.{IsAccepted, program_of}
-use Rattle.c_unit.specs.Instantiation.{zero_like}
 use Rattle.c_unit.proofs.Held.{held}
 use Rattle.c_unit.proofs.TakeTasks.{IsDeclared}
 use Rattle.c_unit.proofs.KnownNames.{imported_global}
 use Rattle.c_unit.proofs.Knowledge.{own_global, imported_global_is, imported_memory_is, imported_table_is}
 use Rattle.c_unit.proofs.Small.{behind_letter, all_images}
-use Rattle.c_body.proofs.BodyRules.{vars_in}
-use Rattle.c_body.proofs.Lists.{all_append, get_behind, get_left, get_mapped, get_within}
-use Rattle.c_body.proofs.Spaces.{global_count}
 
 -- ---- what is found of lists of items
 
@@ -148,10 +120,6 @@ objects_unset m pointers =
     (all_append IsUnset _ _ (all_images IsUnset _ m.memories (λ x. tt))
     (all_append IsUnset _ _ (all_images IsUnset _ (numbered m.globals) (λ x. tt))
     (all_images IsUnset _ pointers (λ x. tt))))
-
-some_first : {A : Type 0} (xs : List A) → 0 < length xs → is_some (slice_get xs 0) ≡ true
-some_first [] some = absurd (omega (arith, some))
-some_first (x ∷ xs) some = refl
 
 none_past : {A : Type 0} (xs : List A) (k : ℕ) → is_some (slice_get xs (length xs + k)) ≡ false
 none_past [] k = refl

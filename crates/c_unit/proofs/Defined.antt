@@ -1,53 +1,12 @@
 -- What the names of a module's unit stand for in it: helpers, bodies, exports and the init function, and
 -- that symbols of other modules stand for nothing.
-use Rattle.std.proofs.Common.{◌≡◌, ◌≢◌, ℕ, zero, suc, ◌+◌, ◌-◌, ◌<◌, ◌≤◌, ◌^◌, ◌&&◌, ◌⊎◌, inl, inr, not, nat_eq, Bool, true, false, if◌then◌else◌, List, [], ◌∷◌, ◌++◌, map, length, find, bytes_eq, is_none, All, Option, Some, None, option_map, unwrap_or, slice_get, refl, sym, ap, ◌∙◌, subst, arith}
-use Rattle.std.proofs.lemmas.Fmt.{decimal_injective}
-use Rattle.std.proofs.lemmas.Option.{slice_get-get_or}
-use Rattle.std.proofs.lemmas.Slice.Eq.{bytes_eq-Decides}
-use Rattle.std.specs.List.{AllByRecursion, Contains, list_all, range_with_len}
-use Rattle.std.specs.Option.{option_or}
-use Rattle.w2c_base.specs.Lookup.{if_found, numbered}
-use Rattle.w2c_base.specs.declared.value.ValType.{ValType}
-use Rattle.w2c_base.specs.declared.signature.FuncType.{FuncType}
-use Rattle.w2c_mangle.specs.declared.symbol.SymbolKind.{SymbolKind}
+use Rattle.c_unit.proofs.Common.{◌≡◌, ℕ, zero, suc, ◌+◌, ◌-◌, ◌^◌, ◌<◌, ◌≤◌, Bool, true, false, not, ◌&&◌, ◌≢◌, ◌⊎◌, List, [], ◌∷◌, ◌++◌, map, length, is_none, if◌then◌else◌, nat_eq, slice_get, Some, None, All, Contains, Option, option_map, find, bytes_eq, unwrap_or, sym, refl, ap, ◌∙◌, subst, inl, inr, arith, decimal_injective, slice_get-get_or, bytes_eq-Decides, AllByRecursion, list_all, range_with_len, option_or, all_append, if_found, numbered, FuncType, ValType, export_symbol_of-injective, init_symbol_of-not_export, export_symbol_of, init_symbol_of, SymbolKind, global_type_in, imported_funcs, type_in, BodyEntry, Export, ExportKind, ExportFunc, ExportGlobal, ExportMemory, ExportTable, FuncEntry, Import, SegmentEntry, Module, Name, CType, NamedModule, bytes_differ, bytes_equal, Definition, defined, defined_for_all, typed, primitive, func_name, global_name, memory_name, table_name, listed, made_static, names_differ, helper_of, Helper, HELPERS, export_symbol, export_type, global_imports, global_kind, global_symbol, memory_imports, table_imports, class, class_lettered, get_numbered, IsDefined, body_of, defined_at, func_of, helpers_of, needs_of, callee, accessor, export_func, passes_on, data_name, init_func, bodies, data_of, declaration, items, objects_of, prototype}
 use Rattle.w2c_mangle.specs.declared.symbol.SymbolKind.TheVariants as symbol
-use Rattle.w2c_mangle.specs.Symbols.{export_symbol_of, init_symbol_of}
-use Rattle.w2c_mangle.proofs.SymbolNames.{export_symbol_of-injective, init_symbol_of-not_export}
-use Rattle.wasm_tree.specs.declared.tree.Module.{Module}
-use Rattle.wasm_tree.specs.declared.entries.Import.{Import}
-use Rattle.wasm_tree.specs.declared.entries.Export.{Export}
-use Rattle.wasm_tree.specs.declared.entries.SegmentEntry.{SegmentEntry}
-use Rattle.wasm_tree.specs.declared.entries.ExportKind.{ExportKind}
-use Rattle.wasm_tree.specs.declared.entries.ExportKind.TheVariants.{Func as ExportFunc, Table as ExportTable, Memory as ExportMemory, Global as ExportGlobal}
-use Rattle.wasm_tree.specs.declared.entries.FuncEntry.{FuncEntry}
-use Rattle.wasm_tree.specs.declared.entries.BodyEntry.{BodyEntry}
-use Rattle.wasm_tree.specs.IndexSpaces.{type_in, global_type_in, imported_funcs}
-use Rattle.wasm_meaning.specs.LinkedSet.{NamedModule}
-use Rattle.c_tree.specs.declared.tree.CType.{CType}
 use Rattle.c_tree.specs.declared.tree.CType.TheVariants as c_type
 use Rattle.c_tree.specs.Tree as tree
-use Rattle.c_tree.specs.Scope.{Name}
-use Rattle.c_meaning.specs.Linking.{Definition, defined, defined_for_all, typed}
-use Rattle.c_meaning.specs.Primitives.{primitive}
-use Rattle.c_meaning.proofs.Lookups.{bytes_equal, bytes_differ}
-use Rattle.c_prelude.specs.declared.operation.Helper.{Helper}
 use Rattle.c_prelude.specs.declared.operation.Helper.TheVariants as helper
-use Rattle.c_prelude.specs.declared.operation.TheConstants.{HELPERS}
-use Rattle.c_prelude.specs.Helpers.{helper_of}
-use Rattle.c_prelude.proofs.Functions.{listed, names_differ, made_static}
-use Rattle.alike.specs.Alike.{func_name, memory_name, table_name, global_name}
-use Rattle.c_body.specs.Objects.{callee}
-use Rattle.c_symbols.specs.Symbols.{table_imports, memory_imports, global_imports, export_symbol, export_type, global_symbol, global_kind}
-use Rattle.c_body.specs.Body.{defined_at, func_of, body_of}
-use Rattle.c_body.specs.Agree.{IsDefined}
-use Rattle.c_body.specs.Needs.{helpers_of, needs_of}
-use Rattle.c_unit.specs.Init.{init_func, data_name}
-use Rattle.c_unit.specs.Exports.{export_func, passes_on, accessor}
-use Rattle.c_unit.specs.Items.{items, bodies, objects_of, data_of, declaration, prototype}
 use Rattle.c_unit.proofs.Plans.{all_flat}
 use Rattle.c_unit.proofs.Found.{Test, Misses, Finds, FindsNone, skip, skip_none, named_by, external_by, here, find_at, find_none, find_map, found_among, none_among}
-use Rattle.c_body.proofs.Classes.{class, class_lettered}
-use Rattle.c_body.proofs.Lists.{get_numbered, all_append}
 use Rattle.c_unit.proofs.Small.{all_images}
 
 -- ---- sections: those without bodies define nothing

@@ -1,32 +1,10 @@
 -- The section of exports keeps the rules in a module's unit.
-use Rattle.std.proofs.Common.{◌≡◌, ℕ, zero, suc, ◌<◌, ◌≤◌, ◌^◌, refl, sym, ap, ◌∙◌, subst, arith, if◌then◌else◌, true, false, Bool, not, List, [], ◌∷◌, ◌++◌, length, map, Option, Some, None}
-use Rattle.std.specs.Prelude.{slice_get, is_some, is_none, IsSome}
-use Rattle.w2c_base.specs.declared.value.ValType.{ValType}
+use Rattle.c_unit.proofs.Common.{◌≡◌, ℕ, zero, suc, ◌^◌, ◌<◌, ◌≤◌, Bool, true, false, not, List, [], ◌∷◌, ◌++◌, map, length, is_some, is_none, if◌then◌else◌, IsSome, slice_get, Some, None, Option, sym, refl, ap, ◌∙◌, subst, arith, at_index, named, FuncType, ValType, export_symbol_of, SymbolKind, func_space, func_type_in, global_space, global_type_in, imported_global_space, is_global_import, is_memory_import, is_table_import, memory_space, table_space, type_in, Import, ImportGlobal, Module, is_symbol, is_void, proper_types, primitives, Name, is_among, is_object_type, pointer_to, CType, NamedModule, c_params_of, c_type_of, global_name, memory_name, table_name, accessor_type, c_func_type, c_func_type_if, global_accessor_type, global_imports, import_symbol, import_type, is_usable, memory_imports, pointer_type, table_imports, funcs_in, vars_in, get_left, named_in, callee, pointers_of, accessor, passes_on, usable_symbol, objects_of, IsAccepted}
 use Rattle.w2c_base.specs.declared.value.ValType.TheVariants.{I32, I64}
-use Rattle.w2c_base.specs.declared.signature.FuncType.{FuncType}
-use Rattle.w2c_base.specs.Lookup.{named, at_index, if_found}
 use Rattle.w2c_mangle.specs.declared.symbol.SymbolKind.TheVariants as symbol
-use Rattle.w2c_mangle.specs.declared.symbol.SymbolKind.{SymbolKind}
-use Rattle.w2c_mangle.specs.Symbols.{export_symbol_of}
-use Rattle.wasm_tree.specs.declared.tree.Module.{Module}
-use Rattle.wasm_tree.specs.declared.entries.Import.{Import}
-use Rattle.wasm_tree.specs.declared.entries.ImportKind.TheVariants.{Global as ImportGlobal}
-use Rattle.wasm_tree.specs.IndexSpaces.{type_in, func_space, table_space, memory_space, global_space, imported_global_space, func_type_in, global_type_in, is_table_import, is_memory_import, is_global_import}
-use Rattle.wasm_meaning.specs.LinkedSet.{NamedModule}
-use Rattle.c_tree.specs.declared.tree.CType.{CType}
 use Rattle.c_tree.specs.declared.tree.CType.TheVariants as type
 use Rattle.c_tree.specs.Tree as tree
-use Rattle.c_tree.specs.Scope.{Name, is_among, pointer_to, is_object_type}
-use Rattle.c_tree.specs.Rules.{proper_types, is_void, is_symbol}
-use Rattle.c_meaning.specs.Linking.{c_type_of, c_params_of}
-use Rattle.alike.specs.Alike.{memory_name, table_name, global_name}
-use Rattle.c_symbols.specs.Symbols.{c_func_type, c_func_type_if, accessor_type, pointer_type, global_accessor_type, import_symbol, import_type, is_usable, table_imports, memory_imports, global_imports}
-use Rattle.c_body.specs.Objects.{callee, pointers_of}
-use Rattle.c_body.proofs.BodyRules.{vars_in, funcs_in}
-use Rattle.c_unit.specs.Exports.{accessor, passes_on, usable_symbol}
-use Rattle.c_unit.specs.Items.{objects_of}
-use Rattle.c_unit.specs.Sets.{IsAccepted}
-use Rattle.c_unit.proofs.BodiesAt.{few_params}
+use Rattle.c_unit.proofs.BodiesAt.{few_found}
 use Rattle.c_unit.proofs.Sections.{few_tables, few_memories, symbol_is}
 use Rattle.c_unit.proofs.PlainItems.{func_proper}
 use Rattle.c_unit.proofs.KnownNames.{imported_global}
@@ -35,10 +13,12 @@ use Rattle.c_unit.proofs.ExportRules.{IsExternal, CalleeKnown, passes_on_is}
 use Rattle.c_unit.proofs.ExportFacts.{func_typed}
 use Rattle.c_unit.proofs.ExportTypes.{address_is, kept_among, table_import_type, memory_import_type}
 use Rattle.c_unit.proofs.Small.{there_is, some_same}
-use Rattle.c_body.proofs.OwnNames.{named_in}
-use Rattle.c_body.proofs.Lists.{get_left}
-use Rattle.c_tree.specs.Runtime.{primitives}
 use Rattle.c_unit.proofs.AcceptedLimits.{accepted_limits}
+
+-- the type of an import that is a global
+pub accessor_is : (t : Module) (i : Import) (ty : ValType) (mutable : Bool) → i.kind ≡ ImportGlobal ty mutable
+    → import_type t i ≡ accessor_type (pointer_type ty)
+accessor_is t i ty mutable e = rw (e, import_type) refl
 
 -- what the functions of exports need of what is declared before them
 pub record Sees (m : NamedModule) (declared : List tree.Item) : Type 0 where
@@ -94,14 +74,10 @@ module _ (m : NamedModule) (a : IsAccepted m) (declared : List tree.Item) (sees 
       let typed = func_typed t a.valid.no_faults k out in
       passes_on_is declared (c_func_type_if (func_type_in t k)).params (c_func_type_if (func_type_in t k)).result
       (export_symbol_of m.name symbol.Func n) (callee m k)
-      (few_types (func_type_in t k) (λ ty e. few_at (slice_get (func_space t) k) ty e))
+      (few_types (func_type_in t k) (λ ty e. few_found t (accepted_limits a) (slice_get (func_space t) k) ty e))
       (func_proper (func_type_in t k)).params (func_proper (func_type_in t k)).result (symbol_is m.name symbol.Func n)
       (λ name f. named_in name (funcs_in declared) primitives _
       (sees.callees k typed.0 name typed.2 f ∙ ap (λ o. Some (c_func_type_if o)) (sym typed.1)))
-    where
-      few_at : (o : Option ℕ) (ty : FuncType) → if_found o (type_in t) ≡ Some ty → length ty.params ≤ 60
-      few_at None ty e = absurd cc
-      few_at (Some x) ty e = few_params t (accepted_limits a) x ty e
 
   object_is : (pointer u : CType) (object sym_name : Name) (imports : List Import) (k : ℕ) → is_symbol sym_name ≡ true
       → pointer_to u ≡ Some pointer → is_void pointer ≡ false → is_object_type pointer ≡ false
@@ -165,10 +141,6 @@ module _ (m : NamedModule) (a : IsAccepted m) (declared : List tree.Item) (sees 
       let same : found.1 ≡ g.0.0 = ap (λ (x : ValType × Bool). x.0)
       (some_same (sym (get_left (imported_global_space t) _ k (found.1, found.0) found.2) ∙ g.1)) in (
         (kept_among import_symbol is_global_import t.imports k i e).0,
-        result_is i found.1 found.0 found.3
+        accessor_is t i found.1 found.0 found.3
             ∙ ap (λ ty. accessor_type (pointer_type ty)) same,
       )))
-    where
-      result_is : (i : Import) (ty : ValType) (mutable : Bool) → i.kind ≡ ImportGlobal ty mutable
-          → import_type t i ≡ accessor_type (pointer_type ty)
-      result_is i ty mutable s = rw (s, import_type) refl

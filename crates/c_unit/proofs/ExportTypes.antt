@@ -1,34 +1,11 @@
 -- The function of each export is one of the external functions that keep the rules.
-use Rattle.std.proofs.Common.{◌≡◌, ℕ, zero, suc, refl, sym, ap, ◌∙◌, if◌then◌else◌, true, false, Bool, not, List, [], ◌∷◌, map, codes, Option, Some, None}
-use Rattle.std.specs.Prelude.{slice_get, filter, bytes_eq, is_some}
-use Rattle.w2c_base.specs.declared.value.ValType.{ValType}
+use Rattle.c_unit.proofs.Common.{◌≡◌, ℕ, zero, suc, Bool, true, false, not, List, [], ◌∷◌, map, is_some, if◌then◌else◌, slice_get, Some, None, codes, filter, Option, bytes_eq, sym, refl, ap, ◌∙◌, or_left, or_right, named, FuncType, ValType, is_memory_import, is_table_import, Import, ImportKind, ImportFunc, ImportGlobal, ImportMemory, ImportTable, Module, is_symbol, is_void, proper_types, same_func_type, Name, Scope, is_among, is_object_type, pointer_to, CType, NamedModule, bytes_equal, c_params_of, c_type_of, accessor_type, c_func_type_if, declared_symbols, firsts, import_symbol, import_type, is_usable, symbol_type, funcs_in, vars_in, named_in, address_arg, return_passes, external, named_params, params_from, declaration}
 use Rattle.w2c_base.specs.declared.value.ValType.TheVariants.{I32, I64}
-use Rattle.w2c_base.specs.declared.signature.FuncType.{FuncType}
-use Rattle.w2c_base.specs.Lookup.{named}
-use Rattle.wasm_tree.specs.declared.tree.Module.{Module}
-use Rattle.wasm_tree.specs.declared.entries.Import.{Import}
-use Rattle.wasm_tree.specs.declared.entries.ImportKind.{ImportKind}
-use Rattle.wasm_tree.specs.declared.entries.ImportKind.TheVariants.{Func as ImportFunc, Table as ImportTable, Memory as ImportMemory, Global as ImportGlobal}
-use Rattle.wasm_tree.specs.IndexSpaces.{is_table_import, is_memory_import}
-use Rattle.wasm_meaning.specs.LinkedSet.{NamedModule}
-use Rattle.c_tree.specs.declared.tree.CType.{CType}
 use Rattle.c_tree.specs.declared.tree.CType.TheVariants as type
 use Rattle.c_tree.specs.Tree as tree
-use Rattle.c_tree.specs.Runtime.{same_func_type}
-use Rattle.c_tree.specs.Scope.{Name, Scope, is_among, pointer_to, is_object_type}
-use Rattle.c_tree.specs.Rules.{is_symbol, is_void, proper_types}
-use Rattle.c_meaning.specs.Linking.{c_type_of, c_params_of}
-use Rattle.c_meaning.proofs.Lookups.{bytes_equal}
-use Rattle.c_symbols.specs.Symbols.{c_func_type_if, accessor_type, import_symbol, import_type, symbol_type, is_usable, declared_symbols, firsts}
-use Rattle.c_body.proofs.Rules.{address_arg, return_passes}
-use Rattle.c_body.proofs.OwnNames.{named_in}
-use Rattle.c_body.proofs.BodyRules.{vars_in, funcs_in}
-use Rattle.c_unit.specs.Exports.{params_from, named_params, external}
-use Rattle.c_unit.specs.Items.{declaration}
 use Rattle.c_unit.proofs.KnownNames.{func_types_same}
 use Rattle.c_unit.proofs.KnownFuncs.{symbol_named, firsts_have, params_back}
 use Rattle.c_unit.proofs.ExportRules.{IsExternal}
-use Rattle.std.proofs.lemmas.Bool.{or_left, or_right}
 use Rattle.c_unit.proofs.Small.{some_same}
 
 -- ---- an accessor of an own object

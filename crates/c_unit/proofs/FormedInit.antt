@@ -1,43 +1,11 @@
 -- The numbers of the init function's statements fit their types.
-use Rattle.std.proofs.Common.{◌≡◌, ℕ, zero, suc, ◌+◌, ◌<◌, ◌≤◌, ◌^◌, refl, arith, if◌then◌else◌, true, false, Bool, not, List, [], ◌∷◌, ◌++◌, length, map, codes, Option, Some, None, ℤ, pos, negsuc}
-use Rattle.std.specs.Prelude.{slice_get, flat_map, filter, zip, is_some}
-use Rattle.std.specs.List.{AllByRecursion, range_with_len}
-use Rattle.w2c_base.specs.declared.signature.FuncType.{FuncType}
-use Rattle.w2c_base.specs.declared.trap.TrapKind.{TrapKind}
+use Rattle.c_unit.proofs.Common.{◌≡◌, ℕ, zero, suc, ◌+◌, ◌^◌, ◌<◌, ◌≤◌, Bool, true, false, not, List, [], ◌∷◌, ◌++◌, map, length, ℤ, pos, negsuc, is_some, if◌then◌else◌, slice_get, Some, None, codes, filter, Option, zip, flat_map, refl, arith, AllByRecursion, range_with_len, all_append, all_flat, if_found, numbered, code_of, FuncType, TrapKind, func_space, func_type_in, is_func_import, is_global_import, memory_of_import, memory_space, table_of_import, table_space, type_in, Code, GlobalGet, I32Const, I64Const, end_code, then_code, ElementEntry, FuncRef, Import, ImportKind, ImportFunc, ImportGlobal, ImportMemory, ImportTable, Limits, LimitsEntry, SegmentEntry, Start, Module, IsMaximum, Name, FitsArg, FitsExpr, FitsStmt, depth_limit, NamedModule, pattern_of, global_name, memory_name, table_name, global_imports, import_symbol, is_usable, memory_imports, table_imports, all_kept, all_behind, all_front, all_weaker, pointer_name, callee, memory_arg, table_arg, bounds_label, byte_name, call_start, constant_expr, init_stmts, limits_label, make_global, make_memory, make_table, max_number, n64, place_expr, set_pointer, signature, start_stmts, take_stmts, takes_from, test_bounds, test_data, test_elements, test_max, test_min, tests_bounds, tests_limits, trap_if, write_data, write_element, write_elements, IsAccepted}
 use Rattle.w2c_base.specs.declared.trap.TrapKind.TheVariants as trap
-use Rattle.w2c_base.specs.Trap.{code_of}
-use Rattle.w2c_base.specs.Lookup.{numbered, if_found}
-use Rattle.wasm_tree.specs.Instructions.{Code, end_code, then_code, I32Const, I64Const, GlobalGet}
-use Rattle.wasm_tree.specs.declared.tree.Module.{Module}
-use Rattle.wasm_tree.specs.declared.entries.Import.{Import}
-use Rattle.wasm_tree.specs.declared.entries.ImportKind.{ImportKind}
-use Rattle.wasm_tree.specs.declared.entries.ImportKind.TheVariants.{Func as ImportFunc, Table as ImportTable, Memory as ImportMemory, Global as ImportGlobal}
-use Rattle.wasm_tree.specs.declared.entries.Limits.{Limits}
-use Rattle.wasm_tree.specs.declared.entries.LimitsEntry.{LimitsEntry}
-use Rattle.wasm_tree.specs.declared.entries.ElementEntry.{ElementEntry}
-use Rattle.wasm_tree.specs.declared.entries.SegmentEntry.{SegmentEntry}
-use Rattle.wasm_tree.specs.declared.entries.FuncRef.{FuncRef}
-use Rattle.wasm_tree.specs.declared.entries.Start.{Start}
-use Rattle.wasm_tree.specs.IndexSpaces.{type_in, func_space, func_type_in, table_space, memory_space, table_of_import, memory_of_import, is_func_import, is_global_import}
-use Rattle.wasm_meaning.specs.LinkedSet.{NamedModule}
-use Rattle.wasm_meaning.specs.Operators.{pattern_of}
 use Rattle.c_tree.specs.Tree as tree
-use Rattle.c_tree.specs.Scope.{Name}
-use Rattle.c_tree.specs.Spelled.{FitsExpr, FitsArg, FitsStmt, depth_limit}
 use Rattle.c_prelude.specs.Pieces as pieces
-use Rattle.alike.specs.Alike.{memory_name, table_name, global_name}
-use Rattle.c_body.specs.Names.{pointer_name}
-use Rattle.c_symbols.specs.Symbols.{is_usable, import_symbol, global_imports, memory_imports, table_imports}
-use Rattle.c_body.specs.Objects.{callee, memory_arg, table_arg}
-use Rattle.wasm_spelling.specs.Within.{IsMaximum}
 use Rattle.c_body.proofs.FormedCode.{Fits, signature_below}
-use Rattle.c_unit.specs.Init.{n64, limits_label, bounds_label, byte_name, max_number, constant_expr, place_expr, set_pointer, test_min, test_max, take_stmts, takes_from, make_table, make_memory, make_global, test_bounds, test_elements, test_data, signature, write_element, write_elements, write_data, call_start, start_stmts, trap_if, tests_limits, tests_bounds, init_stmts}
-use Rattle.c_unit.specs.Sets.{IsAccepted}
 use Rattle.c_unit.proofs.BodiesAt.{few_params}
-use Rattle.c_unit.proofs.InitSegments.{flat_all}
-use Rattle.c_body.proofs.Lists.{all_append, all_weaker, all_front, all_behind}
 use Rattle.c_unit.proofs.Small.{all_images}
-use Rattle.c_body.proofs.Classes.{all_kept}
 use Rattle.c_unit.proofs.AcceptedLimits.{accepted_limits}
 
 abbrev FitsHere : tree.Stmt → Type 0
@@ -207,14 +175,14 @@ module _ (m : NamedModule) (a : IsAccepted m) where
 
   element_tests_fit : (xs : List ElementEntry) → AllByRecursion (λ (e : ElementEntry). length e.funcs < 2 ^ 32) xs
       → Fits (flat_map (test_elements t) xs)
-  element_tests_fit xs h = flat_all FitsHere (test_elements t) xs
+  element_tests_fit xs h = all_flat FitsHere (test_elements t) xs
       (all_weaker (λ (e : ElementEntry). length e.funcs < 2 ^ 32) (λ e. Fits (test_elements t e)) xs
       (λ e less. bounds_fit (codes "w2c_tab_len") (table_arg t) (place_expr t e.offset (n64 (length e.funcs))) (table_fits 98)
       (place_fits 97 e.offset (n64 (length e.funcs)) (omega (arith, less)))) h)
 
   data_tests_fit : (xs : List SegmentEntry) → AllByRecursion (λ (d : SegmentEntry). length d.bytes < 2 ^ 32) xs
       → Fits (flat_map (test_data t) xs)
-  data_tests_fit xs h = flat_all FitsHere (test_data t) xs
+  data_tests_fit xs h = all_flat FitsHere (test_data t) xs
       (all_weaker (λ (d : SegmentEntry). length d.bytes < 2 ^ 32) (λ d. Fits (test_data t d)) xs
       (λ d less. bounds_fit (codes "w2c_mem_len") (memory_arg t) (place_expr t d.offset (n64 (length d.bytes))) (memory_fits 98)
       (place_fits 97 d.offset (n64 (length d.bytes)) (omega (arith, less)))) h)
@@ -232,7 +200,7 @@ module _ (m : NamedModule) (a : IsAccepted m) where
 
   elements_fit : (xs : List ElementEntry) → AllByRecursion (λ (e : ElementEntry). length e.funcs < 2 ^ 32) xs
       → Fits (flat_map (write_elements t) xs)
-  elements_fit xs h = flat_all FitsHere (write_elements t) xs
+  elements_fit xs h = all_flat FitsHere (write_elements t) xs
       (all_weaker (λ (e : ElementEntry). length e.funcs < 2 ^ 32) (λ e. Fits (write_elements t e)) xs
       (λ e less. each e.offset 0 e.funcs (omega (arith, less))) h)
     where

@@ -1,63 +1,21 @@
 -- Each section of a module's unit is well formed, up to the init function.
-use Rattle.std.proofs.Common.{◌≡◌, ℕ, suc, ◌+◌, ◌<◌, ◌≤◌, ◌^◌, refl, sym, ap, ◌∙◌, subst, arith, if◌then◌else◌, true, false, Bool, List, [], ◌∷◌, ◌++◌, length, map, Option, Some, None}
-use Rattle.std.proofs.lemmas.List.{length-append}
-use Rattle.std.specs.Prelude.{slice_get, flat_map, filter, zip, bytes_eq, is_none, option_map}
-use Rattle.std.specs.List.{AllByRecursion, range_with_len}
-use Rattle.w2c_base.specs.declared.value.ValType.{ValType}
-use Rattle.w2c_base.specs.declared.signature.FuncType.{FuncType}
-use Rattle.w2c_base.specs.Lookup.{numbered, named, if_found}
-use Rattle.wasm_tree.specs.declared.tree.Module.{Module}
-use Rattle.wasm_tree.specs.declared.entries.Import.{Import}
-use Rattle.wasm_tree.specs.declared.entries.ImportKind.{ImportKind}
-use Rattle.wasm_tree.specs.declared.entries.ImportKind.TheVariants.{Func as ImportFunc, Table as ImportTable, Memory as ImportMemory, Global as ImportGlobal}
-use Rattle.wasm_tree.specs.declared.entries.Export.{Export}
-use Rattle.wasm_tree.specs.declared.entries.ExportKind.{ExportKind}
-use Rattle.wasm_tree.specs.declared.entries.ExportKind.TheVariants.{Func as ExportFunc, Table as ExportTable, Memory as ExportMemory, Global as ExportGlobal}
-use Rattle.wasm_tree.specs.declared.entries.LimitsEntry.{LimitsEntry}
-use Rattle.wasm_tree.specs.declared.entries.GlobalEntry.{GlobalEntry}
-use Rattle.wasm_tree.specs.declared.entries.SegmentEntry.{SegmentEntry}
-use Rattle.wasm_tree.specs.declared.entries.TypeEntry.{TypeEntry}
-use Rattle.wasm_tree.specs.IndexSpaces.{type_in, func_space, global_space, func_of_import, global_type_in, func_type_in, declared_locals, imported_global_space, imported_funcs, imported_globals, is_func_import, is_table_import, is_memory_import, is_global_import}
-use Rattle.wasm_meaning.specs.LinkedSet.{NamedModule}
-use Rattle.wasm_valid.specs.Context.{context_of}
+use Rattle.c_unit.proofs.Common.{◌≡◌, ℕ, suc, ◌+◌, ◌^◌, ◌<◌, ◌≤◌, Bool, true, false, List, [], ◌∷◌, ◌++◌, map, length, is_none, if◌then◌else◌, slice_get, Some, None, filter, Option, option_map, zip, flat_map, bytes_eq, sym, refl, ap, ◌∙◌, subst, arith, length-append, AllByRecursion, range_with_len, all_append, all_at, all_map, named, numbered, FuncType, ValType, declared_locals, func_of_import, func_space, func_type_in, global_space, global_type_in, imported_funcs, imported_global_space, imported_globals, is_func_import, is_global_import, is_memory_import, is_table_import, type_in, Export, ExportKind, ExportFunc, ExportGlobal, ExportMemory, ExportTable, GlobalEntry, Import, ImportKind, ImportFunc, ImportGlobal, ImportMemory, ImportTable, LimitsEntry, SegmentEntry, TypeEntry, Module, context_of, unknown_export, proper_types, Name, name_of, FitsArg, FitsItem, FitsNum, FitsStmt, depth_limit, IsName, IsNamedIfAny, NamedArg, NamedItem, NamedStmt, CType, NamedModule, c_params_of, c_type_of, func_name, global_name, memory_name, table_name, helper_of, Typed, accessor_type, c_func_type_if, declared_symbols, export_symbol, export_type, exported_symbols, firsts, func_imports, global_accessor_type, global_imports, import_symbol, import_type, imported_symbols, is_usable, memory_imports, pointer_type, symbol_type, table_imports, depth_known, scope_knows, all_kept, NamedItems, body_item_fits, body_named, after_typed, all_behind, all_front, get_unmapped, body_locals, func_count, global_count, body_of, func_of, params_of, stmts_of, helpers_of, callee, pointers_of, accessor, args_from, call_if, export_func, external, first_value, named_params, param_name, params_from, passes_on, result_name, usable_symbol, bodies, data_of, declaration, objects_of, prototype, IsAccepted}
 use Rattle.wasm_valid.specs.declared.fault.ValidCause.TheVariants as cause
-use Rattle.wasm_valid.specs.ModuleFaults.{unknown_export}
-use Rattle.c_tree.specs.declared.tree.CType.{CType}
 use Rattle.c_tree.specs.declared.tree.CType.TheVariants as type
 use Rattle.c_tree.specs.Tree as tree
-use Rattle.c_tree.specs.Scope.{Name, name_of}
-use Rattle.c_tree.specs.Rules.{proper_types}
-use Rattle.c_tree.specs.Spelled.{FitsItem, FitsArg, FitsStmt, FitsNum, depth_limit}
-use Rattle.c_tree.specs.WellFormed.{IsName, IsNamedIfAny, NamedArg, NamedStmt, NamedItem}
 use Rattle.c_tree.proofs.Names.{numbered as numbered_name}
-use Rattle.c_meaning.specs.Linking.{c_type_of, c_params_of}
-use Rattle.c_prelude.specs.Helpers.{helper_of}
-use Rattle.alike.specs.Alike.{memory_name, table_name, func_name, global_name}
-use Rattle.c_symbols.specs.Symbols.{Typed, c_func_type_if, accessor_type, pointer_type, global_accessor_type, import_symbol, import_type, is_usable, symbol_type, exported_symbols, imported_symbols, export_symbol, export_type, func_imports, memory_imports, table_imports, global_imports, declared_symbols, firsts}
-use Rattle.c_body.specs.Objects.{callee, pointers_of}
-use Rattle.c_body.specs.Body.{params_of, func_of, body_of, stmts_of}
-use Rattle.c_body.specs.Needs.{helpers_of}
-use Rattle.c_body.proofs.Heights.{after_typed}
-use Rattle.c_body.proofs.OwnNames.{body_locals}
 use Rattle.c_body.proofs.RulesOfBodies.{body_passes}
-use Rattle.c_body.proofs.BodyRules.{scope_knows, depth_known}
-use Rattle.c_body.proofs.Classes.{all_kept}
-use Rattle.c_body.proofs.FormedItems.{NamedItems, body_named, body_item_fits}
-use Rattle.c_unit.specs.Exports.{param_name, result_name, first_value, params_from, named_params, args_from, call_if, passes_on, accessor, usable_symbol, export_func, external}
-use Rattle.c_unit.specs.Items.{objects_of, data_of, declaration, prototype, bodies}
-use Rattle.c_unit.specs.Sets.{IsAccepted}
-use Rattle.c_unit.proofs.BodiesAt.{BodyAt, few_locals, few_operands, few_params}
+use Rattle.c_unit.proofs.BodiesAt.{BodyAt, few_locals, few_operands, few_params, few_found}
 use Rattle.c_unit.proofs.NeedsDeclared.{all_known}
 use Rattle.c_unit.proofs.ExportFacts.{exports_known, each_of}
 use Rattle.c_unit.proofs.ExportSection.{few_types, first_there}
 use Rattle.c_unit.proofs.Pairs.{all_range}
-use Rattle.c_unit.proofs.Sections.{bodies_class, few_funcs, few_globals, length_map}
+use Rattle.c_unit.proofs.Sections.{bodies_class, few_funcs, few_globals}
 use Rattle.c_unit.proofs.InitSegments.{data_item}
 use Rattle.c_unit.proofs.UnitNames.{import_named, export_named, func_named, global_named, helper_formed, objects_named, data_names, symbols_named, body_here, prototypes_named, helpers_named, bodies_named, declarations_named}
-use Rattle.c_body.proofs.Lists.{all_map, all_append, all_at, get_unmapped, all_front, all_behind}
 use Rattle.c_unit.proofs.Small.{no_fault, all_images, each_none}
-use Rattle.c_body.proofs.Spaces.{global_count, func_count}
 use Rattle.c_unit.proofs.AcceptedLimits.{accepted_limits}
+use Rattle.c_unit.proofs.Counts.{map_length}
 
 abbrev pub IsFormed : tree.Item → Type 0
 IsFormed o = NamedItem o × FitsItem depth_limit o
@@ -388,7 +346,7 @@ module _ (m : NamedModule) (a : IsAccepted m) where
       less =
           let there = (first_there (func_space t) index out).1 in
           let whole = length-append (flat_map func_of_import t.imports) (map (λ f. f.type_index) t.funcs) in
-          let own = length_map (λ f. f.type_index) t.funcs in
+          let own = map_length (λ f. f.type_index) t.funcs in
           let counted = func_count t.imports in
           omega (arith, there, whole, own, counted, few_funcs m a)
 
@@ -403,17 +361,13 @@ module _ (m : NamedModule) (a : IsAccepted m) where
       by (Some i) e = usable i (is_usable m i) e
 
   func_types_few : (index : ℕ) → length (proper_types (c_func_type_if (func_type_in t index)).params) ≤ 2 ^ 64
-  func_types_few index = few_types (func_type_in t index) (λ ty e. few_at (slice_get (func_space t) index) ty e)
-    where
-      few_at : (o : Option ℕ) (ty : FuncType) → if_found o (type_in t) ≡ Some ty → length ty.params ≤ 60
-      few_at None ty e = absurd cc
-      few_at (Some x) ty e = few_params t (accepted_limits a) x ty e
+  func_types_few index = few_types (func_type_in t index) (λ ty e. few_found t (accepted_limits a) (slice_get (func_space t) index) ty e)
 
   global_low : (index : ℕ) → is_none (slice_get (global_space t) index) ≡ false → index < 2 ^ 64
   global_low index out =
       let there = (first_there (global_space t) index out).1 in
       let whole = length-append {A = ValType × Bool} (imported_global_space t) (map (λ (g : GlobalEntry). (g.ty, g.mutable)) t.globals) in
-      let own = length_map {B = ValType × Bool} (λ (g : GlobalEntry). (g.ty, g.mutable)) t.globals in
+      let own = map_length {B = ValType × Bool} (λ (g : GlobalEntry). (g.ty, g.mutable)) t.globals in
       let counted = global_count t.imports in
       omega (arith, there, whole, own, counted, few_globals m a)
 

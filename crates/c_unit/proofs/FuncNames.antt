@@ -1,13 +1,5 @@
 -- The names of functions by their indexes.
-use Rattle.std.proofs.Common.{◌≡◌, ℕ, List, map, Option, Some, None, refl, ap, sym, ◌∙◌}
-use Rattle.std.specs.Prelude.{slice_get, option_map}
-use Rattle.std.proofs.lemmas.Option.{slice_get-map}
-use Rattle.wasm_tree.specs.declared.tree.Module.{Module}
-use Rattle.wasm_tree.specs.declared.entries.Import.{Import}
-use Rattle.alike.specs.Alike.{func_name}
-use Rattle.c_tree.specs.Scope.{Name}
-use Rattle.c_body.specs.Objects.{function_name}
-use Rattle.c_symbols.specs.Symbols.{func_imports, import_symbol}
+use Rattle.c_unit.proofs.Common.{◌≡◌, ℕ, List, map, slice_get, Some, None, Option, option_map, sym, refl, ap, ◌∙◌, slice_get-map, Import, Module, Name, func_name, func_imports, import_symbol, function_name}
 
 pub named_import : (m : Module) (names : List Name) (index : ℕ) (name : Name) → names ≡ map import_symbol (func_imports m)
     → slice_get names index ≡ Some name → name ≡ function_name m index

@@ -1,34 +1,25 @@
 -- A function's index: an import's, or that of a function which the module defines, with the type of each.
-use Rattle.std.proofs.Common.{◌≡◌, ℕ, zero, suc, ◌+◌, ◌-◌, ◌<◌, ◌≤◌, ◌⊎◌, inl, inr, Bool, true, false, if◌then◌else◌, List, [], ◌∷◌, ◌++◌, map, filter, flat_map, length, zip, is_none, Option, Some, None, option_map, slice_get, refl, sym, ap, ◌∙◌, subst, arith}
-use Rattle.std.specs.List.{range_with_len}
-use Rattle.std.proofs.lemmas.Option.{slice_get_within, slice_get_past}
-use Rattle.std.proofs.lemmas.List.{length-map}
-use Rattle.std.proofs.lemmas.List.FromFn.{length-range_with_len}
-use Rattle.w2c_base.specs.declared.signature.FuncType.{FuncType}
-use Rattle.w2c_base.specs.Lookup.{if_found, at_index}
-use Rattle.wasm_tree.specs.declared.tree.Module.{Module}
-use Rattle.wasm_tree.specs.declared.entries.Import.{Import}
-use Rattle.wasm_tree.specs.declared.entries.FuncEntry.{FuncEntry}
-use Rattle.wasm_tree.specs.declared.entries.BodyEntry.{BodyEntry}
-use Rattle.wasm_tree.specs.declared.entries.ImportKind.{ImportKind}
-use Rattle.wasm_tree.specs.declared.entries.ImportKind.TheVariants.{Func as ImportFunc, Table as ImportTable, Memory as ImportMemory, Global as ImportGlobal}
-use Rattle.wasm_tree.specs.IndexSpaces.{func_of_import, func_space, type_in, func_type_in, is_func_import, imported_funcs, at_defined}
-use Rattle.wasm_valid.specs.ModuleFaults.{module_faults, unknown_types, fault_if}
-use Rattle.wasm_tree.proofs.BehindImports.{defined_behind_imports}
-use Rattle.wasm_valid.specs.Verdict.{IsValid, bodies_of}
-use Rattle.wasm_meaning.specs.LinkedSet.{LinkedSet, NamedModule, Instance, External, FuncAddress, ModuleFunc, IsFunc, IsTable, IsMemory, IsGlobal, as_func, instances, meaning_of, func_at, func_type, import_at, module_at, type_at}
-use Rattle.c_symbols.specs.Symbols.{func_imports}
-use Rattle.c_body.specs.Agree.{IsDefined}
-use Rattle.c_body.specs.Body.{defined_at}
-use Rattle.c_unit.specs.Sets.{IsAccepted, IsAcceptedSet}
+use Rattle.std.proofs.Common.{zip}
+use Rattle.c_unit.proofs.Common.{◌≡◌, ℕ, zero, suc, ◌+◌, ◌-◌, ◌<◌, ◌≤◌, Bool, true, false, ◌⊎◌, List, [], ◌∷◌, ◌++◌, map, length, is_none, if◌then◌else◌, slice_get, Some, None, filter, Option, option_map, flat_map, sym, refl, ap, ◌∙◌, subst, inl, inr, arith, length-map, length-range_with_len, slice_get_past, slice_get_within, range_with_len, append_none, none_at, get_within, at_index, if_found, FuncType, defined_behind_imports, at_defined, func_of_import, func_space, func_type_in, imported_funcs, is_func_import, type_in, BodyEntry, FuncEntry, Import, ImportKind, ImportFunc, ImportGlobal, ImportMemory, ImportTable, Module, fault_if, unknown_types, IsValid, bodies_of, External, Instance, IsFunc, IsGlobal, IsMemory, IsTable, LinkedSet, ModuleFunc, NamedModule, as_func, func_at, import_at, instances, meaning_of, module_at, type_at, func_imports, get_behind, get_front, get_mapped, get_numbered, get_unmapped, IsDefined, defined_at, IsAccepted, IsAcceptedSet}
+use Rattle.wasm_valid.specs.ModuleFaults.{module_faults}
+use Rattle.wasm_meaning.specs.LinkedSet.{FuncAddress, func_type}
 use Rattle.c_unit.proofs.Defined.{in_range}
 use Rattle.c_unit.proofs.Instances.{IsPlaced, placed, instance_at, earlier_is, spaces_at}
 use Rattle.c_unit.proofs.Linked.{accepted_at}
 use Rattle.c_unit.proofs.Usable.{type_at_is}
-use Rattle.c_unit.proofs.Small.{some_same, less_or_not, nothing_joined, there_in, none_at, no_fault, there_is}
-use Rattle.c_body.proofs.Lists.{get_behind, get_numbered, get_within, get_mapped, get_front, get_unmapped}
+use Rattle.c_unit.proofs.Small.{some_same, less_or_not, there_in, no_fault, there_is}
 use Rattle.wasm_valid.specs.declared.fault.ValidCause.TheVariants.{UnknownType}
 use Rattle.c_unit.proofs.AcceptedLimits.{accepted_limits}
+
+-- ---- lists in pairs
+
+zip_at : {A B : Type 0} (xs : List A) (ys : List B) (i : ℕ) (a : A) (b : B) → slice_get xs i ≡ Some a → slice_get ys i ≡ Some b
+    → slice_get (zip xs ys) i ≡ Some (a, b)
+zip_at [] ys i a b at at' = absurd (cc)
+zip_at (x ∷ xs) [] i a b at at' = absurd (cc)
+zip_at (x ∷ xs) (y ∷ ys) zero a b at at' = let first : x ≡ a = cc in let second : y ≡ b = cc in ap (λ (q : _). Some (q, y)) first
+    ∙ ap (λ (q : _). Some (a, q)) second
+zip_at (x ∷ xs) (y ∷ ys) (suc i) a b at at' = zip_at xs ys i a b at at'
 
 -- ---- imported functions
 
@@ -181,22 +172,14 @@ func_case s u m is k f at = elim (less_or_not k (imported_funcs m.tree)) [
 
 types_known : (m : Module) → IsValid m → unknown_types m ≡ []
 unfolding module_faults
-types_known m valid = (nothing_joined (unknown_types m) _ valid.no_faults).0
+types_known m valid = (append_none (unknown_types m) _ valid.no_faults).0
 
 pub func_has_type : (m : Module) → IsValid m → (j : ℕ) (f : FuncEntry) → slice_get m.funcs j ≡ Some f
     → (ty : FuncType) × (type_in m f.type_index ≡ Some ty)
 func_has_type m valid j f at =
     let none = none_at (λ (f : FuncEntry). fault_if (is_none (type_in m f.type_index)) f.place UnknownType) m.funcs j f
-    (nothing_joined _ _ (types_known m valid)).1 at in
+    (append_none _ _ (types_known m valid)).1 at in
     there_is (type_in m f.type_index) (no_fault (is_none (type_in m f.type_index)) f.place UnknownType none)
-
-zip_at : {A B : Type 0} (xs : List A) (ys : List B) (i : ℕ) (a : A) (b : B) → slice_get xs i ≡ Some a → slice_get ys i ≡ Some b
-    → slice_get (zip xs ys) i ≡ Some (a, b)
-zip_at [] ys i a b at at' = absurd (cc)
-zip_at (x ∷ xs) [] i a b at at' = absurd (cc)
-zip_at (x ∷ xs) (y ∷ ys) zero a b at at' = let first : x ≡ a = cc in let second : y ≡ b = cc in ap (λ (q : _). Some (q, y)) first
-    ∙ ap (λ (q : _). Some (a, q)) second
-zip_at (x ∷ xs) (y ∷ ys) (suc i) a b at at' = zip_at xs ys i a b at at'
 
 -- a function that the module defines: its declaration and body, and its type
 pub record OwnFunc (s : LinkedSet) (u : ℕ) (m : NamedModule) (k : ℕ) : Type 0 where

@@ -1,22 +1,9 @@
 -- The type of a global by its index is that of what the index stands for.
-use Rattle.std.proofs.Common.{◌≡◌, ℕ, zero, suc, ◌+◌, Bool, true, false, if◌then◌else◌, List, [], ◌∷◌, ◌++◌, map, filter, flat_map, length, Option, Some, option_map, slice_get, refl, sym, ap, ◌∙◌, subst, arith}
-use Rattle.std.proofs.lemmas.Option.{slice_get_within}
-use Rattle.w2c_base.specs.declared.value.ValType.{ValType}
-use Rattle.w2c_base.specs.Lookup.{if_found, at_index}
-use Rattle.wasm_tree.specs.declared.tree.Module.{Module}
-use Rattle.wasm_tree.specs.declared.entries.Import.{Import}
-use Rattle.wasm_tree.specs.declared.entries.GlobalEntry.{GlobalEntry}
-use Rattle.wasm_tree.specs.declared.entries.ImportKind.{ImportKind}
-use Rattle.wasm_tree.specs.declared.entries.ImportKind.TheVariants.{Func as ImportFunc, Table as ImportTable, Memory as ImportMemory, Global as ImportGlobal}
-use Rattle.wasm_tree.specs.IndexSpaces.{global_of_import, global_type_in, is_global_import}
-use Rattle.wasm_meaning.specs.LinkedSet.{LinkedSet, NamedModule, GlobalAddress, IsGlobal, instances, module_at, global_type}
-use Rattle.c_unit.specs.Sets.{IsAcceptedSet}
+use Rattle.c_unit.proofs.Common.{◌≡◌, ℕ, zero, suc, ◌+◌, Bool, true, false, List, [], ◌∷◌, ◌++◌, map, length, if◌then◌else◌, slice_get, Some, filter, Option, option_map, flat_map, sym, refl, ap, ◌∙◌, subst, arith, slice_get_within, get_within, at_index, if_found, ValType, global_of_import, global_type_in, is_global_import, GlobalEntry, Import, ImportKind, ImportFunc, ImportGlobal, ImportMemory, ImportTable, Module, GlobalAddress, IsGlobal, LinkedSet, NamedModule, global_type, instances, module_at, get_behind, get_front, get_mapped, ResolvesAs, IsAcceptedSet}
 use Rattle.c_unit.proofs.Instances.{IsPlaced, spaces_at}
 use Rattle.c_unit.proofs.Usable.{import_resolves}
 use Rattle.c_unit.proofs.Pointers.{GlobalCase, ImportedGlobal, OwnGlobal, global_case}
 use Rattle.c_unit.proofs.Small.{some_same}
-use Rattle.c_body.proofs.Lists.{get_behind, get_within, get_mapped, get_front}
-use Rattle.c_body.proofs.Spaces.{ResolvesAs}
 
 abbrev Typed : Type 0
 Typed = ValType × Bool

@@ -1,13 +1,7 @@
 -- The type of what a variable holds, as the zero of that type. An assignment of a value of this type goes on, and
 -- keeps the types of all variables (C11, 6.5.16.1).
-use Rattle.std.proofs.Common.{◌≡◌, Bool, true, false, if◌then◌else◌, [], ◌∷◌, bytes_eq, is_some, Option, Some, None, option_map, refl, sym, ap, ◌∙◌}
-use Rattle.std.proofs.lemmas.Option.{same_Some}
-use Rattle.w2c_base.specs.declared.value.Value.TheVariants.{I32, I64}
-use Rattle.w2c_base.specs.Lookup.{named, with_named}
-use Rattle.c_meaning.specs.State.{Name, CValue, Number, Pointer, FuncPointer, ObjectAddress, Vars, Machine, of_one_type}
-use Rattle.c_meaning.specs.Machine.{var_in}
-use Rattle.c_meaning.specs.Step.{Step, put_in}
-use Rattle.c_unit.specs.Instantiation.{zero_like, zeroed}
+use Rattle.c_unit.proofs.Common.{◌≡◌, Bool, true, false, [], ◌∷◌, is_some, if◌then◌else◌, Some, None, Option, option_map, bytes_eq, sym, refl, ap, ◌∙◌, same_Some, named, with_named, I32, I64, var_in, CValue, Machine, Number, ObjectAddress, Pointer, Vars, Step, put_in, zero_like, zeroed}
+use Rattle.c_meaning.specs.State.{Name, FuncPointer, of_one_type}
 
 abbrev pub held : Name → Vars → Option CValue
 held name vars = option_map zero_like (named name vars)

@@ -1,24 +1,10 @@
 -- Initial and offset expressions (WebAssembly Core 1.0, 3.3.7): their values, and those of the expressions of C.
-use Rattle.std.proofs.Common.{◌≡◌, ℕ, ◌+◌, ◌%◌, ◌^◌, ◌<◌, Bool, false, List, Option, Some, None, slice_get, refl, ap, ◌∙◌, arith, ℤ, pos, negsuc}
-use Rattle.w2c_base.specs.declared.value.ValType.{ValType}
+use Rattle.c_unit.proofs.Common.{◌≡◌, ℕ, ◌+◌, ◌%◌, ◌^◌, ◌<◌, Bool, false, List, ℤ, pos, negsuc, slice_get, Some, None, Option, refl, ap, ◌∙◌, arith, if_found, IsNumber, number_of, type_of, ValType, Value, I32, I64, Code, GlobalGet, I32Const, I64Const, end_code, then_code, Module, Shape, constant, got, got_unknown, neither, shape_of, shape_of_global, LinkedSet, pattern_of, as_offset, constant_of, operate, evaluate, number_in, value_of, constant_expr, place_expr}
 use Rattle.w2c_base.specs.declared.value.ValType.TheVariants as type
-use Rattle.w2c_base.specs.declared.value.Value.{Value}
-use Rattle.w2c_base.specs.declared.value.Value.TheVariants.{I32, I64}
-use Rattle.w2c_base.specs.Values.{type_of, number_of, IsNumber}
-use Rattle.w2c_base.specs.Lookup.{if_found}
-use Rattle.wasm_tree.specs.Instructions.{Code, end_code, then_code, I32Const, I64Const, GlobalGet}
-use Rattle.wasm_tree.specs.declared.tree.Module.{Module}
-use Rattle.wasm_valid.specs.ModuleFaults.{Shape, constant, got, got_unknown, neither, shape_of, shape_of_global}
-use Rattle.wasm_meaning.specs.Operators.{pattern_of}
-use Rattle.wasm_meaning.specs.LinkedSet.{LinkedSet}
 use Rattle.wasm_meaning.specs.Store as store
-use Rattle.wasm_meaning.specs.Run.{constant_of, as_offset}
 use Rattle.c_tree.specs.declared.tree.COp.TheVariants as op
 use Rattle.c_tree.specs.Tree as c
 use Rattle.c_meaning.specs.State as state
-use Rattle.c_meaning.specs.Operators.{operate}
-use Rattle.c_meaning.specs.Step.{evaluate, value_of, number_in}
-use Rattle.c_unit.specs.Init.{constant_expr, place_expr}
 use Rattle.c_unit.proofs.InitStatements.{Seat, running, Evaluates, Gets}
 use Rattle.c_unit.proofs.InitObjects.{GlobalFound}
 

@@ -1,14 +1,8 @@
 -- The init function ends by a return or by a trap.
-use Rattle.std.proofs.Common.{◌≡◌, refl, true, false, Bool, List, [], ◌∷◌, ◌++◌, map}
-use Rattle.std.specs.Prelude.{filter, flat_map, not}
+use Rattle.c_unit.proofs.Common.{◌≡◌, Bool, true, false, not, List, [], ◌∷◌, ◌++◌, map, filter, flat_map, refl, numbered, is_func_import, NamedModule, ends_well, bounds_label, init_stmts, limits_label, make_global, make_memory, make_table, start_stmts, takes_from, test_data, test_elements, tests_bounds, tests_limits, trap_if, write_data, write_elements}
 use Rattle.w2c_base.specs.declared.trap.TrapKind.TheVariants as trap
-use Rattle.w2c_base.specs.Lookup.{numbered}
-use Rattle.wasm_tree.specs.IndexSpaces.{is_func_import}
-use Rattle.wasm_meaning.specs.LinkedSet.{NamedModule}
 use Rattle.c_tree.specs.Tree as tree
 use Rattle.c_prelude.specs.Pieces as pieces
-use Rattle.c_body.proofs.RulesOfFunctions.{ends_well}
-use Rattle.c_unit.specs.Init.{limits_label, bounds_label, takes_from, make_table, make_memory, make_global, test_elements, test_data, write_elements, write_data, start_stmts, trap_if, tests_limits, tests_bounds, init_stmts}
 
 -- some statements that end well
 abbrev Ends : List tree.Stmt → Type 0

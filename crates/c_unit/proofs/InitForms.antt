@@ -1,44 +1,15 @@
 -- The statements of the init function keep the rules in a scope that knows what they name: those that take imports
 -- and make what the module defines.
-use Rattle.std.proofs.Common.{◌≡◌, ℕ, zero, suc, ◌+◌, ◌||◌, refl, sym, ap, ◌∙◌, subst, arith, if◌then◌else◌, true, false, Bool, not, List, [], ◌∷◌, ◌++◌, length, map, codes, Option, Some, None}
-use Rattle.std.specs.Prelude.{slice_get, filter, filter_map, zip, is_some, is_none, IsSome, nat_lt}
-use Rattle.std.specs.List.{AllByRecursion, range_with_len, list_any}
-use Rattle.w2c_base.specs.declared.value.ValType.{ValType}
+use Rattle.c_unit.proofs.Common.{◌≡◌, ℕ, zero, suc, ◌+◌, Bool, true, false, not, ◌||◌, List, [], ◌∷◌, ◌++◌, map, length, is_some, is_none, if◌then◌else◌, IsSome, nat_lt, slice_get, Some, None, codes, filter, Option, zip, filter_map, sym, refl, ap, ◌∙◌, subst, arith, or_left, or_right, AllByRecursion, list_any, range_with_len, all_append, at_index, named, FuncType, ValType, func_space, global_space, imported_global_space, imported_globals, is_func_import, is_global_import, is_memory_import, is_table_import, memory_space, table_space, type_in, Code, GlobalGet, I32Const, I64Const, end_code, then_code, GlobalEntry, Import, ImportKind, ImportFunc, ImportGlobal, ImportMemory, ImportTable, LimitsEntry, Module, shape_of, shape_of_global, is_runtime_name, is_void, labels_of, proper_types, primitives, HasType, Name, Scope, array_of, arrays, functions, is_among, is_object_type, pointed_by, variables, CType, NamedModule, c_type_of, global_name, memory_name, table_name, accessor_type, c_func_type, global_imports, import_symbol, import_type, is_usable, memory_imports, pointer_type, table_imports, get_left, IsArg, IsTyped, Passes, call_passes, call_passes_as, if_passes, n32_typed, n64_typed, name_typed, null_passes, op_typed, set_passes, star_typed, value_arg, wide_typed, Present, no_object, label_name, pointer_name, callee, function_name, global_value, memory_arg, table_arg, byte_name, constant_expr, has_bytes, has_test, init_stmts, limits_label, make_global, make_memory, make_table, max_number, n32, n64, place_expr, set_pointer, size_name, take_stmts, takes_from, test_max, test_min, tests_bounds, tests_limits, data_of}
 use Rattle.w2c_base.specs.declared.value.ValType.TheVariants.{I32, I64}
-use Rattle.w2c_base.specs.declared.signature.FuncType.{FuncType}
-use Rattle.w2c_base.specs.Lookup.{named, at_index}
-use Rattle.wasm_tree.specs.Instructions.{Code, end_code, then_code, I32Const, I64Const, GlobalGet}
-use Rattle.wasm_tree.specs.declared.tree.Module.{Module}
-use Rattle.wasm_tree.specs.declared.entries.Import.{Import}
-use Rattle.wasm_tree.specs.declared.entries.ImportKind.{ImportKind}
-use Rattle.wasm_tree.specs.declared.entries.ImportKind.TheVariants.{Func as ImportFunc, Table as ImportTable, Memory as ImportMemory, Global as ImportGlobal}
-use Rattle.wasm_tree.specs.declared.entries.LimitsEntry.{LimitsEntry}
-use Rattle.wasm_tree.specs.declared.entries.GlobalEntry.{GlobalEntry}
-use Rattle.wasm_tree.specs.IndexSpaces.{type_in, func_space, table_space, memory_space, global_space, imported_global_space, imported_globals, is_func_import, is_table_import, is_memory_import, is_global_import}
-use Rattle.wasm_meaning.specs.LinkedSet.{NamedModule}
-use Rattle.wasm_valid.specs.ModuleFaults.{shape_of, shape_of_global}
-use Rattle.c_tree.specs.declared.tree.CType.{CType}
 use Rattle.c_tree.specs.declared.tree.CType.TheVariants as type
 use Rattle.c_tree.specs.declared.tree.COp.TheVariants as op
 use Rattle.c_tree.specs.Tree as tree
-use Rattle.c_tree.specs.Runtime.{primitives}
-use Rattle.c_tree.specs.Scope.{Name, Scope, HasType, is_among, array_of, variables, functions, arrays, is_object_type, pointed_by}
-use Rattle.c_tree.specs.Rules.{is_runtime_name, is_void, proper_types, labels_of}
-use Rattle.c_meaning.specs.Linking.{c_type_of}
-use Rattle.alike.specs.Alike.{memory_name, table_name, global_name}
-use Rattle.c_body.specs.Names.{pointer_name, label_name}
-use Rattle.c_symbols.specs.Symbols.{c_func_type, accessor_type, pointer_type, import_symbol, import_type, is_usable, memory_imports, table_imports, global_imports}
-use Rattle.c_body.specs.Objects.{callee, function_name, memory_arg, table_arg, global_value}
-use Rattle.c_body.proofs.Rules.{Passes, IsTyped, IsArg, name_typed, star_typed, n32_typed, n64_typed, op_typed, wide_typed, value_arg, null_passes, set_passes, call_passes, call_passes_as, if_passes}
-use Rattle.c_body.proofs.RulesOfKinds.{no_object}
-use Rattle.c_body.proofs.RulesOfCode.{Present}
-use Rattle.c_unit.specs.Init.{limits_label, size_name, byte_name, primitive, max_number, constant_expr, place_expr, set_pointer, test_max, test_min, take_stmts, takes_from, make_table, make_memory, make_global, has_test, tests_limits, tests_bounds, has_bytes, init_stmts, n32, n64}
-use Rattle.c_unit.specs.Items.{data_of}
+use Rattle.c_unit.specs.Init.{primitive}
 use Rattle.c_unit.proofs.KnownNames.{imported_global}
-use Rattle.c_body.proofs.Lists.{all_append, get_left}
-use Rattle.std.proofs.lemmas.Bool.{or_left, or_right}
 use Rattle.c_unit.proofs.Small.{all_images}
 use Rattle.c_unit.proofs.InitConstants.{ShapeFits}
+use Rattle.c_unit.proofs.ExportSection.{accessor_is}
 
 -- what the init function's statements need of their scope
 pub record InitKnows (m : NamedModule) (s : Scope) : Type 0 where
@@ -186,17 +157,13 @@ module _ (m : NamedModule) (s : Scope) (k : InitKnows m s) where
   global_passes i number there at =
       let found = imported_global t.imports number i at in
       let plain = no_pointer_object found.1 in
-      pointer_passes i (global_name number) (pointer_type found.1) there (result_is i found.1 found.0 found.3)
+      pointer_passes i (global_name number) (pointer_type found.1) there (accessor_is t i found.1 found.0 found.3)
       (k.pointed number (found.1, found.0) (get_left (imported_global_space t) _ number (found.1, found.0) found.2) (ap is_some at))
       plain.0 plain.1
     where
       no_pointer_object : (ty : ValType) → (is_object_type (pointer_type ty) ≡ false) × (is_void (pointer_type ty) ≡ false)
       no_pointer_object I32 = (refl, refl)
       no_pointer_object I64 = (refl, refl)
-
-      result_is : (i : Import) (ty : ValType) (mutable : Bool) → i.kind ≡ ImportGlobal ty mutable
-          → import_type t i ≡ accessor_type (pointer_type ty)
-      result_is i ty mutable e = rw (e, import_type) refl
 
   abbrev of_kind : Import → ImportKind → Import
   of_kind i kind = record { «module» = i.«module»; field = i.field; kind = kind; place = i.place }

@@ -1,29 +1,7 @@
 -- Where the labels of an init function lead: those of loops, and of the traps at its end.
-use Rattle.std.proofs.Common.{◌≡◌, ℕ, zero, suc, ◌+◌, ◌^◌, ◌<◌, Bool, true, false, if◌then◌else◌, List, [], ◌∷◌, ◌++◌, map, flat_map, zip, length, Option, Some, None, refl, ap, ◌∙◌, arith, codes, append_assoc}
-use Rattle.wasm_tree.specs.declared.entries.Limits.{Limits}
-use Rattle.std.specs.Prelude.{⊤}
-use Rattle.std.specs.List.{range_with_len}
-use Rattle.w2c_base.specs.declared.trap.TrapKind.TheVariants.{ImportLimits, SegmentOut}
-use Rattle.w2c_base.specs.Lookup.{numbered}
-use Rattle.wasm_tree.specs.declared.tree.Module.{Module}
-use Rattle.wasm_tree.specs.declared.entries.Import.{Import}
-use Rattle.wasm_tree.specs.declared.entries.ImportKind.{ImportKind}
-use Rattle.wasm_tree.specs.declared.entries.ImportKind.TheVariants.{Func as ImportFunc, Table as ImportTable, Memory as ImportMemory, Global as ImportGlobal}
-use Rattle.wasm_tree.specs.declared.entries.LimitsEntry.{LimitsEntry}
-use Rattle.wasm_tree.specs.declared.entries.SegmentEntry.{SegmentEntry}
-use Rattle.wasm_tree.specs.declared.entries.Start.{Start}
-use Rattle.wasm_tree.specs.IndexSpaces.{is_global_import}
-use Rattle.wasm_meaning.specs.LinkedSet.{NamedModule}
+use Rattle.c_unit.proofs.Common.{◌≡◌, ℕ, zero, suc, ◌+◌, ◌^◌, ◌<◌, Bool, true, false, List, [], ◌∷◌, ◌++◌, map, length, if◌then◌else◌, Some, None, codes, Option, zip, flat_map, refl, ap, ◌∙◌, append_assoc, arith, range_with_len, ⊤, numbered, ImportLimits, SegmentOut, is_global_import, Import, ImportKind, ImportFunc, ImportGlobal, ImportMemory, ImportTable, Limits, LimitsEntry, SegmentEntry, Start, Module, Name, NamedModule, bytes_equal, after_label, global_name, memory_name, table_name, import_symbol, is_usable, label_name, pointer_name, callee, bounds_label, call_start, limits_label, loop_label, make_global, make_memory, make_table, set_pointer, start_stmts, take_stmts, takes_from, test_data, test_elements, test_limits, test_max, test_min, tests_bounds, tests_limits, trap_if, write_data, write_element, write_elements}
 use Rattle.c_tree.specs.Tree as c
-use Rattle.c_tree.specs.Scope.{Name}
-use Rattle.c_meaning.specs.Step.{after_label}
-use Rattle.c_meaning.proofs.Lookups.{bytes_equal}
 use Rattle.c_prelude.specs.Pieces as pieces
-use Rattle.alike.specs.Alike.{memory_name, table_name, global_name}
-use Rattle.c_body.specs.Names.{label_name, pointer_name}
-use Rattle.c_symbols.specs.Symbols.{is_usable, import_symbol}
-use Rattle.c_body.specs.Objects.{callee}
-use Rattle.c_unit.specs.Init.{limits_label, bounds_label, loop_label, set_pointer, test_limits, test_min, test_max, take_stmts, takes_from, make_table, make_memory, make_global, test_elements, test_data, write_elements, write_element, write_data, start_stmts, call_start, trap_if, tests_limits, tests_bounds}
 use Rattle.c_unit.proofs.DataWrites.{labels_differ, past_segment}
 use Rattle.c_unit.proofs.MakeTasks.{stmts_making}
 use Rattle.c_unit.proofs.StartTasks.{stmts_writing, stmts_behind}

@@ -1,30 +1,8 @@
 -- The labels of the init function differ: those of its traps, and one for each segment.
-use Rattle.std.proofs.Common.{◌≡◌, ℕ, zero, suc, ◌+◌, ◌<◌, ◌≤◌, refl, ap, ◌∙◌, arith, if◌then◌else◌, true, false, Bool, not, List, [], ◌∷◌, ◌++◌, length, map, codes, Option, Some, None}
-use Rattle.std.specs.Prelude.{filter, flat_map, zip}
-use Rattle.std.specs.List.{range_with_len}
-use Rattle.w2c_base.specs.declared.trap.TrapKind.{TrapKind}
+use Rattle.c_unit.proofs.Common.{◌≡◌, ℕ, zero, suc, ◌+◌, ◌<◌, ◌≤◌, Bool, true, false, not, List, [], ◌∷◌, ◌++◌, map, length, if◌then◌else◌, Some, None, codes, filter, Option, zip, flat_map, refl, ap, ◌∙◌, arith, range_with_len, numbered, TrapKind, is_func_import, is_global_import, Import, ImportKind, ImportFunc, ImportGlobal, ImportMemory, ImportTable, Limits, SegmentEntry, Start, are_distinct, labels_of, Name, NamedModule, global_name, memory_name, table_name, import_symbol, is_usable, labels-append, Within, behind_one, downward, labels_differ, none, one, upward, wider, label_name, pointer_name, callee, bounds_label, call_start, init_stmts, limits_label, loop_label, make_global, make_memory, make_table, set_pointer, start_stmts, take_stmts, takes_from, test_data, test_elements, test_limits, test_max, test_min, tests_bounds, tests_limits, trap_if, write_data, write_element, write_elements, IsAccepted}
 use Rattle.w2c_base.specs.declared.trap.TrapKind.TheVariants as trap
-use Rattle.w2c_base.specs.Lookup.{numbered}
-use Rattle.wasm_tree.specs.declared.entries.Import.{Import}
-use Rattle.wasm_tree.specs.declared.entries.ImportKind.{ImportKind}
-use Rattle.wasm_tree.specs.declared.entries.ImportKind.TheVariants.{Func as ImportFunc, Table as ImportTable, Memory as ImportMemory, Global as ImportGlobal}
-use Rattle.wasm_tree.specs.declared.entries.Limits.{Limits}
-use Rattle.wasm_tree.specs.declared.entries.SegmentEntry.{SegmentEntry}
-use Rattle.wasm_tree.specs.declared.entries.Start.{Start}
-use Rattle.wasm_tree.specs.IndexSpaces.{is_func_import, is_global_import}
-use Rattle.wasm_meaning.specs.LinkedSet.{NamedModule}
 use Rattle.c_tree.specs.Tree as tree
-use Rattle.c_tree.specs.Scope.{Name}
-use Rattle.c_tree.specs.Rules.{labels_of, are_distinct}
 use Rattle.c_prelude.specs.Pieces as pieces
-use Rattle.alike.specs.Alike.{memory_name, table_name, global_name}
-use Rattle.c_body.specs.Names.{label_name, pointer_name}
-use Rattle.c_body.specs.Objects.{callee}
-use Rattle.c_symbols.specs.Symbols.{is_usable, import_symbol}
-use Rattle.c_body.proofs.RulesOfCode.{labels-append}
-use Rattle.c_body.proofs.RulesOfLabels.{Within, none, one, upward, downward, wider, behind_one, labels_differ}
-use Rattle.c_unit.specs.Init.{limits_label, bounds_label, loop_label, set_pointer, test_min, test_max, test_limits, take_stmts, takes_from, make_table, make_memory, make_global, test_elements, test_data, write_element, write_elements, write_data, call_start, start_stmts, trap_if, tests_limits, tests_bounds, init_stmts}
-use Rattle.c_unit.specs.Sets.{IsAccepted}
 use Rattle.c_unit.proofs.AcceptedLimits.{accepted_limits}
 
 skip : (l u : ℕ) (xs ys : List tree.Stmt) → labels_of xs ≡ [] → Within l u ys → Within l u (xs ++ ys)

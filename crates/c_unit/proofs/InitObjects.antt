@@ -1,31 +1,11 @@
 -- The tables, memories and globals that an init function reaches by their index (WebAssembly Core 1.0, 2.5.1),
 -- and the values of initial and offset expressions (3.3.7).
-use Rattle.std.proofs.Common.{◌≡◌, ℕ, zero, suc, ◌+◌, ◌<◌, ◌≤◌, true, if◌then◌else◌, List, [], ◌∷◌, length, map, Option, Some, None, is_some, slice_get, refl, sym, ap, ◌∙◌, subst}
-use Rattle.std.proofs.lemmas.Option.{none-some, same_Some}
-use Rattle.std.specs.Option.{option_or}
-use Rattle.w2c_base.specs.declared.value.ValType.{ValType}
-use Rattle.w2c_base.specs.declared.value.Value.{Value}
-use Rattle.w2c_base.specs.Values.{type_of, types_of, IsNumber}
-use Rattle.w2c_base.specs.Lookup.{if_found, named}
-use Rattle.w2c_base.specs.Run.{Trail}
-use Rattle.wasm_tree.specs.declared.tree.Module.{Module}
-use Rattle.wasm_tree.specs.declared.entries.Import.{Import}
-use Rattle.wasm_tree.specs.declared.entries.GlobalEntry.{GlobalEntry}
-use Rattle.wasm_tree.specs.IndexSpaces.{imported_globals}
-use Rattle.wasm_meaning.specs.LinkedSet.{LinkedSet, GlobalAddress, module_at, table_at, memory_at, global_at}
+use Rattle.c_unit.proofs.Common.{◌≡◌, ℕ, zero, suc, ◌+◌, ◌<◌, ◌≤◌, true, List, [], ◌∷◌, map, length, is_some, if◌then◌else◌, slice_get, Some, None, Option, sym, refl, ap, ◌∙◌, subst, none-some, same_Some, option_or, if_found, named, Trail, IsNumber, type_of, types_of, ValType, Value, imported_globals, GlobalEntry, Import, Module, GlobalAddress, LinkedSet, global_at, memory_at, module_at, table_at, as_object, number_in, first_global, global_name, memory_name, table_name, global_imports, memory_imports, table_imports, is_there, or_last, or_middle, value_of_type, global_object, global_seen, memory_object, table_object, Agrees, AreReady, PointersAreSet, PointsTo, pointer_name, global_value, memory_arg, table_arg}
 use Rattle.wasm_meaning.specs.Store as store
 use Rattle.c_tree.specs.Tree as c
 use Rattle.c_meaning.specs.State as state
 use Rattle.c_meaning.specs.Machine as machine
-use Rattle.c_meaning.specs.Step.{as_object, number_in}
-use Rattle.c_body.specs.Agree.{Agrees, AreReady, PointersAreSet, PointsTo}
-use Rattle.alike.specs.Alike.{memory_name, table_name, global_name, first_global}
-use Rattle.c_body.specs.Names.{pointer_name}
-use Rattle.c_symbols.specs.Symbols.{table_imports, memory_imports, global_imports}
-use Rattle.c_body.specs.Objects.{table_arg, memory_arg, global_value}
-use Rattle.c_body.proofs.Store.{table_object, memory_object, global_object, global_seen}
 use Rattle.c_unit.proofs.InitStatements.{Seat, Evaluates, Gets}
-use Rattle.c_body.proofs.Seen.{is_there, value_of_type, or_middle, or_last}
 
 -- ---- whose an object is: the module's own, or an earlier one's
 

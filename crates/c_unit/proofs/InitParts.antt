@@ -1,14 +1,9 @@
 -- The parts of the init function are the whole.
-use Rattle.std.proofs.Common.{◌≡◌, List, [], ◌∷◌, ◌++◌, append_assoc, map, filter, not}
-use Rattle.std.specs.List.{flat_map}
+use Rattle.c_unit.proofs.Common.{◌≡◌, not, List, [], ◌∷◌, ◌++◌, map, filter, flat_map, append_assoc, numbered, is_func_import, NamedModule, ending, making, writing}
 use Rattle.w2c_base.specs.declared.trap.TrapKind.TheVariants as trap
-use Rattle.w2c_base.specs.Lookup.{numbered}
-use Rattle.wasm_tree.specs.IndexSpaces.{is_func_import}
-use Rattle.wasm_meaning.specs.LinkedSet.{NamedModule}
 use Rattle.c_tree.specs.Tree as tree
 use Rattle.c_prelude.specs.Pieces as pieces
 use Rattle.c_unit.specs.Init as of
-use Rattle.c_unit.specs.InitParts.{making, writing, ending}
 
 regroup : {A : Type 0} (a b c d e f g h i j k l m : List A)
     → ((((((((((((a ++ b) ++ c) ++ d) ++ e) ++ f) ++ g) ++ h) ++ i) ++ j) ++ k) ++ l) ++ m) ≡ a ++

@@ -1,48 +1,14 @@
 -- The statements of the init function keep the rules in their unit: what they name is declared before them, or is a
 -- local variable where it is used.
-use Rattle.std.proofs.Common.{◌≡◌, ℕ, zero, suc, ◌+◌, ◌-◌, ◌≤◌, ◌||◌, refl, sym, ap, ◌∙◌, subst, arith, append_assoc, if◌then◌else◌, true, false, Bool, not, List, [], ◌∷◌, ◌++◌, length, map, codes, Option, Some, None}
-use Rattle.std.proofs.lemmas.List.Folds.{list_any-append}
-use Rattle.std.proofs.lemmas.List.Elements.{filter_map-append}
-use Rattle.std.specs.Prelude.{slice_get, filter, filter_map, flat_map, bytes_eq, is_some, is_none}
-use Rattle.std.specs.List.{AllByRecursion, list_any}
+use Rattle.c_unit.proofs.Common.{◌≡◌, ℕ, zero, suc, ◌+◌, ◌-◌, ◌≤◌, Bool, true, false, not, ◌||◌, List, [], ◌∷◌, ◌++◌, map, length, is_some, is_none, if◌then◌else◌, slice_get, Some, None, codes, filter, Option, flat_map, filter_map, bytes_eq, sym, refl, ap, ◌∙◌, subst, append_assoc, arith, or_left, or_right, filter_map-append, list_any-append, AllByRecursion, list_any, all_append, named, numbered, export_symbol_of-parts, init_symbol_of-parts, func_space, global_space, imported_global_space, imported_globals, is_func_import, is_memory_import, is_table_import, memory_space, table_space, ElementEntry, FuncRef, GlobalEntry, Import, LimitsEntry, SegmentEntry, Module, Expression, constant_expected, duplicate_exports, expressions, fault_if, has_other_type, is_got_unknown, is_no_constant, is_no_first, is_out, min_above_max, shape_of, start_faults, too_many, too_many_pages, type_mismatch, unknown_elements, unknown_export, unknown_global, unknown_segments, unknown_types, is_runtime_name, labels_of, primitives, Name, Scope, array_of, func_type_of, functions, is_among, name_of, variables, CType, NamedModule, bytes_equal, func_name, global_name, memory_name, table_name, helper_of, accessor_type, declared_symbols, firsts, func_imports, global_imports, import_symbol, is_usable, memory_imports, symbol_type, table_imports, funcs_in, past_none, vars_in, class, all_behind, all_front, all_unmapped, all_weaker, get_mapped, named_in, IsArg, Passes, address_arg, function_arg, name_typed, null_passes, return_none_passes, value_arg, Present, first_present, left_present, right_present, global_count, label_name, pointer_name, helpers_of, function_name, pointers_of, export_func, bounds_label, byte_name, has_bytes, has_test, init_func, init_stmts, limits_label, local_if, make_global, make_memory, make_table, size_name, start_stmts, takes_from, test_data, test_elements, tests_bounds, tests_limits, trap_if, write_data, write_elements, bodies, data_of, declaration, objects_of, prototype, IsAccepted}
 use Rattle.w2c_base.specs.declared.value.ValType.TheVariants.{I32}
 use Rattle.w2c_base.specs.declared.trap.TrapKind.TheVariants as trap
-use Rattle.w2c_base.specs.Lookup.{named, numbered}
-use Rattle.w2c_mangle.proofs.SymbolNames.{export_symbol_of-parts, init_symbol_of-parts}
-use Rattle.wasm_tree.specs.declared.tree.Module.{Module}
-use Rattle.wasm_tree.specs.declared.entries.Import.{Import}
-use Rattle.wasm_tree.specs.declared.entries.GlobalEntry.{GlobalEntry}
-use Rattle.wasm_tree.specs.declared.entries.LimitsEntry.{LimitsEntry}
-use Rattle.wasm_tree.specs.declared.entries.ElementEntry.{ElementEntry}
-use Rattle.wasm_tree.specs.declared.entries.SegmentEntry.{SegmentEntry}
-use Rattle.wasm_tree.specs.declared.entries.FuncRef.{FuncRef}
-use Rattle.wasm_tree.specs.IndexSpaces.{func_space, table_space, memory_space, global_space, imported_global_space, imported_globals, is_func_import, is_table_import, is_memory_import}
-use Rattle.wasm_meaning.specs.LinkedSet.{NamedModule}
 use Rattle.wasm_valid.specs.declared.fault.ValidCause.TheVariants as cause
-use Rattle.wasm_valid.specs.ModuleFaults.{Expression, expressions, shape_of, constant_expected, unknown_global, type_mismatch, is_no_constant, is_got_unknown, has_other_type, is_no_first, is_out, fault_if, unknown_types, too_many, min_above_max, too_many_pages, unknown_export, duplicate_exports, start_faults, unknown_segments, unknown_elements, module_faults}
-use Rattle.c_tree.specs.declared.tree.CType.{CType}
+use Rattle.wasm_valid.specs.ModuleFaults.{module_faults}
 use Rattle.c_tree.specs.declared.tree.CType.TheVariants as type
 use Rattle.c_tree.specs.Tree as tree
-use Rattle.c_tree.specs.Runtime.{primitives}
 use Rattle.c_tree.specs.Scope as scope
-use Rattle.c_tree.specs.Scope.{Name, Scope, is_among, name_of, array_of, func_type_of, variables, functions}
-use Rattle.c_tree.specs.Rules.{is_runtime_name, labels_of}
-use Rattle.c_meaning.proofs.Lookups.{bytes_equal}
 use Rattle.c_prelude.specs.Pieces as pieces
-use Rattle.c_prelude.specs.Helpers.{helper_of}
-use Rattle.alike.specs.Alike.{memory_name, table_name, func_name, global_name}
-use Rattle.c_body.specs.Names.{pointer_name, label_name}
-use Rattle.c_symbols.specs.Symbols.{accessor_type, import_symbol, symbol_type, is_usable, func_imports, table_imports, memory_imports, global_imports, declared_symbols, firsts}
-use Rattle.c_body.specs.Objects.{function_name, pointers_of}
-use Rattle.c_body.specs.Needs.{helpers_of}
-use Rattle.c_body.proofs.Rules.{Passes, IsArg, name_typed, value_arg, address_arg, function_arg, null_passes, return_none_passes}
-use Rattle.c_body.proofs.RulesOfCode.{Present, right_present, left_present, first_present}
-use Rattle.c_body.proofs.BodyRules.{vars_in, funcs_in, past_none}
-use Rattle.c_body.proofs.Classes.{class}
-use Rattle.c_unit.specs.Init.{limits_label, bounds_label, size_name, byte_name, local_if, takes_from, make_table, make_memory, make_global, test_elements, test_data, write_elements, write_data, start_stmts, trap_if, has_test, tests_limits, tests_bounds, has_bytes, init_stmts, init_func}
-use Rattle.c_unit.specs.Exports.{export_func}
-use Rattle.c_unit.specs.Items.{objects_of, data_of, declaration, prototype, bodies}
-use Rattle.c_unit.specs.Sets.{IsAccepted}
 use Rattle.c_unit.proofs.KnownNames.{past_vars, in_vars, in_funcs, no_var, get_late}
 use Rattle.c_unit.proofs.KnownFuncs.{symbol_named, firsts_have}
 use Rattle.c_unit.proofs.Knowledge.{own_global, imported_global_is, own_memory_is, own_table_is, imported_memory_is, imported_table_is}
@@ -55,11 +21,7 @@ use Rattle.c_unit.proofs.ExportsKeep.{front_sees, sees_more}
 use Rattle.c_unit.proofs.InitSection.{init_scope}
 use Rattle.c_unit.proofs.InitForms.{InitKnows, takes_pass, tables_pass, memories_pass, globals_pass}
 use Rattle.c_unit.proofs.InitSegments.{ElementIs, SegmentIs, element_tests_pass, data_tests_pass, elements_pass, data_pass, start_passes, trap_passes}
-use Rattle.c_body.proofs.Lists.{all_weaker, all_front, all_behind, get_mapped, all_append, all_unmapped}
-use Rattle.std.proofs.lemmas.Bool.{or_left, or_right}
 use Rattle.c_unit.proofs.Small.{no_left, no_right, no_fault, all_images}
-use Rattle.c_body.proofs.Spaces.{global_count}
-use Rattle.c_body.proofs.OwnNames.{named_in}
 use Rattle.c_unit.proofs.InitConstants.{ShapeFits}
 use Rattle.c_unit.proofs.Instantiable.{fits_of, is_there}
 

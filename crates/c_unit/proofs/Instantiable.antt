@@ -1,30 +1,12 @@
 -- What instantiation rests on, from a module's validity (WebAssembly Core 1.0, 3.4) and its limits.
-use Rattle.std.proofs.Common.{◌≡◌, ℕ, zero, suc, ◌^◌, ◌<◌, ◌≤◌, ◌&&◌, ◌||◌, ◌==◌, not, Bool, true, false, List, [], ◌∷◌, ◌++◌, length, map, filter, flat_map, Option, Some, None, IsSome, is_none, slice_get, refl, sym, ap, ◌∙◌, subst, arith}
-use Rattle.std.specs.List.{AllByRecursion}
-use Rattle.std.proofs.lemmas.Option.{same_Some}
-use Rattle.std.proofs.lemmas.Bool.Decides.{nat_tests}
-use Rattle.w2c_base.specs.declared.value.ValType.{ValType}
+use Rattle.c_unit.proofs.Common.{◌≡◌, ℕ, zero, suc, ◌^◌, ◌<◌, ◌≤◌, Bool, true, false, not, ◌&&◌, ◌||◌, List, [], ◌∷◌, ◌++◌, map, length, is_none, IsSome, ◌==◌, slice_get, Some, None, filter, Option, flat_map, sym, refl, ap, ◌∙◌, subst, arith, nat_tests, same_Some, AllByRecursion, equal_type, FuncType, ValType, func_space, func_type_in, global_space, imported_global_space, is_global_import, memory_of_import, memory_space, table_of_import, table_space, ElementEntry, FuncRef, GlobalEntry, Limits, LimitsEntry, SegmentEntry, Start, Module, IsMaximum, Expression, Shape, constant, constant_expected, duplicate_exports, expressions, fault_if, got, got_unknown, has_other_type, is_got_unknown, is_no_constant, is_no_first, is_other_than_start, is_out, min_above_max, neither, shape_of, start_faults, too_many, too_many_pages, type_mismatch, unknown_elements, unknown_export, unknown_global, unknown_segments, unknown_types, all_behind, all_front, all_unmapped, all_weaker, filter_few, max_number}
 use Rattle.w2c_base.specs.declared.value.ValType.TheVariants as type
-use Rattle.w2c_base.specs.declared.signature.FuncType.{FuncType}
-use Rattle.w2c_base.specs.Values.{equal_type}
-use Rattle.wasm_tree.specs.declared.tree.Module.{Module}
-use Rattle.wasm_tree.specs.declared.entries.Limits.{Limits}
-use Rattle.wasm_tree.specs.declared.entries.LimitsEntry.{LimitsEntry}
-use Rattle.wasm_tree.specs.declared.entries.GlobalEntry.{GlobalEntry}
-use Rattle.wasm_tree.specs.declared.entries.ElementEntry.{ElementEntry}
-use Rattle.wasm_tree.specs.declared.entries.SegmentEntry.{SegmentEntry}
-use Rattle.wasm_tree.specs.declared.entries.FuncRef.{FuncRef}
-use Rattle.wasm_tree.specs.declared.entries.Start.{Start}
-use Rattle.wasm_tree.specs.IndexSpaces.{func_space, table_space, memory_space, global_space, imported_global_space, func_type_in, table_of_import, memory_of_import, is_global_import}
 use Rattle.wasm_valid.specs.declared.fault.ValidCause.TheVariants as cause
-use Rattle.wasm_valid.specs.ModuleFaults.{module_faults, unknown_types, too_many, min_above_max, too_many_pages, Expression, expressions, constant_expected, unknown_global, type_mismatch, unknown_export, duplicate_exports, start_faults, unknown_segments, unknown_elements, fault_if, is_out, Shape, constant, got, got_unknown, neither, shape_of, is_no_constant, is_got_unknown, has_other_type, is_no_first, is_other_than_start}
-use Rattle.wasm_spelling.specs.Within.{IsMaximum}
-use Rattle.c_unit.specs.Init.{max_number}
+use Rattle.wasm_valid.specs.ModuleFaults.{module_faults}
 use Rattle.c_unit.proofs.InitConstants.{ShapeFits}
 use Rattle.c_unit.proofs.Surroundings.{ElementIsValid, DataIsValid, StartIsValid}
 use Rattle.c_unit.proofs.Tasks.{ModulesAreInstantiable}
 use Rattle.c_unit.proofs.Small.{no_left, no_right, no_fault, each_none, few}
-use Rattle.c_body.proofs.Lists.{all_weaker, filter_few, all_front, all_behind, all_unmapped}
 
 -- ---- no faults
 

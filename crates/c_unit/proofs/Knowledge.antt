@@ -1,36 +1,10 @@
 -- What a module's bodies need is declared by the unit's first five sections, whatever functions follow.
-use Rattle.std.proofs.Common.{◌≡◌, ℕ, ◌+◌, ◌-◌, ◌<◌, ◌≤◌, refl, sym, ap, ◌∙◌, subst, arith, true, false, Bool, List, [], ◌∷◌, ◌++◌, length, map, Option, Some, None}
-use Rattle.std.specs.Prelude.{slice_get, flat_map, bytes_eq, is_some, IsSome}
-use Rattle.w2c_base.specs.declared.value.ValType.{ValType}
-use Rattle.w2c_base.specs.Lookup.{numbered, named}
-use Rattle.wasm_tree.specs.declared.tree.Module.{Module}
-use Rattle.wasm_tree.specs.declared.entries.Import.{Import}
-use Rattle.wasm_tree.specs.declared.entries.ImportKind.TheVariants.{Global as ImportGlobal}
-use Rattle.wasm_tree.specs.declared.entries.GlobalEntry.{GlobalEntry}
-use Rattle.wasm_tree.specs.declared.entries.Limits.{Limits}
-use Rattle.wasm_tree.specs.declared.entries.LimitsEntry.{LimitsEntry}
-use Rattle.wasm_tree.specs.IndexSpaces.{global_space, imported_global_space, memory_space, table_space, memory_of_import, table_of_import, imported_globals}
-use Rattle.wasm_meaning.specs.LinkedSet.{NamedModule}
-use Rattle.c_tree.specs.declared.tree.CType.{CType}
+use Rattle.c_unit.proofs.Common.{◌≡◌, ℕ, ◌+◌, ◌-◌, ◌<◌, ◌≤◌, Bool, true, false, List, [], ◌∷◌, ◌++◌, map, length, is_some, IsSome, slice_get, Some, None, Option, flat_map, bytes_eq, sym, refl, ap, ◌∙◌, subst, arith, slice_get_within, named, numbered, ValType, global_space, imported_global_space, imported_globals, memory_of_import, memory_space, table_of_import, table_space, GlobalEntry, Import, ImportGlobal, Limits, LimitsEntry, Module, Name, CType, NamedModule, c_type_of, global_name, memory_name, table_name, global_imports, import_type, memory_imports, pointer_type, table_imports, vars_in, class, class_lettered, class_pointer, get_left, get_unmapped, lettered, global_count, memory_count, table_count, pointer_name, pointers_of, objects_of, IsAccepted}
 use Rattle.c_tree.specs.declared.tree.CType.TheVariants as type
 use Rattle.c_tree.specs.Tree as tree
-use Rattle.c_tree.specs.Scope.{Name}
-use Rattle.c_meaning.specs.Linking.{c_type_of}
-use Rattle.alike.specs.Alike.{memory_name, table_name, global_name}
-use Rattle.c_body.specs.Names.{pointer_name}
-use Rattle.c_symbols.specs.Symbols.{import_type, memory_imports, table_imports, global_imports, pointer_type}
-use Rattle.c_body.specs.Objects.{pointers_of}
-use Rattle.c_body.proofs.BodyRules.{vars_in}
-use Rattle.c_body.proofs.Classes.{class, class_lettered, class_pointer}
-use Rattle.c_body.proofs.RulesOfLabels.{lettered}
-use Rattle.c_unit.specs.Items.{objects_of}
-use Rattle.c_unit.specs.Sets.{IsAccepted}
 use Rattle.c_unit.proofs.Sections.{tabs_class, mems_class, globals_class, pointers_are, few_globals, few_imports}
 use Rattle.c_unit.proofs.KnownNames.{past_vars, in_vars, no_var, numbered_var, get_late, get_past, imported_global}
-use Rattle.c_body.proofs.Lists.{get_left, get_unmapped}
-use Rattle.c_body.proofs.Spaces.{global_count, memory_count, table_count}
 use Rattle.c_unit.proofs.Small.{some_same}
-use Rattle.std.proofs.lemmas.Option.{slice_get_within}
 
 abbrev variable : CType → Name → tree.Item
 variable t name = tree.Var t name None

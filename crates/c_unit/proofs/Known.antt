@@ -1,23 +1,7 @@
 -- What the tasks of an instantiation rest on, from what is shown of the units' functions: that the init function
 -- is defined, that functions are reached by their names, and that imports' symbols give pointers.
-use Rattle.std.proofs.Common.{◌≡◌, ℕ, suc, ◌+◌, ◌^◌, ◌<◌, ◌≤◌, not, Bool, true, false, if◌then◌else◌, List, [], ◌∷◌, ◌++◌, length, map, filter, flat_map, Some, slice_get, refl, sym, ap, ◌∙◌, subst, arith, cond}
-use Rattle.std.specs.List.{AllByRecursion}
-use Rattle.std.proofs.lemmas.Option.{slice_get_within}
-use Rattle.wasm_tree.specs.declared.entries.Import.{Import}
-use Rattle.wasm_tree.specs.declared.entries.ImportKind.{ImportKind}
-use Rattle.wasm_tree.specs.declared.entries.ImportKind.TheVariants.{Func as ImportFunc, Table as ImportTable, Memory as ImportMemory, Global as ImportGlobal}
-use Rattle.wasm_tree.specs.declared.entries.LimitsEntry.{LimitsEntry}
-use Rattle.wasm_tree.specs.IndexSpaces.{func_space, table_space, memory_space, table_of_import, memory_of_import, is_func_import, is_table_import, is_memory_import, is_global_import}
-use Rattle.wasm_meaning.specs.LinkedSet.{LinkedSet, NamedModule, External, IsTable, IsMemory, IsGlobal, import_at}
+use Rattle.c_unit.proofs.Common.{◌≡◌, ℕ, suc, ◌+◌, ◌^◌, ◌<◌, ◌≤◌, Bool, true, false, cond, not, List, [], ◌∷◌, ◌++◌, map, length, if◌then◌else◌, slice_get, Some, filter, flat_map, sym, refl, ap, ◌∙◌, subst, arith, slice_get_within, AllByRecursion, all_at, func_space, is_func_import, is_global_import, is_memory_import, is_table_import, memory_of_import, memory_space, table_of_import, table_space, Import, ImportKind, ImportFunc, ImportGlobal, ImportMemory, ImportTable, LimitsEntry, External, IsGlobal, IsMemory, IsTable, LinkedSet, NamedModule, import_at, global_imports, memory_imports, table_imports, global_object, memory_object, table_object, BodiesFollow, Defines, init_func, UnitsAreInstantiatedAlike, IsAccepted, IsAcceptedSet, UnitsServe, program_of}
 use Rattle.c_meaning.specs.State as state
-use Rattle.c_symbols.specs.Symbols.{table_imports, memory_imports, global_imports}
-use Rattle.c_body.specs.Serves.{Defines}
-use Rattle.c_body.specs.Bodies.{BodiesFollow}
-use Rattle.c_body.proofs.Lists.{all_at}
-use Rattle.c_body.proofs.Store.{table_object, memory_object, global_object}
-use Rattle.c_unit.specs.Init.{init_func}
-use Rattle.c_unit.specs.Sets.{IsAccepted, IsAcceptedSet, UnitsServe, program_of}
-use Rattle.c_unit.specs.Instantiation.{UnitsAreInstantiatedAlike}
 use Rattle.c_unit.proofs.Surroundings.{FuncIsReached, IsInstantiable}
 use Rattle.c_unit.proofs.TakeTasks.{GivesPointer, IsTakenAs, AreTaken}
 use Rattle.c_unit.proofs.AllTaken.{is_taken}

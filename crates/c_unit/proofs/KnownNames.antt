@@ -1,25 +1,8 @@
 -- What a unit declares for its bodies: every name that they use is found with its type.
-use Rattle.std.proofs.Common.{◌≡◌, ◌≢◌, ℕ, zero, suc, ◌+◌, ◌-◌, ◌<◌, ◌≤◌, ◌==◌, ◌&&◌, refl, sym, ap, ◌∙◌, subst, arith, if◌then◌else◌, true, false, Bool, List, [], ◌∷◌, ◌++◌, length, map, Some, None}
-use Rattle.std.proofs.lemmas.List.Elements.{filter_map-append}
-use Rattle.std.specs.Prelude.{slice_get, filter, zip, flat_map, bytes_eq, is_some}
-use Rattle.std.specs.List.{range_with_len}
-use Rattle.w2c_base.specs.declared.value.ValType.{ValType}
-use Rattle.w2c_base.specs.Lookup.{named}
-use Rattle.wasm_tree.specs.declared.entries.Import.{Import}
-use Rattle.wasm_tree.specs.declared.entries.ImportKind.{ImportKind}
-use Rattle.wasm_tree.specs.declared.entries.ImportKind.TheVariants.{Func as ImportFunc, Table as ImportTable, Memory as ImportMemory, Global as ImportGlobal}
-use Rattle.wasm_tree.specs.IndexSpaces.{global_of_import, is_global_import}
-use Rattle.c_tree.specs.declared.tree.CType.{CType}
+use Rattle.c_unit.proofs.Common.{◌≡◌, ℕ, zero, suc, ◌+◌, ◌-◌, ◌<◌, ◌≤◌, Bool, true, false, ◌&&◌, ◌≢◌, List, [], ◌∷◌, ◌++◌, map, length, is_some, if◌then◌else◌, ◌==◌, slice_get, Some, None, filter, zip, flat_map, bytes_eq, sym, refl, ap, ◌∙◌, subst, arith, filter_map-append, same_Some, slice_get_within, range_with_len, named, ValType, global_of_import, is_global_import, Import, ImportKind, ImportFunc, ImportGlobal, ImportMemory, ImportTable, same_func_type, same_type, same_types, Name, function_of, variable_of, CType, bytes_equal, funcs_in, past_none, vars_in, class, classes_differ, named_in}
 use Rattle.c_tree.specs.declared.tree.CType.TheVariants as type
 use Rattle.c_tree.specs.Tree as tree
-use Rattle.c_tree.specs.Runtime.{same_type, same_types, same_func_type}
-use Rattle.c_tree.specs.Scope.{Name, variable_of, function_of}
-use Rattle.c_meaning.proofs.Lookups.{bytes_equal}
-use Rattle.c_body.proofs.OwnNames.{named_in}
-use Rattle.c_body.proofs.BodyRules.{vars_in, funcs_in, past_none}
-use Rattle.c_body.proofs.Classes.{class, classes_differ}
 use Rattle.c_unit.proofs.Sections.{AllClass}
-use Rattle.std.proofs.lemmas.Option.{slice_get_within, same_Some}
 use Rattle.c_unit.proofs.Small.{some_same}
 
 -- ---- looking names up in lists of items

@@ -1,17 +1,9 @@
 -- In a linked set names tell modules and hosts apart, and an export that is found is the first of its name
 -- of the one module of that name.
-use Rattle.std.proofs.Common.{◌≡◌, ◌≢◌, ℕ, zero, suc, ◌+◌, ◌<◌, ◌⊎◌, inl, inr, List, [], ◌∷◌, ◌++◌, map, length, find, take, bytes_eq, Option, Some, None, slice_get, refl, sym, ap, ◌∙◌, arith}
-use Rattle.std.proofs.lemmas.Option.{slice_get_within}
-use Rattle.std.proofs.lemmas.List.{length-append}
-use Rattle.std.proofs.lemmas.Slice.Eq.{bytes_eq-Decides}
-use Rattle.w2c_base.specs.Lookup.{if_found, named, AreDistinct}
-use Rattle.w2c_base.specs.Run.{Host}
-use Rattle.wasm_meaning.specs.LinkedSet.{LinkedSet, NamedModule, Instance, External, IsLinked, instance_of, instances_behind, instances, exported}
-use Rattle.c_unit.specs.Sets.{IsAccepted, IsAcceptedSet}
+use Rattle.c_unit.proofs.Common.{◌≡◌, ℕ, zero, suc, ◌+◌, ◌<◌, ◌≢◌, ◌⊎◌, List, [], ◌∷◌, ◌++◌, map, length, take, slice_get, Some, None, Option, find, bytes_eq, sym, refl, ap, ◌∙◌, inl, inr, arith, length-append, slice_get_within, bytes_eq-Decides, all_at, get_within, AreDistinct, if_found, named, Host, External, Instance, IsLinked, LinkedSet, NamedModule, exported, instance_of, instances, instances_behind, get_behind, get_front, get_mapped, IsAccepted, IsAcceptedSet}
 use Rattle.c_unit.proofs.Found.{FirstAt, found_first}
 use Rattle.c_unit.proofs.Instances.{IsPlaced, IsExported, placed, instance_at, spaces_at, export_named, earlier_is}
 use Rattle.c_unit.proofs.Small.{some_same}
-use Rattle.c_body.proofs.Lists.{all_at, get_behind, get_within, get_mapped, get_front}
 
 -- ---- names
 

@@ -1,7 +1,5 @@
 -- Items whose lists were made before.
-use Rattle.std.proofs.Common.{◌≡◌, ℕ, ◌-◌, List, ◌++◌, length, map, Option, Some, None, refl, sym, ap, ◌∙◌}
-use Rattle.std.specs.Prelude.{slice_get, option_map}
-use Rattle.std.proofs.lemmas.Option.{slice_get-map}
+use Rattle.c_unit.proofs.Common.{◌≡◌, ℕ, ◌-◌, List, ◌++◌, map, length, slice_get, Some, None, Option, option_map, sym, refl, ap, ◌∙◌, slice_get-map}
 use Rattle.c_unit.proofs.Counts.{map_length}
 use Rattle.c_unit.proofs.Parted.{found, passed}
 

@@ -1,42 +1,10 @@
 -- The statements that make a table, a memory and globals against their tasks (WebAssembly Core 1.0, 4.5.4).
-use Rattle.std.proofs.Common.{◌≡◌, ◌≢◌, ℕ, zero, suc, ◌+◌, ◌*◌, ◌^◌, ◌<◌, ◌≤◌, inl, inr, ◌||◌, Bool, true, false, if◌then◌else◌, List, [], ◌∷◌, ◌++◌, length, map, replicate, zip, Option, Some, None, option_map, is_some, IsSome, slice_get, slice_set, nat_lt, refl, sym, ap, ◌∙◌, subst, arith, codes, append_assoc, append-nil}
-use Rattle.c_meaning.specs.Reaches.{Reaches}
-use Rattle.std.specs.List.{AllByRecursion, range_with_len}
-use Rattle.std.proofs.lemmas.Option.{same_Some, slice_get_within}
-use Rattle.c_body.proofs.Lists.{get_behind}
-use Rattle.std.proofs.lemmas.List.{length-replicate}
-use Rattle.w2c_base.specs.declared.value.ValType.{ValType}
-use Rattle.w2c_base.specs.declared.value.Value.{Value}
-use Rattle.w2c_base.specs.declared.value.Value.TheVariants.{I32, I64}
-use Rattle.w2c_base.specs.Values.{value, type_of, types_of, IsNumber}
-use Rattle.w2c_base.specs.Lookup.{if_found, named, with_named, numbered}
-use Rattle.w2c_base.specs.Run.{Trail}
-use Rattle.wasm_tree.specs.declared.tree.Module.{Module}
-use Rattle.wasm_tree.specs.declared.entries.Limits.{Limits}
-use Rattle.wasm_tree.specs.declared.entries.LimitsEntry.{LimitsEntry}
-use Rattle.wasm_tree.specs.declared.entries.GlobalEntry.{GlobalEntry}
-use Rattle.wasm_tree.specs.IndexSpaces.{imported_global_space, imported_globals}
-use Rattle.wasm_valid.specs.ModuleFaults.{shape_of}
-use Rattle.wasm_meaning.specs.LinkedSet.{LinkedSet, NamedModule}
+use Rattle.c_unit.proofs.Common.{◌≡◌, ℕ, zero, suc, ◌+◌, ◌*◌, ◌^◌, ◌<◌, ◌≤◌, Bool, true, false, ◌||◌, ◌≢◌, List, [], ◌∷◌, ◌++◌, map, length, replicate, is_some, if◌then◌else◌, IsSome, nat_lt, slice_get, slice_set, Some, None, codes, Option, option_map, zip, sym, refl, ap, ◌∙◌, subst, inl, inr, append_assoc, append-nil, arith, length-replicate, same_Some, slice_get_within, AllByRecursion, range_with_len, all_push, if_found, named, numbered, with_named, Trail, IsNumber, type_of, types_of, value, ValType, Value, I32, I64, imported_global_space, imported_globals, GlobalEntry, Limits, LimitsEntry, Module, shape_of, of_type, LinkedSet, NamedModule, MakeGlobal, MakeMemory, MakeTable, Task, done, wasm_first, with_found, named-with_another, named-with_named, Program, Effect, Gives, IsUndefined, NoEffect, mem_new, tab_new, Reaches, GlobalsAlike, first_global, global_name, memory_name, table_name, sides, get_behind, global_at_another_place, global_is_no_pointer, or_last, or_middle, module_is, machine_is, memory_object, objects_at, pointers_kept, store_is, table_object, with_unit, ElementsAgree, IsCallableIfAny, MemoriesAgree, ObjectsAgree, PointersAreSet, TablesAgree, Together, pointer_name, constant_expr, make_global, make_memory, make_table, max_number, n32, n64, zero_like}
 use Rattle.wasm_meaning.specs.Store as store
-use Rattle.wasm_meaning.specs.Execution.{of_type}
-use Rattle.wasm_meaning.specs.Run.{Task, MakeTable, MakeMemory, MakeGlobal, done, with_found, first_value as wasm_first}
 use Rattle.wasm_meaning.proofs.Typed.{of_its_type}
 use Rattle.c_tree.specs.Tree as c
 use Rattle.c_meaning.specs.State as state
-use Rattle.c_meaning.specs.Linking.{Program}
 use Rattle.c_meaning.specs.Machine as machine
-use Rattle.c_meaning.specs.Primitives.{Effect, Gives, NoEffect, IsUndefined, tab_new, mem_new}
-use Rattle.c_meaning.proofs.Lookups.{named-with_named, named-with_another}
-use Rattle.c_prelude.proofs.Widths.{sides}
-use Rattle.alike.specs.Alike.{memory_name, table_name, global_name, first_global, GlobalsAlike}
-use Rattle.c_body.specs.Names.{pointer_name}
-use Rattle.c_body.specs.Agree.{MemoriesAgree, TablesAgree, ElementsAgree, ObjectsAgree, PointersAreSet, IsCallableIfAny}
-use Rattle.c_body.specs.Follows.{Together}
-use Rattle.c_body.proofs.Names.{global_at_another_place, global_is_no_pointer}
-use Rattle.c_body.proofs.Store.{with_unit, table_object, memory_object, objects_at, store_is, machine_is, pointers_kept}
-use Rattle.c_unit.specs.Init.{n32, n64, max_number, make_table, make_memory, make_global, constant_expr}
-use Rattle.c_unit.specs.Instantiation.{zero_like}
 use Rattle.c_unit.proofs.Held.{held, held_there, held_kept}
 use Rattle.c_unit.proofs.TakeTasks.{HoldsGlobal}
 use Rattle.c_unit.proofs.InitStatements.{Seat, GetsAll, gets_one, effect_goes, set_global_goes, at as going_at}
@@ -45,10 +13,7 @@ use Rattle.c_unit.proofs.InitConstants.{ShapeFits, ConstantFound, constant_found
 use Rattle.c_unit.proofs.InitTests.{HasLocals}
 use Rattle.c_unit.proofs.InitObjects.{address_gets, global_found}
 use Rattle.c_unit.proofs.Surroundings.{Surroundings, IsFilled}
-use Rattle.c_unit.proofs.SegmentTests.{all_push}
 use Rattle.c_unit.proofs.OwnObjects.{set_gets, own_kept, more_ready}
-use Rattle.c_body.proofs.Spaces.{module_is}
-use Rattle.c_body.proofs.Seen.{or_middle, or_last}
 
 -- pointers are set; the table and the memory are made or not, and so many globals
 pub record IsMaking (s : LinkedSet) (g : Seat) (m : NamedModule) (has_table has_memory : Bool) (front : List GlobalEntry)

@@ -1,55 +1,14 @@
 -- What a module's bodies need is declared by the unit's first five sections, whatever functions follow.
-use Rattle.std.proofs.Common.{◌≡◌, ◌≢◌, ℕ, zero, suc, ◌+◌, ◌-◌, ◌<◌, ◌≤◌, ◌==◌, ◌&&◌, refl, sym, ap, ◌∙◌, subst, arith, if◌then◌else◌, true, false, Bool, List, [], ◌∷◌, ◌++◌, length, map, Option, Some, None}
-use Rattle.std.proofs.lemmas.Slice.Eq.{bytes_eq-Decides}
-use Rattle.std.specs.Prelude.{slice_get, filter, flat_map, bytes_eq, is_some}
-use Rattle.std.specs.List.{AllByRecursion, list_any}
-use Rattle.w2c_base.specs.declared.signature.FuncType.{FuncType}
-use Rattle.w2c_base.specs.Lookup.{numbered, named, at_index, if_found}
-use Rattle.wasm_tree.specs.declared.tree.Module.{Module}
-use Rattle.wasm_tree.specs.declared.entries.Import.{Import}
-use Rattle.wasm_tree.specs.declared.entries.ImportKind.{ImportKind}
-use Rattle.wasm_tree.specs.declared.entries.ImportKind.TheVariants.{Func as ImportFunc, Table as ImportTable, Memory as ImportMemory, Global as ImportGlobal}
-use Rattle.wasm_tree.specs.declared.entries.FuncEntry.{FuncEntry}
-use Rattle.wasm_tree.specs.declared.entries.BodyEntry.{BodyEntry}
-use Rattle.wasm_tree.specs.IndexSpaces.{type_in, func_space, func_of_import, imported_funcs, imported_globals, is_func_import}
-use Rattle.wasm_meaning.specs.LinkedSet.{NamedModule}
-use Rattle.c_tree.specs.declared.tree.CType.{CType}
+use Rattle.c_unit.proofs.Common.{◌≡◌, ℕ, zero, suc, ◌+◌, ◌-◌, ◌<◌, ◌≤◌, Bool, true, false, ◌&&◌, ◌≢◌, List, [], ◌∷◌, ◌++◌, map, length, is_some, if◌then◌else◌, ◌==◌, slice_get, Some, None, filter, Option, flat_map, bytes_eq, sym, refl, ap, ◌∙◌, subst, arith, or_left, or_right, slice_get_within, bytes_eq-Decides, AllByRecursion, list_any, all_append, all_map, at_index, if_found, named, numbered, FuncType, export_symbol_of-parts, export_symbol_of, SymbolKind, func_of_import, func_space, imported_funcs, imported_globals, is_func_import, type_in, BodyEntry, FuncEntry, GlobalEntry, Import, ImportKind, ImportFunc, ImportGlobal, ImportMemory, ImportTable, LimitsEntry, Module, is_runtime_name, same_func_type, Name, func_type_of, is_among, name_of, CType, NamedModule, bytes_equal, c_result_of, c_type_of, func_name, global_name, memory_name, table_name, helper_type, helper_of, Helper, Typed, accessor_type, c_func_type, c_func_type_if, declared_symbols, firsts, func_imports, import_symbol, import_type, is_usable, symbol_type, FileKnows, funcs_in, vars_in, class, class_lettered, get_left, get_unmapped, func_count, body_of, any_in, calls_helper, helpers_of, callee, pointers_of, bodies, data_of, declaration, objects_of, prototype, IsAccepted}
 use Rattle.c_tree.specs.declared.tree.CType.TheVariants as type
 use Rattle.c_tree.specs.Tree as tree
-use Rattle.c_tree.specs.Runtime.{same_func_type}
-use Rattle.c_tree.specs.Scope.{Name, is_among, name_of, func_type_of}
-use Rattle.c_tree.specs.Rules.{is_runtime_name}
-use Rattle.c_meaning.proofs.Lookups.{bytes_equal}
-use Rattle.alike.specs.Alike.{memory_name, table_name, func_name, global_name}
-use Rattle.c_meaning.specs.Linking.{c_type_of, c_result_of}
-use Rattle.wasm_tree.specs.declared.entries.GlobalEntry.{GlobalEntry}
-use Rattle.wasm_tree.specs.declared.entries.LimitsEntry.{LimitsEntry}
-use Rattle.c_prelude.specs.declared.operation.Helper.{Helper}
-use Rattle.c_prelude.specs.Helpers.{helper_of}
-use Rattle.c_prelude.specs.Functions.{helper_type}
-use Rattle.c_body.specs.Labels.{any_in}
-use Rattle.c_symbols.specs.Symbols.{Typed, c_func_type, c_func_type_if, accessor_type, import_symbol, import_type, symbol_type, is_usable, func_imports, declared_symbols, firsts}
-use Rattle.c_body.specs.Objects.{callee, pointers_of}
-use Rattle.c_body.specs.Body.{body_of}
-use Rattle.c_body.specs.Needs.{helpers_of, calls_helper}
-use Rattle.c_body.proofs.BodyRules.{vars_in, funcs_in, FileKnows}
-use Rattle.w2c_mangle.specs.declared.symbol.SymbolKind.{SymbolKind}
-use Rattle.w2c_mangle.specs.Symbols.{export_symbol_of}
-use Rattle.w2c_mangle.proofs.SymbolNames.{export_symbol_of-parts}
 use Rattle.c_unit.proofs.Pairs.{firsts_all}
-use Rattle.c_body.proofs.Classes.{class, class_lettered}
-use Rattle.c_unit.specs.Items.{objects_of, data_of, declaration, prototype, bodies}
-use Rattle.c_unit.specs.Sets.{IsAccepted}
 use Rattle.c_unit.proofs.BodiesAt.{BodyAt, body_at}
 use Rattle.c_unit.proofs.Sections.{AllClass, of_import, symbol_class, tabs_class, mems_class, globals_class, pointers_class, data_class, declared_class, prototypes_class, helper_class, helpers_class, body_name, few_funcs}
 use Rattle.c_unit.proofs.KnownNames.{past_funcs, in_vars, in_funcs, no_func, get_late, get_past, func_types_same}
 use Rattle.c_unit.proofs.KnownFuncs.{prototype_types, proto_named, helper_known, symbol_named, firsts_have, params_back}
 use Rattle.c_unit.proofs.Knowledge.{own_global, imported_global_is, own_memory_is, own_table_is, imported_memory_is, imported_table_is}
-use Rattle.c_body.proofs.Lists.{all_append, get_left, get_unmapped, all_map}
-use Rattle.std.proofs.lemmas.Bool.{or_left, or_right}
 use Rattle.c_unit.proofs.Small.{some_same, all_images}
-use Rattle.c_body.proofs.Spaces.{func_count}
-use Rattle.std.proofs.lemmas.Option.{slice_get_within}
 
 -- ---- index spaces of functions
 

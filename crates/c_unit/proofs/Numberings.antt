@@ -1,11 +1,5 @@
 -- Passes over items with their numbers.
-use Rattle.std.proofs.Common.{◌≡◌, ℕ, zero, suc, ◌+◌, ◌<◌, ◌≤◌, List, [], ◌∷◌, ◌++◌, append_assoc, append-nil, length, get_or, drop, map, refl, sym, ap, ◌∙◌, arith}
-use Rattle.std.specs.Prelude.{zip, flat_map}
-use Rattle.std.specs.List.{range_with_len}
-use Rattle.std.proofs.lemmas.List.{map_push}
-use Rattle.w2c_base.specs.Lookup.{numbered}
-use Rattle.c_tree.proofs.Tested.{at_front}
-use Rattle.c_symbols.proofs.Grown.{read_again}
+use Rattle.c_unit.proofs.Common.{◌≡◌, ℕ, zero, suc, ◌+◌, ◌<◌, ◌≤◌, List, [], ◌∷◌, ◌++◌, map, length, get_or, drop, zip, flat_map, sym, ap, ◌∙◌, append_assoc, append-nil, arith, map_push, range_with_len, numbered_past, numbered, at_front, read_again}
 
 -- numbered items from one on
 numbered_from : {A : Type 0} (k : ℕ) (xs : List A) (i : ℕ) (x : A) → i < length xs → x ≡ get_or xs i x
@@ -21,12 +15,6 @@ numbered_from k (y ∷ xs) (suc i) x lt is =
     numbered_from (k + 1) xs i x (omega arith) is
     ∙ ap (λ n. (n, x) ∷ drop (suc (i + 1)) (zip (range_with_len k (length (y ∷ xs))) (y ∷ xs))) e
     ∙ ap (λ m. (k + suc i, x) ∷ drop m (zip (range_with_len k (length (y ∷ xs))) (y ∷ xs))) next
-
-numbered_past : {A : Type 0} (k : ℕ) (xs : List A) (i : ℕ) → length xs ≤ i → drop i (zip (range_with_len k (length xs)) xs) ≡ []
-numbered_past k [] zero le = refl
-numbered_past k [] (suc i) le = refl
-numbered_past k (x ∷ xs) zero le = absurd (omega arith)
-numbered_past k (x ∷ xs) (suc i) le = numbered_past (k + 1) xs i (omega arith)
 
 front : {A : Type 0} (xs items : List A) → items ≡ xs → (i : ℕ) (x : A) → i < length items → x ≡ get_or items i x
     → drop i (numbered xs) ≡ (i, x) ∷ drop (i + 1) (numbered xs)

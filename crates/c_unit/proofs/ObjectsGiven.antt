@@ -1,25 +1,8 @@
 -- What gives a pointer to an exported table, memory or global: its body returns the object's address, or what the import's symbol gives.
-use Rattle.std.proofs.Common.{◌≡◌, Bool, true, if◌then◌else◌, [], ◌∷◌, Option, Some, None, refl, sym, ap, ◌∙◌, subst}
-use Rattle.std.specs.Prelude.{false, slice_get}
-use Rattle.w2c_base.specs.declared.value.ValType.{ValType}
+use Rattle.c_unit.proofs.Common.{◌≡◌, Bool, true, false, [], ◌∷◌, if◌then◌else◌, slice_get, Some, None, Option, sym, refl, ap, ◌∙◌, subst, ValType, global_type_in, Export, ExportKind, ExportFunc, ExportGlobal, ExportMemory, ExportTable, Import, same_func_type, Name, CType, Plain, NamedModule, global_name, memory_name, table_name, accessor_type, global_accessor_type, global_imports, import_symbol, import_type, is_usable, memory_imports, symbol_type, table_imports, same_c_func_type, accessor, export_func, passes_on, result_name, usable_symbol, GivesExport, GivesObject}
 use Rattle.w2c_base.specs.declared.value.ValType.TheVariants as val
-use Rattle.wasm_tree.specs.declared.entries.Import.{Import}
-use Rattle.wasm_tree.specs.declared.entries.Export.{Export}
-use Rattle.wasm_tree.specs.declared.entries.ExportKind.{ExportKind}
-use Rattle.wasm_tree.specs.declared.entries.ExportKind.TheVariants.{Func as ExportFunc, Table as ExportTable, Memory as ExportMemory, Global as ExportGlobal}
-use Rattle.wasm_tree.specs.IndexSpaces.{global_type_in}
-use Rattle.wasm_meaning.specs.LinkedSet.{NamedModule}
-use Rattle.c_tree.specs.declared.tree.CType.{CType}
 use Rattle.c_tree.specs.declared.tree.CType.TheVariants as type
-use Rattle.c_tree.specs.declared.tree.Num.TheVariants.{Plain}
 use Rattle.c_tree.specs.Tree as tree
-use Rattle.c_tree.specs.Runtime.{same_func_type}
-use Rattle.c_tree.specs.Scope.{Name}
-use Rattle.alike.specs.Alike.{memory_name, table_name, global_name}
-use Rattle.c_symbols.specs.Symbols.{accessor_type, global_accessor_type, table_imports, memory_imports, global_imports, import_symbol, import_type, is_usable, symbol_type}
-use Rattle.c_body.proofs.Indirect.{same_c_func_type}
-use Rattle.c_unit.specs.Exports.{export_func, passes_on, accessor, result_name, usable_symbol}
-use Rattle.c_unit.specs.Shape.{GivesObject, GivesExport}
 use Rattle.c_unit.proofs.Accessor.{IsPointer, of_table, of_memory, of_u32, of_u64}
 
 -- what a call of a symbol gives

@@ -1,22 +1,7 @@
 -- Whose the tables, memories and globals of a module are (WebAssembly Core 1.0, 2.5.1 and 4.5.4): its own, or
 -- those of earlier modules.
-use Rattle.std.proofs.Common.{◌≡◌, ℕ, zero, suc, ◌+◌, ◌<◌, ◌⊎◌, inl, inr, Bool, true, false, List, [], ◌∷◌, ◌++◌, length, map, filter, flat_map, replicate, Option, Some, None, option_map, IsSome, slice_get, refl, sym, ap, ◌∙◌, subst, arith, cond}
-use Rattle.std.specs.List.{AllByRecursion, range_with_len}
-use Rattle.std.proofs.lemmas.Option.{same_Some, none-some, slice_get_within}
-use Rattle.w2c_base.specs.declared.value.ValType.{ValType}
-use Rattle.w2c_base.specs.Lookup.{if_found}
-use Rattle.wasm_tree.specs.declared.tree.Module.{Module}
-use Rattle.wasm_tree.specs.declared.entries.Import.{Import}
-use Rattle.wasm_tree.specs.declared.entries.ImportKind.{ImportKind}
-use Rattle.wasm_tree.specs.declared.entries.ImportKind.TheVariants.{Func as ImportFunc, Table as ImportTable, Memory as ImportMemory, Global as ImportGlobal}
-use Rattle.wasm_tree.specs.declared.entries.Limits.{Limits}
-use Rattle.wasm_tree.specs.declared.entries.LimitsEntry.{LimitsEntry}
-use Rattle.wasm_tree.specs.declared.entries.GlobalEntry.{GlobalEntry}
-use Rattle.wasm_tree.specs.IndexSpaces.{table_space, memory_space, global_space, imported_global_space, table_of_import, memory_of_import, global_of_import, is_table_import, is_memory_import, is_global_import}
-use Rattle.wasm_meaning.specs.LinkedSet.{LinkedSet, NamedModule, GlobalAddress, External, IsTable, IsMemory, IsGlobal, as_table, as_memory, as_global, import_at, module_at, global_type, Resolves, IsLinked}
-use Rattle.c_symbols.specs.Symbols.{table_imports, memory_imports, global_imports}
-use Rattle.c_body.proofs.Lists.{all_at, get_numbered, get_mapped, get_unmapped, get_joined}
-use Rattle.c_body.proofs.Spaces.{IfAny, IsEarlier, HasObject, looked_up, import_fits, first_fit, ResolvesAs, module_is as tree_at}
+use Rattle.c_unit.proofs.Common.{◌≡◌, ℕ, zero, suc, ◌+◌, ◌<◌, Bool, true, false, cond, ◌⊎◌, List, [], ◌∷◌, ◌++◌, map, length, replicate, IsSome, slice_get, Some, None, filter, Option, option_map, flat_map, sym, refl, ap, ◌∙◌, subst, inl, inr, arith, none-some, same_Some, slice_get_within, AllByRecursion, range_with_len, all_at, if_found, ValType, global_of_import, global_space, imported_global_space, is_global_import, is_memory_import, is_table_import, memory_of_import, memory_space, table_of_import, table_space, GlobalEntry, Import, ImportKind, ImportFunc, ImportGlobal, ImportMemory, ImportTable, Limits, LimitsEntry, Module, External, GlobalAddress, IsGlobal, IsLinked, IsMemory, IsTable, LinkedSet, NamedModule, Resolves, as_global, as_memory, as_table, global_type, import_at, module_at, global_imports, memory_imports, table_imports, get_joined, get_mapped, get_numbered, get_unmapped, ResolvesAs}
+use Rattle.c_body.proofs.Spaces.{IfAny, IsEarlier, HasObject, looked_up, import_fits, first_fit, module_is as tree_at}
 use Rattle.c_unit.proofs.InitObjects.{TableOwner, MemoryOwner, GlobalOwner}
 use Rattle.c_unit.proofs.Small.{is_table, is_memory, is_global}
 use Rattle.c_unit.proofs.Globals.{count_globals}

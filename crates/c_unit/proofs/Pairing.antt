@@ -1,32 +1,13 @@
 -- The pairing of a set's run with its units' run, from how instantiation and calls are followed.
-use Rattle.std.proofs.Common.{◌≡◌, ◌≢◌, ℕ, zero, suc, ◌+◌, ◌*◌, ◌≤◌, ◌⊎◌, inl, inr, true, List, [], ◌∷◌, ◌++◌, length, map, drop, replicate, Option, Some, None, slice_get, refl, sym, ap, ◌∙◌, subst, arith}
-use Rattle.std.specs.List.{AllByRecursion}
-use Rattle.w2c_base.specs.declared.value.Value.{Value}
-use Rattle.w2c_base.specs.declared.signature.FuncType.{FuncType}
-use Rattle.w2c_base.specs.Values.{is_result, IsNumber}
-use Rattle.w2c_base.specs.Run.{Reply, Trail, Phase, Init, Call, call_ended, asks_in, values_in}
-use Rattle.w2c_mangle.specs.Symbols.{init_symbol_of}
+use Rattle.c_unit.proofs.Common.{◌≡◌, ℕ, zero, suc, ◌+◌, ◌*◌, ◌≤◌, true, ◌≢◌, ◌⊎◌, List, [], ◌∷◌, ◌++◌, map, length, drop, replicate, slice_get, Some, None, Option, sym, refl, ap, ◌∙◌, subst, inl, inr, arith, AllByRecursion, Call, Init, Phase, Reply, Trail, asks_in, call_ended, values_in, IsNumber, is_result, FuncType, Value, init_symbol_of, enough, join, stays, Definition, Program, definition_at, fresh, Reaches, CRun, Entry, IsGoing, Over, Pending, Progress, after, begin_entry, begun, c_run, c_start, go_on, over, told_end, Stops, begin, first_vars, next, Alike, AllElementsAlike, MemoriesAlike, OutcomesAlike, StoresAlike, TablesAlike, callable_later, ElementsAgree, MemoriesAgree, StoresAgree, TablesAgree, BodiesFollow, CallFollows, CallsFollow, EndsAlike, GoesOn, SameStop, StopsAlike, Together, call_spare, called, given, InitFollows, IsUntouched, UnitsAreInstantiatedAlike, do_tasks, object_types, Forward, IsAcceptedSet, IsListing, NeverStops, Paired, Pairing, UnitsArePaired, UnitsDoTheSame, UnitsServe, c_run_of, program_of, symbol_call}
 use Rattle.wasm_meaning.specs.LinkedSet as link
 use Rattle.wasm_meaning.specs.Store as store
 use Rattle.wasm_meaning.specs.Execution as exec
 use Rattle.wasm_meaning.specs.Run as wasm
 use Rattle.c_meaning.specs.State as state
-use Rattle.c_meaning.specs.Linking.{Program, Definition, definition_at}
-use Rattle.c_meaning.specs.Machine.{fresh}
-use Rattle.c_meaning.specs.Step.{begin, first_vars, next, Stops}
-use Rattle.c_meaning.specs.Run.{CRun, Entry, Pending, Progress, Over, IsGoing, after, over, begun, begin_entry, told_end, go_on, c_start, c_run}
 use Rattle.c_meaning.specs.Run as c
-use Rattle.c_meaning.specs.Reaches.{Reaches}
-use Rattle.c_meaning.proofs.Ways.{stays, join, enough}
 use Rattle.c_meaning.proofs.Longer.{run_longer, run_shorter}
 use Rattle.c_meaning.proofs.OnTheWay.{going_is_out}
-use Rattle.alike.specs.Alike.{Alike, StoresAlike, MemoriesAlike, TablesAlike, AllElementsAlike, OutcomesAlike}
-use Rattle.c_body.specs.Passing.{called, given}
-use Rattle.c_body.specs.Agree.{StoresAgree, MemoriesAgree, TablesAgree, ElementsAgree}
-use Rattle.c_body.specs.Follows.{Together, SameStop, StopsAlike, EndsAlike, GoesOn, CallFollows, CallsFollow, call_spare}
-use Rattle.c_body.specs.Bodies.{BodiesFollow}
-use Rattle.c_unit.specs.Sets.{IsAcceptedSet, IsListing, Paired, Pairing, Forward, NeverStops, UnitsServe, UnitsArePaired, UnitsDoTheSame, program_of, symbol_call, c_run_of}
-use Rattle.c_unit.specs.Instantiation.{InitFollows, IsUntouched, UnitsAreInstantiatedAlike, do_tasks, object_types}
 use Rattle.c_unit.proofs.Listed.{WrapsOnce, IsWrapped, ListedCallsAreWrapped, InitsAreInOrder}
 use Rattle.c_unit.proofs.Program.{units_serve, listed_calls_are_wrapped}
 use Rattle.c_unit.proofs.Inits.{inits_are_in_order}
@@ -35,7 +16,6 @@ use Rattle.c_unit.proofs.MakesOwn.{tasks_make_own}
 use Rattle.c_unit.proofs.TypesStay.{entry_units, types_stay}
 use Rattle.c_unit.proofs.Start.{starts_together, starts_untouched}
 use Rattle.c_unit.proofs.Plans.{call_plan, call_entries, module_plan, init_entries, behind_module, module_run, plan_is, entries_are}
-use Rattle.c_body.proofs.Spaces.{callable_later}
 
 -- ---- what agrees is alike
 

@@ -1,9 +1,5 @@
 -- What stands at a place of lists that are joined.
-use Rattle.std.proofs.Common.{◌≡◌, ℕ, zero, suc, ◌+◌, ◌-◌, List, [], ◌∷◌, ◌++◌, length, map, drop, Some, None, refl, sym, ap, ◌∙◌, arith}
-use Rattle.std.specs.Prelude.{slice_get, option_map, zip}
-use Rattle.std.specs.List.{range_with_len}
-use Rattle.std.proofs.lemmas.Option.{slice_get-map}
-use Rattle.w2c_base.specs.Lookup.{numbered}
+use Rattle.c_unit.proofs.Common.{◌≡◌, ℕ, zero, suc, ◌+◌, ◌-◌, List, [], ◌∷◌, ◌++◌, map, length, drop, slice_get, Some, None, option_map, zip, sym, refl, ap, ◌∙◌, arith, slice_get-map, range_with_len, numbered_many, numbered}
 use Rattle.c_unit.proofs.Counts.{map_length}
 
 -- inside the first of two lists
@@ -38,10 +34,6 @@ numbered_at k (x ∷ xs) (suc n) =
     let e : (k + 1) + n ≡ k + suc n = omega arith in
     numbered_at (k + 1) xs n ∙ ap (λ m. option_map (λ y. (m, y)) (slice_get xs n)) e
 
-zip_length : {A : Type 0} (k : ℕ) (xs : List A) → length (zip (range_with_len k (length xs)) xs) ≡ length xs
-zip_length k [] = refl
-zip_length k (x ∷ xs) = ap suc (zip_length (k + 1) xs)
-
 pub found_numbered : {A B : Type 0} (f : ℕ × A → B) (xs : List A) (rest : List B) (n : ℕ) (x : A) → slice_get xs n ≡ Some x
     → Some (f (n, x)) ≡ slice_get (map f (numbered xs) ++ rest) n
 found_numbered f xs rest n x e =
@@ -52,7 +44,7 @@ found_numbered f xs rest n x e =
 pub passed_numbered : {A B : Type 0} (f : ℕ × A → B) (xs : List A) (rest : List B) (n : ℕ) → slice_get xs n ≡ None
     → slice_get rest (n - length xs) ≡ slice_get (map f (numbered xs) ++ rest) n
 passed_numbered f xs rest n e =
-    ap (λ k. slice_get rest (n - k)) (sym (zip_length 0 xs))
+    ap (λ k. slice_get rest (n - k)) (sym (numbered_many 0 xs))
     ∙ passed f (numbered xs) rest n (numbered_at 0 xs n ∙ ap (option_map (λ y. (0 + n, y))) e)
 
 -- what is left from a place on

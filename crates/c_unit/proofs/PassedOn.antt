@@ -1,11 +1,6 @@
 -- The parameters of a function that passes a call on.
-use Rattle.std.proofs.Common.{◌≡◌, ℕ, zero, suc, add-one, ◌+◌, ◌<◌, List, [], ◌∷◌, ◌++◌, append_assoc, length, map, drop, get_or, refl, sym, ap, ◌∙◌, arith}
-use Rattle.std.proofs.lemmas.List.{map_push}
-use Rattle.w2c_base.specs.declared.value.ValType.{ValType}
+use Rattle.c_unit.proofs.Common.{◌≡◌, ℕ, zero, suc, ◌+◌, ◌<◌, List, [], ◌∷◌, ◌++◌, map, length, get_or, drop, sym, refl, ap, ◌∙◌, append_assoc, add-one, arith, map_push, ValType, at_front, c_type_of, args_from, param_name}
 use Rattle.c_tree.specs.Tree as tree
-use Rattle.c_meaning.specs.Linking.{c_type_of}
-use Rattle.c_tree.proofs.Tested.{at_front}
-use Rattle.c_unit.specs.Exports.{args_from, param_name}
 
 pub args_next : (types : List ValType) (k : ℕ) → k < length types
     → args_from k (map c_type_of (drop k types)) ≡ tree.Value (tree.Name (param_name k)) ∷ args_from (k + 1)

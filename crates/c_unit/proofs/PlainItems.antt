@@ -1,45 +1,13 @@
 -- The items of a unit that have no body keep the rules: objects, pointers, data, declarations and prototypes.
-use Rattle.std.proofs.Common.{◌≡◌, ◌≢◌, ℕ, ◌+◌, ◌&&◌, refl, sym, ◌∙◌, subst, arith, if◌then◌else◌, true, false, Bool, List, [], ◌∷◌, ◌++◌, length, map, Option, Some, None}
-use Rattle.std.specs.Prelude.{zip, bytes_eq}
-use Rattle.std.specs.List.{AllByRecursion, range_with_len, list_all}
-use Rattle.w2c_base.specs.declared.value.ValType.{ValType}
+use Rattle.c_unit.proofs.Common.{◌≡◌, ℕ, ◌+◌, Bool, true, false, ◌&&◌, ◌≢◌, List, [], ◌∷◌, ◌++◌, map, length, if◌then◌else◌, Some, None, Option, zip, bytes_eq, sym, refl, ◌∙◌, subst, arith, AllByRecursion, list_all, range_with_len, all_append, all_map, named, numbered, FuncType, ValType, func_type_in, global_type_in, imported_globals, is_global_import, type_in, Export, ExportKind, ExportFunc, ExportGlobal, ExportMemory, ExportTable, GlobalEntry, Import, ImportKind, ImportFunc, ImportGlobal, ImportMemory, ImportTable, LimitsEntry, SegmentEntry, Module, is_own_name, is_result_type, is_symbol, is_value_type, is_void, proper_params, proper_types, Name, name_of, param_variables, CType, NamedModule, c_params_of, c_result_of, c_type_of, global_name, memory_name, table_name, Typed, accessor_type, c_func_type_if, declared_symbols, export_symbol, export_type, exported_symbols, firsts, global_accessor_type, global_imports, import_symbol, import_type, imported_symbols, memory_imports, symbol_type, table_imports, class, value_types, no_void, pointer_name, pointers_of, data_name, data_of, declaration, items, IsAccepted}
 use Rattle.w2c_base.specs.declared.value.ValType.TheVariants.{I32, I64}
-use Rattle.w2c_base.specs.declared.signature.FuncType.{FuncType}
-use Rattle.w2c_base.specs.Lookup.{numbered, named}
-use Rattle.wasm_tree.specs.declared.tree.Module.{Module}
-use Rattle.wasm_tree.specs.declared.entries.Import.{Import}
-use Rattle.wasm_tree.specs.declared.entries.ImportKind.{ImportKind}
-use Rattle.wasm_tree.specs.declared.entries.ImportKind.TheVariants.{Func as ImportFunc, Table as ImportTable, Memory as ImportMemory, Global as ImportGlobal}
-use Rattle.wasm_tree.specs.declared.entries.Export.{Export}
-use Rattle.wasm_tree.specs.declared.entries.ExportKind.{ExportKind}
-use Rattle.wasm_tree.specs.declared.entries.ExportKind.TheVariants.{Func as ExportFunc, Table as ExportTable, Memory as ExportMemory, Global as ExportGlobal}
-use Rattle.wasm_tree.specs.declared.entries.GlobalEntry.{GlobalEntry}
-use Rattle.wasm_tree.specs.declared.entries.LimitsEntry.{LimitsEntry}
-use Rattle.wasm_tree.specs.declared.entries.SegmentEntry.{SegmentEntry}
-use Rattle.wasm_tree.specs.IndexSpaces.{type_in, func_type_in, global_type_in, imported_globals, is_global_import}
-use Rattle.wasm_meaning.specs.LinkedSet.{NamedModule}
-use Rattle.c_tree.specs.declared.tree.CType.{CType}
 use Rattle.c_tree.specs.declared.tree.CType.TheVariants as type
 use Rattle.c_tree.specs.Tree as tree
-use Rattle.c_tree.specs.Scope.{Name, name_of, param_variables}
-use Rattle.c_tree.specs.Rules.{is_own_name, is_symbol, is_void, is_value_type, is_result_type, proper_params, proper_types}
-use Rattle.c_meaning.specs.Linking.{c_type_of, c_params_of, c_result_of}
-use Rattle.alike.specs.Alike.{memory_name, table_name, global_name}
-use Rattle.c_body.specs.Names.{pointer_name}
-use Rattle.c_symbols.specs.Symbols.{Typed, c_func_type_if, accessor_type, import_symbol, import_type, exported_symbols, imported_symbols, symbol_type, export_symbol, export_type, global_accessor_type, memory_imports, table_imports, global_imports, declared_symbols, firsts}
-use Rattle.c_body.specs.Objects.{pointers_of}
 use Rattle.c_body.proofs.RulesOfFunctions.{all_at}
-use Rattle.c_body.proofs.Classes.{class}
-use Rattle.c_unit.specs.Init.{data_name}
-use Rattle.c_unit.specs.Items.{data_of, declaration, items}
-use Rattle.c_unit.specs.Sets.{IsAccepted}
 use Rattle.c_unit.proofs.Pairs.{AllPairs, pairs_at, all_flat, firsts_all, firsts_differ}
 use Rattle.c_unit.proofs.ItemRules.{AllShow, Keeps, Apart, apart_joined, apart_classes, apart_names, variable_keeps, array_keeps, declared_func, declaration_keeps}
 use Rattle.c_unit.proofs.Sections.{AllClass, of_import, symbol_is, tabs_class, mems_class, globals_class, pointers_class, data_class, tabs_pairs, mems_pairs, globals_pairs, pointers_pairs, data_pairs, declared_class}
-use Rattle.c_body.proofs.Lists.{all_append, all_map}
 use Rattle.c_unit.proofs.Small.{all_pass, all_images}
-use Rattle.c_body.proofs.RulesOfKinds.{no_void}
-use Rattle.c_body.proofs.RulesOfCode.{value_types}
 
 -- an item that keeps the rules wherever nothing before it clashes
 abbrev pub ItemKeeps : List tree.Item → tree.Item → Type 0

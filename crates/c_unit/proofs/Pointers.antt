@@ -1,20 +1,8 @@
 -- What an export or an import of a table, a memory or a global stands for: its function gives a pointer to the
 -- owner's object.
-use Rattle.std.proofs.Common.{◌≡◌, ℕ, zero, suc, ◌+◌, ◌-◌, ◌<◌, ◌≤◌, inl, inr, Bool, true, false, if◌then◌else◌, List, [], ◌∷◌, ◌++◌, map, filter, length, replicate, Option, Some, None, slice_get, refl, sym, ap, ◌∙◌, arith}
-use Rattle.std.specs.List.{range_with_len}
-use Rattle.std.proofs.lemmas.Option.{slice_get_within, slice_get_past}
-use Rattle.std.proofs.lemmas.List.{length-map}
-use Rattle.std.proofs.lemmas.List.FromFn.{length-range_with_len}
-use Rattle.w2c_base.specs.Lookup.{if_found, at_index}
-use Rattle.wasm_tree.specs.declared.entries.Import.{Import}
-use Rattle.wasm_tree.specs.IndexSpaces.{is_table_import, is_memory_import, is_global_import, imported_globals}
-use Rattle.wasm_meaning.specs.LinkedSet.{LinkedSet, NamedModule, Instance, External, GlobalAddress, IsFunc, IsTable, IsMemory, IsGlobal, as_table, as_memory, as_global, instances, import_at, meaning_of}
-use Rattle.c_meaning.specs.State.{ObjectAddress}
-use Rattle.alike.specs.Alike.{memory_name, table_name, global_name, first_global}
-use Rattle.c_symbols.specs.Symbols.{table_imports, memory_imports, global_imports}
+use Rattle.c_unit.proofs.Common.{◌≡◌, ℕ, zero, suc, ◌+◌, ◌-◌, ◌<◌, ◌≤◌, Bool, true, false, List, [], ◌∷◌, ◌++◌, map, length, replicate, if◌then◌else◌, slice_get, Some, None, filter, Option, sym, refl, ap, ◌∙◌, inl, inr, arith, length-map, length-range_with_len, slice_get_past, slice_get_within, range_with_len, at_index, if_found, imported_globals, is_global_import, is_memory_import, is_table_import, Import, External, GlobalAddress, Instance, IsFunc, IsGlobal, IsMemory, IsTable, LinkedSet, NamedModule, as_global, as_memory, as_table, import_at, instances, meaning_of, ObjectAddress, first_global, global_name, memory_name, table_name, global_imports, memory_imports, table_imports, get_behind, get_front, get_numbered, get_unmapped}
 use Rattle.c_unit.proofs.Instances.{IsPlaced, earlier_is, spaces_at}
 use Rattle.c_unit.proofs.Small.{some_same, less_or_not, there_in}
-use Rattle.c_body.proofs.Lists.{get_behind, get_front, get_unmapped, get_numbered}
 
 -- the object that something stands for
 abbrev pub target_of : LinkedSet → External → Option ObjectAddress

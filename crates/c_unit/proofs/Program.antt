@@ -1,29 +1,7 @@
 -- The units of a linked set serve its modules' bodies, and a listed call begins a wrapper.
-use Rattle.std.proofs.Common.{◌≡◌, ℕ, suc, ◌*◌, ◌≤◌, List, map, length, Option, Some, option_map, is_some, slice_get, refl, sym, ap, ◌∙◌, subst, arith}
-use Rattle.std.specs.List.{Contains, position_from}
-use Rattle.std.proofs.lemmas.Option.{slice_get_within}
-use Rattle.w2c_base.specs.declared.signature.FuncType.{FuncType}
-use Rattle.w2c_base.specs.Values.{types_of}
-use Rattle.w2c_base.specs.Lookup.{if_found}
-use Rattle.w2c_mangle.specs.declared.symbol.SymbolKind.TheVariants.{Func}
-use Rattle.w2c_mangle.specs.Symbols.{export_symbol_of}
-use Rattle.wasm_tree.specs.declared.entries.Import.{Import}
-use Rattle.wasm_tree.specs.declared.entries.ImportKind.TheVariants.{Func as ImportFunc}
+use Rattle.c_unit.proofs.Common.{◌≡◌, ℕ, suc, ◌*◌, ◌≤◌, List, map, length, is_some, slice_get, Some, Contains, Option, option_map, sym, refl, ap, ◌∙◌, subst, arith, slice_get_within, position_from, if_found, types_of, FuncType, export_symbol_of, Func, Import, ImportFunc, Name, External, Instance, IsFunc, LinkedSet, NamedModule, as_func, exported, func_at, import_at, instances, meaning_of, defined, defined_for_all, definition_at, func_type, primitive, UnitFunc, helper_of, Helper, export_symbol, func_imports, get_front, get_mapped, ResolvesAs, callable_later, IsDefined, body_of, helpers_of, Defines, Reached, IsAcceptedSet, UnitsServe, program_of, symbol_call}
 use Rattle.wasm_meaning.specs.LinkedSet as link
-use Rattle.wasm_meaning.specs.LinkedSet.{LinkedSet, NamedModule, Instance, External, IsFunc, instances, exported, as_func, func_at, import_at, meaning_of}
 use Rattle.c_tree.specs.Tree as tree
-use Rattle.c_tree.specs.Scope.{Name}
-use Rattle.c_meaning.specs.State.{UnitFunc}
-use Rattle.c_meaning.specs.Linking.{defined, defined_for_all, definition_at, func_type}
-use Rattle.c_meaning.specs.Primitives.{primitive}
-use Rattle.c_prelude.specs.declared.operation.Helper.{Helper}
-use Rattle.c_prelude.specs.Helpers.{helper_of}
-use Rattle.c_symbols.specs.Symbols.{func_imports, export_symbol}
-use Rattle.c_body.specs.Agree.{IsDefined}
-use Rattle.c_body.specs.Body.{body_of}
-use Rattle.c_body.specs.Needs.{helpers_of}
-use Rattle.c_body.specs.Serves.{Defines, Reached}
-use Rattle.c_unit.specs.Sets.{IsAcceptedSet, UnitsServe, program_of, symbol_call}
 use Rattle.c_unit.proofs.Defined.{helper_defined, helper_typed, helper_is_no_primitive, func_is_no_primitive, export_is_no_primitive}
 use Rattle.c_unit.proofs.Instances.{IsPlaced, placed, earlier_is}
 use Rattle.c_unit.proofs.Linked.{ExportedBy, exported_by, accepted_at}
@@ -33,8 +11,6 @@ use Rattle.c_unit.proofs.Funcs.{ImportedFunc, imported_func, func_space_at, as_f
 use Rattle.c_unit.proofs.Stands.{ExportedFunc, ImportStands, exported_func, import_stands, func_stands, own_definition, stands_for}
 use Rattle.c_unit.proofs.Listed.{WrapsOnce, ListedCallsAreWrapped}
 use Rattle.c_unit.proofs.Small.{some_same}
-use Rattle.c_body.proofs.Lists.{get_mapped, get_front}
-use Rattle.c_body.proofs.Spaces.{ResolvesAs, callable_later}
 
 pub few_modules : (s : LinkedSet) → IsAcceptedSet s → (u : ℕ) (m : NamedModule) → slice_get s.modules u ≡ Some m → 3 * u ≤ 48
 few_modules s accepted u m is = omega (arith, slice_get_within s.modules u m is, accepted.linked.at_most_16)

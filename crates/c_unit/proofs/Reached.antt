@@ -1,26 +1,8 @@
 -- What instantiation rests on of the units' functions: the init function is defined, each function index is
 -- reached by its name, and each import of an object by its symbol.
-use Rattle.std.proofs.Common.{◌≡◌, ℕ, ◌+◌, ◌-◌, ◌*◌, ◌<◌, ◌≤◌, inl, inr, Bool, true, false, if◌then◌else◌, List, ◌++◌, map, flat_map, length, Option, Some, None, slice_get, refl, sym, ap, ◌∙◌, subst, arith}
-use Rattle.std.specs.List.{range_with_len}
-use Rattle.std.proofs.lemmas.Option.{slice_get_within}
-use Rattle.std.proofs.lemmas.List.{length-map, length-append}
-use Rattle.w2c_base.specs.Lookup.{if_found, at_index}
-use Rattle.w2c_mangle.specs.Symbols.{init_symbol_of}
-use Rattle.wasm_tree.specs.declared.entries.Import.{Import}
-use Rattle.wasm_tree.specs.declared.entries.ImportKind.TheVariants.{Func as ImportFunc}
-use Rattle.wasm_tree.specs.IndexSpaces.{func_of_import, func_space, imported_funcs}
-use Rattle.wasm_meaning.specs.LinkedSet.{LinkedSet, NamedModule, External, IsFunc, IsTable, IsMemory, IsGlobal, FuncAddress, ModuleFunc, as_func, meaning_of, func_at}
+use Rattle.c_unit.proofs.Common.{◌≡◌, ℕ, ◌+◌, ◌-◌, ◌*◌, ◌<◌, ◌≤◌, Bool, true, false, List, ◌++◌, map, length, if◌then◌else◌, slice_get, Some, None, Option, flat_map, sym, refl, ap, ◌∙◌, subst, inl, inr, arith, length-append, length-map, slice_get_within, range_with_len, get_within, at_index, if_found, init_symbol_of, func_of_import, func_space, imported_funcs, Import, ImportFunc, Name, External, IsFunc, IsGlobal, IsMemory, IsTable, LinkedSet, ModuleFunc, NamedModule, as_func, func_at, meaning_of, defined, func_named, primitive, ObjectAddress, func_name, func_imports, import_symbol, is_usable, get_behind, get_mapped, get_numbered, ResolvesAs, callee, function_name, init_func, items, IsAcceptedSet, program_of}
+use Rattle.wasm_meaning.specs.LinkedSet.{FuncAddress}
 use Rattle.c_tree.specs.Tree as tree
-use Rattle.c_tree.specs.Scope.{Name}
-use Rattle.c_meaning.specs.State.{ObjectAddress}
-use Rattle.c_meaning.specs.Linking.{defined, func_named}
-use Rattle.c_meaning.specs.Primitives.{primitive}
-use Rattle.alike.specs.Alike.{func_name}
-use Rattle.c_symbols.specs.Symbols.{func_imports, import_symbol, is_usable}
-use Rattle.c_body.specs.Objects.{callee, function_name}
-use Rattle.c_unit.specs.Init.{init_func}
-use Rattle.c_unit.specs.Items.{items}
-use Rattle.c_unit.specs.Sets.{IsAcceptedSet, program_of}
 use Rattle.c_unit.proofs.Defined.{init_defined, typed_outside}
 use Rattle.c_unit.proofs.Instances.{placed}
 use Rattle.c_unit.proofs.Linked.{accepted_at}
@@ -33,8 +15,6 @@ use Rattle.c_unit.proofs.Pointers.{target_of}
 use Rattle.c_unit.proofs.Accessors.{ImportGives, imports_give}
 use Rattle.c_unit.proofs.Known.{InitsAreDefined, FuncsAreReached, ImportsGivePointers}
 use Rattle.c_unit.proofs.Small.{less_or_not}
-use Rattle.c_body.proofs.Lists.{get_behind, get_numbered, get_within, get_mapped}
-use Rattle.c_body.proofs.Spaces.{ResolvesAs}
 
 pub inits_are_defined : InitsAreDefined
 inits_are_defined s accepted u m is =

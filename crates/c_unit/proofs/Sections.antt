@@ -1,61 +1,20 @@
 -- The sections of a module's unit: the classes of their names, and that no two of their items clash.
-use Rattle.std.proofs.Common.{◌≡◌, ℕ, suc, ◌+◌, ◌-◌, ◌<◌, ◌≤◌, ◌^◌, refl, sym, ap, ◌∙◌, subst, arith, true, false, Bool, List, [], ◌∷◌, ◌++◌, length, map, Option, Some, None, ◌≢◌}
-use Rattle.std.proofs.lemmas.List.{length-append, map-append}
-use Rattle.std.specs.Prelude.{slice_get, flat_map, bytes_eq}
-use Rattle.std.specs.List.{AllByRecursion}
-use Rattle.w2c_base.specs.declared.value.ValType.{ValType}
-use Rattle.w2c_base.specs.Lookup.{numbered}
-use Rattle.w2c_mangle.specs.declared.symbol.SymbolKind.{SymbolKind}
+use Rattle.c_unit.proofs.Common.{◌≡◌, ℕ, ◌+◌, ◌-◌, ◌^◌, ◌<◌, ◌≤◌, Bool, true, false, ◌≢◌, List, [], ◌∷◌, ◌++◌, map, length, slice_get, Some, None, Option, flat_map, bytes_eq, sym, refl, ap, ◌∙◌, subst, arith, length-append, map-append, AllByRecursion, all_append, all_map, numbered, ValType, export_symbol_of-parts, init_symbol_of-parts, export_symbol_of, init_symbol_of, SymbolKind, global_type_in, imported_funcs, imported_globals, is_func_import, is_global_import, memory_of_import, memory_space, table_of_import, table_space, Export, ExportKind, ExportFunc, ExportGlobal, ExportMemory, ExportTable, GlobalEntry, Import, ImportKind, ImportFunc, ImportGlobal, ImportMemory, ImportTable, LimitsEntry, SegmentEntry, LoadOp, StoreOp, Module, too_many, unknown_types, is_symbol, Name, name_of, CType, NamedModule, c_type_of, func_name, global_name, memory_name, table_name, helper_of, Helper, NumOp, Typed, declared_symbols, export_symbol, export_type, firsts, global_imports, global_kind, global_symbol, import_symbol, import_type, memory_imports, table_imports, class, class_lettered, class_pointer, filter_few, lettered, memory_count, table_count, body_of, pointer_name, helpers_of, callee, pointers_of, accessor, export_func, passes_on, usable_symbol, data_name, bodies, data_of, declaration, items, prototype, IsAccepted}
 use Rattle.w2c_mangle.specs.declared.symbol.SymbolKind.TheVariants as symbol
-use Rattle.w2c_mangle.specs.Symbols.{export_symbol_of, init_symbol_of}
-use Rattle.w2c_mangle.proofs.SymbolNames.{export_symbol_of-parts, init_symbol_of-parts}
-use Rattle.wasm_tree.specs.declared.tree.Module.{Module}
-use Rattle.wasm_tree.specs.declared.entries.Import.{Import}
-use Rattle.wasm_tree.specs.declared.entries.ImportKind.{ImportKind}
-use Rattle.wasm_tree.specs.declared.entries.ImportKind.TheVariants.{Func as ImportFunc, Table as ImportTable, Memory as ImportMemory, Global as ImportGlobal}
-use Rattle.wasm_tree.specs.declared.entries.Export.{Export}
-use Rattle.wasm_tree.specs.declared.entries.ExportKind.{ExportKind}
-use Rattle.wasm_tree.specs.declared.entries.ExportKind.TheVariants.{Func as ExportFunc, Table as ExportTable, Memory as ExportMemory, Global as ExportGlobal}
-use Rattle.wasm_tree.specs.declared.entries.GlobalEntry.{GlobalEntry}
-use Rattle.wasm_tree.specs.declared.entries.LimitsEntry.{LimitsEntry}
-use Rattle.wasm_tree.specs.declared.entries.SegmentEntry.{SegmentEntry}
-use Rattle.wasm_tree.specs.IndexSpaces.{table_space, memory_space, table_of_import, memory_of_import, global_type_in, imported_funcs, imported_globals, is_func_import, is_global_import}
-use Rattle.wasm_meaning.specs.LinkedSet.{NamedModule}
 use Rattle.wasm_valid.specs.declared.fault.ValidCause.TheVariants as cause
-use Rattle.wasm_valid.specs.ModuleFaults.{too_many, unknown_types, module_faults}
-use Rattle.c_tree.specs.declared.tree.CType.{CType}
+use Rattle.wasm_valid.specs.ModuleFaults.{module_faults}
 use Rattle.c_tree.specs.declared.tree.CType.TheVariants as type
 use Rattle.c_tree.specs.Tree as tree
-use Rattle.c_tree.specs.Scope.{Name, name_of}
-use Rattle.c_tree.specs.Rules.{is_symbol}
-use Rattle.c_meaning.specs.Linking.{c_type_of}
-use Rattle.c_prelude.specs.declared.operation.Helper.{Helper}
 use Rattle.c_prelude.specs.declared.operation.Helper.TheVariants as helper
-use Rattle.c_prelude.specs.declared.operation.NumOp.{NumOp}
 use Rattle.c_prelude.specs.declared.operation.NumOp.TheVariants as num
-use Rattle.wasm_tree.specs.declared.operators.LoadOp.{LoadOp}
 use Rattle.wasm_tree.specs.declared.operators.LoadOp.TheVariants as load
-use Rattle.wasm_tree.specs.declared.operators.StoreOp.{StoreOp}
 use Rattle.wasm_tree.specs.declared.operators.StoreOp.TheVariants as store
-use Rattle.c_prelude.specs.Helpers.{helper_of}
-use Rattle.alike.specs.Alike.{memory_name, table_name, func_name, global_name}
-use Rattle.c_body.specs.Names.{pointer_name}
-use Rattle.c_symbols.specs.Symbols.{Typed, import_symbol, import_type, global_kind, global_symbol, export_symbol, export_type, memory_imports, table_imports, global_imports, declared_symbols, firsts}
-use Rattle.c_body.specs.Objects.{callee, pointers_of}
-use Rattle.c_body.specs.Body.{body_of}
-use Rattle.c_body.specs.Needs.{helpers_of}
-use Rattle.c_body.proofs.RulesOfLabels.{lettered}
-use Rattle.c_body.proofs.Classes.{class, class_lettered, class_pointer}
-use Rattle.c_unit.specs.Init.{data_name}
-use Rattle.c_unit.specs.Exports.{export_func, accessor, passes_on, usable_symbol}
-use Rattle.c_unit.specs.Items.{data_of, declaration, prototype, bodies, items}
-use Rattle.c_unit.specs.Sets.{IsAccepted}
 use Rattle.c_unit.proofs.BodiesAt.{body_at}
 use Rattle.c_unit.proofs.Pairs.{AllPairs, all_zip, pairs_zip, all_flat, pairs_flat, all_range, pairs_joined, firsts_all}
-use Rattle.c_body.proofs.Lists.{all_append, filter_few, all_map}
 use Rattle.c_unit.proofs.Small.{no_left, no_right, few, all_images}
-use Rattle.c_body.proofs.Spaces.{memory_count, table_count}
 use Rattle.c_unit.proofs.AcceptedLimits.{accepted_limits}
+use Rattle.c_unit.proofs.Wholes.{map_twice}
+use Rattle.c_unit.proofs.Counts.{map_length}
 
 -- ---- classes
 
@@ -148,14 +107,6 @@ one_pairs R f [] le = tt
 one_pairs R f (x ∷ []) le = (tt, tt)
 one_pairs R f (x ∷ y ∷ xs) le = absurd (omega arith)
 
-pub length_map : {A B : Type 0} (f : A → B) (xs : List A) → length (map f xs) ≡ length xs
-length_map f [] = refl
-length_map f (x ∷ xs) = ap suc (length_map f xs)
-
-map-map : {A B C : Type 0} (g : B → C) (f : A → B) (xs : List A) → map g (map f xs) ≡ map (λ x. g (f x)) xs
-map-map g f [] = refl
-map-map g f (x ∷ xs) = ap (λ o. g (f x) ∷ o) (map-map g f xs)
-
 -- the function of an export has its symbol
 passes_name : (ty : tree.FuncType) (n : Name) (o : Option Name) → (passes_on ty n o).name ≡ n
 passes_name ty n o = by ty.result
@@ -233,13 +184,13 @@ module _ (m : NamedModule) (a : IsAccepted m) where
   pub tabs_pairs : AllPairs NotSame tabs
   tabs_pairs = one_pairs NotSame (λ (x : LimitsEntry). variable type.Tab table_name) t.tables
       (let l = few_tables t a.valid.no_faults in let n = length-append (flat_map table_of_import t.imports)
-      (map (λ (x : LimitsEntry). x.limits) t.tables) in let q = length_map (λ (x : LimitsEntry). x.limits) t.tables in
+      (map (λ (x : LimitsEntry). x.limits) t.tables) in let q = map_length (λ (x : LimitsEntry). x.limits) t.tables in
       omega (arith, l, n, q))
 
   pub mems_pairs : AllPairs NotSame mems
   mems_pairs = one_pairs NotSame (λ (x : LimitsEntry). variable type.Mem memory_name) t.memories
       (let l = few_memories t a.valid.no_faults in let n = length-append (flat_map memory_of_import t.imports)
-      (map (λ (x : LimitsEntry). x.limits) t.memories) in let q = length_map (λ (x : LimitsEntry). x.limits) t.memories in
+      (map (λ (x : LimitsEntry). x.limits) t.memories) in let q = map_length (λ (x : LimitsEntry). x.limits) t.memories in
       omega (arith, l, n, q))
 
   pub globals_pairs : AllPairs NotSame globals
@@ -267,11 +218,11 @@ module _ (m : NamedModule) (a : IsAccepted m) where
   pointers_are =
       map-append item (map (λ (i : Import). (type.PtrMem, pointer_name memory_name)) (memory_imports t)) _
       ∙ (ap (λ o. o ++ map item (map (λ (i : Import). (type.PtrTab, pointer_name table_name)) (table_imports t) ++ map global
-      (numbered (global_imports t)))) (map-map item (λ (i : Import). (type.PtrMem, pointer_name memory_name)) (memory_imports t))
+      (numbered (global_imports t)))) (map_twice item (λ (i : Import). (type.PtrMem, pointer_name memory_name)) (memory_imports t))
       ∙ ap (λ o. memory_pointers ++ o) (map-append item (map (λ (i : Import). (type.PtrTab, pointer_name table_name)) (table_imports t)) _
       ∙ (ap (λ o. o ++ map item (map global (numbered (global_imports t))))
-      (map-map item (λ (i : Import). (type.PtrTab, pointer_name table_name)) (table_imports t))
-      ∙ ap (λ o. table_pointers ++ o) (map-map item global (numbered (global_imports t))))))
+      (map_twice item (λ (i : Import). (type.PtrTab, pointer_name table_name)) (table_imports t))
+      ∙ ap (λ o. table_pointers ++ o) (map_twice item global (numbered (global_imports t))))))
     where
       item : CType × Name → tree.Item
       item p = variable p.0 p.1

@@ -1,18 +1,9 @@
 -- Names that are put each once, where they come first.
-use Rattle.std.proofs.Common.{◌≡◌, ℕ, ◌+◌, ◌<◌, ◌≤◌, Bool, true, false, ◌||◌, ◌&&◌, not, if◌then◌else◌, List, [], ◌∷◌, ◌++◌, append_assoc, append-nil, length, get_or, drop, map, bytes_eq, is_some, Option, Some, None, refl, sym, ap, arith, ◌∙◌}
-use Rattle.std.specs.Option.{option_or}
+use Rattle.c_unit.proofs.Common.{◌≡◌, ℕ, ◌+◌, ◌<◌, ◌≤◌, Bool, true, false, not, ◌&&◌, ◌||◌, List, [], ◌∷◌, ◌++◌, map, length, get_or, drop, is_some, if◌then◌else◌, Some, None, bytes_eq, sym, refl, ap, ◌∙◌, append_assoc, append-nil, arith, drop_all, map_push, option_or, named, Import, at_front, Name, is_among, NamedModule, pair_of, Typed, declared_symbols, firsts, import_symbol, Symbol}
 use Rattle.std.proofs.Math.Bool.{or-false}
-use Rattle.std.proofs.lemmas.List.{drop_all, map_push}
-use Rattle.w2c_base.specs.Lookup.{named}
-use Rattle.wasm_tree.specs.declared.entries.Import.{Import}
-use Rattle.wasm_meaning.specs.LinkedSet.{NamedModule}
-use Rattle.c_tree.specs.Scope.{Name, is_among}
-use Rattle.c_tree.proofs.Tested.{at_front}
 use Rattle.name_table.proofs.NameTables.{either_way}
 use Rattle.c_unit.specs.Seen.{PutsFirst, SeesMore, typed}
-use Rattle.c_symbols.specs.declared.indexes.Symbol.{Symbol}
-use Rattle.c_symbols.specs.Named.{pair_of}
-use Rattle.c_symbols.specs.Symbols.{Typed, import_symbol, declared_symbols, firsts}
+use Rattle.w2c_base.proofs.Options.{some_or_if}
 
 -- the table has the names so far, and what was put and what is left are all
 abbrev pub Declares : {A : Type 0} → NamedModule → List (Name × A) → List Typed → List Import → List Name → Type 0
@@ -31,14 +22,9 @@ pub entered : {A : Type 0} (after before : List (Name × A)) (name : Name) (of :
     → SeesMore after before seen name
 entered {A} after before name of seen new grown q =
     ap is_some (grown q)
-    ∙ (at (named q before) (bytes_eq name q)
+    ∙ (some_or_if of (named q before) (bytes_eq name q)
     ∙ (ap (λ b. is_some (named q before) || b) (either_way name q)
     ∙ ap (λ b. is_some (named q before) || (not b && bytes_eq q name)) (sym new)))
-  where
-    at : (o : Option A) (b : Bool) → is_some (option_or o (if b then Some of else None)) ≡ (is_some o || b)
-    at None true = refl
-    at None false = refl
-    at (Some a) b = refl
 
 pub not_entered : {A : Type 0} (table : List (Name × A)) (name : Name) (seen : Bool) → seen ≡ true → SeesMore table table seen name
 not_entered table name seen was q =

@@ -1,29 +1,7 @@
 -- What the functions of a module's unit stand for: those of bodies by their index, of exports and init by their symbol.
-use Rattle.std.proofs.Common.{◌≡◌, ◌≢◌, ℕ, zero, suc, ◌-◌, ◌<◌, refl, sym, ap, ◌∙◌, subst, arith, true, false, List, [], ◌∷◌, length, map, Some, None}
-use Rattle.std.specs.Prelude.{slice_get, flat_map, bytes_eq}
-use Rattle.std.specs.List.{AllByRecursion}
-use Rattle.w2c_base.specs.declared.value.ValType.{ValType}
-use Rattle.w2c_base.specs.Lookup.{if_found}
-use Rattle.w2c_mangle.specs.Symbols.{init_symbol_of}
-use Rattle.wasm_tree.specs.declared.tree.Module.{Module}
-use Rattle.wasm_tree.specs.declared.entries.Export.{Export}
-use Rattle.wasm_tree.specs.declared.entries.FuncEntry.{FuncEntry}
-use Rattle.wasm_tree.specs.IndexSpaces.{type_in, func_type_in, func_of_import, imported_funcs}
-use Rattle.wasm_meaning.specs.LinkedSet.{NamedModule}
+use Rattle.c_unit.proofs.Common.{◌≡◌, ℕ, zero, suc, ◌-◌, ◌<◌, true, false, ◌≢◌, List, [], ◌∷◌, map, length, slice_get, Some, None, flat_map, bytes_eq, sym, refl, ap, ◌∙◌, subst, arith, AllByRecursion, all_at, all_from, if_found, ValType, init_symbol_of, func_of_import, func_type_in, imported_funcs, type_in, Export, FuncEntry, Module, context_of, Name, func_type_of, NamedModule, bytes_equal, Definition, c_params_of, c_result_of, defined, defined_for_all, func_name, c_func_type_if, export_symbol, export_type, get_mapped, body_locals, func_count, IsDefined, body_of, func_of, params_of, stmts_of, export_func, init_func, items, IsAccepted, DefinesExternal, GivesExport}
 use Rattle.c_tree.specs.declared.tree.CType.TheVariants as type
 use Rattle.c_tree.specs.Tree as tree
-use Rattle.c_tree.specs.Scope.{Name, func_type_of}
-use Rattle.c_meaning.specs.Linking.{Definition, defined, defined_for_all, c_params_of, c_result_of}
-use Rattle.c_meaning.proofs.Lookups.{bytes_equal}
-use Rattle.alike.specs.Alike.{func_name}
-use Rattle.c_symbols.specs.Symbols.{c_func_type_if, export_symbol, export_type}
-use Rattle.c_body.specs.Agree.{IsDefined}
-use Rattle.c_body.specs.Body.{params_of, func_of, body_of, stmts_of}
-use Rattle.c_unit.specs.Exports.{export_func}
-use Rattle.c_unit.specs.Init.{init_func}
-use Rattle.c_unit.specs.Items.{items}
-use Rattle.c_unit.specs.Sets.{IsAccepted}
-use Rattle.c_unit.specs.Shape.{DefinesExternal, GivesExport}
 use Rattle.c_unit.proofs.BodiesAt.{BodyAt}
 use Rattle.c_unit.proofs.Defined.{FirstExport, head, symbol_is, export_external, export_defined, init_defined, body_defined}
 use Rattle.c_unit.proofs.ExportFacts.{symbols_differ}
@@ -34,10 +12,6 @@ use Rattle.c_unit.proofs.KnownFuncs.{prototype_types}
 use Rattle.c_unit.proofs.Pairs.{AllPairs}
 use Rattle.c_unit.proofs.Sections.{few_funcs}
 use Rattle.c_unit.proofs.UnitNames.{body_here}
-use Rattle.c_body.proofs.Spaces.{func_count}
-use Rattle.c_body.proofs.OwnNames.{body_locals}
-use Rattle.wasm_valid.specs.Context.{context_of}
-use Rattle.c_body.proofs.Lists.{get_mapped, all_at}
 
 without_names : (params : List tree.Param) → map (λ (p : tree.Param). p.0) (map (λ (p : tree.Param). (p.0, None)) params) ≡ map
     (λ (p : tree.Param). p.0) params
@@ -48,10 +22,6 @@ param_types : (types : List ValType) → map (λ (p : tree.Param). p.0) (params_
 param_types types = sym (without_names (params_of types)) ∙ prototype_types types
 
 -- ---- by places
-
-all_indexed : {A : Type 0} (P : A → Type 0) (xs : List A) → ((i : ℕ) (x : A) → slice_get xs i ≡ Some x → P x) → AllByRecursion P xs
-all_indexed P [] h = tt
-all_indexed P (x ∷ xs) h = (h 0 x refl, all_indexed P xs (λ i y e. h (suc i) y e))
 
 pair_at_places : {A : Type 0} (R : A → A → Type 0) (xs : List A) (i j : ℕ) (x y : A) → AllPairs R xs → i < j → slice_get xs i ≡ Some x
     → slice_get xs j ≡ Some y → R x y
@@ -124,7 +94,7 @@ module _ (m : NamedModule) (a : IsAccepted m) where
   IsGiven e = (d : Definition) × (defined_for_all (items m) (export_symbol m e) ≡ Some d) × GivesExport m e d.func
 
   pub accessors_stand : AllByRecursion IsGiven t.exports
-  accessors_stand = all_indexed IsGiven t.exports one
+  accessors_stand = all_from IsGiven t.exports one
     where
       one : (i : ℕ) (e : Export) → slice_get t.exports i ≡ Some e → IsGiven e
       one i e at =
@@ -132,7 +102,7 @@ module _ (m : NamedModule) (a : IsAccepted m) where
           (found.0, found.1, subst (GivesExport m e) (sym found.2) (gives_export m e))
 
   pub exports_stand : AllByRecursion (λ e. DefinesExternal (items m) (export_symbol m e) (export_type t e)) t.exports
-  exports_stand = all_indexed (λ e. DefinesExternal (items m) (export_symbol m e) (export_type t e)) t.exports one
+  exports_stand = all_from (λ e. DefinesExternal (items m) (export_symbol m e) (export_type t e)) t.exports one
     where
       one : (i : ℕ) (e : Export) → slice_get t.exports i ≡ Some e → DefinesExternal (items m) (export_symbol m e) (export_type t e)
       one i e at =

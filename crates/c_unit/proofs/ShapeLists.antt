@@ -1,54 +1,18 @@
 -- What a module's unit shows to other units, and its objects, as lists.
-use Rattle.std.proofs.Common.{◌≡◌, ◌⊎◌, inl, inr, ℕ, ◌+◌, ◌||◌, refl, sym, ap, ◌∙◌, subst, if◌then◌else◌, true, false, Bool, List, [], ◌∷◌, ◌++◌, length, map, Option, Some, None}
-use Rattle.std.proofs.lemmas.List.Elements.{filter_map-append, All-from_recursion, All-contains, Contains-append_left, Contains-append_right, Contains-append_cases}
+use Rattle.c_unit.proofs.Common.{◌≡◌, ℕ, ◌+◌, Bool, true, false, ◌||◌, ◌⊎◌, ◌↔◌, List, [], ◌∷◌, ◌++◌, map, length, is_some, if◌then◌else◌, Some, None, Contains, filter, Option, filter_map, bytes_eq, sym, refl, ap, ◌∙◌, subst, inl, inr, Contains-append_cases, Contains-append_left, Contains-append_right, filter_map-append, bytes_eq-Decides, AllByRecursion, range_with_len, all_append, all_flat, all_map, of_contained, named, numbered, ValType, init_symbol_of, imported_funcs, imported_globals, is_global_import, Export, GlobalEntry, Import, ImportKind, ImportFunc, ImportGlobal, ImportMemory, ImportTable, LimitsEntry, SegmentEntry, Module, Name, func_type_of, is_among, CType, NamedModule, bytes_equal, c_type_of, external_functions, global_name, memory_name, table_name, made_static, helper_of, Typed, accessor_type, declared_symbols, export_symbol, export_type, exported_symbols, firsts, global_imports, import_symbol, import_type, imported_symbols, memory_imports, symbol_type, table_imports, all_of, all_weaker, name_differs, body_of, pointer_name, helpers_of, pointers_of, export_func, data_name, init_func, bodies, data_of, declaration, items, objects_of, prototype, IsAccepted, HaveSame, declared_names, defined_names, module_objects, own_symbols, unit_objects}
 use Rattle.std.proofs.lemmas.Map.Views.{Contains-from_any}
-use Rattle.std.proofs.lemmas.Slice.Eq.{bytes_eq-Decides}
-use Rattle.std.specs.Prelude.{◌↔◌, filter, filter_map, bytes_eq, is_some}
-use Rattle.std.specs.List.{AllByRecursion, Contains, range_with_len}
-use Rattle.w2c_base.specs.declared.value.ValType.{ValType}
 use Rattle.w2c_base.specs.declared.value.ValType.TheVariants.{I32, I64}
-use Rattle.w2c_base.specs.Lookup.{numbered, named}
-use Rattle.w2c_mangle.specs.Symbols.{init_symbol_of}
-use Rattle.wasm_tree.specs.declared.tree.Module.{Module}
-use Rattle.wasm_tree.specs.declared.entries.Import.{Import}
-use Rattle.wasm_tree.specs.declared.entries.ImportKind.{ImportKind}
-use Rattle.wasm_tree.specs.declared.entries.ImportKind.TheVariants.{Func as ImportFunc, Table as ImportTable, Memory as ImportMemory, Global as ImportGlobal}
-use Rattle.wasm_tree.specs.declared.entries.Export.{Export}
-use Rattle.wasm_tree.specs.declared.entries.LimitsEntry.{LimitsEntry}
-use Rattle.wasm_tree.specs.declared.entries.GlobalEntry.{GlobalEntry}
-use Rattle.wasm_tree.specs.declared.entries.SegmentEntry.{SegmentEntry}
-use Rattle.wasm_tree.specs.IndexSpaces.{imported_funcs, imported_globals, is_global_import}
-use Rattle.wasm_meaning.specs.LinkedSet.{NamedModule}
-use Rattle.c_tree.specs.declared.tree.CType.{CType}
 use Rattle.c_tree.specs.declared.tree.CType.TheVariants as type
 use Rattle.c_tree.specs.Tree as tree
-use Rattle.c_tree.specs.Scope.{Name, is_among, func_type_of}
-use Rattle.c_meaning.specs.Linking.{external_functions, c_type_of}
-use Rattle.c_meaning.proofs.Lookups.{bytes_equal}
-use Rattle.c_prelude.specs.Helpers.{helper_of}
-use Rattle.c_prelude.proofs.Functions.{made_static}
-use Rattle.alike.specs.Alike.{memory_name, table_name, global_name}
-use Rattle.c_body.specs.Names.{pointer_name}
-use Rattle.c_symbols.specs.Symbols.{Typed, accessor_type, import_symbol, import_type, symbol_type, exported_symbols, imported_symbols, export_symbol, export_type, memory_imports, table_imports, global_imports, declared_symbols, firsts}
-use Rattle.c_body.specs.Objects.{pointers_of}
-use Rattle.c_body.specs.Body.{body_of}
-use Rattle.c_body.specs.Needs.{helpers_of}
-use Rattle.c_body.proofs.RulesOfFunctions.{name_differs}
-use Rattle.c_unit.specs.Init.{data_name, init_func}
-use Rattle.c_unit.specs.Exports.{export_func}
-use Rattle.c_unit.specs.Items.{objects_of, data_of, declaration, prototype, bodies, items}
-use Rattle.c_unit.specs.Sets.{IsAccepted}
-use Rattle.c_unit.specs.Shape.{own_symbols, defined_names, declared_names, unit_objects, module_objects, HaveSame}
 use Rattle.c_unit.proofs.Defined.{body_is, export_external}
 use Rattle.c_unit.proofs.ExportFacts.{symbol_types}
 use Rattle.c_unit.proofs.ExportsKeep.{export_shape}
 use Rattle.c_unit.proofs.InitSection.{imports_apart}
-use Rattle.c_unit.proofs.InitSegments.{data_item, flat_all}
+use Rattle.c_unit.proofs.InitSegments.{data_item}
 use Rattle.c_unit.proofs.KnownFuncs.{firsts_have, params_back}
 use Rattle.c_unit.proofs.Pairs.{firsts_all}
 use Rattle.c_unit.proofs.PlainItems.{all_zip_of}
 use Rattle.c_unit.proofs.Sections.{pointers_are}
-use Rattle.c_body.proofs.Lists.{all_map, all_append, all_weaker, all_of}
 use Rattle.c_unit.proofs.Small.{all_pass, all_images}
 use Rattle.c_unit.proofs.InitPasses.{self_among}
 use Rattle.c_unit.proofs.AcceptedLimits.{accepted_limits}
@@ -66,18 +30,15 @@ swapped xs ys x h = by (Contains-append_cases xs ys x h)
     by (inl p) = Contains-append_right ys xs x p
     by (inr p) = Contains-append_left ys xs x p
 
-contains_all : {A : Type 0} (P : A → Type 0) (xs : List A) (x : A) → AllByRecursion P xs → Contains xs x → P x
-contains_all P xs x h c = All-contains P xs x (All-from_recursion P xs h) c
-
 among_contained : (q : Name) (names : List Name) → is_among q names ≡ true → Contains names q
 among_contained q names e = Contains-from_any {eq = bytes_eq} (λ x y f. (bytes_eq-Decides x y).0 f) q names e
 
 contained_among : (q : Name) (names : List Name) → Contains names q → is_among q names ≡ true
-contained_among q names c = contains_all (λ n. is_among n names ≡ true) names q (self_among names) c
+contained_among q names c = of_contained (λ n. is_among n names ≡ true) names q (self_among names) c
 
 firsts_contained : (q : Name) (names : List Name) → Contains (firsts [] names) q → Contains names q
 firsts_contained q names c = among_contained q names
-    (contains_all (λ n. is_among n names ≡ true) (firsts [] names) q
+    (of_contained (λ n. is_among n names ≡ true) (firsts [] names) q
     (firsts_all (λ n. is_among n names ≡ true) [] names (self_among names)) c)
 
 contained_firsts : (q : Name) (names : List Name) → Contains names q → Contains (firsts [] names) q
@@ -169,7 +130,7 @@ module _ (m : NamedModule) (a : IsAccepted m) where
 
   data_none : {B : Type 0} (f : tree.Item → Option B) → ((n : Name) (count : ℕ) (bytes : List ℕ) → f (tree.Array n count bytes) ≡ None)
       → filter_map f (data_of t) ≡ []
-  data_none f h = none_kept f (data_of t) (flat_all (λ o. f o ≡ None) data_item (numbered t.segments)
+  data_none f h = none_kept f (data_of t) (all_flat (λ o. f o ≡ None) data_item (numbered t.segments)
       (all_of (λ d. AllByRecursion (λ o. f o ≡ None) (data_item d)) (numbered t.segments) (λ d. one d)))
     where
       one : (d : ℕ × SegmentEntry) → AllByRecursion (λ o. f o ≡ None) (data_item d)
@@ -344,7 +305,7 @@ module _ (m : NamedModule) (a : IsAccepted m) where
 
   pub types_declared : (f : tree.Func) → Contains (external_functions (items m)) f → is_among f.name import_symbols ≡ true
       → symbol_type m f.name ≡ Some (func_type_of f)
-  types_declared f c = contains_all IsTypedAs seen f seen_typed (subst (λ fs. Contains fs f) seen_is c)
+  types_declared f c = of_contained IsTypedAs seen f seen_typed (subst (λ fs. Contains fs f) seen_is c)
 
   -- ---- objects
 

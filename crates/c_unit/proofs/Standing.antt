@@ -1,75 +1,9 @@
 -- What stands at a place of a unit's items, kind by kind.
-use Rattle.std.proofs.Common.{
-  ◌≡◌,
-  ℕ,
-  zero,
-  suc,
-  ◌+◌,
-  ◌-◌,
-  ◌<◌,
-  ◌≤◌,
-  List,
-  ◌∷◌,
-  ◌++◌,
-  length,
-  get_or,
-  map,
-  drop,
-  Option,
-  Some,
-  None,
-  refl,
-  sym,
-  ap,
-  ◌∙◌,
-  arith,
-}
-use Rattle.std.specs.Prelude.{slice_get, option_map}
-use Rattle.std.specs.List.{range_with_len}
-use Rattle.std.specs.Borrow.{Bor}
-use Rattle.std.proofs.lemmas.Option.{slice_get-map, slice_get_past, slice_get_read}
-use Rattle.wasm_tree.specs.declared.entries.GlobalEntry.{GlobalEntry}
-use Rattle.wasm_tree.specs.declared.entries.SegmentEntry.{SegmentEntry}
-use Rattle.wasm_tree.specs.declared.entries.Export.{Export}
-use Rattle.wasm_tree.specs.declared.entries.LimitsEntry.{LimitsEntry}
-use Rattle.wasm_tree.specs.declared.entries.Import.{Import}
-use Rattle.wasm_tree.specs.IndexSpaces.{imported_funcs}
-use Rattle.wasm_meaning.specs.LinkedSet.{NamedModule}
-use Rattle.alike.specs.Alike.{memory_name, table_name, global_name}
-use Rattle.c_tree.specs.declared.tree.CType.{CType}
+use Rattle.c_unit.proofs.Common.{◌≡◌, ℕ, zero, suc, ◌+◌, ◌-◌, ◌<◌, ◌≤◌, List, ◌∷◌, ◌++◌, map, length, get_or, drop, slice_get, Some, None, Option, option_map, sym, refl, ap, ◌∙◌, arith, Bor, slice_get-map, slice_get_past, slice_get_read, range_with_len, imported_funcs, Export, GlobalEntry, Import, LimitsEntry, SegmentEntry, Name, CType, NamedModule, global_name, memory_name, table_name, helper_of, Helper, pair_of, declared_symbols, global_imports, memory_imports, table_imports, Symbol, body_of, pointer_name, helpers_of, byte_segments, bytes_of, export_func, init_func, bodies, declaration, global_item, prototype, variable, pointed, from_bodies, from_data, from_declared, from_exports, from_global_pointers, from_globals, from_helpers, from_init, from_memories, from_pointers, from_prototypes, from_table_pointers, from_tables, global_pointer}
 use Rattle.c_tree.specs.declared.tree.CType.TheVariants as c_type
 use Rattle.c_tree.specs.Tree as tree
-use Rattle.c_tree.specs.Scope.{Name}
-use Rattle.c_prelude.specs.declared.operation.Helper.{Helper}
-use Rattle.c_prelude.specs.Helpers.{helper_of}
-use Rattle.c_body.specs.Names.{pointer_name}
 use Rattle.c_symbols.specs.Reached.{usable_symbol}
-use Rattle.c_symbols.specs.Symbols.{table_imports, memory_imports, global_imports, declared_symbols}
-use Rattle.c_body.specs.Needs.{helpers_of}
-use Rattle.c_body.specs.Body.{body_of}
-use Rattle.c_symbols.specs.declared.indexes.Symbol.{Symbol}
-use Rattle.c_symbols.specs.Named.{pair_of}
-use Rattle.c_unit.specs.Pointers.{pointed}
-use Rattle.c_unit.specs.Arrays.{array_of, bytes_of, byte_segments}
-use Rattle.c_unit.specs.Exports.{export_func}
-use Rattle.c_unit.specs.Init.{init_func}
-use Rattle.c_unit.specs.Items.{variable, global_item, declaration, prototype, bodies}
-use Rattle.c_unit.specs.Tails.{
-  global_pointer,
-  from_tables,
-  from_memories,
-  from_globals,
-  from_pointers,
-  from_table_pointers,
-  from_global_pointers,
-  from_data,
-  from_declared,
-  from_prototypes,
-  from_helpers,
-  from_bodies,
-  from_exports,
-  from_init,
-}
+use Rattle.c_unit.specs.Arrays.{array_of}
 use Rattle.c_unit.proofs.Counts.{map_length}
 use Rattle.c_unit.proofs.Parted.{found, passed, found_numbered, passed_numbered, at_place}
 use Rattle.c_unit.proofs.Listings.{seen_found, seen_passed, listed_found, listed_passed, same_found, drawn_passed}

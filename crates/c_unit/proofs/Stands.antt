@@ -1,44 +1,12 @@
 -- Each function index of a module is reached by a name in its unit: a defined function by its own name, an
 -- imported one by its symbol, which is that of a wrapper in an earlier unit, or of a host's function.
-use Rattle.std.proofs.Common.{◌≡◌, ℕ, zero, suc, ◌+◌, ◌*◌, ◌<◌, ◌≤◌, ◌^◌, inl, inr, Bool, true, if◌then◌else◌, List, [], ◌∷◌, ◌++◌, map, flat_map, take, length, find, bytes_eq, Option, Some, None, option_map, slice_get, append_assoc, refl, sym, ap, ◌∙◌, subst, arith}
-use Rattle.std.specs.Option.{option_or}
-use Rattle.std.proofs.lemmas.Option.{slice_get_within}
-use Rattle.w2c_base.specs.declared.value.ValType.{ValType}
-use Rattle.w2c_base.specs.declared.value.Value.{Value}
-use Rattle.w2c_base.specs.declared.signature.FuncType.{FuncType}
-use Rattle.w2c_base.specs.Values.{types_of}
-use Rattle.w2c_base.specs.Lookup.{if_found, named, at_index}
-use Rattle.w2c_base.specs.Run.{Host, HostFunction}
+use Rattle.c_unit.proofs.Common.{◌≡◌, ℕ, zero, suc, ◌+◌, ◌*◌, ◌^◌, ◌<◌, ◌≤◌, Bool, true, List, [], ◌∷◌, ◌++◌, map, length, take, if◌then◌else◌, slice_get, Some, None, Option, option_map, find, flat_map, bytes_eq, sym, refl, ap, ◌∙◌, subst, inl, inr, append_assoc, arith, slice_get_within, option_or, at_index, if_found, named, Host, HostFunction, types_of, FuncType, ValType, Value, export_symbol_of, func_of_import, func_space, func_type_in, global_type_in, imported_funcs, is_func_import, type_in, Export, ExportKind, ExportFunc, ExportGlobal, ExportMemory, ExportTable, Import, ImportFunc, Module, Name, func_type_of, CType, External, IndexSpaces, Instance, IsFunc, LinkedSet, NamedModule, export_of, exported, func_at, import_at, instances, join, stays, Definition, Program, c_params_of, c_result_of, c_type_of, defined, definition_at, external_func, func_named, func_type, primitive, Reaches, Pending, Frame, FuncAddress, HostFunc, Machine, UnitFunc, FunctionsAlike, func_name, global_name, memory_name, table_name, accessor_type, c_func_type, c_func_type_if, export_symbol, export_type, global_accessor_type, global_imports, global_symbol, import_symbol, is_usable, memory_imports, table_imports, filter_few, get_front, ResolvesAs, callable_later, IsCallable, IsDefined, body_of, func_of, params_of, HasLimits, callee, PassesOn, StandsFor, called, core, given, accessor, export_func, passes_on, IsAccepted, IsAcceptedSet, program_of}
 use Rattle.w2c_mangle.specs.declared.symbol.SymbolKind.TheVariants as symbol
-use Rattle.w2c_mangle.specs.Symbols.{export_symbol_of}
-use Rattle.wasm_tree.specs.declared.tree.Module.{Module}
-use Rattle.wasm_tree.specs.declared.entries.Import.{Import}
-use Rattle.wasm_tree.specs.declared.entries.Export.{Export}
-use Rattle.wasm_tree.specs.declared.entries.ImportKind.TheVariants.{Func as ImportFunc}
-use Rattle.wasm_tree.specs.declared.entries.ExportKind.{ExportKind}
-use Rattle.wasm_tree.specs.declared.entries.ExportKind.TheVariants.{Func as ExportFunc, Table as ExportTable, Memory as ExportMemory, Global as ExportGlobal}
-use Rattle.wasm_tree.specs.IndexSpaces.{func_of_import, func_space, type_in, func_type_in, global_type_in, imported_funcs, is_func_import}
 use Rattle.wasm_meaning.specs.LinkedSet as link
-use Rattle.wasm_meaning.specs.LinkedSet.{LinkedSet, NamedModule, Instance, External, IndexSpaces, IsFunc, instances, exported, export_of, func_at, import_at}
-use Rattle.c_tree.specs.declared.tree.CType.{CType}
 use Rattle.c_tree.specs.declared.tree.CType.TheVariants as c_type
 use Rattle.c_tree.specs.Tree as tree
-use Rattle.c_tree.specs.Scope.{Name, func_type_of}
-use Rattle.c_meaning.specs.State.{FuncAddress, UnitFunc, HostFunc, Machine, Frame}
-use Rattle.c_meaning.specs.Linking.{Program, Definition, definition_at, defined, external_func, func_named, func_type, c_func_type_of, c_type_of, c_params_of, c_result_of}
-use Rattle.c_meaning.specs.Primitives.{primitive}
-use Rattle.c_meaning.specs.Run.{Pending}
-use Rattle.c_meaning.specs.Reaches.{Reaches}
-use Rattle.c_meaning.proofs.Ways.{stays, join}
-use Rattle.alike.specs.Alike.{FunctionsAlike, func_name, memory_name, table_name, global_name}
-use Rattle.c_symbols.specs.Symbols.{c_func_type, c_func_type_if, accessor_type, global_symbol, global_accessor_type, table_imports, memory_imports, global_imports, import_symbol, is_usable, export_symbol, export_type}
-use Rattle.c_body.specs.Objects.{callee}
-use Rattle.c_body.specs.Agree.{IsDefined, IsCallable}
-use Rattle.c_body.specs.Limits.{HasLimits}
-use Rattle.c_body.specs.Passing.{PassesOn, StandsFor, called, given, core}
-use Rattle.c_body.specs.Body.{params_of, params_from, func_of, body_of}
-use Rattle.c_unit.specs.Exports.{export_func, passes_on, accessor}
-use Rattle.c_unit.specs.Sets.{IsAccepted, IsAcceptedSet, program_of}
+use Rattle.c_meaning.specs.Linking.{c_func_type_of}
+use Rattle.c_body.specs.Body.{params_from}
 use Rattle.c_unit.proofs.Found.{find_join}
 use Rattle.c_unit.proofs.Defined.{IsDefinition, IsExternal, export_external, body_with, body_defined, func_typed, func_is_no_primitive, export_is_no_primitive}
 use Rattle.c_unit.proofs.Instances.{IsPlaced, spaces_at, placed, earlier_is}
@@ -50,9 +18,7 @@ use Rattle.c_unit.proofs.Funcs.{ImportedFunc, IsImport, IsOwn, OwnFunc, imported
 use Rattle.c_unit.proofs.Listed.{WrapsOnce}
 use Rattle.c_unit.proofs.Wrapper.{wraps, wrapper_type}
 use Rattle.c_unit.proofs.Small.{some_same}
-use Rattle.c_body.proofs.Lists.{get_front, filter_few}
 use Rattle.c_unit.proofs.BodiesAt.{few_params}
-use Rattle.c_body.proofs.Spaces.{ResolvesAs, callable_later}
 use Rattle.c_unit.proofs.AcceptedLimits.{accepted_limits}
 
 -- the same as `StandsFor`, with so many statements at most

@@ -1,20 +1,9 @@
 -- A unit that is untouched still declares what its module needs: the names are there, with their types, and nothing
 -- is made.
-use Rattle.std.proofs.Common.{◌≡◌, ℕ, zero, suc, ◌+◌, Bool, true, false, if◌then◌else◌, List, [], ◌∷◌, map, bytes_eq, is_some, Option, Some, None, slice_get, refl, sym, ap, ◌∙◌, subst, arith}
-use Rattle.w2c_base.specs.Lookup.{named}
-use Rattle.w2c_base.specs.Run.{Trail}
-use Rattle.wasm_tree.specs.IndexSpaces.{imported_globals}
-use Rattle.wasm_meaning.specs.LinkedSet.{LinkedSet, NamedModule}
+use Rattle.c_unit.proofs.Common.{◌≡◌, ℕ, zero, suc, ◌+◌, Bool, true, false, List, [], ◌∷◌, map, is_some, if◌then◌else◌, slice_get, Some, None, Option, bytes_eq, sym, refl, ap, ◌∙◌, subst, arith, named, Trail, imported_globals, LinkedSet, NamedModule, Program, global_name, memory_name, table_name, MemoriesAgree, ObjectsAgree, StoresAgree, TablesAgree, Together, pointer_name, IsUntouched, items}
 use Rattle.wasm_meaning.specs.Store as store
 use Rattle.c_meaning.specs.State as state
-use Rattle.c_meaning.specs.Linking.{Program}
 use Rattle.c_meaning.specs.Machine as machine
-use Rattle.alike.specs.Alike.{memory_name, table_name, global_name}
-use Rattle.c_body.specs.Names.{pointer_name}
-use Rattle.c_body.specs.Agree.{StoresAgree, ObjectsAgree, MemoriesAgree, TablesAgree}
-use Rattle.c_body.specs.Follows.{Together}
-use Rattle.c_unit.specs.Items.{items}
-use Rattle.c_unit.specs.Instantiation.{IsUntouched}
 use Rattle.c_unit.proofs.Held.{held, named_zeroed}
 use Rattle.c_unit.proofs.TakeTasks.{IsDeclared}
 

@@ -1,39 +1,15 @@
 -- What an init function rests on once its module has made its objects: whose tables, memories and globals the
 -- indexes stand for, which functions names reach, and what validity says of segments.
-use Rattle.std.proofs.Common.{◌≡◌, ℕ, suc, ◌+◌, ◌^◌, ◌<◌, ◌≤◌, true, false, List, [], ◌∷◌, ◌++◌, length, Option, Some, None, IsSome, slice_get, refl, ap, arith}
-use Rattle.std.specs.List.{AllByRecursion}
-use Rattle.w2c_base.specs.declared.value.ValType.{ValType}
+use Rattle.c_unit.proofs.Common.{◌≡◌, ℕ, suc, ◌+◌, ◌^◌, ◌<◌, ◌≤◌, true, false, List, [], ◌∷◌, ◌++◌, length, IsSome, slice_get, Some, None, Option, refl, ap, arith, AllByRecursion, Trail, FuncType, SegmentOut, ValType, func_space, func_type_in, global_space, imported_global_space, imported_globals, memory_space, table_space, Code, ElementEntry, GlobalEntry, LimitsEntry, SegmentEntry, Start, Module, IsMaximum, shape_of, LinkedSet, NamedModule, func_at, Program, array_named, func_named, primitive, module_is, memory_object, memory_seen, table_object, table_seen, ElementsAgree, IsCallable, MemoryAgrees, PointersAreSet, TableAgrees, Together, callee, function_name, memory_arg, table_arg, StandsFor, bounds_label, data_name, max_number, tests_bounds}
 use Rattle.w2c_base.specs.declared.value.ValType.TheVariants as type
-use Rattle.w2c_base.specs.declared.signature.FuncType.{FuncType}
-use Rattle.w2c_base.specs.declared.trap.TrapKind.TheVariants.{SegmentOut}
-use Rattle.w2c_base.specs.Run.{Trail}
-use Rattle.wasm_tree.specs.declared.tree.Module.{Module}
-use Rattle.wasm_tree.specs.declared.entries.ElementEntry.{ElementEntry}
-use Rattle.wasm_tree.specs.declared.entries.SegmentEntry.{SegmentEntry}
-use Rattle.wasm_tree.specs.declared.entries.Start.{Start}
-use Rattle.wasm_tree.specs.Instructions.{Code}
-use Rattle.wasm_tree.specs.IndexSpaces.{func_space, table_space, memory_space, global_space, imported_global_space, func_type_in, imported_globals}
-use Rattle.wasm_tree.specs.declared.entries.LimitsEntry.{LimitsEntry}
-use Rattle.wasm_tree.specs.declared.entries.GlobalEntry.{GlobalEntry}
-use Rattle.wasm_valid.specs.ModuleFaults.{shape_of}
-use Rattle.wasm_meaning.specs.LinkedSet.{LinkedSet, NamedModule, FuncAddress, func_at, func_type}
+use Rattle.wasm_meaning.specs.LinkedSet.{FuncAddress, func_type}
 use Rattle.wasm_meaning.specs.Store as store
 use Rattle.c_meaning.specs.State as state
-use Rattle.c_meaning.specs.Linking.{Program, func_named, array_named}
 use Rattle.c_meaning.specs.Machine as machine
-use Rattle.c_meaning.specs.Primitives.{primitive}
-use Rattle.wasm_spelling.specs.Within.{IsMaximum}
-use Rattle.c_body.specs.Passing.{StandsFor}
-use Rattle.c_body.specs.Agree.{IsCallable, PointersAreSet, TableAgrees, MemoryAgrees, ElementsAgree}
-use Rattle.c_body.specs.Objects.{callee, function_name, table_arg, memory_arg}
-use Rattle.c_body.specs.Follows.{Together}
-use Rattle.c_body.proofs.Store.{table_object, memory_object, table_seen, memory_seen}
-use Rattle.c_unit.specs.Init.{data_name, tests_bounds, bounds_label, max_number}
 use Rattle.c_unit.proofs.InitStatements.{Seat, Gets}
 use Rattle.c_unit.proofs.InitObjects.{TableOwner, MemoryOwner, GlobalOwner, table_there, memory_there, table_gets, memory_gets, global_found}
 use Rattle.c_unit.proofs.InitConstants.{ShapeFits, OffsetFound, offset_found, constant_found}
 use Rattle.c_unit.proofs.InitTests.{HasLocals, IsTrapLabel}
-use Rattle.c_body.proofs.Spaces.{module_is}
 
 -- a function by its index: what it is in both, and that its name may be called
 pub record FuncIsReached (p : Program) (s : LinkedSet) (u : ℕ) (m : NamedModule) (index : ℕ) : Type 0 where

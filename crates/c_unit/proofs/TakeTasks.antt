@@ -1,46 +1,11 @@
 -- The statements that take imports against the task Take: a pointer is set, and limits are tested (WebAssembly
 -- Core 1.0, 4.5.4).
-use Rattle.std.proofs.Common.{◌≡◌, ◌≢◌, ℕ, suc, ◌+◌, ◌/◌, ◌^◌, ◌<◌, ◌≤◌, ◌⊎◌, inl, inr, ◌||◌, Bool, true, false, if◌then◌else◌, List, [], ◌∷◌, ◌++◌, length, Option, Some, None, option_map, is_some, slice_get, refl, sym, ap, ◌∙◌, subst, arith, codes, div-one}
-use Rattle.std.specs.Prelude.{⊤}
-use Rattle.std.proofs.lemmas.Option.{same_Some, none-some}
-use Rattle.w2c_base.specs.declared.value.ValType.{ValType}
-use Rattle.w2c_base.specs.declared.value.Value.{Value}
-use Rattle.w2c_base.specs.declared.value.Value.TheVariants.{I64}
-use Rattle.w2c_base.specs.Values.{value, type_of}
-use Rattle.w2c_base.specs.declared.trap.TrapKind.TheVariants.{ImportLimits}
-use Rattle.w2c_base.specs.Lookup.{if_found, named, with_named}
-use Rattle.w2c_base.specs.Run.{Trail}
-use Rattle.wasm_tree.specs.declared.tree.Module.{Module}
-use Rattle.wasm_tree.specs.declared.entries.Import.{Import}
-use Rattle.wasm_tree.specs.declared.entries.GlobalEntry.{GlobalEntry}
-use Rattle.wasm_tree.specs.declared.entries.Limits.{Limits}
-use Rattle.wasm_tree.specs.declared.entries.ImportKind.{ImportKind}
-use Rattle.wasm_tree.specs.declared.entries.ImportKind.TheVariants.{Func as ImportFunc, Table as ImportTable, Memory as ImportMemory, Global as ImportGlobal}
-use Rattle.wasm_tree.specs.IndexSpaces.{imported_globals, is_global_import}
-use Rattle.wasm_meaning.specs.LinkedSet.{LinkedSet, NamedModule, GlobalAddress, IsTable, IsMemory, as_table, as_memory, import_at, table_at, memory_at, global_at}
+use Rattle.c_unit.proofs.Common.{◌≡◌, ℕ, suc, ◌+◌, ◌/◌, ◌^◌, ◌<◌, ◌≤◌, Bool, true, false, ◌||◌, ◌≢◌, ◌⊎◌, List, [], ◌∷◌, ◌++◌, length, is_some, if◌then◌else◌, slice_get, Some, None, codes, Option, option_map, sym, refl, ap, ◌∙◌, subst, inl, inr, div-one, arith, none-some, same_Some, ⊤, set_same, if_found, named, with_named, Trail, type_of, value, ImportLimits, ValType, Value, I64, imported_globals, is_global_import, GlobalEntry, Import, ImportKind, ImportFunc, ImportGlobal, ImportMemory, ImportTable, Limits, Module, IsMaximum, GlobalAddress, IsMemory, IsTable, LinkedSet, NamedModule, as_memory, as_table, global_at, import_at, memory_at, table_at, Take, Task, do_task, done, limits_fit, tested, with_found, named-with_another, named-with_named, join, Program, func_named, NoEffect, gives, mem_len, mem_max, primitive, tab_len, tab_max, Reaches, Over, Pending, Stopped, go_on, over, call, give, global_name, memory_name, table_name, import_symbol, is_usable, memory_imports, table_imports, global_at_another_place, or_last, or_middle, global_object, global_seen, machine_is, memory_object, memory_seen, objects_at, table_object, table_seen, with_unit, MemoryAgrees, ObjectsAgree, PointsTo, TableAgrees, Together, pointer_name, asks_something, max_number, set_pointer, test_limits, zero_like}
 use Rattle.wasm_meaning.specs.Store as store
 use Rattle.wasm_meaning.specs.Execution as exec
-use Rattle.wasm_meaning.specs.Run.{Task, Take, do_task, done, tested, with_found, limits_fit}
 use Rattle.c_tree.specs.Tree as c
 use Rattle.c_meaning.specs.State as state
-use Rattle.c_meaning.specs.Linking.{Program, func_named}
 use Rattle.c_meaning.specs.Machine as machine
-use Rattle.c_meaning.specs.Primitives.{primitive, tab_len, tab_max, mem_len, mem_max, gives, NoEffect}
-use Rattle.c_meaning.specs.Step.{call, give}
-use Rattle.c_meaning.specs.Run.{Pending, Over, Stopped, over, go_on}
-use Rattle.c_meaning.specs.Reaches.{Reaches}
-use Rattle.c_meaning.proofs.Lookups.{named-with_named, named-with_another}
-use Rattle.c_meaning.proofs.Ways.{join}
-use Rattle.alike.specs.Alike.{memory_name, table_name, global_name}
-use Rattle.c_body.specs.Names.{pointer_name}
-use Rattle.wasm_spelling.specs.Within.{IsMaximum}
-use Rattle.c_symbols.specs.Symbols.{import_symbol, is_usable, table_imports, memory_imports}
-use Rattle.c_body.specs.Agree.{PointsTo, ObjectsAgree, MemoryAgrees, TableAgrees}
-use Rattle.c_body.specs.Follows.{Together}
-use Rattle.c_body.proofs.Names.{global_at_another_place}
-use Rattle.c_body.proofs.Store.{with_unit, table_object, memory_object, global_object, objects_at, table_seen, memory_seen, global_seen, machine_is}
-use Rattle.c_unit.specs.Init.{set_pointer, test_limits, max_number, asks_something}
-use Rattle.c_unit.specs.Instantiation.{zero_like}
 use Rattle.c_unit.proofs.Held.{held, held_there, held_kept}
 use Rattle.c_unit.proofs.InitStatements.{Seat, at, running, call_goes, pointer_goes}
 use Rattle.c_unit.proofs.InitRuns.{Stage, FollowsTask, IsDone, Traps}
@@ -49,9 +14,8 @@ use Rattle.c_unit.proofs.InitObjects.{TableOwner, MemoryOwner, GlobalOwner, tabl
 use Rattle.c_unit.proofs.Surroundings.{elements_length}
 use Rattle.c_unit.proofs.SegmentTests.{tab_len_is, mem_len_is}
 use Rattle.c_unit.proofs.LimitTests.{Measures, Passes, Fails, CanTest, limits_tested}
-use Rattle.c_unit.proofs.OwnObjects.{set_gets, set_same, own_kept}
+use Rattle.c_unit.proofs.OwnObjects.{set_gets, own_kept}
 use Rattle.c_unit.proofs.Small.{behind_letter, same_or_less}
-use Rattle.c_body.proofs.Seen.{or_middle, or_last}
 
 -- the variable of a pointer to an object, and that of the global with this number among those that the module defines,
 -- hold values of their types

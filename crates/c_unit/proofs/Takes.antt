@@ -1,20 +1,9 @@
 -- What the init function does for imports.
-use Rattle.std.proofs.Common.{◌≡◌, ℕ, zero, suc, ◌+◌, ◌<◌, ◌≤◌, Bool, true, false, not, if◌then◌else◌, List, [], ◌∷◌, ◌++◌, append_assoc, append-nil, length, get_or, drop, filter, Some, None, refl, sym, ap, ◌∙◌, arith}
-use Rattle.std.proofs.lemmas.List.{drop_all}
-use Rattle.wasm_tree.specs.declared.entries.Import.{Import}
-use Rattle.wasm_tree.specs.declared.entries.ImportKind.{ImportKind}
-use Rattle.wasm_tree.specs.declared.entries.ImportKind.TheVariants.{Func as ImportFunc, Table as ImportTable, Memory as ImportMemory, Global as ImportGlobal}
-use Rattle.wasm_tree.specs.IndexSpaces.{is_func_import, is_global_import}
-use Rattle.wasm_meaning.specs.LinkedSet.{NamedModule}
+use Rattle.c_unit.proofs.Common.{◌≡◌, ℕ, zero, suc, ◌+◌, ◌<◌, ◌≤◌, Bool, true, false, not, List, [], ◌∷◌, ◌++◌, length, get_or, drop, if◌then◌else◌, Some, None, filter, sym, refl, ap, ◌∙◌, append_assoc, append-nil, arith, drop_all, is_func_import, is_global_import, Import, ImportKind, ImportFunc, ImportGlobal, ImportMemory, ImportTable, at_front, Name, NamedModule, import_symbol, is_usable, label_name, pointer_name, limits_label, n64, set_pointer, size_name, take_stmts, takes_from, test_min, pointer_set}
 use Rattle.c_tree.specs.Tree as tree
-use Rattle.c_tree.specs.Scope.{Name}
 use Rattle.c_tree.specs.declared.tree.COp.TheVariants as op
-use Rattle.c_tree.proofs.Tested.{at_front}
-use Rattle.c_body.specs.Names.{label_name, pointer_name}
 use Rattle.c_symbols.specs.Reached.{usable_symbol}
-use Rattle.c_symbols.specs.Symbols.{is_usable, import_symbol}
-use Rattle.c_unit.specs.Init.{test_min, primitive, size_name, n64, limits_label, set_pointer, take_stmts, takes_from}
-use Rattle.c_unit.specs.Pointers.{pointer_set}
+use Rattle.c_unit.specs.Init.{primitive}
 
 pub least_there : (object len_of : Name) (unit min : ℕ) → 0 < min
     → primitive (Some size_name) len_of (tree.Value (tree.Name (pointer_name object)) ∷ []) ∷ tree.If op.Lt

@@ -1,62 +1,19 @@
 -- The names of a module's unit are words of C: those of each section.
-use Rattle.std.proofs.Common.{◌≡◌, ℕ, ◌+◌, ◌-◌, ◌<◌, ◌≤◌, ◌^◌, refl, sym, ◌∙◌, subst, arith, true, Bool, List, [], ◌∷◌, ◌++◌, length, map, Option, Some, None}
-use Rattle.std.proofs.lemmas.Bool.Decides.{nat_tests}
-use Rattle.std.proofs.lemmas.List.Folds.{list_all-append}
-use Rattle.std.specs.Prelude.{decimal}
-use Rattle.std.specs.List.{AllByRecursion, list_all}
-use Rattle.w2c_base.specs.Lookup.{numbered}
-use Rattle.w2c_mangle.specs.declared.symbol.SymbolKind.{SymbolKind}
+use Rattle.c_unit.proofs.Common.{◌≡◌, ℕ, ◌+◌, ◌-◌, ◌^◌, ◌<◌, ◌≤◌, Bool, true, List, [], ◌∷◌, ◌++◌, map, length, Some, None, decimal, Option, sym, refl, subst, arith, nat_tests, All-from_recursion, AllByRecursion, list_all, all_append, all_map, all_join, numbered, ValType, export_part, export_symbol_of-parts, init_symbol_of-parts, list_all-escaped, escaped, export_symbol_of, init_symbol_of, is_identifier_character, kind_letter, SymbolKind, global_type_in, imported_funcs, imported_globals, Export, ExportKind, ExportFunc, ExportGlobal, ExportMemory, ExportTable, GlobalEntry, Import, ImportKind, ImportFunc, ImportGlobal, ImportMemory, ImportTable, LimitsEntry, SegmentEntry, Module, name_of, FitsItem, depth_limit, IsName, NamedItem, NamedModule, c_type_of, func_name, global_name, memory_name, table_name, made_static, helper_of, Helper, Typed, declared_symbols, export_symbol, firsts, global_imports, global_kind, global_symbol, import_symbol, import_type, memory_imports, table_imports, NamedItems, body_of, pointer_name, helpers_of, pointers_of, export_func, data_name, bodies, data_of, declaration, objects_of, prototype, IsAccepted}
 use Rattle.w2c_mangle.specs.declared.symbol.SymbolKind.TheVariants as symbol
-use Rattle.w2c_mangle.specs.Escaping.{escaped}
-use Rattle.w2c_mangle.specs.Symbols.{kind_letter, export_symbol_of, init_symbol_of, is_identifier_character}
-use Rattle.w2c_mangle.proofs.SymbolNames.{export_part, export_symbol_of-parts, init_symbol_of-parts, list_all-escaped}
-use Rattle.wasm_tree.specs.declared.tree.Module.{Module}
-use Rattle.wasm_tree.specs.declared.entries.Import.{Import}
-use Rattle.wasm_tree.specs.declared.entries.ImportKind.{ImportKind}
-use Rattle.wasm_tree.specs.declared.entries.ImportKind.TheVariants.{Func as ImportFunc, Table as ImportTable, Memory as ImportMemory, Global as ImportGlobal}
-use Rattle.wasm_tree.specs.declared.entries.Export.{Export}
-use Rattle.wasm_tree.specs.declared.entries.ExportKind.{ExportKind}
-use Rattle.wasm_tree.specs.declared.entries.ExportKind.TheVariants.{Func as ExportFunc, Table as ExportTable, Memory as ExportMemory, Global as ExportGlobal}
-use Rattle.wasm_tree.specs.declared.entries.LimitsEntry.{LimitsEntry}
-use Rattle.wasm_tree.specs.declared.entries.GlobalEntry.{GlobalEntry}
-use Rattle.wasm_tree.specs.declared.entries.SegmentEntry.{SegmentEntry}
-use Rattle.wasm_tree.specs.IndexSpaces.{global_type_in, imported_funcs, imported_globals}
-use Rattle.wasm_meaning.specs.LinkedSet.{NamedModule}
-use Rattle.w2c_base.specs.declared.value.ValType.{ValType}
 use Rattle.c_tree.specs.declared.tree.CType.TheVariants as type
 use Rattle.c_tree.specs.Tree as tree
-use Rattle.c_tree.specs.Scope.{name_of}
 use Rattle.c_tree.specs.Text.{is_word_byte}
-use Rattle.c_tree.specs.WellFormed.{IsName}
-use Rattle.c_tree.specs.Spelled.{depth_limit, FitsItem}
-use Rattle.c_tree.specs.WellFormed.{NamedItem}
 use Rattle.c_tree.proofs.Names.{numbered as numbered_name, external}
 use Rattle.c_tree.proofs.Proper.{both_true, digits_words, all_digits}
 use Rattle.c_tree.proofs.TreeIsProper.{decimal_digits}
 use Rattle.c_tree.proofs.TestsTell.{unit_tells}
-use Rattle.c_meaning.specs.Linking.{c_type_of}
-use Rattle.c_prelude.specs.declared.operation.Helper.{Helper}
-use Rattle.c_prelude.specs.Helpers.{helper_of}
-use Rattle.c_prelude.proofs.Functions.{made_static}
-use Rattle.alike.specs.Alike.{memory_name, table_name, func_name, global_name}
-use Rattle.c_body.specs.Names.{pointer_name}
-use Rattle.c_symbols.specs.Symbols.{Typed, import_symbol, import_type, global_kind, global_symbol, export_symbol, memory_imports, table_imports, global_imports, declared_symbols, firsts}
-use Rattle.c_body.specs.Objects.{pointers_of}
-use Rattle.c_body.specs.Body.{body_of}
-use Rattle.c_body.specs.Needs.{helpers_of}
-use Rattle.c_body.proofs.FormedItems.{NamedItems}
-use Rattle.c_unit.specs.Init.{data_name}
-use Rattle.c_unit.specs.Exports.{export_func}
-use Rattle.c_unit.specs.Items.{objects_of, data_of, declaration, prototype, bodies}
-use Rattle.c_unit.specs.Sets.{IsAccepted}
 use Rattle.c_unit.proofs.BodiesAt.{BodyAt, body_at}
 use Rattle.c_unit.proofs.ExportFacts.{each_of}
 use Rattle.c_unit.proofs.Pairs.{all_zip, all_flat, all_range, firsts_all}
 use Rattle.c_unit.proofs.Sections.{export_name, few_globals, few_funcs, few_imports, pointers_are}
 use Rattle.c_unit.proofs.InitSegments.{data_item}
-use Rattle.c_body.proofs.Lists.{all_map, all_append}
 use Rattle.c_unit.proofs.Small.{all_images}
-use Rattle.std.proofs.lemmas.List.Elements.{All-from_recursion}
 use Rattle.c_unit.proofs.AcceptedLimits.{accepted_limits}
 
 -- ---- words
@@ -68,9 +25,6 @@ all_words : (bytes : List ℕ) → list_all is_identifier_character bytes ≡ tr
 all_words [] h = refl
 all_words (b ∷ bytes) h = let both = both_true (is_identifier_character b) (list_all is_identifier_character bytes) h in
     rw (word_byte b both.0) (all_words bytes both.1)
-
-both_words : (xs ys : List ℕ) → list_all is_word_byte xs ≡ true → list_all is_word_byte ys ≡ true → list_all is_word_byte (xs ++ ys) ≡ true
-both_words xs ys e f = list_all-append is_word_byte xs ys ∙ rw (e, f) refl
 
 kind_word : (k : SymbolKind) → is_word_byte (kind_letter k) ≡ true
 kind_word symbol.Func = refl
@@ -86,11 +40,11 @@ pub symbol_named : (m : List ℕ) (k : SymbolKind) (n : List ℕ) → AllByRecur
     → IsName (export_symbol_of m k n)
 symbol_named m k n small_m small_n = subst IsName (sym (export_symbol_of-parts m k n))
     (external (escaped m ++ 90 ∷ 95 ∷ export_part k n)
-    (both_words (escaped m) (90 ∷ 95 ∷ export_part k n) (escaped_words m small_m) (rw (kind_word k) (escaped_words n small_n))))
+    (all_join is_word_byte (escaped m) (90 ∷ 95 ∷ export_part k n) (escaped_words m small_m) (rw (kind_word k) (escaped_words n small_n))))
 
 pub init_named : (m : List ℕ) → AllByRecursion (λ b. b < 256) m → IsName (init_symbol_of m)
 init_named m small = subst IsName (sym (init_symbol_of-parts m))
-    (external (escaped m ++ 90 ∷ 95 ∷ 105 ∷ []) (both_words (escaped m) (90 ∷ 95 ∷ 105 ∷ []) (escaped_words m small) refl))
+    (external (escaped m ++ 90 ∷ 95 ∷ 105 ∷ []) (all_join is_word_byte (escaped m) (90 ∷ 95 ∷ 105 ∷ []) (escaped_words m small) refl))
 
 pub import_named : (i : Import) → AllByRecursion (λ b. b < 256) i.«module» → AllByRecursion (λ b. b < 256) i.field
     → IsName (import_symbol i)

@@ -1,40 +1,12 @@
 -- The unit of an accepted module keeps the rules, where its helpers, its exports' functions and its init function do.
-use Rattle.std.proofs.Common.{◌≡◌, ◌≢◌, ℕ, zero, suc, ◌+◌, ◌-◌, ◌<◌, ◌≤◌, ◌⊎◌, inl, inr, refl, ap, ◌∙◌, subst, arith, true, false, Bool, List, [], ◌∷◌, ◌++◌, length, map}
-use Rattle.std.proofs.lemmas.List.Folds.{list_any-append}
-use Rattle.std.specs.Prelude.{None}
-use Rattle.std.specs.List.{range_with_len, list_any}
-use Rattle.w2c_base.specs.Lookup.{numbered}
-use Rattle.wasm_tree.specs.declared.tree.Module.{Module}
-use Rattle.wasm_tree.specs.declared.entries.GlobalEntry.{GlobalEntry}
-use Rattle.wasm_tree.specs.declared.entries.LimitsEntry.{LimitsEntry}
-use Rattle.wasm_tree.specs.IndexSpaces.{imported_funcs, imported_globals}
-use Rattle.wasm_meaning.specs.LinkedSet.{NamedModule}
-use Rattle.c_tree.specs.declared.tree.CType.{CType}
+use Rattle.c_unit.proofs.Common.{◌≡◌, ℕ, zero, suc, ◌+◌, ◌-◌, ◌<◌, ◌≤◌, Bool, true, false, ◌≢◌, ◌⊎◌, List, [], ◌∷◌, ◌++◌, map, length, None, refl, ap, ◌∙◌, subst, inl, inr, arith, or_left, or_right, list_any-append, list_any, range_with_len, all_append, numbered, imported_funcs, imported_globals, GlobalEntry, LimitsEntry, Module, KeepsRules, defines, Name, name_of, CType, NamedModule, bytes_equal, c_type_of, func_name, global_name, memory_name, table_name, helper_of, declared_symbols, class, body_of, helpers_of, pointers_of, export_func, init_func, bodies, data_of, declaration, items, objects_of, prototype, IsAccepted}
 use Rattle.c_tree.specs.declared.tree.CType.TheVariants as type
 use Rattle.c_tree.specs.Tree as tree
-use Rattle.c_tree.specs.Scope.{Name, name_of}
-use Rattle.c_tree.specs.Rules.{defines}
-use Rattle.c_tree.specs.FirstBroken.{KeepsRules}
-use Rattle.c_meaning.specs.Linking.{c_type_of}
-use Rattle.c_meaning.proofs.Lookups.{bytes_equal}
-use Rattle.alike.specs.Alike.{memory_name, table_name, func_name, global_name}
-use Rattle.c_prelude.specs.Helpers.{helper_of}
-use Rattle.c_symbols.specs.Symbols.{declared_symbols}
-use Rattle.c_body.specs.Objects.{pointers_of}
-use Rattle.c_body.specs.Needs.{helpers_of}
-use Rattle.c_body.specs.Body.{body_of}
-use Rattle.c_body.proofs.Classes.{class}
-use Rattle.c_unit.specs.Init.{init_func}
-use Rattle.c_unit.specs.Exports.{export_func}
-use Rattle.c_unit.specs.Items.{objects_of, data_of, declaration, prototype, bodies, items}
-use Rattle.c_unit.specs.Sets.{IsAccepted}
 use Rattle.c_unit.proofs.BodiesAt.{BodyAt, body_at}
 use Rattle.c_unit.proofs.ItemRules.{AllShow, next_section, Keeps, unit_keeps}
 use Rattle.c_unit.proofs.Sections.{tabs_class, mems_class, globals_class, data_class, declared_class, bodies_class, exports_class, init_class, six_not_nine}
 use Rattle.c_unit.proofs.PlainItems.{NoClass, other_class, tabs_keep, mems_keep, globals_keep, pointers_keep, data_keep, declared_keep}
 use Rattle.c_unit.proofs.BodySections.{prototypes_keep, bodies_keep, objects_none}
-use Rattle.c_body.proofs.Lists.{all_append}
-use Rattle.std.proofs.lemmas.Bool.{or_left, or_right}
 
 any_range : (test : tree.Item → Bool) (f : ℕ → tree.Func) (a n k : ℕ) → a ≤ k → k < a + n → test (tree.Function (f k)) ≡ true
     → list_any test (map tree.Function (map f (range_with_len a n))) ≡ true

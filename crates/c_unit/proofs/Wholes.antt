@@ -1,29 +1,15 @@
 -- The items of a unit one after the other.
-use Rattle.std.proofs.Common.{◌≡◌, ℕ, List, [], ◌∷◌, ◌++◌, append_assoc, map, drop, None, refl, sym, ap, ◌∙◌}
-use Rattle.std.specs.Prelude.{slice_get, flat_map}
-use Rattle.w2c_base.specs.Lookup.{numbered}
-use Rattle.wasm_tree.specs.declared.entries.Import.{Import}
-use Rattle.wasm_tree.specs.declared.entries.SegmentEntry.{SegmentEntry}
-use Rattle.wasm_tree.specs.declared.entries.LimitsEntry.{LimitsEntry}
-use Rattle.wasm_meaning.specs.LinkedSet.{NamedModule}
-use Rattle.alike.specs.Alike.{memory_name, table_name, global_name}
-use Rattle.c_tree.specs.declared.tree.CType.{CType}
+use Rattle.c_unit.proofs.Common.{◌≡◌, ℕ, List, [], ◌∷◌, ◌++◌, map, drop, slice_get, None, flat_map, sym, refl, ap, ◌∙◌, append_assoc, numbered, Import, LimitsEntry, SegmentEntry, Name, CType, NamedModule, global_name, memory_name, table_name, global_imports, import_type, memory_imports, table_imports, pointer_name, pointers_of, bytes_if, data_item, data_of, global_item, items, variable, from_data, from_declared, from_tables, global_pointer}
 use Rattle.c_tree.specs.declared.tree.CType.TheVariants as c_type
 use Rattle.c_tree.specs.Tree as tree
-use Rattle.c_tree.specs.Scope.{Name}
-use Rattle.c_body.specs.Names.{pointer_name}
-use Rattle.c_symbols.specs.Symbols.{table_imports, memory_imports, global_imports, import_type}
-use Rattle.c_body.specs.Objects.{pointers_of}
-use Rattle.c_unit.specs.Items.{variable, global_item, data_item, data_of, items}
-use Rattle.c_unit.specs.Arrays.{array_of, bytes_if}
-use Rattle.c_unit.specs.Tails.{from_tables, from_data, from_declared, global_pointer}
+use Rattle.c_unit.specs.Arrays.{array_of}
 use Rattle.c_unit.proofs.Parted.{past_all}
 
 map_append : {A B : Type 0} (f : A → B) (xs ys : List A) → map f (xs ++ ys) ≡ map f xs ++ map f ys
 map_append f [] ys = refl
 map_append f (x ∷ xs) ys = ap (λ zs. f x ∷ zs) (map_append f xs ys)
 
-map_twice : {A B C : Type 0} (g : B → C) (f : A → B) (xs : List A) → map g (map f xs) ≡ map (λ x. g (f x)) xs
+pub map_twice : {A B C : Type 0} (g : B → C) (f : A → B) (xs : List A) → map g (map f xs) ≡ map (λ x. g (f x)) xs
 map_twice g f [] = refl
 map_twice g f (x ∷ xs) = ap (λ zs. g (f x) ∷ zs) (map_twice g f xs)
 

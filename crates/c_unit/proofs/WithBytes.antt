@@ -1,9 +1,5 @@
 -- Segments with and without bytes.
-use Rattle.std.proofs.Common.{◌≡◌, ℕ, ◌<◌, ◌≤◌, List, [], ◌∷◌, ◌++◌, append-nil, length, map, refl, sym, ap, ◌∙◌, arith}
-use Rattle.std.specs.Borrow.{Bor}
-use Rattle.std.proofs.lemmas.List.{map_push}
-use Rattle.wasm_tree.specs.declared.entries.SegmentEntry.{SegmentEntry}
-use Rattle.c_unit.specs.Arrays.{bytes_if, bytes_of}
+use Rattle.c_unit.proofs.Common.{◌≡◌, ℕ, ◌<◌, ◌≤◌, List, [], ◌∷◌, ◌++◌, map, length, sym, refl, ap, ◌∙◌, append-nil, arith, Bor, map_push, SegmentEntry, bytes_if, bytes_of}
 
 abbrev single : ℕ → List ℕ → List (ℕ × List ℕ)
 single n bytes = (n, bytes) ∷ []

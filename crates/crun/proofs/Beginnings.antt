@@ -1,24 +1,10 @@
 -- What is there before the first statement.
-use Rattle.std.proofs.Common.{◌≡◌, None, ℕ, List, [], ◌∷◌, length, map, refl, sym, ap, ◌∙◌, subst}
-use Rattle.std.proofs.lemmas.List.{length-map}
-use Rattle.w2c_base.specs.Run.{Host, Reply, Trail}
-use Rattle.c_tree.specs.View.{unit_of}
+use Rattle.crun.proofs.Common.{◌≡◌, ℕ, List, [], ◌∷◌, map, length, None, sym, refl, ap, ◌∙◌, subst, length-map, all_from, Host, Reply, Trail, unit_of, Program, link_refusal, fresh, TypedMachine, TypedProgram, function_of, hosts_of, HostModule, HaveCounts, machine_at, program_in, symbols_of_hosts, trail_of, Engine}
 use Rattle.c_tree.specs.FirstBroken.{KeepsRules}
-use Rattle.c_meaning.specs.Linking.{Program, link_refusal}
-use Rattle.c_meaning.specs.Machine.{fresh}
-use Rattle.c_sound.specs.Typed.{TypedMachine, TypedProgram}
 use Rattle.c_sound.proofs.Changes.{trail_keeps}
-use Rattle.c_sound.proofs.Lists.{all_from}
 use Rattle.c_sound.proofs.Units.{typed_program}
 use Rattle.c_link.specs.Programs.{AllChecked, IsProgramOf}
-use Rattle.crun_startup.specs.Entries.{HaveCounts}
-use Rattle.crun.specs.HostSymbols.{symbols_of_hosts}
 use Rattle.crun.proofs.HostSymbols.{symbols_mean}
-use Rattle.c_hosts.specs.declared.host.HostModule.{Ghosts as HostModule}
-use Rattle.c_hosts.specs.Asking.{function_of, hosts_of}
-use Rattle.crun.specs.declared.engine.Engine.{Engine}
-use Rattle.crun.specs.Engines.{machine_at, program_in}
-use Rattle.crun.specs.Sessions.{trail_of}
 
 -- how many functions each host has
 pub counts_are : {H : Type 0} (m : HostModule H) (hosts : List H) (counts : List ℕ) → counts ≡ map (λ h. length (m.functions_of h)) hosts
@@ -43,7 +29,7 @@ module _ {H : Type 0} (m : HostModule H) (e : Engine H) (same : e.linked.1 ≡ s
 
   -- the hosts' symbols are those that the units were linked with
   pub is_program : IsProgramOf p (map unit_of e.linked.0) e.linked.1
-  is_program = record { units_are = refl; symbols_are = symbols_mean p (hosts_of m e.hosts.list.items) e.linked.1 same refl }
+  is_program = record { units_are = refl; symbols_are = sym (symbols_mean e.linked.1 (hosts_of m e.hosts.list.items) same) }
 
   -- units that keep the rules and link are a typed program
   pub is_typed : AllChecked (map unit_of e.linked.0)

@@ -1,25 +1,8 @@
 -- A call behind those that have ended, as the run of all of them.
-use Rattle.std.proofs.Common.{◌≡◌, ℕ, ◌+◌, ◌-◌, ◌≤◌, List, [], ◌∷◌, ◌++◌, length, map, Option, refl, sym, ap, ◌∙◌, subst, arith}
-use Rattle.std.proofs.lemmas.List.{append_cancel_left, length-append}
-use Rattle.w2c_base.specs.Run.{Ask, Call, CallEnded, Event, Phase, Reply, asks_in, values_in}
-use Rattle.w2c_base.specs.declared.value.Value.{Value}
-use Rattle.w2c_base.proofs.Events.{values_behind}
-use Rattle.c_meaning.specs.State.{Number, UnitFunc}
-use Rattle.c_meaning.specs.Linking.{Program, SymbolCall}
-use Rattle.c_meaning.specs.Step.{call}
-use Rattle.c_meaning.specs.Run.{Entry, Pending, after, begun, c_run, entries_of}
-use Rattle.c_objects.specs.Views.{item_name}
-use Rattle.c_hosts.specs.declared.host.HostModule.{Ghosts as HostModule}
-use Rattle.c_hosts.specs.declared.journal.Asked.{Asked}
-use Rattle.c_hosts.specs.Journals.{ask_of, events_in, replies_in}
-use Rattle.c_hosts.specs.Running.{trail_before, trail_behind, Asks}
-use Rattle.crun.specs.declared.engine.Engine.{Engine}
-use Rattle.crun.specs.declared.outcome.Outcome.{Outcome}
+use Rattle.crun.proofs.Common.{◌≡◌, ℕ, ◌+◌, ◌-◌, ◌≤◌, List, [], ◌∷◌, ◌++◌, map, length, Option, sym, refl, ap, ◌∙◌, subst, arith, length-append, append_cancel_left, values_behind, Ask, Call, CallEnded, Event, Phase, Reply, asks_in, values_in, Value, Program, SymbolCall, Entry, Pending, after, begun, c_run, entries_of, Number, UnitFunc, call, item_name, ask_of, events_in, replies_in, Asks, trail_before, trail_behind, HostModule, Asked, Came, SameProgram, machine_at, naming_in, program_in, units_at, BehindAt, IsOutcome, Stands, standing_of, told_by, Engine, Outcome, Standing}
 use Rattle.crun.specs.declared.outcome.Outcome.TheVariants as outcome
-use Rattle.crun.specs.declared.outcome.Standing.{Standing}
 use Rattle.crun.specs.declared.outcome.Standing.TheVariants as standing
-use Rattle.crun.specs.Engines.{machine_at, naming_in, program_in, units_at, Came, SameProgram}
-use Rattle.crun.specs.Sessions.{standing_of, state_of, told_by, BehindAt, IsLast, IsOutcome, Stands, State, SymbolCame, SymbolCamePart}
+use Rattle.crun.specs.Sessions.{state_of, IsLast, State, SymbolCame, SymbolCamePart}
 use Rattle.crun.proofs.Functions.{same_program}
 use Rattle.crun.proofs.History.{
   all_ended,

@@ -1,58 +1,17 @@
 -- The run of one function: it begins as the meaning of C begins it, is never stuck, and leaves typed objects where it ended.
-use Rattle.std.proofs.Common.{◌≡◌, ℕ, true, List, [], ◌∷◌, map, Option, Some, None, refl, sym, ap, ◌∙◌, subst, arith}
-use Rattle.std.proofs.lemmas.List.{append-nil}
-use Rattle.w2c_base.specs.declared.value.Value.{Value}
-use Rattle.w2c_base.specs.Run.{Call, Event, Host, Init, Phase, Reply, Trail}
+use Rattle.crun.proofs.Common.{◌≡◌, ℕ, true, List, [], ◌∷◌, map, Some, None, Option, sym, refl, ap, ◌∙◌, subst, append-nil, arith, Call, Event, Host, Init, Phase, Reply, Trail, Value, is_void, unit_of, Definition, Program, definition_at, Going, Pending, Progress, after, begun, go_on, CValue, Machine, Number, State, Stuck, Vars, Waiting, Step, Stops, begin, first_vars, next, after_typed, entry_typed, Begins, TypedMachine, TypedProgram, TypedRun, may_end, AreStored, machine_of, Naming, item_name, value_of, UnitObjects, HaveUnitTables, IsLinked, begun_in, below_in, items_at, machine_in, running_in, state_in, LinkedUnit, LinkedThread, answered_keep, hosts_of, Asks, IsThread, Runs, RunsPart, step_at, trail_before, trail_behind, HostModule, Asked, AreSymbols, naming_of, BeginsWith, Came, FunctionCamePart, IfEnded, IsReady, IsStarted, SameProgram, begins_at, entry_in, machine_at, naming_in, outcome_in, program_in, Engine, Outcome}
 use Rattle.c_tree.specs.declared.tree.CType.{CType}
 use Rattle.c_tree.specs.declared.tree.CType.TheVariants as type
-use Rattle.c_tree.specs.Rules.{is_void}
-use Rattle.c_tree.specs.View.{unit_of}
-use Rattle.c_meaning.specs.State.{CValue, Frame as Waiting, Machine, Number, State, Stuck, Vars}
-use Rattle.c_meaning.specs.Linking.{Definition, Program, definition_at}
-use Rattle.c_meaning.specs.Run.{Going, Pending, Progress, after, begun, go_on}
-use Rattle.c_meaning.specs.Step.{Step, Stops, begin, first_vars, next}
-use Rattle.c_sound.specs.Typed.{may_end, Begins, TypedMachine, TypedProgram, TypedRun}
-use Rattle.c_sound.proofs.Runs.{after_typed, entry_typed}
 use Rattle.c_objects.specs.declared.held.Held.{Held}
 use Rattle.c_objects.specs.declared.held.Held.TheVariants as held
 use Rattle.c_objects.specs.declared.store.Store.{Store}
-use Rattle.c_objects.specs.declared.store.UnitObjects.{UnitObjects}
-use Rattle.c_objects.specs.Stores.{machine_of, AreStored}
-use Rattle.c_objects.specs.Views.{item_name, value_of, Naming}
 use Rattle.c_machine.specs.Threads.{definition_in}
-use Rattle.c_thread.specs.declared.control.LinkedUnit.{LinkedUnit}
 use Rattle.c_thread.specs.declared.linked.LinkedFrame.{LinkedFrame}
-use Rattle.c_thread.specs.declared.linked.LinkedThread.{LinkedThread}
 use Rattle.c_thread.specs.FuncTypes.{AreFuncTypes}
-use Rattle.crun_startup.specs.Called.{AreSymbols}
-use Rattle.crun_startup.specs.Names.{naming_of}
-use Rattle.c_thread.specs.Linked.{below_in, begun_in, items_at, machine_in, running_in, state_in, HaveUnitTables, IsLinked}
-use Rattle.c_hosts.specs.declared.host.HostModule.{Ghosts as HostModule}
 use Rattle.c_hosts.specs.declared.running.Ending.{Ending}
 use Rattle.c_hosts.specs.declared.running.Ending.TheVariants as ending
-use Rattle.c_hosts.specs.declared.journal.Asked.{Asked}
-use Rattle.c_hosts.specs.Asking.{hosts_of}
-use Rattle.c_hosts.specs.Running.{step_at, trail_before, trail_behind, Asks, IsThread, Runs, RunsPart}
-use Rattle.c_hosts.proofs.Offers.{answered_keep}
 use Rattle.c_hosts.proofs.Runs.{behind_none}
-use Rattle.crun.specs.declared.engine.Engine.{Engine}
-use Rattle.crun.specs.declared.outcome.Outcome.{Outcome}
 use Rattle.crun.specs.declared.outcome.Outcome.TheVariants as outcome
-use Rattle.crun.specs.Engines.{
-  begins_at,
-  entry_in,
-  machine_at,
-  naming_in,
-  outcome_in,
-  program_in,
-  BeginsWith,
-  Came,
-  FunctionCamePart,
-  IfEnded,
-  IsReady,
-  IsStarted,
-  SameProgram,
-}
 
 -- arguments as parameters hold them
 pub held_arguments : (names : Naming) (args : List Value) → map (value_of names) (map held.Number args) ≡ map Number args

@@ -1,75 +1,8 @@
 -- How a session's run goes on behind the functions that have ended.
-use Rattle.std.proofs.Common.{
-  ◌≡◌,
-  ℕ,
-  suc,
-  ◌+◌,
-  ◌-◌,
-  ◌≤◌,
-  append_assoc,
-  List,
-  [],
-  ◌∷◌,
-  ◌++◌,
-  length,
-  map,
-  Option,
-  Some,
-  None,
-  refl,
-  sym,
-  ap,
-  ◌∙◌,
-  subst,
-  arith,
-}
-use Rattle.std.specs.Prelude.{option_map, zip}
-use Rattle.std.specs.List.{range_with_len}
-use Rattle.std.proofs.lemmas.List.{append-nil, map-append, map_push}
-use Rattle.w2c_base.specs.declared.value.Value.{Value}
-use Rattle.w2c_base.specs.Lookup.{numbered}
-use Rattle.w2c_base.specs.Run.{Ask, CallEnded, Event, Phase, Init, Call, Reply, Trail, asks_in, values_in}
-use Rattle.w2c_base.proofs.Events.{asks_behind, values_behind}
-use Rattle.c_meaning.specs.State.{FuncAddress, Objects, Number, State}
-use Rattle.c_meaning.specs.Linking.{Program, SymbolCall, called_func, init_functions}
-use Rattle.c_meaning.specs.Machine.{fresh}
-use Rattle.c_meaning.specs.Step.{call}
-use Rattle.c_meaning.specs.Run.{
-  CRun,
-  Ended,
-  Entry,
-  Going,
-  OutOfSteps,
-  Over,
-  Pending,
-  Progress,
-  after,
-  begin_entry,
-  begun,
-  c_run,
-  c_start,
-  came_back,
-  entries_of,
-  over,
-  run_of,
-}
+use Rattle.crun.proofs.Common.{◌≡◌, ℕ, suc, ◌+◌, ◌-◌, ◌≤◌, List, [], ◌∷◌, ◌++◌, map, length, Some, None, Option, option_map, zip, sym, refl, ap, ◌∙◌, subst, append_assoc, append-nil, arith, map-append, map_push, range_with_len, asks_behind, values_behind, numbered_push, numbered, Ask, Call, CallEnded, Event, Init, Phase, Reply, Trail, asks_in, values_in, Value, Program, SymbolCall, called_func, init_functions, fresh, CRun, Ended, Entry, Going, OutOfSteps, Over, Pending, Progress, after, begin_entry, begun, c_run, c_start, came_back, entries_of, over, run_of, FuncAddress, Number, Objects, State, call, ask_of, events_in, replies_in, reply_in, trail_before, trail_behind, Asked, Came, machine_with, BehindAt, IsOutcome, last_value, trail_of, Outcome}
 use Rattle.c_meaning.proofs.Longer.{after_over, after_sum}
 use Rattle.c_sound.proofs.Tells.{run_tells}
-use Rattle.c_hosts.specs.declared.journal.Asked.{Asked}
-use Rattle.c_hosts.specs.Journals.{ask_of, events_in, replies_in, reply_in}
-use Rattle.c_hosts.specs.Running.{trail_before, trail_behind}
-use Rattle.crun.specs.declared.outcome.Outcome.{Outcome}
 use Rattle.crun.specs.declared.outcome.Outcome.TheVariants as outcome
-use Rattle.crun.specs.Engines.{machine_with, Came}
-use Rattle.crun.specs.Sessions.{last_value, trail_of, BehindAt, IsOutcome}
-
--- one item more, with its number
-numbered_from : {A : Type 0} (k : ℕ) (xs : List A) (x : A)
-    → zip (range_with_len k (length (xs ++ x ∷ []))) (xs ++ x ∷ []) ≡ zip (range_with_len k (length xs)) xs ++ (k + length xs, x) ∷ []
-numbered_from k [] x = let e : k ≡ k + 0 = omega arith in ap (λ n. (n, x) ∷ []) e
-numbered_from k (y ∷ xs) x =
-    let e : k + 1 + length xs ≡ k + suc (length xs) = omega arith in
-    ap (λ l. (k, y) ∷ l) (numbered_from (k + 1) xs x ∙ ap (λ n. zip (range_with_len (k + 1) (length xs)) xs ++ (n, x) ∷ []) e)
 
 numbered_around : {A : Type 0} (k : ℕ) (xs : List A) (x : A) (ys : List A) → (rest : List (ℕ × A))
     × (zip (range_with_len k (length (xs ++ x ∷ ys))) (xs ++ x ∷ ys) ≡ zip (range_with_len k (length xs)) xs ++ (k + length xs, x) ∷ rest)
@@ -81,10 +14,6 @@ numbered_around k (y ∷ xs) x ys =
     let more = numbered_around (k + 1) xs x ys in
     let e : k + 1 + length xs ≡ k + suc (length xs) = omega arith in
     (more.0, ap (λ l. (k, y) ∷ l) (more.1 ∙ ap (λ n. zip (range_with_len (k + 1) (length xs)) xs ++ (n, x) ∷ more.0) e))
-
-numbered_push : {A : Type 0} (xs : List A) (x : A) → numbered (xs ++ x ∷ []) ≡ numbered xs ++ (length xs, x) ∷ []
-numbered_push xs x =
-    numbered_from 0 xs x ∙ (let e : 0 + length xs ≡ length xs = omega arith in ap (λ n. numbered xs ++ (n, x) ∷ []) e)
 
 abbrev pub entry_of : Program → ℕ × SymbolCall → Entry
 entry_of p c = record { phase = Call c.0; func = called_func p c.1; args = c.1.args }

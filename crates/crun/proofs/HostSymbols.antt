@@ -1,66 +1,17 @@
 -- Symbols that are put into a list one by one, until one comes a second time.
-use Rattle.std.proofs.Common.{
-  ◌≡◌,
-  ℕ,
-  zero,
-  suc,
-  ◌+◌,
-  ◌<◌,
-  ◌≤◌,
-  add-one,
-  arith,
-  get_or,
-  length,
-  Bool,
-  true,
-  false,
-  ◌&&◌,
-  ◌||◌,
-  if◌then◌else◌,
-  List,
-  [],
-  ◌∷◌,
-  ◌++◌,
-  append_assoc,
-  map,
-  bytes_eq,
-  is_some,
-  take,
-  drop,
-  Option,
-  Some,
-  None,
-  refl,
-  sym,
-  ap,
-  ◌∙◌,
-  subst,
-}
-use Rattle.std.specs.Prelude.{not, option_map, slice_get, zip, flat_map}
-use Rattle.std.specs.List.{range_with_len}
-use Rattle.std.specs.Option.{option_or}
-use Rattle.std.proofs.lemmas.List.{append-nil, length-map, map-append, take-append-drop, take_all}
-use Rattle.std.proofs.lemmas.Option.{slice_get-get_or, slice_get-map}
+use Rattle.crun.proofs.Common.{◌≡◌, ℕ, zero, suc, ◌+◌, ◌<◌, ◌≤◌, Bool, true, false, not, ◌&&◌, ◌||◌, List, [], ◌∷◌, ◌++◌, map, length, get_or, take, drop, is_some, if◌then◌else◌, slice_get, Some, None, Option, option_map, zip, flat_map, bytes_eq, sym, refl, ap, ◌∙◌, subst, append_assoc, append-nil, arith, take-append-drop, take_all, length-map, map-append, slice_get-get_or, slice_get-map, range_with_len, option_or, drop_front, take_next, named, numbered, Host, are_distinct, c_func_type_of, symbols_of, HostFunc, found_at, function_of, AreKnown, IsFirstTwice, IsTwiceAt, symbol_in, symbols_of_host, symbols_of_hosts}
 use Rattle.std.proofs.lemmas.Grind.{flat_map-append}
 use Rattle.std.proofs.lemmas.Slice.Eq.{bytes_eq-Decides}
-use Rattle.w2c_base.specs.Lookup.{named, numbered}
-use Rattle.w2c_base.specs.Run.{Host}
 use Rattle.w2c_base.specs.Run as run
 use Rattle.w2c_mangle.specs.declared.symbol.SymbolKind.TheVariants as symbol
 use Rattle.w2c_mangle.specs.Symbols.{export_symbol_of}
-use Rattle.c_tree.specs.Rules.{are_distinct}
 use Rattle.c_tree.specs.Scope.{Name, is_among}
-use Rattle.c_meaning.specs.State.{HostFunc}
 use Rattle.c_meaning.specs.Linking as linking
-use Rattle.c_meaning.specs.Linking.{c_func_type_of}
-use Rattle.c_machine.specs.Names.{found_at}
+use Rattle.c_meaning.proofs.Links.{symbol_pair}
 use Rattle.c_link.specs.Offers.{c_symbol, c_symbols}
-use Rattle.c_link.specs.Programs.{symbol_pair, symbols_of}
 use Rattle.c_link.specs.Resolved.{symbol_names}
-use Rattle.c_hosts.specs.Asking.{function_of}
 use Rattle.c_hosts.specs.declared.host.HostFunction.{HostFunction}
 use Rattle.c_link.specs.declared.host_symbol.HostSymbol.{HostSymbol}
-use Rattle.crun.specs.HostSymbols.{AreKnown, IsFirstTwice, IsTwiceAt, symbol_in, symbols_of_host, symbols_of_hosts}
 
 or_right : (a b : Bool) → (a || b) ≡ (b || a)
 or_right true true = refl
@@ -126,21 +77,10 @@ known_push before after symbols more s k are none entered grown =
 
 -- ---- what is put so far
 
-take_more : {A : Type 0} (xs : List A) (i : ℕ) (x : A) → slice_get xs i ≡ Some x → take (i + 1) xs ≡ take i xs ++ x ∷ []
-take_more [] i x at = absurd cc
-take_more (y ∷ xs) zero x at = let e : y ≡ x = cc in ap (λ z. z ∷ []) e
-take_more (y ∷ xs) (suc i) x at =
-    ap (λ n. take n (y ∷ xs)) (add-one (suc i)) ∙ ap (λ zs. y ∷ zs) (ap (λ n. take n xs) (sym (add-one i)) ∙ take_more xs i x at)
-
-drop_next : {A : Type 0} (xs : List A) (i : ℕ) (x : A) → slice_get xs i ≡ Some x → drop i xs ≡ x ∷ drop (i + 1) xs
-drop_next [] i x at = absurd cc
-drop_next (y ∷ xs) zero x at = let e : y ≡ x = cc in ap (λ z. z ∷ xs) e
-drop_next (y ∷ xs) (suc i) x at = drop_next xs i x at ∙ ap (λ n. x ∷ drop n xs) (add-one i) ∙ rw (add-one (suc i)) refl
-
 pub more_taken : {A : Type 0} (first before after all : List A) (i : ℕ) (x : A) → slice_get all i ≡ Some x → after ≡ before ++ x ∷ []
     → before ≡ first ++ take i all → after ≡ first ++ take (i + 1) all
 more_taken first before after all i x at grown so_far =
-    grown ∙ ap (λ l. l ++ x ∷ []) so_far ∙ append_assoc first (take i all) (x ∷ []) ∙ ap (λ l. first ++ l) (sym (take_more all i x at))
+    grown ∙ ap (λ l. l ++ x ∷ []) so_far ∙ append_assoc first (take i all) (x ∷ []) ∙ ap (λ l. first ++ l) (sym (take_next all i x at))
 
 pub twice_found : (first symbols all : List HostSymbol) (i : ℕ) (s : HostSymbol) (numbers : List (Name × ℕ)) → slice_get all i ≡ Some s
     → symbols ≡ first ++ take i all → AreKnown numbers symbols → is_among s.symbol (symbol_names symbols) ≡ true → IsFirstTwice first all
@@ -148,7 +88,7 @@ twice_found first symbols all i s numbers at so_far are there = record {
   front = take i all;
   again = s;
   behind = drop (i + 1) all;
-  is = sym (take-append-drop i all) ∙ ap (λ l. take i all ++ l) (drop_next all i s at);
+  is = sym (take-append-drop i all) ∙ ap (λ l. take i all ++ l) (drop_front all i s at);
   distinct = ap (λ l. are_distinct (symbol_names l)) (sym so_far) ∙ are.distinct;
   there = ap (λ l. is_among s.symbol (symbol_names l)) (sym so_far) ∙ there;
 }
@@ -160,7 +100,7 @@ pub hosts_taken : (hosts : List Host) (k : ℕ) (h : Host) (before after : List 
 hosts_taken hosts k h before after at grown so_far =
     grown ∙ ap (λ l. l ++ symbols_of_host h) so_far
     ∙ ap (λ l. symbols_of_hosts (take k hosts) ++ l) (sym (append-nil (symbols_of_host h)))
-    ∙ sym (flat_map-append symbols_of_host (take k hosts) (h ∷ [])) ∙ ap symbols_of_hosts (sym (take_more hosts k h at))
+    ∙ sym (flat_map-append symbols_of_host (take k hosts) (h ∷ [])) ∙ ap symbols_of_hosts (sym (take_next hosts k h at))
 
 -- ---- as the meaning of C has them
 
@@ -186,9 +126,8 @@ hosts_mean k (h ∷ hosts) =
     ∙ ap (λ l. l ++ c_symbols (symbols_of_hosts hosts)) (functions_mean (k, h) 0 h.functions)
     ∙ sym (map-append c_symbol (symbols_of_host h) (symbols_of_hosts hosts))
 
-pub symbols_mean : (p : linking.Program) (hosts : List Host) (symbols : List HostSymbol) → symbols ≡ symbols_of_hosts hosts
-    → p.hosts ≡ hosts → symbols_of p ≡ c_symbols symbols
-symbols_mean p hosts symbols is same = hosts_mean 0 p.hosts ∙ ap (λ hs. c_symbols (symbols_of_hosts hs)) same ∙ ap c_symbols (sym is)
+pub symbols_mean : (symbols : List HostSymbol) (hosts : List Host) → symbols ≡ symbols_of_hosts hosts → c_symbols symbols ≡ symbols_of hosts
+symbols_mean symbols hosts is = ap c_symbols is ∙ sym (hosts_mean 0 hosts)
 
 -- the symbol of a host's function
 pub symbol_there : (host : Name) (fs : List HostFunction) (i : ℕ) (f : HostFunction) (s : HostSymbol) → slice_get fs i ≡ Some f

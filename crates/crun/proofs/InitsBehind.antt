@@ -1,75 +1,6 @@
 -- The init functions in turn, as the run of them.
-use Rattle.std.proofs.Common.{
-  ◌≡◌,
-  ℕ,
-  suc,
-  ◌+◌,
-  ◌-◌,
-  ◌≤◌,
-  ◌<◌,
-  append_assoc,
-  slice_index_or,
-  List,
-  [],
-  ◌∷◌,
-  ◌++◌,
-  length,
-  map,
-  take,
-  drop,
-  slice_get,
-  Option,
-  Some,
-  None,
-  option_map,
-  refl,
-  sym,
-  ap,
-  ◌∙◌,
-  subst,
-  arith,
-}
-use Rattle.std.specs.Prelude.{zip}
-use Rattle.std.specs.List.{range_with_len}
-use Rattle.std.proofs.lemmas.List.{append-nil, length-map, map-append, take_all, take-append-drop}
-use Rattle.std.proofs.lemmas.Option.{slice_get-get_or, slice_get-map}
-use Rattle.w2c_base.specs.declared.value.Value.{Value}
-use Rattle.w2c_base.specs.Lookup.{numbered}
-use Rattle.w2c_base.specs.Run.{Ask, Call, Event, Init, Reply, asks_in}
-use Rattle.c_tree.specs.View.{unit_of}
-use Rattle.c_meaning.specs.State.{FuncAddress, Number, State, UnitFunc}
-use Rattle.c_meaning.specs.Linking.{Program, SymbolCall, init_functions}
-use Rattle.c_meaning.specs.Machine.{fresh}
-use Rattle.c_meaning.specs.Step.{call}
-use Rattle.c_meaning.specs.Run.{Entry, Going, Pending, Progress, after, begin_entry, begun, c_run, entries_of}
-use Rattle.c_sound.specs.Typed.{Begins, TypedProgram}
-use Rattle.c_sound.proofs.Lists.{all_at}
-use Rattle.c_sound.proofs.Runs.{all_inits_begin}
-use Rattle.c_objects.specs.Views.{Naming, item_name}
-use Rattle.c_link.proofs.Walks.{numbered_at, take_next}
-use Rattle.crun_startup.specs.Inits.{UnitItem, address_in}
-use Rattle.crun_startup.specs.Names.{naming_of}
-use Rattle.c_hosts.specs.declared.host.HostModule.{Ghosts as HostModule}
-use Rattle.c_hosts.specs.declared.journal.Asked.{Asked}
-use Rattle.c_hosts.specs.Journals.{ask_of, event_in, events_in, replies_in}
-use Rattle.c_hosts.specs.Running.{trail_before, trail_behind, Asks}
-use Rattle.c_hosts.proofs.Offers.{asks_on}
-use Rattle.crun.specs.declared.engine.Engine.{Engine}
-use Rattle.crun.specs.declared.outcome.Outcome.{Outcome}
+use Rattle.crun.proofs.Common.{◌≡◌, ℕ, ◌+◌, ◌-◌, ◌<◌, ◌≤◌, List, [], ◌∷◌, ◌++◌, map, length, take, drop, slice_get, slice_index_or, Some, None, Option, option_map, sym, refl, ap, ◌∙◌, subst, append_assoc, append-nil, arith, take-append-drop, take_all, length-map, map-append, slice_get-get_or, slice_get-map, numbered_at, numbered_many, all_at, take_next, numbered, Ask, Call, Event, Init, Reply, asks_in, Value, unit_of, Program, SymbolCall, init_functions, fresh, Entry, Going, Pending, Progress, after, begin_entry, begun, c_run, entries_of, FuncAddress, Number, State, UnitFunc, call, all_inits_begin, Begins, TypedProgram, Naming, item_name, asks_on, ask_of, event_in, events_in, replies_in, Asks, trail_before, trail_behind, HostModule, Asked, UnitItem, address_in, naming_of, Came, FunctionCame, FunctionCamePart, IsReady, SameProgram, entry_in, machine_at, naming_in, program_in, units_at, AreBegun, BehindAt, IsFirst, IsOutcome, last_value, trail_of, Engine, Outcome}
 use Rattle.crun.specs.declared.outcome.Outcome.TheVariants as outcome
-use Rattle.crun.specs.Engines.{
-  entry_in,
-  machine_at,
-  naming_in,
-  program_in,
-  units_at,
-  Came,
-  FunctionCame,
-  FunctionCamePart,
-  IsReady,
-  SameProgram,
-}
-use Rattle.crun.specs.Sessions.{last_value, trail_of, AreBegun, BehindAt, IsFirst, IsOutcome}
 use Rattle.crun.proofs.Functions.{alone_in, init_gives_none, same_program, void_ends}
 use Rattle.crun.proofs.History.{
   all_ended,
@@ -83,10 +14,6 @@ use Rattle.crun.proofs.History.{
   trapped,
   undefined,
 }
-
-length_numbered_from : {A : Type 0} (k : ℕ) (xs : List A) → length (zip (range_with_len k (length xs)) xs) ≡ length xs
-length_numbered_from k [] = refl
-length_numbered_from k (x ∷ xs) = ap suc (length_numbered_from (k + 1) xs)
 
 -- the function that runs first with a number
 pub init_at : (p : Program) (names : Naming) (inits : List UnitItem) → map (address_in names) inits ≡ init_functions p → (k : ℕ)
@@ -203,7 +130,7 @@ module _ {H : Type 0} (m : HostModule H) (old : Engine H) where
     -- it begins by the rules, and so it comes back without a value
     begins_there : Begins p (record { phase = Init k; func = Some f; args = [] })
     begins_there = all_at (λ f. Begins p (record { phase = Init k; func = Some f; args = [] })) (init_functions p)
-        (all_inits_begin p ran_program k) k f at
+        k f (all_inits_begin p ran_program k) at
       where
         ran_program : TypedProgram p
         ran_program = subst TypedProgram (same_program m old now ran.same) ran.ready.started.program
@@ -332,7 +259,7 @@ module _ {H : Type 0} (m : HostModule H) (old : Engine H) where
     entries_are = take_all k init_entries (subst (λ n. n ≤ k) (sym count) all) ∙ sym only_inits
       where
         count : length init_entries ≡ length (init_functions p)
-        count = length-map (numbered (init_functions p)) init_entry ∙ length_numbered_from 0 (init_functions p)
+        count = length-map (numbered (init_functions p)) init_entry ∙ numbered_many 0 (init_functions p)
 
     pub all_behind : BehindAt p now.depth (units_at now) now.hosts.journal (old.left - now.left) (entries_of p []) (Init (k - 1))
         (events_in now.hosts.journal)

@@ -1,16 +1,10 @@
 -- What a session keeps to, wherever it stands.
-use Rattle.std.proofs.Common.{◌≡◌, ◌≤◌, ℕ, refl, sym, subst}
-use Rattle.c_hosts.specs.declared.host.HostModule.{Ghosts as HostModule}
-use Rattle.crun.specs.declared.engine.Engine.{Engine}
+use Rattle.crun.proofs.Common.{◌≡◌, ℕ, ◌≤◌, sym, refl, subst, HostModule, IfEnded, IsReady, IsStarted, IfOver, Keeps, phase_of, standing_of, Engine, Outcome, Standing}
 use Rattle.crun.specs.declared.outcome.Kept.{Kept}
 use Rattle.crun.specs.declared.outcome.Kept.TheVariants as kept
-use Rattle.crun.specs.declared.outcome.Outcome.{Outcome}
 use Rattle.crun.specs.declared.outcome.Outcome.TheVariants as outcome
 use Rattle.crun.specs.declared.outcome.Phase.TheVariants as phase
-use Rattle.crun.specs.declared.outcome.Standing.{Standing}
 use Rattle.crun.specs.declared.outcome.Standing.TheVariants as standing
-use Rattle.crun.specs.Engines.{IfEnded, IsReady, IsStarted}
-use Rattle.crun.specs.Sessions.{phase_of, standing_of, IfOver, Keeps}
 
 -- where a session stands, by what is asked of it
 pub not_over : (s : Standing) (P : Kept → Type 0) → ((why : Kept) → s ≡ standing.Over why → ⊥) → IfOver s P

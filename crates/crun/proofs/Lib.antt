@@ -1,6 +1,7 @@
+mod Common
 pub mod HostSymbols
 mod Functions
-mod History
+pub mod History
 mod CallsBehind
 mod InitsBehind
 mod Beginnings

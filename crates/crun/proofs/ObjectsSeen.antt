@@ -1,23 +1,8 @@
 -- Objects by name, as they stand by number.
-use Rattle.std.proofs.Common.{◌≡◌, ℕ, zero, suc, List, [], ◌∷◌, map, zip, slice_get, Option, Some, None, option_map, refl, sym, ap, ◌∙◌}
-use Rattle.std.proofs.lemmas.Option.{slice_get-map}
-use Rattle.w2c_base.specs.Lookup.{if_found, named}
-use Rattle.c_meaning.specs.State.{Name, Objects}
-use Rattle.c_machine.specs.Names.{number_in, Finds}
+use Rattle.crun.proofs.Common.{◌≡◌, ℕ, zero, suc, List, [], ◌∷◌, map, slice_get, Some, None, Option, option_map, zip, sym, refl, ap, ◌∙◌, slice_get-map, if_found, named, unit_of, Name, Objects, memory_of, table_of, objects_of, units_of, Naming, UnitNames, value_of, UnitObjects, Finds, number_in, LinkedUnit, HostModule, unit_names, IsStarted, naming_in, units_at, AreFound, memories_of, object_in, tables_of, vars_of, Engine}
 use Rattle.c_machine.proofs.Variables.{named-zip}
-use Rattle.c_objects.specs.declared.store.UnitObjects.{UnitObjects}
-use Rattle.c_objects.specs.Objects.{memory_of, table_of}
-use Rattle.c_objects.specs.Stores.{objects_of, units_of}
-use Rattle.c_objects.specs.Views.{Naming, UnitNames, value_of}
 use Rattle.c_tree.specs.Tree as tree
-use Rattle.c_tree.specs.View.{unit_of}
-use Rattle.c_thread.specs.declared.control.LinkedUnit.{LinkedUnit}
 use Rattle.c_thread.specs.declared.scope.ObjectTables.{ObjectTables}
-use Rattle.crun_startup.specs.Names.{unit_names}
-use Rattle.c_hosts.specs.declared.host.HostModule.{Ghosts as HostModule}
-use Rattle.crun.specs.declared.engine.Engine.{Engine}
-use Rattle.crun.specs.Engines.{naming_in, units_at, IsStarted}
-use Rattle.crun.specs.Shown.{memories_of, object_in, tables_of, vars_of, AreFound}
 
 -- the objects of a unit are those of its names and of what stands there
 pub units_found : (names : Naming) (ns : List UnitNames) (os : List UnitObjects) (u : ℕ)

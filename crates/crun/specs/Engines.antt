@@ -3,10 +3,11 @@ use Rattle.std.specs.Prelude.{◌≡◌, ◌≤◌, ℕ, List, [], map, Option, 
 use Rattle.w2c_base.specs.declared.value.Value.{Value}
 use Rattle.w2c_base.specs.Run.{Event, Phase, Reply, Trail}
 use Rattle.c_tree.specs.View.{unit_of}
-use Rattle.c_meaning.specs.State.{Machine, Number, Objects, Place, State, Trapped, Undefined, UnitFunc}
+use Rattle.c_meaning.specs.State.{Machine, Number, Objects, State, Trapped, Undefined, UnitFunc}
 use Rattle.c_meaning.specs.Linking.{Program}
 use Rattle.c_meaning.specs.Run.{Entry, Going, Over, Pending, Progress, Stopped, after, begun, came_back, over}
 use Rattle.c_meaning.specs.Step.{call}
+pub use Rattle.c_meaning.specs.Views.{place_of}
 use Rattle.c_sound.specs.Typed.{TypedMachine, TypedProgram}
 use Rattle.c_objects.specs.declared.held.Held.{Held}
 use Rattle.c_objects.specs.declared.held.Held.TheVariants as held
@@ -26,7 +27,6 @@ use Rattle.c_hosts.specs.Running.{trail_before, trail_behind}
 use Rattle.crun.specs.declared.engine.Engine.{Engine}
 use Rattle.crun.specs.declared.outcome.Outcome.{Outcome}
 use Rattle.crun.specs.declared.outcome.Outcome.TheVariants as outcome
-use Rattle.crun.specs.declared.outcome.UndefinedAt.{UndefinedAt}
 
 -- a machine
 abbrev pub machine_with : ℕ → List Objects → Trail → Machine
@@ -44,9 +44,6 @@ units_at e = units_of (naming_in e) (naming_in e) e.startup.store.units.items
 
 abbrev pub machine_at : {H : Type 0} → Engine H → Trail → Machine
 machine_at e trail = machine_with e.depth (units_at e) trail
-
-abbrev pub place_of : UndefinedAt → Place
-place_of u = record { unit = u.unit; item = u.item; statement = u.statement }
 
 -- the tables are those of the units, whose types and objects are those of the program
 pub record IsStarted {H : Type 0} (m : HostModule H) (e : Engine H) : Type 0 where

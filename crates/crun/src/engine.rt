@@ -9,9 +9,10 @@ ghost use Rattle.c_objects.specs.Stores.{AreStored};
 ghost use Rattle.crun.specs.declared.outcome.Outcome.TheVariants as outcomes;
 ghost use Rattle.crun.specs.Engines.{ended_with, entry_in, naming_in, outcome_in, program_in, BeginsWith, FunctionCame, FunctionCamePart, IfEnded, IsReady, SameProgram};
 
-use crate::outcome::{Outcome, UndefinedAt};
+use crate::outcome::Outcome;
 use c_hosts::{Ending, HostModule, Hosts, run};
 use c_link::Linked;
+use c_meaning::UndefinedAt;
 use c_objects::{Held, Store};
 use c_thread::{LinkedFrame, LinkedThread};
 use crun_startup::Startup;

@@ -2,10 +2,9 @@
 ghost use Rattle.std.specs.Prelude.{◌≡◌, false, ◌∷◌, ◌++◌, [], ℕ, Err, IfOk, OnOk, true};
 ghost use Rattle.c_tree.specs.Rules.{are_distinct};
 ghost use Rattle.c_tree.specs.Scope.{is_among};
-ghost use Rattle.c_meaning.specs.Linking.{Program};
+ghost use Rattle.c_meaning.specs.Linking.{symbols_of};
 ghost use Rattle.crun.specs.declared.hosts.HostsRefusal.TheVariants as refusal;
 ghost use Rattle.c_link.specs.Offers.{c_symbols};
-ghost use Rattle.c_link.specs.Programs.{symbols_of};
 ghost use Rattle.c_link.specs.Resolved.{symbol_names};
 ghost use Rattle.c_hosts.specs.Asking.{function_of, host_of, hosts_of};
 ghost use Rattle.crun.specs.HostSymbols.{AreKnown, IsFirstTwice, IsTwiceAt, symbol_in, symbols_of_host, symbols_of_hosts};
@@ -58,7 +57,7 @@ pub fn host_symbols<H: HostModule>(
 ) -> Result<Vec<HostSymbol>, HostsRefusal>
     ensures symbols { IfOk result (λ list. list.items ≡ symbols_of_hosts (hosts_of H.HostModule hosts.now)) }
     ensures distinct { IfOk result (λ list. are_distinct (symbol_names list.items) ≡ true) }
-    ensures meaning { IfOk result (λ list. (p : Program) → p.hosts ≡ hosts_of H.HostModule hosts.now → symbols_of p ≡ c_symbols list.items) }
+    ensures meaning { IfOk result (λ list. c_symbols list.items ≡ symbols_of (hosts_of H.HostModule hosts.now)) }
     ensures twice { (k : ℕ) → result ≡ Err (refusal.Twice k) → IsTwiceAt (hosts_of H.HostModule hosts.now) k }
 {
     let mut list = SymbolList {

@@ -12,7 +12,8 @@ mod shown;
 mod start;
 
 pub use c_hosts::{Asked, BoxedHost, HostFunction, HostModule, HostReply, Journal};
+pub use c_meaning::UndefinedAt;
 pub use hosts::{HostsRefusal, host_symbols};
-pub use outcome::{Kept, Outcome, Phase, Standing, Stop, UndefinedAt};
+pub use outcome::{Kept, Outcome, Phase, Standing, Stop};
 pub use session::Session;
 pub use shown::{Element, Owner};

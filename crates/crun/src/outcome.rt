@@ -2,19 +2,8 @@
 ghost use Rattle.std.specs.Prelude.{◌≡◌};
 ghost use Rattle.crun.specs.declared.outcome.Stop.TheVariants as stops;
 
+use c_meaning::UndefinedAt;
 use w2c_base::{Memory, TrapKind, Value};
-
-/// Where a statement was undefined: the kind (1 a division by 0, 2 a shift by the width or more,
-/// 3 an array index past the count, 4 a null pointer, 5 a call through another type, 6 an access
-/// past a memory's length, 7 a place past a table's length, 8 an argument of a primitive out of
-/// its range), the unit and the item, counted from 0, and the statement, counted from 1.
-#[derive(Clone, Copy, Debug, PartialEq, Eq)]
-pub struct UndefinedAt {
-    pub kind: u32,
-    pub unit: usize,
-    pub item: usize,
-    pub statement: usize,
-}
 
 /// How a run ended, or that it did not.
 #[derive(Clone, Copy, Debug, PartialEq, Eq)]

@@ -1,38 +1,10 @@
 -- A run whose journal was written, and that is replayed, is the same run.
-use Rattle.std.proofs.Common.{◌≡◌, inl, inr, ℕ, List, [], ◌∷◌, map, Option, Some, None, MatchOption, refl, sym, ap, ◌∙◌, subst}
-use Rattle.std.specs.FinMap.{get}
-use Rattle.std.specs.Prelude.{Bool}
-use Rattle.w2c_base.specs.Run.{Host}
-use Rattle.w2c_io.specs.Contents.{Name, Contents, extended, holding}
+use Rattle.crun_cli.proofs.Common.{◌≡◌, ℕ, Bool, List, [], ◌∷◌, map, Some, None, Option, MatchOption, sym, refl, ap, ◌∙◌, subst, inl, inr, get, Host, Contents, Name, extended, holding, SymbolCall, CRun, Ended, OutOfSteps, Stopped, c_run, Stuck, Trapped, Undefined, lines_of, hosts_of, replies_in, HostModule, Asked, asks_again, hosts_same, none_distinct, one_read, IsJournal, empty, journal_lines_of, AreReplays, replaying, IsAnsweredRun, run_with, Recorded, journal_text, ReplayHost, Line, RunLine, line_of, runs, AllRead, AreInputs, Held, IsJournalReading, JournalReading, LongCalls, LongJournal, LongUnit, NoJournal, NotThere, IsTextsJob, Job, Run, Stops, Write, Usage, AsksAgain, GainsTheSame, IsTheSame, ReplaysJournal, RunsAgain, By_refusal, By_run, By_unit, HasAnswer, HasPlayed, IsAnswered, IsJobWith, IsJournaled, IsRun, Ran, WithHosts, HoldsJournal, IsJobOfTexts, IsLineJob, IsReplayJob, IsRunJob, symbols_of, Outside, HasStatus}
 use Rattle.w2c_io.proofs.Names.{get_here}
 use Rattle.w2c_files.specs.Reading.{AreHeld}
 use Rattle.c_tree.specs.Tree as tree
-use Rattle.c_meaning.specs.Linking.{SymbolCall}
-use Rattle.c_meaning.specs.Run.{CRun, Ended, Outcome, OutOfSteps, Stopped}
-use Rattle.c_meaning.specs.State.{Asks, Stuck, Trapped, Undefined}
-use Rattle.c_hosts.specs.declared.host.HostModule.{Ghosts as HostModule}
-use Rattle.c_hosts.specs.declared.journal.Asked.{Asked}
-use Rattle.c_hosts.specs.Asking.{hosts_of}
-use Rattle.c_hosts.specs.Journals.{replies_in}
-use Rattle.crun_lines.specs.RunLines.{lines_of}
-use Rattle.host_replay.specs.declared.replay.ReplayHost.{ReplayHost}
-use Rattle.host_replay.specs.Reading.{empty, lines_of as journal_lines_of, IsJournal}
-use Rattle.host_replay.specs.Replayed.{AreReplays, replaying}
-use Rattle.host_replay.specs.Runs.{run_with, IsAnsweredRun}
-use Rattle.host_replay.specs.Texts.{journal_text, Recorded}
-use Rattle.host_replay.proofs.Again.{asks_again}
-use Rattle.host_replay.proofs.Given.{hosts_same}
-use Rattle.host_replay.proofs.Verdicts.{none_distinct, one_read}
-use Rattle.crun_words.specs.CommandLine.{Line, RunLine, line_of, runs}
-use Rattle.crun_words.specs.Inputs.{AllRead, AreInputs, Held, IsJournalReading, JournalReading, LongCalls, LongJournal, LongUnit, NoJournal, NotThere}
-use Rattle.crun_job.specs.Job.{IsTextsJob, Job, Run, Stops, Write}
-use Rattle.crun_job.specs.Lines.{Usage}
-use Rattle.crun_cli.specs.Again.{AsksAgain, GainsTheSame, IsTheSame, ReplaysJournal, RunsAgain}
-use Rattle.c_meaning.specs.Run.{c_run}
-use Rattle.crun_cli.specs.Ends.{By_refusal, By_run, By_unit, HasAnswer, HasPlayed, IsAnswered, IsJobWith, IsJournaled, IsRun, Ran, WithHosts}
-use Rattle.crun_cli.specs.Jobs.{symbols_of, HoldsJournal, IsJobOfTexts, IsLineJob, IsReplayJob, IsRunJob}
-use Rattle.crun_cli.specs.Outside.{Outside}
-use Rattle.crun_cli.specs.Runs.{HasStatus}
+use Rattle.c_meaning.specs.Run.{Outcome}
+use Rattle.c_meaning.specs.State.{Asks}
 use Rattle.crun_cli.proofs.OneJob.{one_job}
 
 same_journal : (text : List ℕ) (a b : Recorded) → IsJournal text a → IsJournal text b → a ≡ b

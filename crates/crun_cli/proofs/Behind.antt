@@ -1,36 +1,10 @@
 -- What the outcome of an init function or a call, and the lines that are written of it, make of where a run stands.
-use Rattle.std.proofs.Common.{◌≡◌, ℕ, ◌+◌, List, [], ◌∷◌, ◌++◌, append_assoc, length, map, drop, Option, Some, None, refl, sym, ap, ◌∙◌, subst}
-use Rattle.std.specs.Prelude.{Bool, true, false, if◌then◌else◌}
-use Rattle.std.proofs.lemmas.List.{append-nil, drop_at, map-append}
-use Rattle.w2c_base.specs.declared.value.Value.{Value}
-use Rattle.w2c_base.specs.Run.{Ask, Event, Host, Phase, Init, Call, asks_in, values_in}
-use Rattle.w2c_base.proofs.Events.{asks_behind}
-use Rattle.w2c_io.specs.Contents.{extended}
-use Rattle.w2c_io.specs.Telling.{SaysPart}
-use Rattle.c_tree.specs.View.{unit_of}
-use Rattle.c_meaning.specs.Linking.{SymbolCall}
-use Rattle.c_meaning.specs.Run.{CRun, Ended, c_run, over}
-use Rattle.c_hosts.specs.declared.host.HostModule.{Ghosts as HostModule}
-use Rattle.c_hosts.specs.declared.journal.Asked.{Asked}
-use Rattle.c_hosts.specs.Asking.{hosts_of, Answered}
-use Rattle.c_hosts.specs.Journals.{ask_of, events_in, replies_in, reply_in}
-use Rattle.c_hosts.specs.Running.{Asks}
-use Rattle.crun.specs.declared.outcome.Outcome.{Outcome}
+use Rattle.crun_cli.proofs.Common.{◌≡◌, ℕ, ◌+◌, Bool, true, false, List, [], ◌∷◌, ◌++◌, map, length, drop, if◌then◌else◌, Some, None, Option, sym, refl, ap, ◌∙◌, subst, append_assoc, append-nil, drop_at, map-append, asks_behind, Ask, Call, Event, Host, Init, Phase, asks_in, values_in, Value, extended, SaysPart, unit_of, SymbolCall, CRun, Ended, c_run, over, event_lines_append, last_line, event_lines, lines_of, Answered, hosts_of, ask_of, events_in, replies_in, reply_in, Asks, HostModule, Asked, asked_events, machine_with, IsLast, IsOutcome, Stands, State, objects_of, program_of, told_by, trail_of, Outcome, part_behind, part_in_front, says_nothing, whole_behind, HasAsked, HasPartLeaving, HasStatus, lines_behind, status_of_outcome}
 use Rattle.crun.specs.declared.outcome.Outcome.TheVariants as outcome
-use Rattle.crun.specs.Engines.{machine_with}
-use Rattle.crun.specs.Sessions.{objects_of, program_of, told_by, trail_of, IsLast, IsOutcome, Stands, State}
-use Rattle.crun_lines.specs.CallLines.{last_line}
-use Rattle.crun_lines.specs.RunLines.{event_lines, lines_of}
 use Rattle.crun_lines.specs.StateLines.{state_lines}
-use Rattle.crun_lines.proofs.Events.{event_lines_append}
 use Rattle.crun_cli.specs.Playing.{lines_at, run_at, HasPlayed, IsBehind, IsLeft, IsSince, IsStored}
-use Rattle.host_replay.specs.Runs.{asked_events}
-use Rattle.crun_cli.specs.Recording.{HasAsked, HasPartLeaving}
-use Rattle.crun_cli.specs.Runs.{HasStatus}
-use Rattle.crun_cli.specs.Views.{lines_behind, status_of_outcome}
 use Rattle.crun_cli.proofs.Lines.{asks_are, asks_are_asked, call_lines, came_out, end_is, inits_lines, status_is, told_asks}
 use Rattle.crun_cli.proofs.Sessions.{has_ended, told_in_front}
-use Rattle.program_words.proofs.Written.{part_behind, part_in_front, says_nothing, whole_behind}
 
 -- hosts have answered these asks, and then those
 answered_append : {H : Type 0} (m : HostModule H) (before middle after : List H) (asks more : List Asked)

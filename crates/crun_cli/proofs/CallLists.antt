@@ -1,9 +1,6 @@
 -- The calls of a list, one by one.
-use Rattle.std.proofs.Common.{◌≡◌, ℕ, ◌+◌, ◌<◌, List, [], ◌∷◌, ◌++◌, length, take, drop, get_or, sym, arith}
-use Rattle.std.proofs.lemmas.List.{length-map, length-take-le}
+use Rattle.crun_cli.proofs.Common.{◌≡◌, ℕ, ◌+◌, ◌<◌, List, [], ◌∷◌, ◌++◌, length, get_or, take, drop, sym, arith, length-take-le, length-map, mapped_next, mapped_split, call_seen, calls_seen}
 use Rattle.crun_job.specs.declared.calls_file.NamedCall.{NamedCall}
-use Rattle.crun_job.specs.Seen.{call_seen, calls_seen}
-use Rattle.program_words.proofs.Loops.{mapped_next, mapped_split}
 
 pub calls_split : (calls : List NamedCall) (k : ℕ) (call : NamedCall) → k < length calls → call ≡ get_or calls k call
     → take k (calls_seen calls) ++ call_seen call ∷ drop (k + 1) (calls_seen calls) ≡ calls_seen calls

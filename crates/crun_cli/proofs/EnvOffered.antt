@@ -1,13 +1,7 @@
 -- A host with the name and the functions of `env`, alone, offers each of its symbols once.
-use Rattle.std.proofs.Common.{◌≡◌, true, List, [], ◌∷◌, ◌++◌, refl, sym, ap, ◌∙◌, subst}
-use Rattle.w2c_base.specs.Run.{Host}
-use Rattle.c_tree.specs.Rules.{are_distinct}
-use Rattle.c_link.specs.Resolved.{symbol_names}
-use Rattle.crun.specs.HostSymbols.{symbols_of_hosts}
-use Rattle.c_hosts.specs.declared.host.HostModule.{Ghosts as HostModule}
+use Rattle.crun_cli.proofs.Common.{◌≡◌, true, List, [], ◌∷◌, ◌++◌, sym, refl, ap, ◌∙◌, subst, Host, are_distinct, symbol_names, HostModule, symbols_of_hosts, AreOffered}
 use Rattle.env_host.specs.EnvHost.{env_name, env_functions}
 use Rattle.env_host.proofs.Seen.{env_host, env_seen}
-use Rattle.crun_cli.specs.Ends.{AreOffered}
 
 abbrev Distinct : Host → Type 0
 Distinct h = are_distinct (symbol_names (symbols_of_hosts (h ∷ []))) ≡ true

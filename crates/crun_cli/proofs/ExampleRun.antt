@@ -1,49 +1,27 @@
 -- README's run of a unit: what two.c spells, what the calls file says, and what its run prints.
-use Rattle.std.proofs.Common.{◌≡◌, ◌<◌, inl, inr, ℕ, ◌+◌, Bool, true, false, List, [], ◌∷◌, length, map, Option, Some, None, MatchOption, codes, refl, sym, ap, ◌∙◌, subst, arith}
+use Rattle.crun_cli.proofs.Common.{◌≡◌, ℕ, ◌+◌, ◌<◌, Bool, true, false, List, [], ◌∷◌, map, length, Some, None, codes, Option, MatchOption, sym, refl, ap, ◌∙◌, subst, inl, inr, arith, leb-true, get, CallEnded, Host, Reply, Value, I32, Contents, Name, extended, CSpells, print_of, SymbolCall, CRun, Ended, c_run, lines_of, hosts_of, replies_in, HostModule, one_reading, Line, RunLine, line_of, runs, AllRead, IsReading, Reading, most_calls_bytes, most_unit_bytes, most_units_bytes, IsTextsJob, Job, Run, Stops, Write, Usage, Finished, HasPlayed, Ran, WithHosts, IsJob, IsJobBehind, IsLineJob, IsRunJob, symbols_of, Outside, HasStatus}
 use Rattle.std.specs.Fmt.{digits}
-use Rattle.std.specs.FinMap.{get}
-use Rattle.std.proofs.lemmas.Bool.{leb-true}
 use Rattle.std.proofs.lemmas.List.Elements.{All-from_recursion}
 use Rattle.clap.proofs.OnLiterals.{clap_on_literals}
-use Rattle.w2c_base.specs.declared.value.Value.{Value}
-use Rattle.w2c_base.specs.declared.value.Value.TheVariants.{I32}
-use Rattle.w2c_base.specs.Run.{Call as InCall, CallEnded, Host, Reply}
+use Rattle.w2c_base.specs.Run.{Call as InCall}
 use Rattle.w2c_base.specs.Values.{number_of}
-use Rattle.w2c_io.specs.Contents.{Name, Contents, extended}
 use Rattle.c_tree.specs.declared.tree.CType.{CType}
 use Rattle.c_tree.specs.declared.tree.CType.TheVariants as c_type
 use Rattle.c_tree.specs.declared.tree.Num.TheVariants.{N32}
 use Rattle.c_tree.specs.declared.tree.COp.TheVariants as op
-use Rattle.c_tree.specs.Spelled.{CSpells}
 use Rattle.c_tree.specs.Tree as tree
 use Rattle.c_tree.proofs.OneUnit.{one_unit}
 use Rattle.c_tree.proofs.TestsTell.{unit_tells}
 use Rattle.c_tree.proofs.WellFormedUnits.{formed}
-use Rattle.c_print.specs.Print.{print_of}
 use Rattle.c_print.proofs.Spells as print
-use Rattle.c_meaning.specs.Linking.{SymbolCall}
-use Rattle.c_meaning.specs.Run.{CRun, Ended, c_run}
-use Rattle.c_hosts.specs.declared.host.HostModule.{Ghosts as HostModule}
-use Rattle.c_hosts.specs.Asking.{hosts_of}
-use Rattle.c_hosts.specs.Journals.{replies_in}
-use Rattle.crun_lines.specs.RunLines.{lines_of}
 use Rattle.crun_words.specs.CallLine.{Call, IsBytes, SaysCall}
 use Rattle.program_words.specs.Command.{rows_read}
 use Rattle.crun_words.specs.Command.{values_of}
-use Rattle.crun_words.specs.CommandLine.{Line, RunLine, line_of, runs}
-use Rattle.crun_words.specs.Inputs.{AllRead, IsReading, Reading, most_calls_bytes, most_unit_bytes, most_units_bytes}
-use Rattle.crun_words.proofs.InputStops.{one_reading}
 use Rattle.crun_words.proofs.Said.{one_call}
 use Rattle.crun_job.specs.Calls.{Names, NamesFrom}
 use Rattle.crun_job.specs.Each.{AreEach}
-use Rattle.crun_job.specs.Job.{IsTextsJob, Job, Run, Stops, Write}
-use Rattle.crun_job.specs.Lines.{Usage}
 use Rattle.crun_job.specs.Texts.{IsUnitText}
-use Rattle.crun_cli.specs.Ends.{Finished, HasPlayed, Ran, WithHosts}
 use Rattle.crun_cli.specs.Example.{two_c, two_calls, two_words}
-use Rattle.crun_cli.specs.Jobs.{symbols_of, IsJob, IsJobBehind, IsLineJob, IsRunJob}
-use Rattle.crun_cli.specs.Outside.{Outside}
-use Rattle.crun_cli.specs.Runs.{HasStatus}
 
 -- ---- the words
 

@@ -1,144 +1,16 @@
 -- Over files that behave as files what passed says what a call comes to over what they hold.
-use Rattle.std.proofs.Common.{
-  ◌≡◌,
-  ◌⊎◌,
-  inl,
-  inr,
-  ℕ,
-  ◌≤◌,
-  Bool,
-  true,
-  false,
-  List,
-  [],
-  ◌∷◌,
-  ◌++◌,
-  append_assoc,
-  length,
-  MatchOption,
-  Option,
-  Some,
-  None,
-  Err,
-  refl,
-  sym,
-  ap,
-  ◌∙◌,
-  subst,
-  arith,
-}
-use Rattle.std.proofs.lemmas.List.{append-nil}
-use Rattle.std.specs.Prelude.{◌&&◌, if◌then◌else◌, option_and_then}
-use Rattle.w2c_base.specs.Run.{Host}
-use Rattle.w2c_io.specs.Contents.{Name, Contents, Told, holding}
-use Rattle.w2c_io.specs.Telling.{Tells}
+use Rattle.crun_cli.proofs.Common.{◌≡◌, ℕ, ◌≤◌, Bool, true, false, ◌&&◌, ◌⊎◌, List, [], ◌∷◌, ◌++◌, length, if◌then◌else◌, Some, None, Err, Option, MatchOption, option_and_then, sym, refl, ap, ◌∙◌, subst, inl, inr, append_assoc, append-nil, arith, Host, Contents, Name, Told, holding, BreaksOff, WritesFile, Tells, WriteAnswer, first_in_order, FailsLast, ReadsInOrder, limited, IsBegun, print_of, SymbolCall, hosts_of, HostModule, Recorded, journal_text, Line, MergeLine, RunLine, TrimLine, line_of, merges, runs, trims, AllRead, Held, IsJournalReading, IsReading, IsUnitsReading, JournalReading, LongCalls, LongJournal, LongUnit, NoJournal, NoUnit, NotThere, Reading, UnitTooLong, UnitsRead, UnitsReading, most_unit_bytes, GivesJournal, IsTextsJob, Job, Run, Stops, Write, Reason, Unread, Unwritten, Usage, WantOfMemory, error_line, status_of, IsBehindUnits, IsMerged, IsTrimmedText, IsUnitsJob, IsUnitsJobOver, PassesUnits, WritesOutput, reason_for, RunsAgain, Begun, BegunIfAny, By_refusal, Finished, HasPlayed, HasPlayedPart, IsAnswered, IsJobWith, IsJournaled, IsKept, IsRunStatus, WithHosts, WithHostsBy, journal_of, IsToWrite, IsJob, IsJobBy, IsLineJob, IsReplayJob, IsRunJob, symbols_of, IsUntouched, Outside, BreaksJournal, IsReadLast, IsRunJobOver, PassesFor, PassesLine, PassesRun, ReadsMore, StopsFor, StopsQuietly, WritesJournal, WritesOfRun, WritesRun, run_reads, HasPart, HasRun}
 use Rattle.w2c_io.specs.Events.{Event, Read}
 use Rattle.w2c_io.specs.Honest.{AreHonest}
-use Rattle.w2c_io.specs.Passed.{BreaksOff, WritesFile}
 use Rattle.w2c_io.specs.declared.answers.ReadAnswer.TheVariants as reading
-use Rattle.w2c_io.specs.declared.answers.WriteAnswer.{WriteAnswer}
 use Rattle.w2c_io.specs.declared.answers.WriteAnswer.TheVariants as answer
 use Rattle.w2c_files.specs.CFile.{is_c_file}
-use Rattle.w2c_files.specs.Passing.{FailsLast, limited, ReadsInOrder}
-use Rattle.w2c_files.specs.Standing.{IsBegun}
 use Rattle.c_tree.specs.Tree as tree
-use Rattle.c_meaning.specs.Linking.{SymbolCall}
-use Rattle.c_print.specs.Print.{print_of}
-use Rattle.c_hosts.specs.declared.host.HostModule.{Ghosts as HostModule}
-use Rattle.c_hosts.specs.Asking.{hosts_of}
-use Rattle.host_replay.specs.Texts.{journal_text, Recorded}
 use Rattle.crun_words.specs.Command.{Values, values_of}
-use Rattle.crun_words.specs.CommandLine.{
-  are_units,
-  is_no_run,
-  Line,
-  line_by,
-  line_of,
-  line_of_merge,
-  line_of_trim,
-  line_of_values,
-  merge_of,
-  MergeLine,
-  merges,
-  run_with,
-  RunLine,
-  runs,
-  trim_of,
-  TrimLine,
-  trims,
-}
-use Rattle.crun_words.specs.Inputs.{
-  AllRead,
-  Held,
-  IsJournalReading,
-  IsReading,
-  IsUnitsReading,
-  JournalReading,
-  LongCalls,
-  LongJournal,
-  LongUnit,
-  most_unit_bytes,
-  NoJournal,
-  NotThere,
-  NoUnit,
-  Reading,
-  UnitsRead,
-  UnitsReading,
-  UnitTooLong,
-}
-use Rattle.crun_words.specs.Passing.{GivesJournal}
+use Rattle.crun_words.specs.CommandLine.{are_units, is_no_run, line_by, line_of_merge, line_of_trim, line_of_values, merge_of, run_with, trim_of}
 use Rattle.w2c_files.proofs.Honest.{file_begun, file_holds, honest_both, in_order_keep}
-use Rattle.w2c_files.proofs.InOrder.{first_in_order}
 use Rattle.crun_words.proofs.Honest.{FailsInputs, FailsJournal, FailsUnits, inputs_honest, journal_held, journal_honest, units_honest}
-use Rattle.crun_job.specs.Job.{IsTextsJob, Job, Run, Stops, Write}
-use Rattle.crun_job.specs.Lines.{
-  error_line,
-  Reason,
-  status_of,
-  Usage,
-  Unread,
-  Unwritten,
-  WantOfMemory,
-}
-use Rattle.crun_units.specs.Jobs.{IsBehindUnits, IsMerged, IsTrimmedText, IsUnitsJob}
-use Rattle.crun_units.specs.Passing.{IsUnitsJobOver, PassesUnits, reason_for, WritesOutput}
-use Rattle.crun_cli.specs.Again.{RunsAgain}
-use Rattle.crun_cli.specs.Ends.{
-  Begun,
-  BegunIfAny,
-  By_refusal,
-  Finished,
-  HasPlayed,
-  HasPlayedPart,
-  IsAnswered,
-  IsJobWith,
-  IsJournaled,
-  IsKept,
-  IsRunStatus,
-  journal_of,
-  WithHosts,
-  WithHostsBy,
-}
-use Rattle.crun_cli.specs.Files.{IsToWrite}
 use Rattle.crun_cli.specs.HonestPassing.{PassesHonestly}
-use Rattle.crun_cli.specs.Jobs.{symbols_of, IsJob, IsJobBy, IsLineJob, IsReplayJob, IsRunJob}
-use Rattle.crun_cli.specs.Outside.{IsUntouched, Outside}
-use Rattle.crun_cli.specs.Passing.{
-  BreaksJournal,
-  IsReadLast,
-  IsRunJobOver,
-  PassesFor,
-  PassesLine,
-  PassesRun,
-  ReadsMore,
-  run_reads,
-  StopsFor,
-  StopsQuietly,
-  WritesJournal,
-  WritesOfRun,
-  WritesRun,
-}
-use Rattle.crun_cli.specs.Runs.{HasPart, HasRun}
 use Rattle.crun_cli.proofs.RecordLaws.{ran_status}
 use Rattle.crun_cli.proofs.TopLaws.{
   begun_apart,

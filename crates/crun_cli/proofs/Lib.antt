@@ -1,3 +1,5 @@
+-- What the proofs of this crate cite from elsewhere
+mod Common
 -- lines, sessions and the run of a task
 pub mod Lines
 pub mod Sessions

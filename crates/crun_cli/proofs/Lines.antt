@@ -1,25 +1,9 @@
 -- The lines of what was told, of asks and of outcomes.
-use Rattle.std.proofs.Common.{◌≡◌, ℕ, ◌+◌, List, [], ◌∷◌, ◌++◌, append_assoc, length, map, Some, refl, sym, ap, ◌∙◌, arith}
-use Rattle.std.proofs.lemmas.List.{append-nil, map-append}
-use Rattle.w2c_base.specs.Run.{CallEnded, Event, Host, Init, Call, asks_in, values_in}
+use Rattle.crun_cli.proofs.Common.{◌≡◌, ℕ, ◌+◌, List, [], ◌∷◌, ◌++◌, map, length, Some, sym, refl, ap, ◌∙◌, append_assoc, append-nil, arith, map-append, values_behind, Call, CallEnded, Event, Host, Init, asks_in, values_in, CRun, Ended, OutOfSteps, Stopped, Trapped, Undefined, event_lines_append, ended_line, last_line, event_lines, ask_of, event_in, events_in, Asked, asked-append, asked_events, place_of, IsEnd, told_by, Outcome, HasStatus, asked_line, asks_lines, lines_behind, status_of_outcome}
 use Rattle.w2c_base.specs.Run as run
-use Rattle.w2c_base.proofs.Events.{values_behind}
-use Rattle.c_meaning.specs.State.{Trapped, Undefined}
-use Rattle.c_meaning.specs.Run.{CRun, Ended, OutOfSteps, Stopped}
 use Rattle.c_meaning.specs.Run as meaning
-use Rattle.c_hosts.specs.declared.journal.Asked.{Asked}
-use Rattle.c_hosts.specs.Journals.{ask_of, event_in, events_in}
-use Rattle.crun.specs.declared.outcome.Outcome.{Outcome}
 use Rattle.crun.specs.declared.outcome.Outcome.TheVariants as outcome
-use Rattle.crun.specs.Engines.{place_of}
-use Rattle.crun.specs.Sessions.{told_by, IsEnd}
-use Rattle.crun_lines.specs.CallLines.{ended_line, last_line}
-use Rattle.crun_lines.specs.RunLines.{event_lines}
-use Rattle.crun_lines.proofs.Events.{event_lines_append}
-use Rattle.host_replay.specs.Runs.{asked_events}
-use Rattle.host_replay.proofs.Again.{asked-append}
-use Rattle.crun_cli.specs.Runs.{HasStatus}
-use Rattle.crun_cli.specs.Views.{asked_line, asks_lines, lines_behind, status_of_outcome}
+use Rattle.crun.proofs.History.{asks_told}
 
 -- ---- asks
 
@@ -53,12 +37,8 @@ asks_of_events [] = refl
 asks_of_events (run.Asked ask reply ∷ events) = ap (λ l. ask ∷ l) (asks_of_events events)
 asks_of_events (CallEnded value ∷ events) = asks_of_events events
 
-asks_of_journal : (asks : List Asked) → asks_in (events_in asks) ≡ map ask_of asks
-asks_of_journal [] = refl
-asks_of_journal (a ∷ asks) = ap (λ l. ask_of a ∷ l) (asks_of_journal asks)
-
 pub asks_are : (events : List Event) (journal : List Asked) → asked_events events ≡ events_in journal → asks_in events ≡ map ask_of journal
-asks_are events journal are = sym (asks_of_events events) ∙ ap asks_in are ∙ asks_of_journal journal
+asks_are events journal are = sym (asks_of_events events) ∙ ap asks_in are ∙ asks_told journal
 
 -- ---- lines
 

@@ -1,16 +1,9 @@
 -- Hosts whose symbols differ have none that comes twice.
-use Rattle.std.proofs.Common.{◌≡◌, ℕ, zero, suc, Bool, true, false, ◌&&◌, ◌||◌, List, [], ◌∷◌, ◌++◌, append_assoc, take, drop, refl, sym, ap, ◌∙◌}
-use Rattle.std.specs.Prelude.{bytes_eq, not, slice_get, Some}
-use Rattle.std.proofs.lemmas.List.{map-append}
+use Rattle.crun_cli.proofs.Common.{◌≡◌, ℕ, zero, suc, Bool, true, false, not, ◌&&◌, ◌||◌, List, [], ◌∷◌, ◌++◌, take, drop, slice_get, Some, bytes_eq, sym, refl, ap, ◌∙◌, append_assoc, map-append, Host, are_distinct, symbol_names, HostSymbol, IsTwiceAt, symbols_of_host, symbols_of_hosts}
 use Rattle.std.proofs.lemmas.Grind.{flat_map-append}
 use Rattle.std.proofs.lemmas.Slice.Eq.{bytes_eq-Decides}
-use Rattle.w2c_base.specs.Run.{Host}
-use Rattle.c_tree.specs.Rules.{are_distinct}
 use Rattle.c_tree.specs.Scope.{Name, is_among}
 use Rattle.name_table.proofs.Lookups.{among-append}
-use Rattle.c_link.specs.declared.host_symbol.HostSymbol.{HostSymbol}
-use Rattle.c_link.specs.Resolved.{symbol_names}
-use Rattle.crun.specs.HostSymbols.{symbols_of_host, symbols_of_hosts, IsTwiceAt}
 
 -- one of these is here again
 twice_apart : (front behind : List Name) (again : Name) → is_among again front ≡ true → are_distinct (front ++ again ∷ behind) ≡ true → ⊥

@@ -1,28 +1,8 @@
 -- Words ask for at most one job.
-use Rattle.std.proofs.Common.{◌≡◌, inl, inr, ℕ, List, Option, Some, None, MatchOption, sym, ap, ◌∙◌, subst}
-use Rattle.w2c_base.specs.Run.{Host}
-use Rattle.w2c_io.specs.Contents.{Name, Contents}
-use Rattle.host_replay.specs.Reading.{empty, lines_of}
-use Rattle.host_replay.proofs.Verdicts.{none_distinct, one_read, one_refused, read_or_refused}
-use Rattle.crun_words.specs.CommandLine.{Line, RunLine, line_of, runs, merges, trims}
-use Rattle.crun_words.specs.Inputs.{
-  AllRead,
-  Held,
-  IsJournalReading,
-  JournalReading,
-  LongCalls,
-  LongJournal,
-  LongUnit,
-  NoJournal,
-  NotThere,
-  Reading,
-}
-use Rattle.crun_words.proofs.InputStops.{one_journal_reading, one_reading}
-use Rattle.crun_job.specs.Job.{IsTextsJob, Job, Stops}
-use Rattle.crun_job.specs.Lines.{JournalLine, Usage}
+use Rattle.crun_cli.proofs.Common.{◌≡◌, ℕ, List, Some, None, Option, MatchOption, sym, ap, ◌∙◌, subst, inl, inr, Host, Contents, Name, none_distinct, one_read, one_refused, read_or_refused, empty, one_journal_reading, one_reading, Line, RunLine, line_of, merges, runs, trims, AllRead, Held, IsJournalReading, JournalReading, LongCalls, LongJournal, LongUnit, NoJournal, NotThere, Reading, IsTextsJob, Job, Stops, JournalLine, Usage, IsJob, IsJobBehind, IsJobOfTexts, IsLineJob, IsReplayJob, IsRunJob, symbols_of}
+use Rattle.host_replay.specs.Reading.{lines_of}
 use Rattle.crun_job.proofs.JobLaws.{one_texts_job}
 use Rattle.crun_units.proofs.WriteJobs.{one_merge_job, one_trim_job}
-use Rattle.crun_cli.specs.Jobs.{symbols_of, IsJob, IsJobBehind, IsJobOfTexts, IsLineJob, IsReplayJob, IsRunJob}
 
 module _ (line : RunLine) (handed : List Host) (m : Contents) where
   one_replay : (name : Name) (texts : List (List ℕ)) (text : List ℕ) (reading : JournalReading) (a b : Job)

@@ -1,36 +1,8 @@
 -- A run whose journal is written: from what its steps say to what the line asks for.
-use Rattle.std.proofs.Common.{◌≡◌, ◌⊎◌, inl, inr, ℕ, Bool, List, [], ◌∷◌, ◌++◌, map, Option, Some, None, refl, sym, ap, ◌∙◌, subst}
-use Rattle.std.proofs.lemmas.List.{map-append}
-use Rattle.w2c_base.specs.Run.{Host, HostFunction}
-use Rattle.w2c_io.specs.Contents.{Name, Told, holding}
-use Rattle.w2c_files.specs.Standing.{IsBegun}
-use Rattle.c_tree.specs.Rules.{are_distinct}
+use Rattle.crun_cli.proofs.Common.{◌≡◌, ℕ, Bool, ◌⊎◌, List, [], ◌∷◌, ◌++◌, map, Some, None, Option, sym, refl, ap, ◌∙◌, subst, inl, inr, map-append, Host, HostFunction, Name, Told, holding, IsBegun, are_distinct, SymbolCall, Ended, OutOfSteps, Stopped, Stuck, Trapped, Undefined, symbol_names, HostSymbol, hosts_of, HostModule, Asked, symbols_distinct, symbol_of, recorded, Recorded, journal_text, AreDistinct, symbols_of_modules, JournalFile, symbol_in, symbols_of_host, symbols_of_hosts, RunLine, IsTextsJob, Run, CallsLine, Reason, Refused, WantOfMemory, StopsTexts, AreOffered, HasPlayed, HasPlayedPart, IsJournaled, IsRunStatus, journal_of, symbols_of, IsUntouched, Outside, HasRecorded, IsBlank, IsBlankFor, IsFilled, IsNamed, IsText, IsWritten, IsWrittenPart, HasPart, HasRun, HasStatus, IsTextsPart, IsTextsRun, StopsRun}
 use Rattle.c_tree.specs.Tree as tree
-use Rattle.c_meaning.specs.State.{Trapped, Undefined, Asks, Stuck}
-use Rattle.c_meaning.specs.Linking.{SymbolCall}
-use Rattle.c_meaning.specs.Run.{Outcome, Ended, Stopped, OutOfSteps}
-use Rattle.c_link.specs.declared.host_symbol.HostSymbol.{HostSymbol}
-use Rattle.c_link.specs.Resolved.{symbol_names}
-use Rattle.crun.specs.HostSymbols.{symbol_in, symbols_of_host, symbols_of_hosts}
-use Rattle.c_hosts.specs.declared.host.HostModule.{Ghosts as HostModule}
-use Rattle.c_hosts.specs.declared.journal.Asked.{Asked}
-use Rattle.c_hosts.specs.Asking.{hosts_of}
-use Rattle.host_replay.specs.declared.file.JournalFile.{JournalFile}
-use Rattle.host_replay.specs.Reading.{symbol_of}
-use Rattle.host_replay.specs.Recording.{recorded}
-use Rattle.host_replay.specs.Texts.{journal_text, Recorded}
-use Rattle.host_replay.specs.Writable.{symbols_of as symbols_of_modules, AreDistinct}
-use Rattle.host_replay.proofs.Distinct.{symbols_distinct}
-use Rattle.crun_words.specs.CommandLine.{RunLine}
-use Rattle.crun_job.specs.Job.{IsTextsJob, Run}
-use Rattle.crun_job.specs.Lines.{Reason, CallsLine, Refused, WantOfMemory}
-use Rattle.crun_job.specs.Stopping.{StopsTexts}
-use Rattle.crun_cli.specs.Ends.{journal_of, AreOffered, HasPlayed, HasPlayedPart, IsJournaled, IsRunStatus}
-use Rattle.crun_cli.specs.Jobs.{symbols_of}
-use Rattle.crun_cli.specs.Outside.{IsUntouched, Outside}
-use Rattle.crun_cli.specs.Recording.{HasRecorded, IsBlank, IsBlankFor, IsFilled, IsNamed, IsText, IsWritten, IsWrittenPart}
-use Rattle.crun_cli.specs.Runs.{HasPart, HasRun, HasStatus}
-use Rattle.crun_cli.specs.Stopping.{IsTextsPart, IsTextsRun, StopsRun}
+use Rattle.c_meaning.specs.State.{Asks}
+use Rattle.c_meaning.specs.Run.{Outcome}
 
 -- ---- the status
 

@@ -1,21 +1,7 @@
 -- The journal of a run, which a file takes.
-use Rattle.std.proofs.Common.{◌≡◌, ℕ, Bool, true, List, [], ◌++◌, map, Option, Some, None, sym, ap, ◌∙◌}
-use Rattle.std.specs.List.{list_all}
-use Rattle.std.proofs.lemmas.List.{append-nil}
+use Rattle.crun_cli.proofs.Common.{◌≡◌, ℕ, Bool, true, List, [], ◌++◌, map, Some, None, Option, sym, ap, ◌∙◌, append-nil, list_all, SymbolCall, lines_of, hosts_of, ask_of, HostModule, Asked, fits, run_with, Recorded, JournalFile, AreToFill, HasPartLeaving, HasTaken, IsBlank, IsFilled, HasRun}
 use Rattle.c_tree.specs.Tree as tree
-use Rattle.c_meaning.specs.Linking.{SymbolCall}
-use Rattle.c_hosts.specs.declared.host.HostModule.{Ghosts as HostModule}
-use Rattle.c_hosts.specs.declared.journal.Asked.{Asked}
-use Rattle.c_hosts.specs.Asking.{hosts_of}
-use Rattle.c_hosts.specs.Journals.{ask_of}
-use Rattle.host_replay.specs.declared.file.JournalFile.{JournalFile}
-use Rattle.host_replay.specs.Fitting.{fits}
-use Rattle.host_replay.specs.Runs.{run_with}
-use Rattle.host_replay.specs.Texts.{Recorded}
 use Rattle.host_replay.proofs.Fits.{answered_fit}
-use Rattle.crun_lines.specs.RunLines.{lines_of}
-use Rattle.crun_cli.specs.Recording.{AreToFill, HasPartLeaving, HasTaken, IsBlank, IsFilled}
-use Rattle.crun_cli.specs.Runs.{HasRun}
 use Rattle.crun_cli.proofs.Lines.{asks_are}
 
 -- calls that fit the hosts can be taken by a file that has their modules

@@ -1,22 +1,8 @@
 -- The hosts of a journal that is read offer each symbol once.
-use Rattle.std.proofs.Common.{◌≡◌, true, List, [], ◌∷◌, ◌++◌, map, refl, sym, ap, ◌∙◌, subst}
-use Rattle.std.proofs.lemmas.List.{map-append}
-use Rattle.w2c_base.specs.Run.{Host, HostFunction}
-use Rattle.c_tree.specs.Rules.{are_distinct}
-use Rattle.c_link.specs.declared.host_symbol.HostSymbol.{HostSymbol}
-use Rattle.c_link.specs.Resolved.{symbol_names}
-use Rattle.crun.specs.HostSymbols.{symbols_of_host, symbols_of_hosts, symbol_in}
-use Rattle.c_hosts.specs.Asking.{hosts_of}
-use Rattle.host_replay.specs.declared.replay.ReplayHost.{ReplayHost}
-use Rattle.host_replay.specs.Reading.{empty, lines_of, symbol_of, IsJournal}
-use Rattle.host_replay.specs.Replayed.{AreReplays, replaying}
-use Rattle.host_replay.specs.Texts.{Recorded}
-use Rattle.host_replay.specs.Writable.{symbols_of, AreDistinct}
+use Rattle.crun_cli.proofs.Common.{◌≡◌, true, List, [], ◌∷◌, ◌++◌, map, sym, refl, ap, ◌∙◌, subst, map-append, Host, HostFunction, are_distinct, symbol_names, HostSymbol, hosts_of, symbols_distinct, hosts_same, none_distinct, read_distinct, IsJournal, empty, symbol_of, AreReplays, replaying, Recorded, AreDistinct, ReplayHost, symbol_in, symbols_of_host, symbols_of_hosts, AreOffered}
+use Rattle.host_replay.specs.Reading.{lines_of}
+use Rattle.host_replay.specs.Writable.{symbols_of}
 use Rattle.host_replay.proofs.Apart.{distinct_symbols}
-use Rattle.host_replay.proofs.Distinct.{symbols_distinct}
-use Rattle.host_replay.proofs.Given.{hosts_same}
-use Rattle.host_replay.proofs.Verdicts.{none_distinct, read_distinct}
-use Rattle.crun_cli.specs.Ends.{AreOffered}
 
 own_names : (m : Host) (functions : List HostFunction) → symbol_names (map (symbol_in m.name) functions) ≡ map (symbol_of m) functions
 own_names m [] = refl

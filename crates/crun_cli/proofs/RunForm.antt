@@ -1,58 +1,10 @@
 -- The run form: from what its steps say over texts and hosts to what the words ask for.
-use Rattle.std.proofs.Common.{◌≡◌, ◌≤◌, inl, inr, ℕ, List, Option, Some, None, MatchOption, refl, sym, ap, ◌∙◌, subst}
-use Rattle.std.specs.Prelude.{string_bytes}
-use Rattle.w2c_io.specs.Contents.{Name, Contents, Told}
-use Rattle.w2c_io.specs.Causes.{Faulted}
-use Rattle.w2c_io.specs.Telling.{Tells}
+use Rattle.crun_cli.proofs.Common.{◌≡◌, ℕ, ◌≤◌, List, Some, None, string_bytes, Option, MatchOption, sym, refl, ap, ◌∙◌, subst, inl, inr, Faulted, Contents, Name, Told, Tells, IsBegun, IsOneOf, SymbolCall, hosts_of, HostModule, hosts_same, AreReplays, replaying, Recorded, journal_text, ReplayHost, Line, RunLine, line_of, runs, AllRead, AreInputs, Held, IsInput, IsJournalReading, JournalReading, LongCalls, LongJournal, LongUnit, NoJournal, NotThere, StopsInputs, InputStop, IsTextsJob, Job, Stops, CallsLine, CallsTooLong, JournalLine, JournalTooLong, Reason, Refused, Unread, Unwritten, Usage, WantOfMemory, reason_of, stop_for, FilesSeen, HasPlayed, HasPlayedPart, IsJobWith, IsJournaled, IsUnwritten, Ran, RanPart, WithHosts, HasReading, IsReadBy, IsToRead, IsToWrite, IsUnitFile, HoldsJournal, IsJobOfTexts, IsLineJob, IsReplayJob, IsRunJob, symbols_of, IsUntouched, Outside, SinkSeen, IsRunUnwritten, IsTextsPart, IsTextsRun, StopsReplay, StopsRun, StopsWork}
 use Rattle.w2c_io.proofs.Telling.{rose_from}
-use Rattle.w2c_files.specs.Standing.{IsBegun, IsOneOf}
 use Rattle.c_tree.specs.Tree as tree
-use Rattle.c_meaning.specs.Linking.{SymbolCall}
-use Rattle.c_hosts.specs.declared.host.HostModule.{Ghosts as HostModule}
-use Rattle.c_hosts.specs.Asking.{hosts_of}
-use Rattle.host_replay.specs.declared.replay.ReplayHost.{ReplayHost}
-use Rattle.host_replay.specs.Replayed.{AreReplays, replaying}
-use Rattle.host_replay.specs.Texts.{journal_text, Recorded}
-use Rattle.host_replay.proofs.Given.{hosts_same}
-use Rattle.crun_words.specs.declared.inputs.InputStop.{InputStop}
 use Rattle.crun_words.specs.declared.inputs.InputStop.TheVariants as input
-use Rattle.crun_words.specs.CommandLine.{Line, RunLine, line_of, runs}
-use Rattle.crun_words.specs.Inputs.{
-  AllRead,
-  AreInputs,
-  Held,
-  IsInput,
-  IsJournalReading,
-  JournalReading,
-  LongCalls,
-  LongJournal,
-  LongUnit,
-  NoJournal,
-  NotThere,
-  StopsInputs,
-}
-use Rattle.crun_words.proofs.InputStops.{one_at}
 use Rattle.crun_job.specs.declared.stop.Cause.TheVariants as cause
-use Rattle.crun_job.specs.Job.{IsTextsJob, Job, Stops}
-use Rattle.crun_job.specs.Lines.{
-  Reason,
-  Usage,
-  CallsTooLong,
-  CallsLine,
-  JournalTooLong,
-  JournalLine,
-  Refused,
-  Unread,
-  Unwritten,
-  WantOfMemory,
-}
-use Rattle.crun_job.specs.Seen.{reason_of, stop_for}
-use Rattle.crun_units.specs.Files.{FilesSeen}
-use Rattle.crun_cli.specs.Ends.{HasPlayed, HasPlayedPart, IsJobWith, IsJournaled, IsUnwritten, Ran, RanPart, WithHosts}
-use Rattle.crun_cli.specs.Files.{HasReading, IsReadBy, IsToRead, IsToWrite, IsUnitFile}
-use Rattle.crun_cli.specs.Jobs.{symbols_of, HoldsJournal, IsJobOfTexts, IsLineJob, IsReplayJob, IsRunJob}
-use Rattle.crun_cli.specs.Outside.{IsUntouched, Outside, SinkSeen}
-use Rattle.crun_cli.specs.Stopping.{IsRunUnwritten, IsTextsPart, IsTextsRun, StopsReplay, StopsRun, StopsWork}
+use Rattle.w2c_files.proofs.Standing.{one_at}
 
 -- ---- what was done behind reading is done from the start
 

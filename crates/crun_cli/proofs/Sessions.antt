@@ -1,24 +1,13 @@
 -- What a session has told stands in front of what every longer run tells.
-use Rattle.std.proofs.Common.{◌≡◌, ℕ, ◌+◌, ◌-◌, List, [], ◌∷◌, ◌++◌, length, map, Option, Some, None, refl, sym, ap, ◌∙◌, arith}
-use Rattle.std.specs.Prelude.{option_map, is_some}
-use Rattle.std.specs.List.{position_from}
-use Rattle.std.proofs.lemmas.List.{append-nil}
-use Rattle.w2c_base.specs.Run.{Event, Phase, Init, Call, Reply}
-use Rattle.c_meaning.specs.State.{UnitFunc, Machine, Number, Stuck}
-use Rattle.c_meaning.specs.Linking.{Program, SymbolCall, defined_for_all, definition_at}
+use Rattle.crun_cli.proofs.Common.{◌≡◌, ℕ, ◌+◌, ◌-◌, List, [], ◌∷◌, ◌++◌, map, length, is_some, Some, None, Option, option_map, sym, refl, ap, ◌∙◌, append-nil, arith, position_from, Call, Event, Init, Phase, Reply, Program, SymbolCall, defined_for_all, definition_at, CRun, Ended, Entry, Over, Pending, Progress, Stopped, after, begin_entry, begun, c_run, entries_of, over, run_of, Machine, Number, Stuck, UnitFunc, replies_in, HostModule, machine_with, Stands, State, objects_of, program_of, trail_of}
 use Rattle.c_meaning.specs.Machine.{fresh}
 use Rattle.c_meaning.specs.Step.{Step, Next, Back, Stops, begin, call}
-use Rattle.c_meaning.specs.Run.{CRun, Ended, Entry, Over, Stopped, Pending, Progress, after, begin_entry, begun, c_run, entries_of, over, run_of}
 use Rattle.c_meaning.proofs.Fronts.{entries_behind, entries_longer}
 use Rattle.c_meaning.proofs.Longer.{after_over, after_sum}
 use Rattle.c_meaning.proofs.Told.{machine_of}
 use Rattle.c_sound.specs.Events.{events_of}
 use Rattle.c_sound.proofs.Tells.{run_tells}
 use Rattle.c_sound.proofs.Trails.{begin_keeps}
-use Rattle.c_hosts.specs.declared.host.HostModule.{Ghosts as HostModule}
-use Rattle.c_hosts.specs.Journals.{replies_in}
-use Rattle.crun.specs.Engines.{machine_with}
-use Rattle.crun.specs.Sessions.{objects_of, program_of, trail_of, Stands, State}
 
 -- ---- where a call begins nothing more is told
 

@@ -1,21 +1,7 @@
 -- What the calls of a session and the lines that were written of them make of where a run stands.
-use Rattle.std.proofs.Common.{◌≡◌, ℕ, List, [], ◌∷◌, ◌++◌, length, drop, Option, None, Some, IfSome, sym, ap, ◌∙◌, subst}
-use Rattle.w2c_base.specs.Run.{Ask, Event, Init, Call, asks_in}
-use Rattle.w2c_io.specs.Contents.{extended}
-use Rattle.w2c_io.specs.Telling.{SaysPart}
-use Rattle.c_meaning.specs.Linking.{SymbolCall}
-use Rattle.c_meaning.specs.Run.{c_run}
-use Rattle.c_hosts.specs.declared.host.HostModule.{Ghosts as HostModule}
-use Rattle.c_hosts.specs.declared.journal.Asked.{Asked}
-use Rattle.c_hosts.specs.Asking.{hosts_of}
-use Rattle.c_hosts.specs.Journals.{ask_of, events_in, replies_in}
-use Rattle.c_hosts.specs.Running.{Asks}
-use Rattle.std.specs.Prelude.{map}
-use Rattle.crun.specs.declared.outcome.Outcome.{Outcome}
+use Rattle.crun_cli.proofs.Common.{◌≡◌, ℕ, List, [], ◌∷◌, ◌++◌, map, length, drop, IfSome, Some, None, Option, sym, ap, ◌∙◌, subst, Ask, Call, Event, Init, asks_in, extended, SaysPart, SymbolCall, c_run, hosts_of, ask_of, events_in, replies_in, Asks, HostModule, Asked, IsLast, IsOutcome, Stands, State, objects_of, program_of, standing_of, told_by, Outcome, lines_behind, status_of_outcome}
 use Rattle.crun.specs.declared.outcome.Standing.TheVariants as standing
-use Rattle.crun.specs.Sessions.{objects_of, program_of, standing_of, told_by, IsLast, IsOutcome, Stands, State}
 use Rattle.crun_cli.specs.Playing.{HasPlayed, IsBehind, IsLeft, IsSince, IsStored}
-use Rattle.crun_cli.specs.Views.{lines_behind, status_of_outcome}
 use Rattle.crun_cli.proofs.Behind.{
   call_behind,
   call_left,

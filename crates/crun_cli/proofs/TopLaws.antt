@@ -1,34 +1,8 @@
 -- What the top call says, from why its work stopped or what it came to.
-use Rattle.std.proofs.Common.{◌≡◌, ◌⊎◌, inl, inr, ℕ, ◌≤◌, List, Option, Some, None, MatchOption, refl, sym, ◌∙◌, subst, arith}
-use Rattle.w2c_io.specs.Contents.{Name, Contents}
-use Rattle.w2c_io.specs.Causes.{Rose, Faulted}
-use Rattle.w2c_io.specs.Telling.{Tells}
+use Rattle.crun_cli.proofs.Common.{◌≡◌, ℕ, ◌≤◌, ◌⊎◌, List, Some, None, Option, MatchOption, sym, refl, ◌∙◌, subst, inl, inr, arith, Faulted, Rose, Contents, Name, Tells, SymbolCall, hosts_of, HostModule, RunLine, line_of, runs, AllRead, Held, IsJournalReading, JournalReading, LongCalls, LongJournal, LongUnit, NoJournal, NotThere, IsTextsJob, Job, Run, Stops, Write, Reason, Refused, Unread, Unwritten, Usage, WantOfMemory, status_of, RunsAgain, Begun, BegunIfAny, By_refusal, By_run, By_unit, Finished, HasAnswer, HasPlayed, IsAnswered, IsJobWith, IsRunStatus, IsUnread, IsUnwritten, Refuses, WithHosts, HasReading, IsToRead, IsUnitFile, IsLineJob, IsReplayJob, IsRunJob, symbols_of, IsUntouched, Outside, StopsWork}
 use Rattle.c_tree.specs.Tree as tree
-use Rattle.c_meaning.specs.Linking.{SymbolCall}
-use Rattle.c_hosts.specs.declared.host.HostModule.{Ghosts as HostModule}
-use Rattle.c_hosts.specs.Asking.{hosts_of}
-use Rattle.crun_words.specs.CommandLine.{RunLine, line_of, runs}
-use Rattle.crun_words.specs.Inputs.{
-  AllRead,
-  Held,
-  IsJournalReading,
-  JournalReading,
-  LongCalls,
-  LongJournal,
-  LongUnit,
-  NoJournal,
-  NotThere,
-}
-use Rattle.crun_job.specs.Job.{IsTextsJob, Job, Run, Stops, Write}
-use Rattle.crun_job.specs.Lines.{status_of, Reason, Usage, Refused, Unread, Unwritten, WantOfMemory}
 use Rattle.crun_cli.proofs.AgainLaws.{runs_again}
 use Rattle.crun_cli.proofs.OneJob.{one_job}
-use Rattle.crun_cli.specs.Again.{RunsAgain}
-use Rattle.crun_cli.specs.Ends.{Begun, BegunIfAny, By_refusal, By_run, By_unit, Finished, HasAnswer, HasPlayed, IsAnswered, IsJobWith, IsRunStatus, IsUnread, IsUnwritten, Refuses, WithHosts}
-use Rattle.crun_cli.specs.Files.{HasReading, IsToRead, IsUnitFile}
-use Rattle.crun_cli.specs.Jobs.{symbols_of, IsLineJob, IsReplayJob, IsRunJob}
-use Rattle.crun_cli.specs.Outside.{IsUntouched, Outside}
-use Rattle.crun_cli.specs.Stopping.{StopsWork}
 
 -- a status of a run is none of those by which the program stops
 pub run_apart : (status n : ℕ) → IsRunStatus status → status ≡ n → (n ≡ 2) ⊎ (n ≡ 3) ⊎ (n ≡ 4) ⊎ (n ≡ 5) ⊎ (n ≡ 6) → ⊥

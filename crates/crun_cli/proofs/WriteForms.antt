@@ -1,24 +1,6 @@
 -- The forms that write a unit: from what is asked for over what files hold to what the words ask for.
-use Rattle.std.proofs.Common.{◌≡◌, ◌⊎◌, inl, inr, List, [], ◌∷◌, Option, Some, None, MatchOption, refl, sym, ◌∙◌, subst}
-use Rattle.w2c_io.specs.Contents.{Name, Contents, holding}
-use Rattle.w2c_io.specs.Causes.{Faulted}
-use Rattle.w2c_files.specs.Standing.{IsOneOf}
-use Rattle.c_tree.specs.Spelled.{CSpells}
+use Rattle.crun_cli.proofs.Common.{◌≡◌, ◌⊎◌, List, [], ◌∷◌, Some, None, Option, MatchOption, sym, refl, ◌∙◌, subst, inl, inr, Faulted, Contents, Name, holding, IsOneOf, CSpells, print_of, hosts_of, HostModule, Line, MergeLine, TrimLine, line_of, merges, trims, Job, Stops, Write, Reason, Refused, Unread, Unwritten, Usage, WantOfMemory, AreUntouched, FilesSeen, IsMergeJob, IsTrimJob, IsUnitPart, StopsWrite, BegunIfAny, Finished, IsJobWith, WrotePart, HasReading, IsReadBy, IsToRead, IsToWrite, IsUnitFile, IsUnitOf, IsWrittenBy, IsLineJob, symbols_of, IsUntouched, Outside, SinkSeen, StopsWork}
 use Rattle.c_tree.specs.Tree as tree
-use Rattle.c_print.specs.Print.{print_of}
-use Rattle.c_hosts.specs.declared.host.HostModule.{Ghosts as HostModule}
-use Rattle.c_hosts.specs.Asking.{hosts_of}
-use Rattle.crun_words.specs.CommandLine.{Line, MergeLine, TrimLine, line_of, merges, trims}
-use Rattle.crun_job.specs.Job.{Job, Stops, Write}
-use Rattle.crun_job.specs.Lines.{Reason, Usage, Refused, Unread, Unwritten, WantOfMemory}
-use Rattle.crun_units.specs.Jobs.{IsMergeJob, IsTrimJob}
-use Rattle.crun_units.specs.Files.{AreUntouched, FilesSeen}
-use Rattle.crun_units.specs.Stopping.{IsUnitPart, StopsWrite}
-use Rattle.crun_cli.specs.Ends.{BegunIfAny, Finished, IsJobWith, WrotePart}
-use Rattle.crun_cli.specs.Files.{HasReading, IsReadBy, IsToRead, IsToWrite, IsUnitFile, IsUnitOf, IsWrittenBy}
-use Rattle.crun_cli.specs.Jobs.{symbols_of, IsLineJob}
-use Rattle.crun_cli.specs.Outside.{IsUntouched, Outside, SinkSeen}
-use Rattle.crun_cli.specs.Stopping.{StopsWork}
 
 module _ {H : Type 0} (hm : HostModule H) (hosts : List H) (words : List Name) (form : Line) (is : line_of words ≡ Some form)
     (Asks : Contents → Job → Type 0) (jobs : (m : Contents) (job : Job) → Asks m job → IsLineJob (hosts_of hm hosts) m form job)

@@ -4,8 +4,7 @@
 use Rattle.std.specs.Prelude.{◌≡◌, ◌⊎◌, ℕ, List, MatchOption}
 use Rattle.w2c_base.specs.Run.{Host}
 use Rattle.w2c_io.specs.Contents.{Name, Contents}
-use Rattle.c_link.specs.Offers.{c_symbols}
-use Rattle.crun.specs.HostSymbols.{symbols_of_hosts}
+pub use Rattle.c_meaning.specs.Linking.{symbols_of}
 use Rattle.host_replay.specs.Reading.{IsJournal, IsRefusedAt}
 use Rattle.host_replay.specs.Texts.{Recorded}
 use Rattle.crun_words.specs.CommandLine.{RunLine, Line, line_of, runs, merges, trims}
@@ -25,12 +24,7 @@ use Rattle.crun_words.specs.Inputs.{
 use Rattle.crun_job.specs.declared.stop.Cause.TheVariants.{TooLong}
 use Rattle.crun_job.specs.Job.{IsTextsJob, Job, Stops}
 use Rattle.crun_job.specs.Lines.{JournalLine, JournalTooLong, CallsTooLong, Refused, Unread, Usage}
-use Rattle.crun_job.specs.Links.{Symbols}
 use Rattle.crun_units.specs.Jobs.{IsMergeJob, IsTrimJob}
-
--- the symbols of the hosts' functions, with their types
-abbrev pub symbols_of : List Host → Symbols
-symbols_of hosts = c_symbols (symbols_of_hosts hosts)
 
 -- ---- the run form
 

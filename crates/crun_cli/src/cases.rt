@@ -4,8 +4,8 @@ ghost use Rattle.w2c_base.specs.declared.value.Value.{Value as AnyValue};
 ghost use Rattle.w2c_base.specs.declared.value.Value.TheVariants.{I32, I64};
 ghost use Rattle.c_tree.specs.declared.tree.CType.TheVariants.{U64};
 ghost use Rattle.c_meaning.specs.Samples as sample;
-ghost use Rattle.c_hosts.specs.declared.host.HostReply.{HostReply as AnyReply};
-ghost use Rattle.c_hosts.specs.declared.host.HostReply.TheVariants as reply;
+ghost use Rattle.c_meaning.specs.declared.reply.HostReply.{HostReply as AnyReply};
+ghost use Rattle.c_meaning.specs.declared.reply.HostReply.TheVariants as reply;
 ghost use Rattle.c_hosts.specs.Asking.{host_of, Keeps};
 ghost use Rattle.crun_cli.specs.Runs.{HasRun};
 

@@ -2,14 +2,13 @@
 ghost use Rattle.std.specs.Prelude.{◌≡◌, ◌≤◌, drop, length};
 ghost use Rattle.w2c_base.specs.Run.{Call};
 ghost use Rattle.c_hosts.specs.Asking.{hosts_of};
-ghost use Rattle.c_hosts.specs.Journals.{reply_of as reply_in_run};
-ghost use Rattle.crun_lines.specs.Views.{phase_of, reply_of as reply_in_line, IsCounted};
+ghost use Rattle.crun_lines.specs.Views.{phase_of, IsCounted};
 ghost use Rattle.crun_cli.specs.Views.{asked_line, asks_lines, end_line, lines_behind, outcome_line, status_of_outcome};
 ghost use Rattle.program_words.specs.Writing.{Writes};
 
-use c_hosts::{Asked, HostModule, HostReply};
-use crun::{Outcome, Session, UndefinedAt as Undefined};
-use crun_lines::{Phase, Reply, Stop, UndefinedAt, ended_line, host_line, last_line};
+use c_hosts::{Asked, HostModule};
+use crun::{Outcome, Session};
+use crun_lines::{Phase, Stop, ended_line, host_line, last_line};
 use crun_state::{function_name, host_name};
 use program_words::put_line;
 use std::alloc::Global;
@@ -96,23 +95,8 @@ fn tell_ask<H: HostModule, O: Sink>(
 {
     let host = host_name(hosts, ask.host);
     let function = function_name(hosts, ask.host, ask.function);
-    let line = host_line(
-        alloc,
-        host,
-        function,
-        ask.args.as_slice(),
-        reply_of(ask.reply),
-    );
+    let line = host_line(alloc, host, function, ask.args.as_slice(), ask.reply);
     put_line(line, out)
-}
-
-fn reply_of(reply: HostReply) -> Reply
-    ensures { reply_in_line result ≡ reply_in_run reply }
-{
-    match reply {
-        HostReply::Value(value) => Reply::Gave(value),
-        HostReply::Trap => Reply::Trapped,
-    }
 }
 
 fn tell_outcome<O: Sink>(
@@ -127,10 +111,7 @@ fn tell_outcome<O: Sink>(
     match outcome {
         Outcome::Ended(value) => tell_end(alloc, phase, value, out),
         Outcome::Trapped(kind) => put_line(last_line(alloc, phase, Stop::Trapped(kind)), out),
-        Outcome::Undefined(at) => put_line(
-            last_line(alloc, phase, Stop::Undefined(at_place(at))),
-            out,
-        ),
+        Outcome::Undefined(at) => put_line(last_line(alloc, phase, Stop::Undefined(at)), out),
         Outcome::OutOfSteps => put_line(last_line(alloc, phase, Stop::OutOfSteps), out),
     }
 }
@@ -148,16 +129,5 @@ fn tell_end<O: Sink>(
     match phase {
         Phase::Call(call) => put_line(ended_line(alloc, call, value), out),
         Phase::Init(_) => Ok(()),
-    }
-}
-
-fn at_place(at: Undefined) -> UndefinedAt
-    ensures { result ≡ record { kind = at.kind; unit = at.unit; item = at.item; statement = at.statement } }
-{
-    UndefinedAt {
-        kind: at.kind,
-        unit: at.unit,
-        item: at.item,
-        statement: at.statement,
     }
 }

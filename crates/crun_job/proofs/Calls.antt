@@ -1,25 +1,10 @@
 -- Which call a line names.
-use Rattle.std.proofs.Common.{◌≡◌, ℕ, ◌&&◌, true, Bool, List, [], ◌∷◌}
-use Rattle.std.proofs.Common.{All, map, Option, Some, None, refl, sym, ap, ◌∙◌, subst}
-use Rattle.std.proofs.lemmas.Bool.{and_parts, false≢true}
+use Rattle.crun_job.proofs.Common.{◌≡◌, ℕ, Bool, true, ◌&&◌, List, [], ◌∷◌, map, Some, None, All, Option, sym, refl, ap, ◌∙◌, subst, and_parts, false≢true, list_all, list_any, is_number, number_of, types_of, Value, same_type, same_types, CType, Program, SymbolCall, c_params_of, fits, signature_of, takes, takes_if_any, AreArguments, Call, SaysCall, NumberedLine, AreCalls, Names, program_of, AllFit, call_seen, calls_seen, NamedCall}
 use Rattle.std.proofs.lemmas.List.Elements.{All-cons, All-nil}
-use Rattle.std.specs.List.{list_all, list_any}
-use Rattle.w2c_base.specs.declared.value.Value.{Value}
-use Rattle.w2c_base.specs.Values.{is_number, number_of, types_of}
 use Rattle.c_tree.specs.Tree as tree
-use Rattle.c_tree.specs.declared.tree.CType.{CType}
 use Rattle.c_tree.specs.declared.tree.CType.TheVariants.{Void, U32, U64}
-use Rattle.c_tree.specs.Runtime.{same_type, same_types}
-use Rattle.c_meaning.specs.Linking.{c_params_of, fits, Program, SymbolCall}
-use Rattle.c_link.specs.Calls.{signature_of, takes, takes_if_any}
-use Rattle.c_link.proofs.FirstRefusal.{fits_says}
-use Rattle.crun_words.specs.Arguments.{AreArguments}
-use Rattle.crun_words.specs.CallLine.{Call, SaysCall}
-use Rattle.crun_words.specs.CallsFile.{NumberedLine}
+use Rattle.c_link.proofs.Programs.{fits_says}
 use Rattle.crun_words.proofs.Said.{one_call}
-use Rattle.crun_job.specs.declared.calls_file.NamedCall.{NamedCall}
-use Rattle.crun_job.specs.Calls.{AreCalls, Names, program_of}
-use Rattle.crun_job.specs.Seen.{call_seen, calls_seen, AllFit}
 use Rattle.crun_job.proofs.Values.{all_numbers, same_values, types_same}
 
 -- a call that fits is one of a function that takes its arguments

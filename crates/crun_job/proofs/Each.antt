@@ -1,8 +1,8 @@
 -- Lists of which each element has its own in another list: an element more, the first that is refused, and that there is one
 -- such list or one such element.
-use Rattle.std.proofs.Common.{◌≡◌, ℕ, suc, ◌<◌, List, [], ◌∷◌, ◌++◌, length, length-append, take, drop, get_or, map, refl, sym, ap, ◌∙◌, subst, arith}
-use Rattle.std.proofs.lemmas.List.{map_push}
+use Rattle.crun_job.proofs.Common.{◌≡◌, ℕ, suc, ◌<◌, List, [], ◌∷◌, ◌++◌, map, length, get_or, take, drop, sym, refl, ap, ◌∙◌, subst, arith, length-append, map_push}
 use Rattle.crun_job.specs.Each.{AreEach, IsFirst}
+use Rattle.w2c_base.proofs.Nothing.{same_parts}
 use Rattle.crun_job.proofs.Taken.{split_at, in_front}
 
 module _ {A B : Type 0} (R : A → B → Type 0) where
@@ -37,9 +37,6 @@ module _ {A B : Type 0} (R : A → B → Type 0) where
   one_each once (x ∷ xs) (y ∷ ys) [] are are' = absurd are'
   one_each once (x ∷ xs) (y ∷ ys) (z ∷ zs) (is, rest) (is', rest') =
       ap (λ e. e ∷ ys) (once x y z is is') ∙ ap (λ l. z ∷ l) (one_each once xs ys zs rest rest')
-
-same_parts : {A : Type 0} (x y : A) (xs ys : List A) → x ∷ xs ≡ y ∷ ys → (x ≡ y) × (xs ≡ ys)
-same_parts x y xs ys e = (let h : x ≡ y = cc in h, let t : xs ≡ ys = cc in t)
 
 module _ {A B C : Type 0} (R : A → B → Type 0) (Refuses : A → C → Type 0) where
   -- the first that is refused, where a list is gone through

@@ -1,16 +1,7 @@
 -- Texts come to one job at most.
-use Rattle.std.proofs.Common.{◌≡◌, ℕ, List, Some, refl, sym, ap, ◌∙◌, subst}
-use Rattle.std.specs.Prelude.{slice_get}
-use Rattle.std.proofs.lemmas.Option.{same_Some}
+use Rattle.crun_job.proofs.Common.{◌≡◌, ℕ, List, slice_get, Some, sym, refl, ap, ◌∙◌, subst, same_Some, SymbolCall, NumberedLine, call_lines_of, RunLine, AreCalls, IsFirstRefusedLine, IsRefusedLine, NamesFrom, CallsLine, Refused, AreLinked, IsRefusedUnit, Symbols, Cause}
 use Rattle.w2c_io.specs.Contents.{Name}
 use Rattle.c_tree.specs.Tree as tree
-use Rattle.c_meaning.specs.Linking.{SymbolCall}
-use Rattle.crun_words.specs.CommandLine.{RunLine}
-use Rattle.crun_words.specs.CallsFile.{call_lines_of, NumberedLine}
-use Rattle.crun_job.specs.declared.stop.Cause.{Cause}
-use Rattle.crun_job.specs.Links.{AreLinked, IsRefusedUnit, Symbols}
-use Rattle.crun_job.specs.Calls.{AreCalls, IsFirstRefusedLine, IsRefusedLine, NamesFrom}
-use Rattle.crun_job.specs.Lines.{CallsLine, Refused}
 use Rattle.crun_job.specs.Job.{IsTextsJob, Job, Run, Stops}
 use Rattle.crun_job.proofs.Each.{first_apart, one_each, one_first}
 use Rattle.crun_job.proofs.Calls.{one_named}

@@ -1,9 +1,9 @@
+mod Common
 pub mod Taken
 pub mod Each
 pub mod Texts
 pub mod Links
 pub mod Within
-pub mod Meaning
 pub mod UnitLaws
 pub mod Values
 pub mod Calls

@@ -1,15 +1,9 @@
 -- The lines of a calls file that are gone through: one more that names a call, and the first that names none.
-use Rattle.std.proofs.Common.{◌≡◌, ℕ, ◌+◌, ◌<◌, List, [], ◌∷◌, ◌++◌, length, take, get_or, refl, sym, ◌∙◌, subst}
+use Rattle.crun_job.proofs.Common.{◌≡◌, ℕ, ◌+◌, ◌<◌, List, [], ◌∷◌, ◌++◌, length, get_or, take, sym, refl, ◌∙◌, subst, get_or_default, length-map, SymbolCall, seen_lines, seen_numbered, AreCalls, IsFirstRefusedLine, IsRefusedLine, Names, NamesFrom, call_seen, calls_seen, NamedCall}
 use Rattle.std.proofs.Math.ListN.{get_or-map}
-use Rattle.std.proofs.lemmas.List.{get_or_default, length-map}
 use Rattle.c_tree.specs.Tree as tree
-use Rattle.c_meaning.specs.Linking.{SymbolCall}
 use Rattle.crun_words.specs.CallsFile as file
-use Rattle.crun_words.specs.Seen.{seen_lines, seen_numbered}
 use Rattle.crun_words.specs.declared.calls_file.NumberedLine.{NumberedLine}
-use Rattle.crun_job.specs.declared.calls_file.NamedCall.{NamedCall}
-use Rattle.crun_job.specs.Calls.{AreCalls, IsFirstRefusedLine, IsRefusedLine, Names, NamesFrom}
-use Rattle.crun_job.specs.Seen.{call_seen, calls_seen}
 use Rattle.crun_job.proofs.Each.{each_pushed, first_at}
 use Rattle.crun_job.proofs.Taken.{take_next}
 

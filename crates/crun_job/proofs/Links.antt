@@ -1,15 +1,11 @@
 -- Refusals of texts and of the linker, as refusals of units.
-use Rattle.std.proofs.Common.{inl, inr, ℕ, List, length, refl, arith}
+use Rattle.crun_job.proofs.Common.{ℕ, List, length, refl, inl, inr, arith, first_refusal, Symbols, IsWithin, RefusesTexts, RefusesUnits, refusal_for, AreUnitTexts, IsRefusedText, IsUnitText, UnitsRefusal}
 use Rattle.c_tree.specs.Tree as tree
 use Rattle.c_meaning.specs.Linking as linking
 use Rattle.c_link.specs.declared.refusal.LinkRefusal.{LinkRefusal}
 use Rattle.c_link.specs.declared.refusal.LinkRefusal.TheVariants as link
-use Rattle.c_link.specs.Refusals.{IsRefusal, first_refusal}
-use Rattle.crun_job.specs.declared.refusal.UnitsRefusal.{UnitsRefusal}
+use Rattle.c_link.specs.Refusals.{IsRefusal}
 use Rattle.crun_job.specs.declared.refusal.UnitsRefusal.TheVariants as refusal
-use Rattle.crun_job.specs.Texts.{AreUnitTexts, IsRefusedText, IsUnitText}
-use Rattle.crun_job.specs.Links.{Symbols}
-use Rattle.crun_job.specs.Refusals.{IsWithin, RefusesTexts, RefusesUnits, refusal_for}
 use Rattle.crun_job.proofs.Each.{first_within, many_each}
 use Rattle.crun_job.proofs.Within.{concern_within}
 

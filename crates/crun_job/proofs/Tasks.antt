@@ -1,12 +1,6 @@
 -- A unit that is refused, by its file.
-use Rattle.std.proofs.Common.{inl, inr, ℕ, List, sym, subst}
-use Rattle.crun_words.specs.CommandLine.{RunLine}
-use Rattle.crun_job.specs.declared.refusal.UnitsRefusal.{UnitsRefusal}
+use Rattle.crun_job.proofs.Common.{ℕ, List, sym, subst, inl, inr, RunLine, Reason, Symbols, RefusesUnits, StopsTexts, StopsUnit, UnitsRefusal}
 use Rattle.crun_job.specs.declared.refusal.UnitsRefusal.TheVariants as refusal
-use Rattle.crun_job.specs.Lines.{Reason}
-use Rattle.crun_job.specs.Links.{Symbols}
-use Rattle.crun_job.specs.Refusals.{RefusesUnits}
-use Rattle.crun_job.specs.Stopping.{StopsTexts, StopsUnit}
 
 module _ (line : RunLine) (symbols : Symbols) (texts : List (List ℕ)) (text : List ℕ) where
   pub unit_stops : (r : UnitsRefusal) (reason : Reason) → RefusesUnits texts symbols r → StopsUnit line.units r reason

@@ -1,5 +1,5 @@
 -- Texts of units: a text comes to one thing, and the first that is refused.
-use Rattle.std.proofs.Common.{◌≡◌, ℕ, zero, suc, ◌<◌, ◌≤◌, List, [], ◌∷◌, length, take, get_or, Option, Some, None, refl, sym, ap, ◌∙◌, subst, arith}
+use Rattle.crun_job.proofs.Common.{◌≡◌, ℕ, zero, suc, ◌<◌, ◌≤◌, List, [], ◌∷◌, length, get_or, take, Some, None, Option, sym, refl, ap, ◌∙◌, subst, arith, RefusesText, RefusesTexts, AreShort, AreUnitTexts, IsFirstRefusedText, IsRefusedText, IsUnitText, most_unit_bytes, UnitsRefusal, Cause}
 use Rattle.c_tree.specs.declared.token.CReadFault.{CReadFault}
 use Rattle.c_tree.specs.declared.token.CReadFault.TheVariants as fault
 use Rattle.c_tree.specs.Tree as tree
@@ -8,12 +8,8 @@ use Rattle.c_tree.specs.FirstBroken.{first_broken, BrokenAt}
 use Rattle.c_tree.proofs.OneUnit.{one_unit}
 use Rattle.c_tree.proofs.NoFault.{no_fault}
 use Rattle.c_read.proofs.Once.{stops_once}
-use Rattle.crun_job.specs.declared.refusal.UnitsRefusal.{UnitsRefusal}
 use Rattle.crun_job.specs.declared.refusal.UnitsRefusal.TheVariants as refusal
-use Rattle.crun_job.specs.declared.stop.Cause.{Cause}
 use Rattle.crun_job.specs.declared.stop.Cause.TheVariants as cause
-use Rattle.crun_job.specs.Texts.{most_unit_bytes, AreShort, AreUnitTexts, IsFirstRefusedText, IsRefusedText, IsUnitText}
-use Rattle.crun_job.specs.Refusals.{RefusesText, RefusesTexts}
 use Rattle.crun_job.proofs.Each.{first_at}
 
 -- each text is short

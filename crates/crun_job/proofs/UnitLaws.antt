@@ -1,12 +1,7 @@
 -- Texts are those of one list of units, or one unit is refused.
-use Rattle.std.proofs.Common.{◌≡◌, inl, inr, ℕ, List, Option, Some, None, sym, ap, ◌∙◌, subst}
-use Rattle.std.proofs.lemmas.Option.{same_Some}
+use Rattle.crun_job.proofs.Common.{◌≡◌, ℕ, List, Some, None, Option, sym, ap, ◌∙◌, subst, inl, inr, same_Some, first_refusal, AreLinked, Concerns, IsRefusedUnit, Symbols, AreUnitTexts, IsFirstRefusedText, IsRefusedText, IsUnitText, Cause}
 use Rattle.c_tree.specs.Tree as tree
 use Rattle.c_meaning.specs.Linking as linking
-use Rattle.c_link.specs.Refusals.{first_refusal}
-use Rattle.crun_job.specs.declared.stop.Cause.{Cause}
-use Rattle.crun_job.specs.Texts.{AreUnitTexts, IsFirstRefusedText, IsRefusedText, IsUnitText}
-use Rattle.crun_job.specs.Links.{AreLinked, Concerns, IsRefusedUnit, Symbols}
 use Rattle.crun_job.proofs.Each.{first_apart, one_each, one_first}
 use Rattle.crun_job.proofs.Texts.{one_cause, one_items, text_apart}
 

@@ -1,16 +1,9 @@
 -- Values that are told by the types of parameters and by their numbers.
-use Rattle.std.proofs.Common.{◌≡◌, true, List, [], ◌∷◌, All, map, refl, ap, ◌∙◌}
-use Rattle.std.proofs.lemmas.Bool.{and_parts, false≢true}
+use Rattle.crun_job.proofs.Common.{◌≡◌, true, List, [], ◌∷◌, map, All, refl, ap, ◌∙◌, and_parts, false≢true, list_all, IsNumber, is_number, number_of, type_of, types_of, Value, same_type, same_types, CType, c_params_of, c_type_of}
 use Rattle.std.proofs.lemmas.List.Sums.{AllPass-from_list_all}
-use Rattle.std.specs.List.{list_all}
-use Rattle.w2c_base.specs.declared.value.Value.{Value}
 use Rattle.w2c_base.specs.declared.value.Value.TheVariants.{I32, I64}
-use Rattle.w2c_base.specs.Values.{IsNumber, is_number, number_of, type_of, types_of}
 use Rattle.w2c_base.proofs.Numbers.{found_is_number}
-use Rattle.c_tree.specs.declared.tree.CType.{CType}
 use Rattle.c_tree.specs.declared.tree.CType.TheVariants as type
-use Rattle.c_tree.specs.Runtime.{same_type, same_types}
-use Rattle.c_meaning.specs.Linking.{c_params_of, c_type_of}
 
 -- types that are equal by the test for it are equal
 type_same : (t u : CType) → same_type t u ≡ true → t ≡ u

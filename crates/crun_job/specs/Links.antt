@@ -4,7 +4,7 @@ use Rattle.std.specs.Prelude.{◌≡◌, ◌⊎◌, ℕ, List, Some, None}
 use Rattle.c_tree.specs.Tree as tree
 use Rattle.c_tree.specs.Scope.{Name}
 use Rattle.c_meaning.specs.Linking as linking
-use Rattle.c_link.specs.Refusals.{first_refusal}
+use Rattle.c_meaning.specs.Linking.{first_refusal}
 use Rattle.crun_job.specs.declared.stop.Cause.{Cause}
 use Rattle.crun_job.specs.declared.stop.Cause.TheVariants as cause
 use Rattle.crun_job.specs.Texts.{AreUnitTexts, IsFirstRefusedText}

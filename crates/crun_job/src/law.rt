@@ -1,12 +1,8 @@
-// Laws of texts, of units that are refused, of the linker's refusals, of calls, and of the job.
+// Laws of texts, of units that are refused, of calls, and of the job.
 ghost use Rattle.std.specs.Prelude.{◌≡◌, ℕ, List};
 ghost use Rattle.c_tree.specs.Tree as tree;
 ghost use Rattle.crun_job.specs.declared.stop.Cause.{Cause};
-ghost use Rattle.c_meaning.specs.Linking.{fits, Program, SymbolCall, link_refusal};
-ghost use Rattle.c_link.specs.declared.host_symbol.HostSymbol.{HostSymbol};
-ghost use Rattle.c_link.specs.Offers.{c_symbols};
-ghost use Rattle.c_link.specs.Programs.{IsProgramOf};
-ghost use Rattle.c_link.specs.Refusals.{first_refusal};
+ghost use Rattle.c_meaning.specs.Linking.{fits, Program, SymbolCall};
 ghost use Rattle.crun_words.specs.CommandLine.{RunLine};
 ghost use Rattle.crun_job.specs.Calls.{program_of};
 ghost use Rattle.crun_job.specs.Job.{IsTextsJob, Job};
@@ -34,13 +30,6 @@ pub fn one_refused_unit()
         → IsRefusedUnit texts symbols n other → why ≡ other }
     ensures apart { (texts : List (List ℕ)) (symbols : Symbols) (k : ℕ) (why : Cause) (units : List (List tree.Item))
         → IsRefusedUnit texts symbols k why → AreLinked texts symbols units → ⊥ }
-{}
-
-/// The law that the linker's first refusal is that of the meaning of C, for each program of these
-/// units whose hosts have these symbols.
-pub fn refusals_are_those_of_the_meaning()
-    ensures { (units : List (List tree.Item)) (hosts : List HostSymbol) (p : Program) → IsProgramOf p units hosts
-        → first_refusal units (c_symbols hosts) ≡ link_refusal p }
 {}
 
 /// The law that which hosts units are linked with says nothing of the calls that fit.

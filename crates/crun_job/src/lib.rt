@@ -15,7 +15,6 @@ pub use calls_file::{NamedCall, read_calls};
 pub use checking::check_units;
 pub use law::{
     hosts_say_nothing, one_list_of_units, one_refused_text, one_refused_unit, one_texts_job,
-    refusals_are_those_of_the_meaning,
 };
 pub use line::report;
 pub use linking::link_units;

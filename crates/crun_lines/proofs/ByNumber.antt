@@ -1,9 +1,5 @@
 -- Objects by the numbers of their names.
-use Rattle.std.proofs.Common.{◌≡◌, ℕ, ◌+◌, List, [], ◌∷◌, length, drop, get_or, map, zip, refl, sym, ap, ◌∙◌, arith, drop-cons, add-one}
-use Rattle.std.specs.Ordering.{match_ordering}
-use Rattle.std.specs.BTreeMap.{insert_entry}
-use Rattle.c_meaning.specs.State.{Name}
-use Rattle.crun_lines.specs.NameOrder.{in_order, name_order, numbered_from, put_in_order}
+use Rattle.crun_lines.proofs.Common.{◌≡◌, ℕ, ◌+◌, List, [], ◌∷◌, map, length, get_or, drop, zip, sym, refl, ap, ◌∙◌, add-one, arith, drop-cons, insert_entry, match_ordering, Name, in_order, name_order, numbered_from, put_in_order}
 use Rattle.crun_lines.proofs.Placing.{map_matched}
 
 -- with something else beside each name

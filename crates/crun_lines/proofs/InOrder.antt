@@ -1,21 +1,10 @@
 -- Names in their order: each stands before those behind it, and none is lost where all differ.
-use Rattle.std.proofs.Common.{◌≡◌, ◌≢◌, List, [], ◌∷◌, ◌++◌, length, refl, sym, ap, ◌∙◌, subst}
-use Rattle.std.specs.List.{AllByRecursion}
-use Rattle.std.specs.List.Sorted.{IsPermutation, IsStrictlySortedBy}
-use Rattle.std.specs.declared.cmp.Ordering.{Ordering}
-use Rattle.std.specs.declared.cmp.Ordering.TheVariants.{Less, Equal, Greater}
-use Rattle.std.specs.Ordering.{match_ordering, nat_cmp, ordering_reverse, ordering_then}
+use Rattle.crun_lines.proofs.Common.{◌≡◌, ◌≢◌, List, [], ◌∷◌, ◌++◌, length, IsPermutation, nat_cmp, sym, refl, ap, ◌∙◌, subst, append-nil, insert_entry, nat_list_cmp_total, slice_cmp, AllByRecursion, keys_of, match_ordering, ordering_reverse, ordering_then, Ordering, Equal, Greater, Less, Name, in_order, name_order, put_in_order}
+use Rattle.std.specs.List.Sorted.{IsStrictlySortedBy}
 use Rattle.std.specs.Cmp.{IsTotalOrder, nat_cmp_total, on_total, then_total}
-use Rattle.std.specs.Cmp.Lexicographic.{nat_list_cmp_total, slice_cmp}
-use Rattle.std.specs.BTreeMap.{insert_entry}
-use Rattle.std.specs.Map.{keys_of}
-use Rattle.std.proofs.lemmas.List.{append-nil}
-use Rattle.std.proofs.lemmas.List.Sorted.{IsPermutation-append_right, IsPermutation-cons, IsPermutation-middle}
-use Rattle.std.proofs.lemmas.List.Sorted.{IsPermutation-refl, IsPermutation-sym, IsPermutation-trans}
+use Rattle.std.proofs.lemmas.List.Sorted.{IsPermutation-append_right, IsPermutation-cons, IsPermutation-middle, IsPermutation-refl, IsPermutation-sym, IsPermutation-trans}
 use Rattle.std.proofs.lemmas.Map.Lookups.{exact_bytes}
 use Rattle.w2c_base.specs.Lookup.{AreDistinct}
-use Rattle.c_meaning.specs.State.{Name}
-use Rattle.crun_lines.specs.NameOrder.{in_order, name_order, put_in_order}
 
 names_total : IsTotalOrder name_order
 names_total = then_total (on_total length nat_cmp_total) nat_list_cmp_total

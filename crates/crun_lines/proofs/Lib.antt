@@ -1,3 +1,4 @@
+mod Common
 pub mod ByNumber
 pub mod Events
 pub mod InOrder

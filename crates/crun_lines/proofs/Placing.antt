@@ -1,17 +1,7 @@
 -- Names that are put to their places beside their lengths.
-use Rattle.std.proofs.Common.{◌≡◌, ℕ, ◌+◌, ◌<◌, List, [], ◌∷◌, length, drop, get_or, map, refl, sym, ap, ◌∙◌, drop-cons, add-one, All}
-use Rattle.std.specs.Borrow.{Bor}
-use Rattle.std.specs.declared.cmp.Ordering.{Ordering}
-use Rattle.std.specs.declared.cmp.Ordering.TheVariants.{Less, Equal, Greater}
-use Rattle.std.specs.Ordering.{match_ordering, nat_cmp, ordering_then}
-use Rattle.std.specs.Cmp.Lexicographic.{slice_cmp}
-use Rattle.std.specs.BTreeMap.{insert_entry}
-use Rattle.std.specs.Map.{keys_of}
+use Rattle.crun_lines.proofs.Common.{◌≡◌, ℕ, ◌+◌, ◌<◌, List, [], ◌∷◌, map, length, get_or, drop, All, nat_cmp, sym, refl, ap, ◌∙◌, add-one, drop-cons, Bor, insert_entry, slice_cmp, keys_of, match_ordering, ordering_then, Ordering, Equal, Greater, Less, Name, name_order, numbered_from, put_in_order, texts}
 use Rattle.std.proofs.lemmas.List.Elements.{All-head, All-tail}
 use Rattle.std.proofs.lemmas.Map.Views.{All-keys-insert_entry}
-use Rattle.c_meaning.specs.State.{Name}
-use Rattle.crun_lines.specs.NameOrder.{name_order, numbered_from, put_in_order}
-use Rattle.crun_lines.specs.Views.{texts}
 
 -- a name behind its length, and the order of these
 abbrev pub Key : Type 0

@@ -1,13 +1,8 @@
 -- Rows of bytes: in halves that are numbers, and one byte after another.
-use Rattle.std.proofs.Common.{◌≡◌, ℕ, ◌+◌, ◌*◌, ◌<◌, List, [], ◌∷◌, ◌++◌, length, take, drop, get_or, set}
-use Rattle.std.proofs.Common.{refl, sym, ap, ◌∙◌, suc, arith, length-drop, add-one, drop-cons, ◌-◌}
-use Rattle.std.specs.Prelude.{◌==◌, ◌&&◌}
-use Rattle.std.specs.List.{list_all, slice_range}
-use Rattle.std.proofs.Math.Seq.{take-add, take-length, take-suc, take-suc-set}
+use Rattle.crun_lines.proofs.Common.{◌≡◌, ℕ, suc, ◌+◌, ◌-◌, ◌*◌, ◌<◌, ◌&&◌, List, [], ◌∷◌, ◌++◌, length, get_or, take, drop, set, ◌==◌, slice_range, sym, refl, ap, ◌∙◌, add-one, arith, length-drop, get_or-drop, drop-cons, take-suc, drop-drop, take-suc-set, take-add, list_all, bytes_at, little_endian}
+use Rattle.std.proofs.Math.Seq.{take-length}
 use Rattle.std.proofs.lemmas.Bool.Decides.{nat_tests}
-use Rattle.std.proofs.lemmas.List.{drop-drop, get_or-drop}
 use Rattle.std.proofs.lemmas.List.Folds.{list_all-append}
-use Rattle.w2c_base.specs.LittleEndian.{bytes_at, little_endian}
 
 sum_is_zero : (b n : ℕ) → (b + 256 * n == 0) ≡ ((b == 0) && (n == 0))
 sum_is_zero b n = grind (arith, nat_tests)

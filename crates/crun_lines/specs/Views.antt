@@ -1,18 +1,16 @@
--- The phases, stops, replies, functions and names that lines are made of, as those of the meaning of C.
+-- The phases, stops, functions and names that lines are made of, as those of the meaning of C.
 use Rattle.std.specs.Prelude.{ℕ, ◌+◌, ◌<◌, ◌^◌, List, ◌++◌, codes, map}
 use Rattle.std.specs.Borrow.{Bor}
 use Rattle.std.specs.Fmt.{decimal}
 use Rattle.w2c_base.specs.Run as run
 use Rattle.w2c_base.specs.Trap.{code_of, text_of}
-use Rattle.c_meaning.specs.State.{Name, Place, Trapped, Undefined}
+use Rattle.c_meaning.specs.State.{Name, Trapped, Undefined}
 use Rattle.c_meaning.specs.Run.{Outcome, Stopped, OutOfSteps}
+use Rattle.c_meaning.specs.Views.{place_of}
 use Rattle.crun_lines.specs.declared.calls.Phase.{Phase}
 use Rattle.crun_lines.specs.declared.calls.Phase.TheVariants as phase
 use Rattle.crun_lines.specs.declared.calls.Stop.{Stop}
 use Rattle.crun_lines.specs.declared.calls.Stop.TheVariants as stop
-use Rattle.crun_lines.specs.declared.calls.UndefinedAt.{UndefinedAt}
-use Rattle.crun_lines.specs.declared.hosts.Reply.{Reply}
-use Rattle.crun_lines.specs.declared.hosts.Reply.TheVariants as reply
 use Rattle.crun_lines.specs.declared.objects.Function.{Function}
 use Rattle.crun_lines.specs.declared.objects.Function.TheVariants as function
 use Rattle.crun_lines.specs.declared.names.Numbered.{Numbered}
@@ -28,9 +26,6 @@ abbrev pub IsCounted : Phase → Type 0
 IsCounted (phase.Init k) = k + 1 < 2 ^ 64
 IsCounted (phase.Call k) = k + 1 < 2 ^ 64
 
-abbrev pub place_of : UndefinedAt → Place
-place_of at = record { unit = at.unit; item = at.item; statement = at.statement }
-
 abbrev pub outcome_of : Stop → Outcome
 outcome_of (stop.Trapped kind) = Stopped (Trapped kind)
 outcome_of (stop.Undefined at) = Stopped (Undefined at.kind (place_of at))
@@ -41,10 +36,6 @@ abbrev pub stop_text : Stop → List ℕ
 stop_text (stop.Trapped kind) = codes " trap " ++ decimal (code_of kind) ++ codes " " ++ text_of kind ++ codes "\n"
 stop_text (stop.Undefined at) = codes " undefined " ++ decimal at.kind ++ place_text (place_of at) ++ codes "\n"
 stop_text stop.OutOfSteps = codes " out of steps\n"
-
-abbrev pub reply_of : Reply → run.Reply
-reply_of (reply.Gave value) = run.Gave value
-reply_of reply.Trapped = run.HostTrapped
 
 -- what stands for the function that an element names
 abbrev pub owned_text : Function → List ℕ

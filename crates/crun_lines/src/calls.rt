@@ -1,9 +1,11 @@
 // The lines of init functions and calls.
 ghost use Rattle.std.specs.Prelude.{◌≡◌, ◌+◌, ◌<◌, ◌^◌, ◌++◌, IfOk, OnOk};
+ghost use Rattle.c_meaning.specs.Views.{place_of};
 ghost use Rattle.crun_lines.specs.CallLines.{ended_line, last_line, phase_text, place_text};
-ghost use Rattle.crun_lines.specs.Views.{outcome_of, phase_of, place_of, stop_text, IsCounted};
+ghost use Rattle.crun_lines.specs.Views.{outcome_of, phase_of, stop_text, IsCounted};
 
 use crate::words::{put_number, put_value};
+use c_meaning::UndefinedAt;
 use std::alloc::Global;
 use w2c_base::{Bytes, Memory, TrapKind, Value};
 
@@ -12,15 +14,6 @@ use w2c_base::{Bytes, Memory, TrapKind, Value};
 pub enum Phase {
     Init(u64),
     Call(u64),
-}
-
-/// What is undefined: its kind, and the place of the statement. A statement's number counts from 1.
-#[derive(Clone, Copy, Debug, PartialEq, Eq)]
-pub struct UndefinedAt {
-    pub kind: u32,
-    pub unit: usize,
-    pub item: usize,
-    pub statement: usize,
 }
 
 /// Why an init function or a call did not end.

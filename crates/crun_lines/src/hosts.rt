@@ -1,18 +1,12 @@
 // The lines of calls of hosts.
 ghost use Rattle.std.specs.Prelude.{◌≡◌, ◌++◌, IfOk, OnOk};
+ghost use Rattle.c_meaning.specs.Views.{reply_of};
 ghost use Rattle.crun_lines.specs.HostLines.{replied_line, reply_text};
-ghost use Rattle.crun_lines.specs.Views.{reply_of};
 
 use crate::words::{put_name, put_value, put_values};
+use c_meaning::HostReply;
 use std::alloc::Global;
 use w2c_base::{Bytes, Memory, Value};
-
-/// A host's reply to a call of its function: a value or none, or a trap.
-#[derive(Clone, Copy, Debug, PartialEq, Eq)]
-pub enum Reply {
-    Gave(Option<Value>),
-    Trapped,
-}
 
 /// The line of a call of a host's function, by the names of both, with the arguments and the reply.
 pub fn host_line(
@@ -20,7 +14,7 @@ pub fn host_line(
     host: &[u8],
     function: &[u8],
     args: &[Value],
-    reply: Reply,
+    reply: HostReply,
 ) -> Result<Bytes, Memory>
     ensures { IfOk result (λ line. line ≡ replied_line host.now function.now args.now (reply_of reply)) }
 {
@@ -36,11 +30,11 @@ pub fn host_line(
     Ok(line)
 }
 
-fn put_reply(line: &mut Bytes, reply: Reply) -> Result<(), Memory>
+fn put_reply(line: &mut Bytes, reply: HostReply) -> Result<(), Memory>
     ensures { OnOk result (line.new ≡ line.old ++ reply_text (reply_of reply)) }
 {
     match reply {
-        Reply::Gave(value) => put_value(line, value),
-        Reply::Trapped => line.extend(b"trap"),
+        HostReply::Value(value) => put_value(line, value),
+        HostReply::Trap => line.extend(b"trap"),
     }
 }

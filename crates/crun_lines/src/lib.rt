@@ -11,8 +11,9 @@ mod objects;
 mod rows;
 mod words;
 
-pub use calls::{Phase, Stop, UndefinedAt, ended_line, last_line};
-pub use hosts::{Reply, host_line};
+pub use c_meaning::{HostReply, UndefinedAt};
+pub use calls::{Phase, Stop, ended_line, last_line};
+pub use hosts::host_line;
 pub use laws::{
     lines_stand_in_the_order_of_the_run, names_have_one_order, objects_are_told_by_their_numbers,
 };

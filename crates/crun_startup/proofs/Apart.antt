@@ -1,43 +1,11 @@
 -- In a checked unit the names of objects have letters, and no two of them are equal, within a kind and
 -- between kinds.
-use Rattle.std.proofs.Common.{
-  ◌≡◌,
-  Bool,
-  true,
-  false,
-  ◌&&◌,
-  ◌||◌,
-  if◌then◌else◌,
-  List,
-  [],
-  ◌∷◌,
-  bytes_eq,
-  is_some,
-  Option,
-  Some,
-  None,
-  refl,
-  sym,
-  ◌∙◌,
-}
-use Rattle.std.specs.Prelude.{not}
-use Rattle.std.specs.List.{AllByRecursion, cons_option, list_all}
-use Rattle.std.proofs.lemmas.Slice.Eq.{bytes_eq-Decides}
-use Rattle.w2c_base.proofs.Conjunctions.{left_holds, right_holds}
-use Rattle.c_tree.specs.declared.tree.CType.{CType}
+use Rattle.crun_startup.proofs.Common.{◌≡◌, Bool, true, false, not, ◌&&◌, ◌||◌, List, [], ◌∷◌, is_some, if◌then◌else◌, Some, None, Option, bytes_eq, sym, refl, ◌∙◌, bytes_eq-Decides, AllByRecursion, cons_option, list_all, left_holds, right_holds, same_type, Name, name_of, IsName, NamedItem, CType, Num, none_clash, stands_behind, AreApart, AreNames, Differ, has_object, names_in, var_value}
 use Rattle.c_tree.specs.declared.tree.CType.TheVariants as type
-use Rattle.c_tree.specs.declared.tree.Num.{Num}
 use Rattle.c_tree.specs.declared.tree.Num.TheVariants.{N32, N64, Plain}
 use Rattle.c_tree.specs.Tree as tree
-use Rattle.c_tree.specs.Runtime.{same_type}
-use Rattle.c_tree.specs.Scope.{Name, name_of}
-use Rattle.c_tree.specs.WellFormed.{IsName, NamedItem}
-use Rattle.c_rules.specs.UnitNames.{none_clash, stands_behind}
-use Rattle.c_objects.specs.Stores.{AreApart, AreNames, Differ}
 use Rattle.crun_startup.specs.declared.names.ObjectKind.{ObjectKind}
 use Rattle.crun_startup.specs.declared.names.ObjectKind.TheVariants as kind
-use Rattle.crun_startup.specs.Names.{has_object, names_in}
-use Rattle.crun_startup.specs.Objects.{var_value}
 
 not_equal : (x y : Name) → bytes_eq x y ≡ false → bytes_eq y x ≡ false
 not_equal x y e = go (bytes_eq y x) refl

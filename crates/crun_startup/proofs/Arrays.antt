@@ -1,43 +1,6 @@
 -- What arrays stand for by number is what they stand for in the meaning of C.
-use Rattle.std.proofs.Common.{
-  ◌≡◌,
-  ℕ,
-  ◌+◌,
-  Bool,
-  true,
-  false,
-  if◌then◌else◌,
-  List,
-  [],
-  ◌∷◌,
-  ◌++◌,
-  append_assoc,
-  length,
-  map,
-  bytes_eq,
-  Option,
-  Some,
-  None,
-  refl,
-  sym,
-  ap,
-  ◌∙◌,
-}
-use Rattle.std.specs.Prelude.{slice_get, filter_map}
-use Rattle.std.specs.List.{cons_option}
-use Rattle.std.specs.Option.{option_or}
-use Rattle.w2c_base.specs.Lookup.{if_found}
+use Rattle.crun_startup.proofs.Common.{◌≡◌, ℕ, ◌+◌, Bool, true, false, List, [], ◌∷◌, ◌++◌, map, length, if◌then◌else◌, slice_get, Some, None, Option, filter_map, bytes_eq, sym, refl, ap, ◌∙◌, append_assoc, length_push, cons_option, option_or, right_behind, if_found, Name, array_bytes, entry_in, item_bytes, array_name}
 use Rattle.c_tree.specs.Tree as tree
-use Rattle.c_tree.specs.Scope.{Name}
-use Rattle.c_meaning.specs.Linking.{array_bytes}
-use Rattle.c_machine.specs.Names.{entry_in}
-use Rattle.c_machine.proofs.Variables.{length-push}
-use Rattle.c_thread.specs.Sights.{item_bytes}
-use Rattle.crun_startup.specs.Names.{array_name}
-
-item_at : (before : List tree.Item) (x : tree.Item) (items : List tree.Item) → slice_get (before ++ x ∷ items) (length before) ≡ Some x
-item_at [] x items = refl
-item_at (y ∷ before) x items = item_at before x items
 
 module _ (q : Name) where
   -- the bytes of the array that is found from an item on
@@ -52,7 +15,7 @@ module _ (q : Name) where
       → slice_get (filter_map (array_bytes q) items) 0
       ≡ bytes_by (before ++ x ∷ items) (entry_in (length before + 1) q (map array_name items))
   later before x items e =
-      e ∙ ap (λ k. bytes_by ((before ++ x ∷ []) ++ items) (entry_in k q (map array_name items))) (length-push before x)
+      e ∙ ap (λ k. bytes_by ((before ++ x ∷ []) ++ items) (entry_in k q (map array_name items))) (length_push before x)
       ∙ ap (λ l. bytes_by l (entry_in (length before + 1) q (map array_name items))) (append_assoc before (x ∷ []) items)
 
   pub arrays_behind : (before items : List tree.Item) → Behind before items
@@ -70,7 +33,7 @@ module _ (q : Name) where
       go : (b : Bool) → slice_get (filter_map (array_bytes q) items) 0 ≡ bytes_by whole rest
           → slice_get (cons_option (if b then Some bytes else None) (filter_map (array_bytes q) items)) 0
           ≡ bytes_by whole (option_or (if b then Some (length before) else None) rest)
-      go true e = sym (ap (λ o. if_found o item_bytes) (item_at before (tree.Array name count bytes) items))
+      go true e = sym (ap (λ o. if_found o item_bytes) (right_behind before (tree.Array name count bytes) items))
       go false e = e
   arrays_behind before (tree.Var ty name number ∷ items) =
       later before (tree.Var ty name number) items (arrays_behind (before ++ tree.Var ty name number ∷ []) items)

@@ -1,76 +1,11 @@
 -- What stands for a symbol by number is the first definition that units have of it.
-use Rattle.std.proofs.Common.{
-  ◌≡◌,
-  ℕ,
-  zero,
-  suc,
-  ◌+◌,
-  length,
-  Bool,
-  true,
-  false,
-  ◌&&◌,
-  if◌then◌else◌,
-  List,
-  [],
-  ◌∷◌,
-  map,
-  bytes_eq,
-  is_some,
-  Option,
-  Some,
-  None,
-  refl,
-  sym,
-  ap,
-  ◌∙◌,
-  subst,
-  arith,
-}
-use Rattle.std.specs.Prelude.{slice_get, option_map, zip, filter, flat_map, IfSome, IsSome}
-use Rattle.std.specs.List.{list_all, list_any, position_from, range_with_len}
-use Rattle.std.specs.Option.{option_or}
+use Rattle.crun_startup.proofs.Common.{◌≡◌, ℕ, zero, suc, ◌+◌, Bool, true, false, ◌&&◌, List, [], ◌∷◌, map, length, is_some, IfSome, if◌then◌else◌, IsSome, slice_get, Some, None, filter, Option, option_map, zip, flat_map, bytes_eq, sym, refl, ap, ◌∙◌, subst, arith, bytes_eq-Decides, list_all, list_any, position_from, range_with_len, option_or, if_found, named, named-append, same_type, same_types, Name, CType, U32, U64, Void, Definition, Program, SymbolCall, c_params_of, called_func, defined, defined_for_all, definition_of, fits, func_type, host_symbol, is_external, typed, FuncAddress, UnitFunc, definitions_from, first_under, seen_under, IsProgramOf, HostSymbol, Naming, func_of, FuncId, definition_in, items_at, symbol_in, Symbols, AreSymbols, IsSeenAt, unit_item, HaveCounts, entries, host_entries, host_ids, ids_of, symbol_of, unit_entries, UnitItem, address_in, naming_of}
 use Rattle.std.proofs.lemmas.List.Folds.{list_all-append}
-use Rattle.std.proofs.lemmas.Slice.Eq.{bytes_eq-Decides}
 use Rattle.w2c_base.specs.declared.value.Value.{Value}
 use Rattle.w2c_base.specs.Values.{is_number, types_of}
-use Rattle.w2c_base.specs.Lookup.{if_found, named}
-use Rattle.c_tree.specs.declared.tree.CType.{CType}
-use Rattle.c_tree.specs.declared.tree.CType.TheVariants.{Void, U32, U64}
 use Rattle.c_tree.specs.Tree as tree
-use Rattle.c_tree.specs.Runtime.{same_type, same_types}
-use Rattle.c_tree.specs.Scope.{Name, func_type_of}
-use Rattle.c_meaning.specs.State.{FuncAddress, UnitFunc}
-use Rattle.c_meaning.specs.Linking.{
-  Definition,
-  Program,
-  SymbolCall,
-  c_params_of,
-  called_func,
-  defined,
-  defined_for_all,
-  definition_of,
-  fits,
-  func_type,
-  host_symbol,
-  is_external,
-  typed,
-}
-use Rattle.name_table.proofs.Lookups.{named-append}
-use Rattle.c_link.specs.declared.host_symbol.HostSymbol.{HostSymbol}
-use Rattle.c_link.specs.Programs.{IsProgramOf}
-use Rattle.c_link.proofs.Apart.{definitions_from, first_under, seen_under}
-use Rattle.c_machine.specs.Threads.{definition_in}
-use Rattle.c_objects.specs.declared.held.FuncId.{FuncId}
+use Rattle.c_tree.specs.Scope.{func_type_of}
 use Rattle.c_objects.specs.declared.held.FuncId.TheVariants as func
-use Rattle.c_objects.specs.Views.{Naming, func_of}
-use Rattle.c_thread.specs.declared.scope.Symbols.{Symbols}
-use Rattle.c_thread.specs.Linked.{items_at}
-use Rattle.c_thread.specs.Sights.{symbol_in}
-use Rattle.crun_startup.specs.Called.{AreSymbols, IsSeenAt, unit_item}
-use Rattle.crun_startup.specs.Entries.{HaveCounts, entries, host_entries, host_ids, ids_of, symbol_of, unit_entries}
-use Rattle.crun_startup.specs.Inits.{UnitItem, address_in}
-use Rattle.crun_startup.specs.Names.{naming_of}
 use Rattle.crun_startup.proofs.SymbolsFound.{number_in_unit, says_from, symbol_found}
 
 -- ---- the first definition of a symbol stands at its item

@@ -1,50 +1,7 @@
 -- In a checked unit each name has letters, and what is defined under a name stands at one item.
-use Rattle.std.proofs.Common.{
-  ◌≡◌,
-  ℕ,
-  zero,
-  suc,
-  ◌+◌,
-  Bool,
-  true,
-  false,
-  ◌&&◌,
-  ◌||◌,
-  if◌then◌else◌,
-  List,
-  [],
-  ◌∷◌,
-  map,
-  bytes_eq,
-  get_or,
-  is_some,
-  Option,
-  Some,
-  None,
-  refl,
-  sym,
-  ap,
-  ◌∙◌,
-  subst,
-  arith,
-}
-use Rattle.std.specs.Prelude.{slice_get, not}
-use Rattle.std.specs.List.{AllByRecursion, list_all}
-use Rattle.std.specs.Option.{option_or}
-use Rattle.std.proofs.lemmas.Slice.Eq.{bytes_eq-Decides}
-use Rattle.w2c_base.proofs.Conjunctions.{left_holds, right_holds}
-use Rattle.w2c_base.specs.Lookup.{if_found}
-use Rattle.c_tree.specs.declared.tree.CType.{CType}
+use Rattle.crun_startup.proofs.Common.{◌≡◌, ℕ, zero, suc, ◌+◌, Bool, true, false, ◌&&◌, ◌||◌, List, [], ◌∷◌, map, get_or, is_some, if◌then◌else◌, slice_get, Some, None, Option, bytes_eq, sym, refl, ap, ◌∙◌, subst, arith, bytes_eq-Decides, AllByRecursion, list_all, option_or, left_holds, right_holds, if_found, Name, IsName, NamedItem, CType, none_clash, stands_behind, defined, definition_of, not_both, defined_is, defined_name, entry_in, found_at, function_in, definition_in, function_name}
 use Rattle.c_tree.specs.Tree as tree
 use Rattle.c_tree.specs.Rules.{are_alike}
-use Rattle.c_tree.specs.Scope.{Name}
-use Rattle.c_tree.specs.WellFormed.{IsName, NamedItem}
-use Rattle.c_rules.specs.UnitNames.{none_clash, stands_behind}
-use Rattle.c_meaning.specs.Linking.{defined, definition_of}
-use Rattle.c_machine.specs.Names.{defined_name, entry_in, found_at, function_in}
-use Rattle.c_machine.specs.Threads.{definition_in}
-use Rattle.c_machine.proofs.Functions.{defined_is}
-use Rattle.crun_startup.specs.Names.{function_name}
 
 pub all_at : {A : Type 0} (p : A → Bool) (xs : List A) (i : ℕ) (x : A) → list_all p xs ≡ true → slice_get xs i ≡ Some x → p x ≡ true
 all_at p [] i x all at = absurd cc
@@ -87,17 +44,9 @@ clash x item r q one other same stands =
     let b = defines item q other in
     let names : bytes_eq a.func.name b.func.name ≡ true =
     (bytes_eq-Decides a.func.name b.func.name).1 (a.named ∙ (bytes_eq-Decides r q).0 same ∙ sym b.named) in
-    go (bytes_eq a.func.name b.func.name) names (is_some a.func.body) (ap is_some a.has) (is_some b.func.body) (ap is_some b.has)
+    not_both (bytes_eq a.func.name b.func.name) names (is_some a.func.body) (ap is_some a.has) (is_some b.func.body) (ap is_some b.has)
     (are_alike (tree.Function a.func) (tree.Function b.func))
     (sym (ap (λ y. stands_behind y (tree.Function b.func)) a.is) ∙ sym (ap (stands_behind x) b.is) ∙ stands)
-  where
-    go : (b : Bool) → b ≡ true → (m : Bool) → m ≡ true → (n : Bool) → n ≡ true → (a : Bool)
-        → (not b || (a && not (m && n))) ≡ true → ⊥
-    go true e true h true k true t = cc
-    go true e true h true k false t = cc
-    go true e true h false k a t = cc
-    go true e false h n k a t = cc
-    go false e m h n k a t = cc
 
 -- the item that defines a name is the first that does
 pub first_is : (k : ℕ) (items : List tree.Item) (i : ℕ) (item : tree.Item) (q : Name) → none_clash items ≡ true

@@ -1,40 +1,6 @@
 -- Loops that gather what the items of a list give.
-use Rattle.std.proofs.Common.{
-  ◌≡◌,
-  ℕ,
-  zero,
-  suc,
-  ◌+◌,
-  ◌<◌,
-  ◌≤◌,
-  List,
-  [],
-  ◌∷◌,
-  ◌++◌,
-  append_assoc,
-  drop,
-  get_or,
-  length,
-  map,
-  take,
-  Option,
-  Some,
-  None,
-  refl,
-  sym,
-  ap,
-  ◌∙◌,
-  add-one,
-  arith,
-}
-use Rattle.std.specs.Prelude.{is_some, slice_get, filter_map, flat_map, option_map}
-use Rattle.std.specs.List.{cons_option, range_with_len}
-use Rattle.std.proofs.lemmas.List.{append-nil, drop_all, length-map, map-append}
+use Rattle.crun_startup.proofs.Common.{◌≡◌, ℕ, zero, suc, ◌+◌, ◌<◌, ◌≤◌, List, [], ◌∷◌, ◌++◌, map, length, get_or, take, drop, slice_get, Some, None, Option, flat_map, filter_map, sym, refl, ap, ◌∙◌, append_assoc, append-nil, add-one, arith, drop_all, length-map, map-append, cons_option, range_with_len, numbered_at, numbered_past, drop_front, mapped_at, seen_at, take_next, numbered}
 use Rattle.std.proofs.lemmas.List.Elements.{filter_map-append}
-use Rattle.std.proofs.lemmas.Option.{slice_get-map}
-use Rattle.w2c_base.specs.Lookup.{numbered}
-use Rattle.c_rules.proofs.Distinct.{drop_front}
-use Rattle.c_link.proofs.Walks.{mapped_at, numbered_at, numbered_past, take_next}
 
 -- what a list gives is what its first item gives, and then what the others give
 pub record IsGathering {A B : Type 0} (F : List A → List B) : Type 0 where
@@ -107,14 +73,6 @@ module _ {A B V : Type 0} (f : A → Option B) (view : V → B) (x : A) where
 pub put_one : {B V : Type 0} (view : V → B) (v : V) (b : B) (before after : List V) → after ≡ before ++ v ∷ [] → view v ≡ b
     → map view after ≡ map view before ++ b ∷ []
 put_one view v b before after grown said = ap (map view) grown ∙ map-append view before (v ∷ []) ∙ ap (λ x. map view before ++ x ∷ []) said
-
-pub mapped_some : {A B : Type 0} (f : A → B) (o : Option A) → is_some (option_map f o) ≡ is_some o
-mapped_some f None = refl
-mapped_some f (Some x) = refl
-
-pub seen_at : {A X : Type 0} (view : X → A) (xs : List X) (i : ℕ) (x : X) → slice_get xs i ≡ Some x
-    → slice_get (map view xs) i ≡ Some (view x)
-seen_at view xs i x at = slice_get-map view xs i ∙ ap (option_map view) at
 
 pub range_push : (k n : ℕ) → range_with_len k (n + 1) ≡ range_with_len k n ++ (k + n) ∷ []
 range_push k zero = let e : k ≡ k + 0 = omega arith in ap (λ m. m ∷ []) e

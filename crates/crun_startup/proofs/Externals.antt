@@ -1,16 +1,6 @@
 -- In a checked unit the first definition of a symbol is the first of its name.
-use Rattle.std.proofs.Common.{◌≡◌, ℕ, ◌+◌, Bool, true, false, if◌then◌else◌, List, [], ◌∷◌, bytes_eq, Option, Some, None, refl, sym, ◌∙◌}
-use Rattle.std.specs.Prelude.{slice_get, filter}
-use Rattle.std.specs.List.{list_all}
-use Rattle.std.proofs.lemmas.Slice.Eq.{bytes_eq-Decides}
-use Rattle.w2c_base.proofs.Conjunctions.{left_holds, right_holds}
-use Rattle.c_tree.specs.declared.tree.CType.{CType}
+use Rattle.crun_startup.proofs.Common.{◌≡◌, ℕ, ◌+◌, Bool, true, false, List, [], ◌∷◌, if◌then◌else◌, slice_get, Some, None, filter, Option, bytes_eq, sym, refl, ◌∙◌, bytes_eq-Decides, list_all, left_holds, right_holds, Name, CType, none_clash, stands_behind, Definition, defined, defined_for_all, definitions_from, first_under, seen_under, first_defined, none_under}
 use Rattle.c_tree.specs.Tree as tree
-use Rattle.c_tree.specs.Scope.{Name}
-use Rattle.c_rules.specs.UnitNames.{none_clash, stands_behind}
-use Rattle.c_meaning.specs.Linking.{Definition, defined, defined_for_all}
-use Rattle.c_link.proofs.Apart.{seen_under, definitions_from, first_under}
-use Rattle.c_link.proofs.Rules.{first_defined, none_under}
 
 function_first : (k : ℕ) (q : Name) (d : Definition) (items : List tree.Item) (is_static : Bool) (result : CType) (name : Name)
     (params : List tree.Param) (o : Option tree.Body)

@@ -1,51 +1,9 @@
 -- The first objects of units are those of the meaning of C.
-use Rattle.std.proofs.Common.{
-  ◌≡◌,
-  zero,
-  suc,
-  Bool,
-  true,
-  false,
-  if◌then◌else◌,
-  List,
-  [],
-  ◌∷◌,
-  ◌++◌,
-  length,
-  map,
-  is_some,
-  Option,
-  Some,
-  None,
-  refl,
-  sym,
-  ap,
-  ◌∙◌,
-}
-use Rattle.std.specs.Prelude.{zip, filter_map, option_map}
-use Rattle.std.specs.List.{cons_option}
-use Rattle.std.proofs.lemmas.List.{length-map}
-use Rattle.w2c_base.specs.Run.{Reply}
-use Rattle.c_tree.specs.declared.tree.CType.{CType}
+use Rattle.crun_startup.proofs.Common.{◌≡◌, zero, suc, Bool, true, false, List, [], ◌∷◌, ◌++◌, map, length, is_some, if◌then◌else◌, Some, None, Option, option_map, zip, filter_map, sym, refl, ap, ◌∙◌, length-map, cons_option, Reply, well_formed, Name, name_of, CType, Num, Program, c_objects_of, file_memory, file_table, file_var, fresh, initial_of, no_memory, no_table, zero_of, CValue, Memory, Objects, Table, clash_none, AllChecked, IsChecked, memory_of, table_of, AreStored, IsStored, machine_of, objects_of, units_of, Naming, value_of, has_object, names_in, naming_of, unit_names, AreFirst, memory_value, table_value, var_value, AreAllFirst}
 use Rattle.c_tree.specs.declared.tree.CType.TheVariants as type
-use Rattle.c_tree.specs.declared.tree.Num.{Num}
 use Rattle.c_tree.specs.Tree as tree
-use Rattle.c_tree.specs.Scope.{Name, name_of}
-use Rattle.c_tree.proofs.WellFormedUnits.{well_formed}
-use Rattle.c_meaning.specs.State.{CValue, Memory, Objects, Table}
-use Rattle.c_meaning.specs.Linking.{Program}
-use Rattle.c_meaning.specs.Machine.{file_memory, file_table, file_var, fresh, initial_of, no_memory, no_table, zero_of}
-use Rattle.c_meaning.specs.Machine.{objects_of as c_objects_of}
-use Rattle.c_link.specs.Programs.{AllChecked, IsChecked}
-use Rattle.c_link.proofs.Rules.{clash_none}
 use Rattle.c_objects.specs.declared.store.UnitObjects.{UnitObjects}
-use Rattle.c_objects.specs.Objects.{memory_of, table_of}
-use Rattle.c_objects.specs.Stores.{AreStored, IsStored, machine_of, objects_of, units_of}
-use Rattle.c_objects.specs.Views.{Naming, value_of}
 use Rattle.crun_startup.specs.declared.names.ObjectKind.TheVariants as kind
-use Rattle.crun_startup.specs.Names.{has_object, names_in, naming_of, unit_names}
-use Rattle.crun_startup.specs.Objects.{AreFirst, memory_value, table_value, var_value}
-use Rattle.crun_startup.specs.Units.{AreAllFirst}
 use Rattle.crun_startup.proofs.Apart.{are_apart, are_names, memory_or_table, no_memory as var_no_memory, no_table as var_no_table}
 
 -- ---- one unit by its items

@@ -1,31 +1,9 @@
 -- A name is the symbol of an init function exactly where the escape of a module's name stands between w2cZ_ and Z_i.
-use Rattle.std.proofs.Common.{
-  ◌≡◌,
-  ◌≢◌,
-  ◌↔◌,
-  ℕ,
-  ◌<◌,
-  ◌≤◌,
-  Bool,
-  true,
-  false,
-  IsTrue,
-  List,
-  ◌++◌,
-  length,
-  codes,
-  All,
-  refl,
-  sym,
-  ◌∙◌,
-  subst,
-}
-use Rattle.std.proofs.lemmas.List.{append_cancel_left, append_cancel_right}
+use Rattle.crun_startup.proofs.Common.{◌≡◌, ℕ, ◌<◌, ◌≤◌, Bool, true, false, ◌≢◌, ◌↔◌, List, ◌++◌, length, IsTrue, codes, All, sym, refl, ◌∙◌, subst, append_cancel_left, append_cancel_right, is_init_symbol, init_symbol_around}
 use Rattle.w2c_mangle.specs.Escaping.{escaped}
 use Rattle.w2c_mangle.proofs.EscapedNames.{escaped-injective}
-use Rattle.c_meaning.specs.Linking.{is_init_symbol}
 use Rattle.c_meaning.proofs.InitSymbols.{found_are_init_symbols, init_symbols_found}
-use Rattle.crun_startup.specs.Inits.{init_symbol_around}
+use Rattle.w2c_base.proofs.Tests.{same_tests}
 
 -- texts in symbols are told apart
 around_one : (a b : List ℕ) → init_symbol_around a ≡ init_symbol_around b → a ≡ b
@@ -37,11 +15,6 @@ around_one a b e =
 none_found : (b : Bool) → (b ≡ true → ⊥) → false ≡ b
 none_found true none = absurd (none refl)
 none_found false none = refl
-
-found_as : (b c : Bool) → (b ≡ true → c ≡ true) → (c ≡ true → b ≡ true) → b ≡ c
-found_as true c to from = sym (to refl)
-found_as false true to from = from refl
-found_as false false to from = refl
 
 pub not_around : (name : List ℕ) → ((text : List ℕ) → name ≢ init_symbol_around text) → false ≡ is_init_symbol name
 not_around name none =
@@ -56,7 +29,7 @@ no_escape text none = none_found (is_init_symbol (init_symbol_around text)) (λ 
 pub escape_found : (name text : List ℕ) (b : Bool) → escaped name ≡ text → All (λ b. b < 256) name
     → IsTrue b ↔ (1 ≤ length name) × (length name ≤ 1024) → b ≡ is_init_symbol (init_symbol_around text)
 escape_found name text b is bytes told =
-    found_as b (is_init_symbol (init_symbol_around text))
+    same_tests b (is_init_symbol (init_symbol_around text))
     (λ t. subst (λ x. is_init_symbol (init_symbol_around x) ≡ true) is (init_symbols_found name (told.0 t).0 (told.0 t).1 bytes))
     (λ t. let found = found_are_init_symbols (init_symbol_around text) t in
     let same : found.0 ≡ name = escaped-injective found.0 name (around_one (escaped found.0) text (sym found.1) ∙ sym is) in

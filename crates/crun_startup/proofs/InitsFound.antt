@@ -1,55 +1,8 @@
 -- The items that define functions which run first are those of the meaning of C.
-use Rattle.std.proofs.Common.{
-  ◌≡◌,
-  ◌⊎◌,
-  ℕ,
-  zero,
-  suc,
-  ◌+◌,
-  ◌≤◌,
-  inl,
-  inr,
-  length,
-  Bool,
-  true,
-  false,
-  ◌&&◌,
-  if◌then◌else◌,
-  List,
-  [],
-  ◌∷◌,
-  ◌++◌,
-  map,
-  get_or,
-  Option,
-  Some,
-  None,
-  refl,
-  sym,
-  ap,
-  ◌∙◌,
-  subst,
-  arith,
-}
-use Rattle.std.specs.Prelude.{slice_get, zip, filter, filter_map, flat_map}
-use Rattle.std.specs.List.{cons_option, range_with_len}
-use Rattle.std.proofs.lemmas.List.{append-nil, map-append}
-use Rattle.w2c_base.specs.Lookup.{if_found, numbered}
-use Rattle.c_tree.specs.declared.tree.CType.{CType}
-use Rattle.c_tree.specs.declared.tree.CType.TheVariants.{Void}
+use Rattle.crun_startup.proofs.Common.{◌≡◌, ℕ, zero, suc, ◌+◌, ◌≤◌, Bool, true, false, ◌&&◌, ◌⊎◌, List, [], ◌∷◌, ◌++◌, map, length, get_or, if◌then◌else◌, slice_get, Some, None, filter, Option, zip, flat_map, filter_map, sym, refl, ap, ◌∙◌, subst, inl, inr, append-nil, arith, map-append, cons_option, range_with_len, if_found, numbered, same_type, same_types, unit_of, CType, Void, Definition, Program, definition_of, definitions, init_functions, is_init, FuncAddress, UnitFunc, definitions_from, defined_func, item_name, definition_in, items_at, IsInitAt, UnitItem, address_in, init_entry, init_items, is_init_func, is_init_item, unit_inits, function_name, naming_of}
 use Rattle.c_tree.specs.declared.tree.Item.{Item}
 use Rattle.c_tree.specs.Tree as tree
-use Rattle.c_tree.specs.Runtime.{same_type, same_types}
-use Rattle.c_tree.specs.View.{unit_of}
-use Rattle.c_meaning.specs.State.{FuncAddress, Name, UnitFunc}
-use Rattle.c_meaning.specs.Linking.{Definition, Program, definition_of, definitions, init_functions, is_init}
-use Rattle.c_link.specs.Offers.{defined_func}
-use Rattle.c_link.proofs.Apart.{definitions_from}
-use Rattle.c_machine.specs.Threads.{definition_in}
-use Rattle.c_objects.specs.Views.{item_name}
-use Rattle.c_thread.specs.Linked.{items_at}
-use Rattle.crun_startup.specs.Inits.{IsInitAt, UnitItem, address_in, init_entry, init_items, is_init_func, is_init_item, unit_inits}
-use Rattle.crun_startup.specs.Names.{function_name, naming_of}
+use Rattle.c_meaning.specs.State.{Name}
 use Rattle.crun_startup.proofs.Collected.{Gathered, flats, numbered_end}
 use Rattle.crun_startup.proofs.TablesFound.{item_named}
 

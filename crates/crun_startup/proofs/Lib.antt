@@ -1,3 +1,4 @@
+mod Common
 mod Collected
 mod Checked
 mod Externals

@@ -1,59 +1,11 @@
 -- What symbols stand for by number is what they stand for in the meaning of C.
-use Rattle.std.proofs.Common.{
-  ◌≡◌,
-  ℕ,
-  suc,
-  ◌+◌,
-  length,
-  Bool,
-  true,
-  false,
-  if◌then◌else◌,
-  cond,
-  List,
-  [],
-  ◌∷◌,
-  ◌++◌,
-  map,
-  bytes_eq,
-  get_or,
-  is_some,
-  Option,
-  Some,
-  None,
-  refl,
-  sym,
-  ap,
-  ◌∙◌,
-  arith,
-}
-use Rattle.std.specs.Prelude.{slice_get, option_map, zip, filter, filter_map, flat_map}
-use Rattle.std.specs.List.{position_from, range_with_len}
-use Rattle.std.specs.Option.{option_or}
-use Rattle.std.proofs.lemmas.List.{map-append}
-use Rattle.std.proofs.lemmas.Option.{slice_get-map}
-use Rattle.std.proofs.lemmas.Slice.Eq.{bytes_eq-Decides}
-use Rattle.w2c_base.specs.Lookup.{named, numbered}
-use Rattle.w2c_base.specs.Run.{Host, HostFunction}
+use Rattle.crun_startup.proofs.Common.{◌≡◌, ℕ, suc, ◌+◌, Bool, true, false, cond, List, [], ◌∷◌, ◌++◌, map, length, get_or, is_some, if◌then◌else◌, slice_get, Some, None, filter, Option, option_map, zip, flat_map, filter_map, bytes_eq, sym, refl, ap, ◌∙◌, arith, map-append, slice_get-map, bytes_eq-Decides, position_from, range_with_len, option_or, named, numbered, Host, HostFunction, named-append, Name, CType, symbol_pair, Definition, Program, c_func_type_of, defined_for_all, external_func, FuncAddress, HostFunc, UnitFunc, definitions_from, first_under, seen_under, c_symbols, IsProgramOf, HostSymbol, Naming, func_of, item_name, FuncId, Entry, HaveCounts, entries, entry_of, func_in, host_entries, host_ids, item_entry, name_in, unit_entries, function_name, naming_of, unit_names}
 use Rattle.w2c_mangle.specs.declared.symbol.SymbolKind.TheVariants as symbol
 use Rattle.w2c_mangle.specs.Symbols.{export_symbol_of}
-use Rattle.c_tree.specs.declared.tree.CType.{CType}
 use Rattle.c_tree.specs.Tree as tree
-use Rattle.c_tree.specs.Scope.{Name}
-use Rattle.c_meaning.specs.State.{FuncAddress, UnitFunc, HostFunc}
 use Rattle.c_meaning.specs.Linking as linking
-use Rattle.c_meaning.specs.Linking.{Definition, Program, c_func_type_of, defined_for_all, external_func}
-use Rattle.name_table.proofs.Lookups.{named-append}
-use Rattle.c_link.specs.declared.host_symbol.HostSymbol.{HostSymbol}
-use Rattle.c_link.specs.Offers.{c_symbols}
-use Rattle.c_link.specs.Programs.{IsProgramOf, symbol_pair}
-use Rattle.c_link.proofs.Apart.{definitions_from, first_under, seen_under}
-use Rattle.c_objects.specs.declared.held.FuncId.{FuncId}
 use Rattle.c_objects.specs.declared.held.FuncId.TheVariants as func
-use Rattle.c_objects.specs.Views.{Naming, func_of, item_name}
 use Rattle.crun_startup.specs.declared.symbols.Seen.{Seen}
-use Rattle.crun_startup.specs.Entries.{Entry, HaveCounts, entries, entry_of, func_in, host_entries, host_ids, item_entry, name_in, unit_entries}
-use Rattle.crun_startup.specs.Names.{function_name, naming_of, unit_names}
 
 -- ---- one unit
 

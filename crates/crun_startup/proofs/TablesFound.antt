@@ -1,35 +1,8 @@
 -- The tables of units find what their names stand for.
-use Rattle.std.proofs.Common.{◌≡◌, ℕ, true, List, [], map, get_or, Option, Some, None, refl, sym, ap, ◌∙◌}
-use Rattle.std.specs.Prelude.{slice_get, option_map, filter_map}
-use Rattle.std.specs.List.{AllByRecursion}
-use Rattle.std.specs.Option.{option_or}
-use Rattle.std.proofs.lemmas.Option.{slice_get-map}
-use Rattle.w2c_base.specs.Lookup.{if_found, named}
+use Rattle.crun_startup.proofs.Common.{◌≡◌, ℕ, true, List, [], map, get_or, slice_get, Some, None, Option, option_map, filter_map, sym, refl, ap, ◌∙◌, slice_get-map, AllByRecursion, option_or, if_found, named, well_formed, Name, unit_of, NamedItem, none_clash, Definition, Program, array_bytes, array_named, defined, definition_at, external_func, func_named, UnitFunc, clash_none, AllChecked, IsProgramOf, HostSymbol, Naming, func_of, item_name, FuncId, defined_is, definition_there, function_in, definition_in, AreObjectTables, HaveUnitTables, IsLinked, items_at, func_at, item_bytes, symbol_in, LinkedUnit, Symbols, HaveCounts, entries, function_name, naming_of, unit_names, AreTables, AreUnits}
 use Rattle.c_tree.specs.Tree as tree
-use Rattle.c_tree.specs.Scope.{Name}
-use Rattle.c_tree.specs.View.{unit_of}
-use Rattle.c_tree.specs.WellFormed.{NamedItem}
-use Rattle.c_tree.proofs.WellFormedUnits.{well_formed}
-use Rattle.c_rules.specs.UnitNames.{none_clash}
-use Rattle.c_meaning.specs.State.{UnitFunc}
-use Rattle.c_meaning.specs.Linking.{Definition, Program, array_bytes, array_named, defined, definition_at, external_func, func_named}
-use Rattle.c_link.specs.declared.host_symbol.HostSymbol.{HostSymbol}
-use Rattle.c_link.specs.Programs.{AllChecked, IsProgramOf}
-use Rattle.c_link.proofs.Rules.{clash_none}
-use Rattle.c_machine.specs.Names.{function_in}
-use Rattle.c_machine.specs.Threads.{definition_in}
-use Rattle.c_machine.proofs.Functions.{defined_is, definition_there}
-use Rattle.c_objects.specs.declared.held.FuncId.{FuncId}
 use Rattle.c_objects.specs.declared.held.FuncId.TheVariants as func
-use Rattle.c_objects.specs.Views.{Naming, func_of, item_name}
-use Rattle.c_thread.specs.declared.control.LinkedUnit.{LinkedUnit}
 use Rattle.c_thread.specs.declared.scope.ObjectTables.{ObjectTables}
-use Rattle.c_thread.specs.declared.scope.Symbols.{Symbols}
-use Rattle.c_thread.specs.Linked.{AreObjectTables, HaveUnitTables, IsLinked, items_at}
-use Rattle.c_thread.specs.Sights.{func_at, item_bytes, symbol_in}
-use Rattle.crun_startup.specs.Entries.{HaveCounts, entries}
-use Rattle.crun_startup.specs.Names.{function_name, naming_of, unit_names}
-use Rattle.crun_startup.specs.Units.{AreTables, AreUnits}
 use Rattle.crun_startup.proofs.Arrays.{arrays_behind}
 use Rattle.crun_startup.proofs.Checked.{function_named, own_definition}
 use Rattle.crun_startup.proofs.SymbolsFound.{symbol_found}

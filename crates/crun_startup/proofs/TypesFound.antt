@@ -1,30 +1,13 @@
 -- The types of functions by number are those of the meaning of C.
-use Rattle.std.proofs.Common.{◌≡◌, ℕ, ◌+◌, Bool, true, List, [], ◌∷◌, ◌++◌, length, take, drop, map, Option, Some, None, refl, sym, ap, ◌∙◌}
-use Rattle.std.specs.Prelude.{slice_get, option_map, zip, flat_map}
-use Rattle.std.specs.List.{range_with_len}
-use Rattle.std.specs.Option.{option_or}
-use Rattle.std.proofs.lemmas.List.{map-append}
-use Rattle.std.proofs.lemmas.Option.{slice_get-map}
-use Rattle.w2c_base.specs.Lookup.{if_found, numbered}
-use Rattle.w2c_base.specs.Run.{Host, HostFunction}
-use Rattle.c_tree.specs.declared.tree.CType.{CType}
+use Rattle.crun_startup.proofs.Common.{◌≡◌, ℕ, ◌+◌, Bool, true, List, [], ◌∷◌, ◌++◌, map, length, take, drop, slice_get, Some, None, Option, option_map, zip, flat_map, sym, refl, ap, ◌∙◌, map-append, slice_get-map, range_with_len, option_or, if_found, numbered, Host, HostFunction, Name, CType, none_clash, symbol_pair, Definition, Program, c_func_type_of, defined, defined_for_all, definition_of, func_type, typed, c_symbols, AllChecked, IsProgramOf, HostSymbol, func_of, item_name, definition_in, HaveCounts, host_type, item_type, parts, types_in, naming_of}
 use Rattle.c_tree.specs.Tree as tree
-use Rattle.c_tree.specs.Scope.{Name, func_type_of}
+use Rattle.c_tree.specs.Scope.{func_type_of}
 use Rattle.c_tree.specs.View.{func_type_of as type_of_c}
-use Rattle.c_rules.specs.UnitNames.{none_clash}
 use Rattle.c_meaning.specs.Linking as linking
-use Rattle.c_meaning.specs.Linking.{Definition, Program, c_func_type_of, defined, defined_for_all, definition_of, func_type, typed}
-use Rattle.c_link.specs.declared.host_symbol.HostSymbol.{HostSymbol}
-use Rattle.c_link.specs.Offers.{c_symbols}
-use Rattle.c_link.specs.Programs.{AllChecked, IsProgramOf, symbol_pair}
-use Rattle.c_machine.specs.Threads.{definition_in}
 use Rattle.c_objects.specs.declared.held.FuncId.TheVariants as func
-use Rattle.c_objects.specs.Views.{func_of, item_name}
 use Rattle.c_thread.specs.declared.signatures.FuncTypes.{FuncTypes}
 use Rattle.c_thread.specs.declared.signatures.TypeList.{TypeList}
 use Rattle.c_thread.specs.FuncTypes.{AreFuncTypes}
-use Rattle.crun_startup.specs.Entries.{HaveCounts, host_type, item_type, parts, types_in}
-use Rattle.crun_startup.specs.Names.{naming_of}
 use Rattle.crun_startup.proofs.Checked.{own_definition}
 use Rattle.crun_startup.proofs.Externals.{defined_first}
 use Rattle.crun_startup.proofs.SymbolsFound.{symbol_at}

@@ -1,12 +1,6 @@
 -- Units that get their tables one by one.
-use Rattle.std.proofs.Common.{◌≡◌, ℕ, zero, suc, ◌+◌, List, [], ◌∷◌, ◌++◌, length, Some, sym, ap, ◌∙◌, subst, arith}
-use Rattle.std.specs.Prelude.{slice_get}
-use Rattle.std.proofs.lemmas.List.{map-append}
+use Rattle.crun_startup.proofs.Common.{◌≡◌, ℕ, zero, suc, ◌+◌, List, [], ◌∷◌, ◌++◌, length, slice_get, Some, sym, ap, ◌∙◌, subst, arith, map-append, unit_of, LinkedUnit, Symbols, AreUnits, IsUnit}
 use Rattle.c_tree.specs.Tree as tree
-use Rattle.c_tree.specs.View.{unit_of}
-use Rattle.c_thread.specs.declared.control.LinkedUnit.{LinkedUnit}
-use Rattle.c_thread.specs.declared.scope.Symbols.{Symbols}
-use Rattle.crun_startup.specs.Units.{AreUnits, IsUnit}
 
 each_push : {A : Type 0} (P : ℕ → A → Type 0) (k : ℕ) (made : List A) (l : A) → ((u : ℕ) (x : A) → slice_get made u ≡ Some x → P (k + u) x)
     → P (k + length made) l → (u : ℕ) (x : A) → slice_get (made ++ l ∷ []) u ≡ Some x → P (k + u) x

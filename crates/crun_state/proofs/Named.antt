@@ -1,35 +1,7 @@
 -- The names of hosts and of functions by number.
-use Rattle.std.proofs.Common.{
-  ◌≡◌,
-  ℕ,
-  zero,
-  suc,
-  ◌<◌,
-  List,
-  [],
-  ◌∷◌,
-  get_or,
-  length,
-  map,
-  Option,
-  Some,
-  None,
-  sym,
-  ap,
-  ◌∙◌,
-  arith,
-}
-use Rattle.std.specs.Prelude.{option_map, slice_get}
-use Rattle.std.proofs.lemmas.Option.{slice_get-map}
-use Rattle.w2c_base.specs.Run.{Host}
-use Rattle.c_tree.specs.declared.tree.Item.{Item}
-use Rattle.c_tree.specs.View.{item_of, unit_of}
-use Rattle.c_objects.specs.Views.{item_name, UnitNames}
-use Rattle.crun_startup.specs.Names.{function_name as name_of_function, naming_of, unit_names}
+use Rattle.crun_state.proofs.Common.{◌≡◌, ℕ, zero, suc, ◌<◌, List, [], ◌∷◌, map, length, get_or, slice_get, Some, None, Option, option_map, sym, ap, ◌∙◌, arith, slice_get-map, Host, item_of, unit_of, Item, UnitNames, item_name, host_of, hosts_of, name_of_function, naming_of, unit_names, name_among}
 use Rattle.c_hosts.specs.declared.host.HostModule.{Ghosts as HostModule}
-use Rattle.c_hosts.specs.Asking.{host_of, hosts_of}
 use Rattle.crun_lines.specs.HostLines.{function_name, host_name}
-use Rattle.crun_state.specs.Showing.{name_among}
 
 -- ---- hosts
 

@@ -1,38 +1,18 @@
 -- The lines of objects by the numbers of their names.
-use Rattle.std.proofs.Common.{◌≡◌, ℕ, zero, suc, ◌+◌, ◌<◌, ◌≤◌, List, [], ◌∷◌, ◌++◌, get_or, length, map, zip, Option, Some, None, refl, sym, ap, ◌∙◌, arith}
-use Rattle.std.specs.Prelude.{flat_map, option_map, slice_get}
-use Rattle.std.specs.List.{range_with_len, AllByRecursion}
+use Rattle.crun_state.proofs.Common.{◌≡◌, ℕ, zero, suc, ◌+◌, ◌<◌, ◌≤◌, List, [], ◌∷◌, ◌++◌, map, length, get_or, slice_get, Some, None, Option, option_map, zip, flat_map, sym, refl, ap, ◌∙◌, arith, length-map, AllByRecursion, range_with_len, Host, element_of, Naming, value_of, element_lines, length_line, variable_lines, entry_of, mapped_get, entry_at, entry_lines, held_lines, length_and_elements, lines_at, lines_at_place, lines_if_there, lines_in_order, table_cell_lines}
 use Rattle.std.specs.declared.cmp.Ordering.{Ordering}
 use Rattle.std.specs.declared.cmp.Ordering.TheVariants.{Less, Equal, Greater}
 use Rattle.std.specs.Ordering.{match_ordering}
 use Rattle.std.specs.BTreeMap.{insert_entry}
-use Rattle.std.proofs.lemmas.List.{length-map}
 use Rattle.w2c_base.specs.Lookup.{at_index}
-use Rattle.w2c_base.specs.Run.{Host}
 use Rattle.c_meaning.specs.State.{Name}
 use Rattle.c_objects.specs.declared.held.Held.{Held}
 use Rattle.c_objects.specs.declared.held.Held.TheVariants as held
 use Rattle.c_objects.specs.declared.table.Entry.{Entry}
 use Rattle.c_objects.specs.declared.table.TableCell.{TableCell}
-use Rattle.c_objects.specs.Objects.{element_of}
-use Rattle.c_objects.specs.Views.{Naming, value_of}
 use Rattle.crun_lines.specs.declared.names.Numbered.{Numbered}
 use Rattle.crun_lines.specs.NameOrder.{in_order, name_order, numbered_from, put_in_order}
-use Rattle.crun_lines.specs.StateLines.{element_lines, length_line, variable_lines}
-use Rattle.crun_lines.specs.Views.{entry_of}
 use Rattle.crun_lines.proofs.ByNumber.{beside, found_by_number}
-use Rattle.program_words.proofs.Loops.{mapped_get}
-use Rattle.crun_state.specs.Showing.{
-  entry_at,
-  entry_lines,
-  held_lines,
-  length_and_elements,
-  lines_at,
-  lines_at_place,
-  lines_if_there,
-  lines_in_order,
-  table_cell_lines,
-}
 
 -- ---- names in order have numbers of names
 

@@ -1,20 +1,8 @@
 -- The lines of the state are those of the objects of each unit.
-use Rattle.std.proofs.Common.{◌≡◌, ℕ, suc, ◌+◌, List, [], ◌∷◌, ◌++◌, length, map, zip, Option, Some, None, refl, sym, ap, ◌∙◌, arith}
-use Rattle.std.specs.Prelude.{flat_map, option_map, slice_get}
-use Rattle.std.specs.List.{range_with_len}
-use Rattle.std.proofs.lemmas.List.{length-map}
-use Rattle.std.proofs.lemmas.Option.{slice_get-map}
-use Rattle.w2c_base.specs.Run.{Host}
-use Rattle.c_tree.specs.declared.tree.Item.{Item}
+use Rattle.crun_state.proofs.Common.{◌≡◌, ℕ, suc, ◌+◌, List, [], ◌∷◌, ◌++◌, map, length, slice_get, Some, None, Option, option_map, zip, flat_map, sym, refl, ap, ◌∙◌, arith, length-map, slice_get-map, range_with_len, Host, unit_of, Item, memory_of, table_of, Naming, UnitNames, value_of, memory_lines, state_lines, table_lines, unit_lines, variable_lines, naming_of, unit_names, cell_lines, held_lines, items_at, lines_if_made, lines_of_objects, lines_of_unit, table_cell_lines}
 use Rattle.c_tree.specs.Tree as tree
-use Rattle.c_tree.specs.View.{unit_of}
 use Rattle.c_objects.specs.declared.store.UnitObjects.{UnitObjects}
-use Rattle.c_objects.specs.Objects.{memory_of, table_of}
 use Rattle.c_objects.specs.Stores.{objects_of, units_of, AreStored, IsStored}
-use Rattle.c_objects.specs.Views.{value_of, Naming, UnitNames}
-use Rattle.crun_startup.specs.Names.{naming_of, unit_names}
-use Rattle.crun_lines.specs.StateLines.{memory_lines, state_lines, table_lines, unit_lines, variable_lines}
-use Rattle.crun_state.specs.Showing.{cell_lines, held_lines, items_at, lines_if_made, lines_of_objects, lines_of_unit, table_cell_lines}
 use Rattle.crun_state.proofs.Numbers.{by_number, held_seen}
 
 module _ (hosts : List Host) (units : List (List tree.Item)) where

@@ -1,3 +1,5 @@
+-- What the proofs of this crate cite from elsewhere
+mod Common
 -- what lines ask for
 pub mod WriteJobs
 -- why a unit is not written

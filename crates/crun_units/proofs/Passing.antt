@@ -1,24 +1,11 @@
 -- What passes through the files where a unit is written, from what its steps say.
-use Rattle.std.proofs.Common.{◌≡◌, ◌⊎◌, inl, inr, ℕ, List, [], ◌++◌, slice_get, Some, refl, sym, subst, string_bytes}
-use Rattle.std.proofs.lemmas.List.{append-nil}
-use Rattle.w2c_io.specs.Contents.{Name}
+use Rattle.crun_units.proofs.Common.{◌≡◌, ℕ, ◌⊎◌, List, [], ◌++◌, slice_get, Some, string_bytes, sym, refl, subst, inl, inr, append-nil, Name, NoUnit, UnitTooLong, UnitsRead, most_unit_bytes, GivesUnits, TriesUnits, InputStop, Job, Run, Stops, Write, Reason, Refused, WantOfMemory, reason_of, stop_for, StopsUnit, UnitsRefusal, Cause, IsUnitsJobOver, PassesBy, PassesUnits, WritesOutput, WritesUnit, reason_for, TriesUnit}
 use Rattle.w2c_io.specs.Events.{Event}
 use Rattle.c_tree.specs.Tree as tree
-use Rattle.crun_words.specs.declared.inputs.InputStop.{InputStop}
 use Rattle.crun_words.specs.declared.inputs.InputStop.TheVariants as input
-use Rattle.crun_words.specs.Inputs.{most_unit_bytes, NoUnit, UnitsRead, UnitTooLong}
-use Rattle.crun_words.specs.Passing.{GivesUnits, TriesUnits}
 use Rattle.w2c_files.specs.Passing.{limited}
 use Rattle.crun_words.proofs.Passing.{units_in_order}
-use Rattle.crun_job.specs.declared.refusal.UnitsRefusal.{UnitsRefusal}
 use Rattle.crun_job.specs.declared.refusal.UnitsRefusal.TheVariants as refusal
-use Rattle.crun_job.specs.declared.stop.Cause.{Cause}
-use Rattle.crun_job.specs.Job.{Job, Run, Stops, Write}
-use Rattle.crun_job.specs.Lines.{Reason, Refused, WantOfMemory}
-use Rattle.crun_job.specs.Seen.{reason_of, stop_for}
-use Rattle.crun_job.specs.Stopping.{StopsUnit}
-use Rattle.crun_units.specs.Passing.{IsUnitsJobOver, PassesBy, PassesUnits, reason_for, WritesOutput, WritesUnit}
-use Rattle.crun_units.specs.Trying.{TriesUnit}
 
 -- ---- a unit that is written
 

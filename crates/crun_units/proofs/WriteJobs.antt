@@ -1,21 +1,11 @@
 -- A line that has a unit written asks for at most one job.
-use Rattle.std.proofs.Common.{◌≡◌, inl, inr, ℕ, List, [], ◌∷◌, slice_get, Option, Some, sym, ap, ◌∙◌, subst}
-use Rattle.w2c_io.specs.Contents.{Name, Contents}
+use Rattle.crun_units.proofs.Common.{◌≡◌, ℕ, List, [], ◌∷◌, slice_get, Some, Option, sym, ap, ◌∙◌, subst, inl, inr, Contents, Name, IsTrimmed, MergeLine, TrimLine, NoUnit, UnitTooLong, UnitsRead, UnitsReading, one_first, Job, Stops, Write, Refused, Symbols, IsRefusedText, IsUnitText, IsBehindUnits, IsMergeJob, IsMerged, IsTrimJob, IsTrimmedText, IsUnitsJob}
 use Rattle.c_tree.specs.Tree as tree
 use Rattle.c_merge.specs.Merge.{merged}
-use Rattle.c_trim.specs.Trim.{IsTrimmed}
 use Rattle.c_trim.proofs.Needed.{one_trimmed}
-use Rattle.crun_words.specs.CommandLine.{MergeLine, TrimLine}
-use Rattle.crun_words.specs.Inputs.{UnitsReading, UnitsRead, NoUnit, UnitTooLong}
 use Rattle.crun_words.proofs.InputStops.{one_units_reading}
-use Rattle.crun_job.specs.Job.{Job, Stops, Write}
-use Rattle.crun_job.specs.Lines.{Refused}
-use Rattle.crun_job.specs.Links.{Symbols}
-use Rattle.crun_job.specs.Texts.{IsRefusedText, IsUnitText}
-use Rattle.crun_job.proofs.Each.{one_first}
 use Rattle.crun_job.proofs.Texts.{one_cause, text_apart}
 use Rattle.crun_job.proofs.UnitLaws.{linked_apart, one_refused_unit, one_units, texts_apart}
-use Rattle.crun_units.specs.Jobs.{IsBehindUnits, IsMerged, IsMergeJob, IsTrimmedText, IsTrimJob, IsUnitsJob}
 
 -- ---- behind the reading of the units
 

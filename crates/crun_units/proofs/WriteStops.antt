@@ -1,57 +1,13 @@
 -- Where a unit that is to be written is not, from what each step says of its stop.
-use Rattle.std.proofs.Common.{
-  ◌≡◌,
-  ◌⊎◌,
-  inl,
-  inr,
-  ℕ,
-  zero,
-  suc,
-  ◌<◌,
-  List,
-  [],
-  ◌∷◌,
-  length,
-  map,
-  get_or,
-  slice_get,
-  Some,
-  refl,
-  sym,
-  ◌∙◌,
-  ap,
-  subst,
-  arith,
-  string_bytes,
-}
+use Rattle.crun_units.proofs.Common.{◌≡◌, ℕ, zero, suc, ◌<◌, ◌⊎◌, List, [], ◌∷◌, map, length, get_or, slice_get, Some, string_bytes, sym, refl, ap, ◌∙◌, subst, inl, inr, arith, Contents, Name, Told, holding, Tells, print_of, IsTrimmed, MergeLine, TrimLine, AreUnits, NoUnit, StopsUnits, UnitTooLong, UnitsRead, InputStop, first_within, many_each, Job, Stops, Write, Reason, Refused, Unwritten, WantOfMemory, Symbols, IsWithin, RefusesTexts, RefusesUnits, reason_of, stop_for, StopsUnit, AreUnitTexts, IsRefusedText, IsUnitText, UnitsRefusal, Cause, AreUntouched, FilesSeen, IsMerged, IsTrimmedText, IsUnitsJob, StopsWrite}
 use Rattle.std.proofs.lemmas.List.{length-map}
-use Rattle.w2c_io.specs.Contents.{Name, Contents, Told, holding}
-use Rattle.w2c_io.specs.Telling.{Tells}
 use Rattle.w2c_files.specs.Standing.{IsBegun}
 use Rattle.c_tree.specs.Spelled.{CSpells}
 use Rattle.c_tree.specs.Tree as tree
-use Rattle.c_print.specs.Print.{print_of}
-use Rattle.c_trim.specs.Trim.{IsTrimmed}
-use Rattle.crun_words.specs.declared.inputs.InputStop.{InputStop}
 use Rattle.crun_words.specs.declared.inputs.InputStop.TheVariants as input
-use Rattle.crun_words.specs.CommandLine.{MergeLine, TrimLine}
-use Rattle.crun_words.specs.Inputs.{AreUnits, NoUnit, StopsUnits, UnitsRead, UnitTooLong}
-use Rattle.crun_words.proofs.InputStops.{one_at}
-use Rattle.crun_job.specs.declared.refusal.UnitsRefusal.{UnitsRefusal}
 use Rattle.crun_job.specs.declared.refusal.UnitsRefusal.TheVariants as refusal
-use Rattle.crun_job.specs.declared.stop.Cause.{Cause}
-use Rattle.crun_job.specs.Job.{Job, Stops, Write}
-use Rattle.crun_job.specs.Lines.{Reason, Refused, Unwritten, WantOfMemory}
-use Rattle.crun_job.specs.Links.{Symbols}
-use Rattle.crun_job.specs.Refusals.{IsWithin, RefusesTexts, RefusesUnits}
-use Rattle.crun_job.specs.Seen.{reason_of, stop_for}
-use Rattle.crun_job.specs.Stopping.{StopsUnit}
-use Rattle.crun_job.specs.Texts.{AreUnitTexts, IsRefusedText, IsUnitText}
-use Rattle.crun_job.proofs.Each.{first_within, many_each}
-use Rattle.crun_units.specs.Jobs.{IsMerged, IsTrimmedText, IsUnitsJob}
-use Rattle.crun_units.specs.Files.{AreUntouched, FilesSeen}
 use Rattle.crun_units.specs.Output.{StopsOutput}
-use Rattle.crun_units.specs.Stopping.{StopsWrite}
+use Rattle.w2c_files.proofs.Standing.{one_at}
 
 -- ---- before the unit is there
 

@@ -1,17 +1,8 @@
 -- The values that numbers are for parameters.
-use Rattle.std.proofs.Common.{◌≡◌, ℕ, zero, suc, ◌+◌, ◌<◌, Bool, true, false, ◌&&◌, All, List, [], ◌∷◌, ◌++◌, length, map, take, slice_get, Some, refl, sym, ap, ◌∙◌, subst, arith}
-use Rattle.std.proofs.lemmas.List.{map_push}
-use Rattle.std.proofs.lemmas.List.Elements.{All-head, All-nil, All-push, All-tail}
-use Rattle.w2c_base.specs.declared.value.Value.{Value}
+use Rattle.crun_words.proofs.Common.{◌≡◌, ℕ, zero, suc, ◌+◌, ◌<◌, Bool, true, false, ◌&&◌, List, [], ◌∷◌, ◌++◌, map, length, take, slice_get, Some, All, sym, refl, ap, ◌∙◌, subst, arith, map_push, All-head, All-nil, All-push, All-tail, same_Some, take_next, Value, same_type, same_types, CType, FnPtr, Mem, PtrMem, PtrTab, PtrU32, PtrU64, Tab, U32, U64, Void, AreArguments, IsArgument}
 use Rattle.w2c_base.specs.declared.value.ValType.{ValType}
 use Rattle.w2c_base.specs.Values.{IsNumber, number_of, type_of, types_of}
-use Rattle.c_tree.specs.declared.tree.CType.{CType}
-use Rattle.c_tree.specs.declared.tree.CType.TheVariants.{Void, U32, U64, PtrU32, PtrU64, Mem, PtrMem, Tab, PtrTab, FnPtr}
-use Rattle.c_tree.specs.Runtime.{same_type, same_types}
 use Rattle.c_meaning.specs.Linking.{c_params_of, c_type_of}
-use Rattle.w2c_files.proofs.Loops.{next_at}
-use Rattle.crun_words.specs.Arguments.{AreArguments, IsArgument}
-use Rattle.crun_words.proofs.Lists.{same_some}
 
 types_push : (values : List Value) (v : Value) → types_of (values ++ v ∷ []) ≡ types_of values ++ type_of v ∷ []
 types_push [] v = refl
@@ -32,9 +23,9 @@ pub one_more : (params : List CType) (numbers : List ℕ) (k : ℕ) (t : CType) 
     → AreSome params numbers (k + 1) new
 one_more params numbers k t n values new v at at_number so_far is pushed = record {
   types_are =
-      next_at params k t at ∙ (λ i. so_far.types_are i ++ is.type_is i ∷ []) ∙ sym (map_push c_type_of (types_of values) (type_of v))
+      take_next params k t at ∙ (λ i. so_far.types_are i ++ is.type_is i ∷ []) ∙ sym (map_push c_type_of (types_of values) (type_of v))
       ∙ ap (map c_type_of) (sym (types_push values v)) ∙ ap (λ (l : List Value). map c_type_of (types_of l)) (sym pushed);
-  numbers_are = next_at numbers k n at_number ∙ (λ i. so_far.numbers_are i ++ is.number_is i ∷ []) ∙ sym (map_push number_of values v)
+  numbers_are = take_next numbers k n at_number ∙ (λ i. so_far.numbers_are i ++ is.number_is i ∷ []) ∙ sym (map_push number_of values v)
       ∙ ap (map number_of) (sym pushed);
   fit = subst (λ (l : List Value). All IsNumber l) (sym pushed) (All-push IsNumber values v so_far.fit is.fits);
 }
@@ -68,8 +59,8 @@ not_among : (values : List Value) (k : ℕ) (t : CType) (n : ℕ) → slice_get 
     → slice_get (map number_of values) k ≡ Some n → All IsNumber values → ((v : Value) → IsArgument t n v → ⊥) → ⊥
 not_among [] k t n at at_number fit none = cc
 not_among (v ∷ values) zero t n at at_number fit none = none v (record {
-  type_is = sym (same_some (c_type_of (type_of v)) t at);
-  number_is = sym (same_some (number_of v) n at_number);
+  type_is = sym (same_Some (c_type_of (type_of v)) t at);
+  number_is = sym (same_Some (number_of v) n at_number);
   fits = All-head IsNumber v values fit;
 })
 not_among (v ∷ values) (suc k) t n at at_number fit none = not_among values k t n at at_number (All-tail IsNumber v values fit) none
@@ -105,15 +96,6 @@ no_number_void params [] are = are.types_are
 no_number_void params (v ∷ values) are = absurd (let none = ap length are.numbers_are in omega (arith, none))
 
 -- ---- the list void
-
-pub not_one : (params : List CType) → (length params ≡ 1 → ⊥) → false ≡ same_types params (Void ∷ [])
-not_one [] not = refl
-not_one (p ∷ []) not = absurd (not refl)
-not_one (p ∷ q ∷ params) not = go (same_type p Void)
-  where
-    go : (b : Bool) → false ≡ (b && false)
-    go true = refl
-    go false = refl
 
 type_is_void : (t : CType) → (same_type t Void && true) ≡ true → t ≡ Void
 type_is_void Void e = refl

@@ -1,63 +1,8 @@
 -- Over files that behave as files reading comes to what it comes to over what they hold, but where the last read failed.
-use Rattle.std.proofs.Common.{
-  ◌≡◌,
-  ◌⊎◌,
-  inl,
-  inr,
-  ℕ,
-  ◌+◌,
-  ◌-◌,
-  ◌≤◌,
-  List,
-  [],
-  ◌∷◌,
-  ◌++◌,
-  length,
-  length-append,
-  Option,
-  Some,
-  Result,
-  Ok,
-  Err,
-  refl,
-  sym,
-  ap,
-  ◌∙◌,
-  subst,
-  arith,
-}
-use Rattle.std.specs.List.{AllByRecursion}
-use Rattle.w2c_io.specs.Contents.{Name, Contents, Told}
-use Rattle.w2c_io.specs.Events.{Event, Read}
+use Rattle.crun_words.proofs.Common.{◌≡◌, ℕ, ◌+◌, ◌-◌, ◌≤◌, ◌⊎◌, List, [], ◌∷◌, ◌++◌, length, Some, Ok, Err, Option, Result, sym, refl, ap, ◌∙◌, subst, inl, inr, arith, length-append, AllByRecursion, Contents, Name, Told, Event, Read, ReadAnswer, FailsLast, ReadsAll, AreHeld, AreRead, total, AllRead, Held, IsJournalReading, IsReading, IsUnitsReading, JournalReading, LongCalls, LongJournal, LongUnit, NoJournal, NoUnit, NotThere, Reading, UnitTooLong, UnitsRead, UnitsReading, most_calls_bytes, most_journal_bytes, most_unit_bytes, most_units_bytes, GivesInputs, GivesJournal, GivesUnits, IsAway, IsOver, ReadsUnto}
 use Rattle.w2c_io.specs.Honest.{AreHonest, Does}
-use Rattle.w2c_io.specs.declared.answers.ReadAnswer.{ReadAnswer}
 use Rattle.w2c_io.specs.declared.answers.ReadAnswer.TheVariants as reading
 use Rattle.w2c_files.proofs.Honest.{honest_both, reads_fit, reads_held, reads_kept}
-use Rattle.w2c_files.specs.Passing.{FailsLast, ReadsAll}
-use Rattle.w2c_files.specs.Reading.{total, AreHeld, AreRead}
-use Rattle.crun_words.specs.Inputs.{
-  AllRead,
-  Held,
-  IsJournalReading,
-  IsReading,
-  IsUnitsReading,
-  JournalReading,
-  LongCalls,
-  LongJournal,
-  LongUnit,
-  most_calls_bytes,
-  most_journal_bytes,
-  most_unit_bytes,
-  most_units_bytes,
-  NoJournal,
-  NotThere,
-  NoUnit,
-  Reading,
-  UnitsRead,
-  UnitsReading,
-  UnitTooLong,
-}
-use Rattle.crun_words.specs.Passing.{GivesInputs, GivesJournal, GivesUnits, IsAway, IsOver, ReadsUnto}
 use Rattle.crun_words.proofs.InputStops.{as_many, units_bytes}
 
 -- ---- the file that was read last could not be read

@@ -1,29 +1,15 @@
 -- Where reading the units and the calls file stops.
-use Rattle.std.proofs.Common.{◌≡◌, ◌⊎◌, inl, inr, ℕ, zero, suc, ◌*◌, ◌<◌, ◌≤◌, List, [], ◌∷◌, length, length-append, slice_get, Option, Some, None, refl, sym, ap, ◌∙◌, subst, arith}
+use Rattle.crun_words.proofs.Common.{◌≡◌, ℕ, zero, suc, ◌*◌, ◌<◌, ◌≤◌, ◌⊎◌, List, [], ◌∷◌, length, slice_get, Some, None, Option, sym, refl, ap, ◌∙◌, subst, inl, inr, arith, length-append, same_Some, AllByRecursion, rose_from, Contents, Name, Told, AreHeld, IsUnreadable, Missing, Past, StopsReading, TooLong, total, ReadStop, AllRead, AreUnits, HasUnits, Held, IsJournalReading, IsLongUnit, IsReading, IsUnitsReading, JournalReading, LongCalls, LongJournal, LongUnit, NoJournal, NoUnit, NotThere, Reading, StopsCalls, StopsInputs, StopsUnits, UnitTooLong, UnitsRead, UnitsReading, most_calls_bytes, most_journal_bytes, most_unit_bytes, most_units_bytes, InputStop}
 use Rattle.std.specs.FinMap.{get}
-use Rattle.std.specs.List.{AllByRecursion}
-use Rattle.w2c_io.specs.Contents.{Name, Contents, Told}
 use Rattle.w2c_io.specs.Causes.{Faulted}
 use Rattle.w2c_io.specs.Telling.{Tells}
-use Rattle.w2c_io.proofs.Telling.{rose_from}
-use Rattle.w2c_files.specs.declared.reading.ReadStop.{ReadStop}
 use Rattle.w2c_files.specs.declared.reading.ReadStop.TheVariants as read
-use Rattle.w2c_files.specs.Reading.{AreHeld, IsUnreadable, StopsReading, Missing, TooLong, Past, total}
-use Rattle.w2c_files.specs.Standing.{IsOneOf}
 use Rattle.w2c_files.specs.Stopping.{StopsAt}
 use Rattle.w2c_files.proofs.Stops.{one_stop, no_stop, same_bytes}
-use Rattle.crun_words.specs.declared.inputs.InputStop.{InputStop}
 use Rattle.crun_words.specs.declared.inputs.InputStop.TheVariants as stop
-use Rattle.crun_words.specs.Inputs.{most_calls_bytes, most_journal_bytes, most_unit_bytes, most_units_bytes, AllRead, AreUnits, HasUnits, Held, IsJournalReading, IsLongUnit, IsReading, IsUnitsReading, JournalReading, LongCalls, LongJournal, LongUnit, NoJournal, NoUnit, NotThere, Reading, StopsCalls, StopsInputs, StopsUnits, UnitsRead, UnitsReading, UnitTooLong}
-use Rattle.crun_words.proofs.Lists.{same_some}
-
-pub one_at : (names : List Name) (k : ℕ) (name : Name) → slice_get names k ≡ Some name → IsOneOf name names
-one_at [] k name at = cc
-one_at (n ∷ names) zero name at = inl (sym (same_some n name at))
-one_at (n ∷ names) (suc k) name at = inr (one_at names k name at)
 
 same_name : (names : List Name) (k : ℕ) (name other : Name) → slice_get names k ≡ Some name → slice_get names k ≡ Some other → other ≡ name
-same_name names k name other at is = same_some other name (sym is ∙ at)
+same_name names k name other at is = same_Some other name (sym is ∙ at)
 
 -- the number of a file that is not read is that of one of so many
 pub at_within : {A : Type 0} (xs : List A) (k : ℕ) (x : A) → slice_get xs k ≡ Some x → k < length xs

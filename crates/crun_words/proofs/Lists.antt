@@ -1,13 +1,5 @@
 -- Lists whose items are each given by a function.
-use Rattle.std.proofs.Common.{◌≡◌, ℕ, zero, suc, ◌+◌, List, [], ◌∷◌, ◌++◌, map, take, slice_get, Option, Some, None, refl, sym, ap, ◌∙◌}
-use Rattle.std.proofs.lemmas.List.{map_push}
-use Rattle.w2c_files.proofs.Loops.{next_at}
-
-pub same_some : {A : Type 0} (a b : A) → ◌≡◌ {A = Option A} (Some a) (Some b) → a ≡ b
-same_some a b e = cc
-
-pub same_parts : {A : Type 0} (x y : A) (xs ys : List A) → x ∷ xs ≡ y ∷ ys → (x ≡ y) × (xs ≡ ys)
-same_parts x y xs ys e = (cc, cc)
+use Rattle.crun_words.proofs.Common.{◌≡◌, ℕ, zero, suc, ◌+◌, List, [], ◌∷◌, ◌++◌, map, take, slice_get, Some, None, Option, sym, refl, ap, ◌∙◌, map_push, same_Some, same_parts, take_next}
 
 module _ {A B : Type 0} (f : A → Option B) where
   abbrev Gives : List A → List B → Type 0
@@ -17,7 +9,7 @@ module _ {A B : Type 0} (f : A → Option B) where
   pub one_more : (xs : List A) (k : ℕ) (x : A) (ys new : List B) (y : B) → slice_get xs k ≡ Some x → Gives (take k xs) ys → f x ≡ Some y
       → new ≡ ys ++ y ∷ [] → Gives (take (k + 1) xs) new
   one_more xs k x ys new y at so_far is pushed =
-      ap (map f) (next_at xs k x at) ∙ map_push f (take k xs) x ∙ (λ i. so_far i ++ is i ∷ [])
+      ap (map f) (take_next xs k x at) ∙ map_push f (take k xs) x ∙ (λ i. so_far i ++ is i ∷ [])
       ∙ sym (map_push (λ y. Some y) ys y) ∙ ap (map (λ y. Some y)) (sym pushed)
 
   -- an item for which nothing is given
@@ -26,7 +18,7 @@ module _ {A B : Type 0} (f : A → Option B) where
   not_given (z ∷ xs) k x [] at none gives = cc
   not_given (z ∷ xs) zero x (y ∷ ys) at none gives =
       let head : f z ≡ Some y = (same_parts (f z) (Some y) (map f xs) (map (λ y. Some y) ys) gives).0 in
-      let both : ◌≡◌ {A = Option B} None (Some y) = sym none ∙ ap f (sym (same_some z x at)) ∙ head in
+      let both : ◌≡◌ {A = Option B} None (Some y) = sym none ∙ ap f (sym (same_Some z x at)) ∙ head in
       cc
   not_given (z ∷ xs) (suc k) x (y ∷ ys) at none gives =
       not_given xs k x ys at none (same_parts (f z) (Some y) (map f xs) (map (λ y. Some y) ys) gives).1
@@ -37,4 +29,4 @@ same_items [] (z ∷ zs) e = absurd (cc)
 same_items (y ∷ ys) [] e = absurd (cc)
 same_items (y ∷ ys) (z ∷ zs) e =
     let parts = same_parts (Some y) (Some z) (map (λ y. Some y) ys) (map (λ y. Some y) zs) e in
-    λ i. same_some y z parts.0 i ∷ same_items ys zs parts.1 i
+    λ i. same_Some y z parts.0 i ∷ same_items ys zs parts.1 i

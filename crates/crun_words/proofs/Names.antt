@@ -1,11 +1,9 @@
 -- Two words name one symbol at most.
-use Rattle.std.proofs.Common.{◌≡◌, inl, inr, ℕ, ◌<◌, false, List, [], ◌∷◌, ◌++◌, length, codes, IfNone, Option, Some, None, refl, sym, ap, ◌∙◌, subst, arith}
-use Rattle.std.specs.Str.{bytes_eq}
+use Rattle.crun_words.proofs.Common.{◌≡◌, ℕ, ◌<◌, false, List, [], ◌∷◌, ◌++◌, length, IfNone, Some, None, codes, Option, bytes_eq, sym, refl, ap, ◌∙◌, subst, inl, inr, arith, IsBytes, IsSymbolOf, word_of_name}
 use Rattle.w2c_mangle.specs.declared.symbol.SymbolKind.TheVariants.{Func}
 use Rattle.w2c_mangle.specs.Escaping.{escaped}
 use Rattle.w2c_mangle.specs.Symbols.{export_symbol_of}
 use Rattle.w2c_mangle.proofs.EscapedNames.{escaped-injective, escaped_byte-cases, stays-not_Z, z_escape}
-use Rattle.crun_words.specs.CallLine.{word_of_name, IsBytes, IsSymbolOf}
 
 -- no escape is the word Z
 escaped_apart : (name : List ℕ) → escaped name ≡ codes "Z" → ⊥

@@ -1,11 +1,6 @@
 -- The lines that are to name calls, a line more.
-use Rattle.std.proofs.Common.{◌≡◌, ℕ, zero, suc, ◌+◌, ◌<◌, List, [], ◌∷◌, ◌++◌, length, slice_get, take, Some, refl, sym, ap, ◌∙◌, arith}
-use Rattle.std.proofs.lemmas.List.{append-nil, map_push}
-use Rattle.w2c_files.proofs.Loops.{next_at}
-use Rattle.crun_words.specs.declared.calls_file.NumberedLine.{NumberedLine}
-use Rattle.crun_words.specs.CallsFile.{numbered}
+use Rattle.crun_words.proofs.Common.{◌≡◌, ℕ, zero, suc, ◌+◌, ◌<◌, List, [], ◌∷◌, ◌++◌, length, take, slice_get, Some, sym, refl, ap, ◌∙◌, append-nil, arith, map_push, take_next, numbered, seen_lines, seen_numbered, NumberedLine}
 use Rattle.crun_words.specs.CallsFile as file
-use Rattle.crun_words.specs.Seen.{seen_lines, seen_numbered}
 
 -- the last line has the number behind those in front of it
 numbered_next : (number : ℕ) (front : List (List ℕ)) (line : List ℕ)
@@ -31,7 +26,7 @@ pub next : (parts : List (List ℕ)) (k : ℕ) (part : List ℕ) → slice_get p
     → numbered 1 (take (k + 1) parts) ≡ numbered 1 (take k parts) ++ numbered (k + 1) (part ∷ [])
 next parts k part at =
     let many : 1 + length (take k parts) ≡ k + 1 = omega (arith, so_many parts k part at) in
-    ap (numbered 1) (next_at parts k part at) ∙ numbered_next 1 (take k parts) part
+    ap (numbered 1) (take_next parts k part at) ∙ numbered_next 1 (take k parts) part
     ∙ ap (λ (n : ℕ). numbered 1 (take k parts) ++ numbered n (part ∷ [])) many
 
 one : (number : ℕ) (part : List ℕ) (line : file.NumberedLine) → 0 < length part → line ≡ record { number = number; text = part }

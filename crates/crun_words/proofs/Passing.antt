@@ -1,68 +1,8 @@
 -- What passes through the files that are read, from what each step says.
-use Rattle.std.proofs.Common.{
-  ◌≡◌,
-  inl,
-  inr,
-  ℕ,
-  List,
-  [],
-  ◌∷◌,
-  ◌++◌,
-  length,
-  slice_get,
-  Some,
-  Result,
-  Ok,
-  Err,
-  refl,
-  sym,
-  ap,
-  ◌∙◌,
-  subst,
-  append_assoc,
-}
-use Rattle.w2c_io.specs.Contents.{Name}
-use Rattle.w2c_io.specs.Events.{Event, Read}
-use Rattle.w2c_io.specs.declared.answers.ReadAnswer.{ReadAnswer}
+use Rattle.crun_words.proofs.Common.{◌≡◌, ℕ, List, [], ◌∷◌, ◌++◌, length, slice_get, Some, Ok, Err, Result, sym, refl, ap, ◌∙◌, subst, inl, inr, append_assoc, same_Some, Name, Event, Read, ReadAnswer, all_in_order, all_then, both_limited, last_read, longer, unto_last, ReadsAll, ReadsInOrder, ReadsSome, StopsBy, limited, ReadStop, AllRead, Held, JournalReading, LongCalls, LongJournal, LongUnit, NoJournal, NoUnit, NotThere, Reading, UnitTooLong, UnitsRead, UnitsReading, most_calls_bytes, most_journal_bytes, most_unit_bytes, most_units_bytes, GivesInputs, GivesJournal, GivesUnits, IsAway, IsOver, ReadsFile, ReadsUnto, TriesCalls, TriesInputs, TriesUnits, InputStop}
 use Rattle.w2c_io.specs.declared.answers.ReadAnswer.TheVariants as reading
-use Rattle.w2c_files.specs.Passing.{limited, ReadsAll, ReadsInOrder, ReadsSome, StopsBy}
-use Rattle.w2c_files.specs.declared.reading.ReadStop.{ReadStop}
 use Rattle.w2c_files.specs.declared.reading.ReadStop.TheVariants as read
-use Rattle.crun_words.specs.declared.inputs.InputStop.{InputStop}
 use Rattle.crun_words.specs.declared.inputs.InputStop.TheVariants as stop
-use Rattle.crun_words.specs.Inputs.{
-  AllRead,
-  Held,
-  JournalReading,
-  LongCalls,
-  LongJournal,
-  LongUnit,
-  most_calls_bytes,
-  most_journal_bytes,
-  most_unit_bytes,
-  most_units_bytes,
-  NoJournal,
-  NotThere,
-  NoUnit,
-  Reading,
-  UnitsRead,
-  UnitsReading,
-  UnitTooLong,
-}
-use Rattle.crun_words.specs.Passing.{
-  GivesInputs,
-  GivesJournal,
-  GivesUnits,
-  IsAway,
-  IsOver,
-  ReadsFile,
-  ReadsUnto,
-  TriesCalls,
-  TriesInputs,
-  TriesUnits,
-}
-use Rattle.w2c_files.proofs.InOrder.{all_in_order, all_then, both_limited, last_read, longer, unto_last}
-use Rattle.crun_words.proofs.Lists.{same_some}
 
 -- ---- in order
 
@@ -139,7 +79,7 @@ module _ (names : List Name) (k : ℕ) (name : Name) (at : slice_get names k ≡
       let names_are : names ≡ front ++ other ∷ after = split ∙ ap (λ (r : List Name). front ++ r) rest_is in
       let there : slice_get names k ≡ Some other =
       (λ i. slice_get (names_are i) (number i)) ∙ last_name most_unit_bytes front all first other after gave in
-      subst (λ (n : Name). ReadsUnto names n all answer events) (same_some other name (sym there ∙ at)) (record {
+      subst (λ (n : Name). ReadsUnto names n all answer events) (same_Some other name (sym there ∙ at)) (record {
         front = front;
         rest = after;
         first = first;

@@ -1,7 +1,6 @@
 -- The call that words say.
-use Rattle.std.proofs.Common.{◌≡◌, ℕ, List, [], ◌∷◌, sym, ◌∙◌, subst}
-use Rattle.crun_words.specs.CallLine.{words_in, AreNumbers, Call, IsSymbolOf, SayCall, SaysCall}
-use Rattle.crun_words.proofs.Lists.{same_items, same_parts}
+use Rattle.crun_words.proofs.Common.{◌≡◌, ℕ, List, [], ◌∷◌, sym, ◌∙◌, subst, same_parts, AreNumbers, Call, IsSymbolOf, SayCall, SaysCall, words_in}
+use Rattle.crun_words.proofs.Lists.{same_items}
 use Rattle.crun_words.proofs.Names.{one_symbol}
 
 pub no_word : (words : List (List ℕ)) (call : Call) → words ≡ [] → SayCall words call → ⊥

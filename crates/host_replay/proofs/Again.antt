@@ -1,20 +1,7 @@
 -- A run whose hosts reply again what another run was replied asks the same as that one.
-use Rattle.std.proofs.Common.{◌≡◌, ◌⊎◌, inl, inr, ℕ, suc, List, [], ◌∷◌, ◌++◌, append_assoc, length, map, Option, refl, sym, ap, ◌∙◌, subst, arith}
-use Rattle.std.proofs.lemmas.List.{map-append}
-use Rattle.w2c_base.specs.Run.{Ask, CallEnded, Event, Host, Reply, asks_in}
+use Rattle.host_replay.proofs.Common.{◌≡◌, ℕ, suc, ◌⊎◌, List, [], ◌∷◌, ◌++◌, length, Option, sym, refl, ap, ◌∙◌, subst, inl, inr, append_assoc, arith, length-map, map-append, Ask, CallEnded, Event, Host, Reply, asks_in, Program, SymbolCall, CRun, c_run, Answered, hosts_of, ask_of, event_in, events_in, replies_in, reply_in, HostModule, Asked, AreReplays, replaying, Replays, IsAnsweredRun, asked_events, program_with, run_with, Recorded, ReplayHost}
 use Rattle.w2c_base.specs.Run as run
 use Rattle.c_tree.specs.Tree as tree
-use Rattle.c_meaning.specs.Linking.{Program, SymbolCall}
-use Rattle.c_meaning.specs.Run.{CRun, c_run}
-use Rattle.c_hosts.specs.declared.host.HostModule.{Ghosts as HostModule}
-use Rattle.c_hosts.specs.declared.journal.Asked.{Asked}
-use Rattle.c_hosts.specs.Asking.{hosts_of, Answered}
-use Rattle.c_hosts.specs.Journals.{ask_of, event_in, events_in, replies_in, reply_in}
-use Rattle.host_replay.specs.Runs.{asked_events, program_with, run_with, IsAnsweredRun}
-use Rattle.host_replay.specs.declared.replay.ReplayHost.{ReplayHost}
-use Rattle.host_replay.specs.Replayed.{replaying, AreReplays}
-use Rattle.host_replay.specs.Replaying.{Replays}
-use Rattle.host_replay.specs.Texts.{Recorded}
 use Rattle.host_replay.proofs.Given.{hosts_same}
 use Rattle.host_replay.proofs.Beside.{runs_beside}
 use Rattle.host_replay.proofs.Parting.{PartAt}
@@ -30,10 +17,6 @@ asked_many : (events : List Event) → length (asked_events events) ≡ length (
 asked_many [] = refl
 asked_many (run.Asked ask reply ∷ events) = ap suc (asked_many events)
 asked_many (CallEnded value ∷ events) = asked_many events
-
-length-map : {A B : Type 0} (f : A → B) (xs : List A) → length (map f xs) ≡ length xs
-length-map f [] = refl
-length-map f (x ∷ xs) = ap suc (length-map f xs)
 
 behind_as_many : {A : Type 0} (xs ys us vs : List A) → length xs ≡ length ys → xs ++ us ≡ ys ++ vs → us ≡ vs
 behind_as_many [] [] us vs n e = e
@@ -84,7 +67,7 @@ module _ (p : Program) (calls : List SymbolCall) (steps : ℕ) where
       → length (asks_in front) ≡ length (replies_in seen) → run.Asked ask r ∷ asked_events rest ≡ events_in todo
   next_told asks seen todo are told front rest ask r events many =
       behind_as_many (asked_events front) (events_in seen) (run.Asked ask r ∷ asked_events rest) (events_in todo)
-      (asked_many front ∙ many ∙ length-map reply_in seen ∙ sym (length-map event_in seen))
+      (asked_many front ∙ many ∙ length-map seen reply_in ∙ sym (length-map seen event_in))
       (sym (asked-append front (run.Asked ask r ∷ rest)) ∙ ap asked_events (sym events) ∙ tells_parts asks seen todo are told)
 
   module _ {R : Type 0} (m : HostModule R) (asks asks' : List Asked) (told : Tells asks) (told' : Tells asks') where

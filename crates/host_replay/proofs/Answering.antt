@@ -1,9 +1,7 @@
 -- Asks that hosts answer as their functions' types say.
-use Rattle.std.specs.Prelude.{◌≡◌, true, Some, None, ⊤}
-use Rattle.w2c_base.specs.declared.signature.FuncType.{FuncType}
-use Rattle.w2c_base.specs.Run.{Ask, Asked, CallEnded, Event, Reply, Gave, HostTrapped}
-use Rattle.w2c_base.specs.Values.{equal_types, is_result, types_of}
-use Rattle.c_meaning.specs.Linking.{Program, host_type}
+use Rattle.host_replay.proofs.Common.{◌≡◌, true, Some, None, Ask, CallEnded, Event, Gave, HostTrapped, Reply, equal_types, is_result, types_of, FuncType, Program, host_type}
+use Rattle.std.specs.Prelude.{⊤}
+use Rattle.w2c_base.specs.Run.{Asked}
 
 -- a value of a function's result type, none where it has none, or a trap
 abbrev pub IsReplyOf : FuncType → Reply → Type 0

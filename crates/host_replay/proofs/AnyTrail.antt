@@ -1,24 +1,14 @@
 -- A statement does the same whatever was told and whatever is replied, unless it asks a host.
-use Rattle.std.proofs.Common.{◌≡◌, ◌⊎◌, inl, inr, ℕ, ◌==◌, ◌||◌, ◌+◌, ◌/◌, nat_le, nat_lt, min, Bool, true, false, if◌then◌else◌, List, [], ◌∷◌, length, bytes_eq, find, is_some, Option, Some, None, slice_get, slice_set, drop, ◌%◌, ◌^◌, refl, ap, ◌∙◌, subst}
-use Rattle.std.specs.List.{AllByRecursion}
-use Rattle.w2c_base.specs.declared.signature.FuncType.{FuncType}
-use Rattle.w2c_base.specs.declared.value.ValType.{ValType}
+use Rattle.host_replay.proofs.Common.{◌≡◌, ℕ, ◌+◌, ◌/◌, ◌%◌, ◌^◌, min, Bool, true, false, ◌||◌, ◌⊎◌, List, [], ◌∷◌, length, drop, is_some, if◌then◌else◌, nat_lt, nat_le, ◌==◌, slice_get, slice_set, Some, None, Option, find, bytes_eq, refl, ap, ◌∙◌, subst, inl, inr, AllByRecursion, by_test, named, Ask, Trail, equal_type, equal_types, number_of, type_of, types_of, FuncType, ValType, Value, Definition, Program, array_named, definition_at, func_named, func_type, host_type, memory_in, table_in, var_in, with_objects, with_trail, with_var, CValue, Frame, FuncAddress, FuncPointer, Machine, Number, Pointer, Stuck, Trapped}
 use Rattle.w2c_base.specs.declared.value.ValType.TheVariants as type
-use Rattle.w2c_base.specs.declared.value.Value.{Value}
 use Rattle.w2c_base.specs.declared.value.Value.TheVariants.{I32, I64}
 use Rattle.w2c_base.specs.Trap.{code_of}
-use Rattle.w2c_base.specs.Values.{equal_type, equal_types, number_of, type_of, types_of}
-use Rattle.w2c_base.specs.Lookup.{named}
-use Rattle.w2c_base.specs.Run.{Ask, Trail}
 use Rattle.c_tree.specs.Tree as tree
 use Rattle.c_tree.specs.Runtime.{same_func_type}
-use Rattle.c_meaning.specs.State.{Name, FuncAddress, UnitFunc, HostFunc, ObjectAddress, CValue, Number, Pointer, FuncPointer, Memory, Table, Objects, Machine, Running, Frame, Place, Stop, Stuck, Trapped, Undefined, Evaluated, Is, Bad, NoRule, then_evaluate, found, of_one_type}
+use Rattle.c_meaning.specs.State.{Name, UnitFunc, HostFunc, ObjectAddress, Memory, Table, Objects, Running, Place, Stop, Undefined, Evaluated, Is, Bad, NoRule, then_evaluate, found, of_one_type}
 use Rattle.c_meaning.specs.Operators.{operate}
-use Rattle.c_meaning.specs.Linking.{Program, Definition, array_named, definition_at, func_named, func_type, host_type}
-use Rattle.c_meaning.specs.Machine.{with_objects, with_trail, with_var, memory_in, table_in, var_in}
 use Rattle.c_meaning.specs.Primitives as prim
 use Rattle.c_meaning.specs.Step as step
-use Rattle.c_sound.proofs.Choices.{by_test}
 
 -- ---- what depends on the trail, by cases on what does not
 

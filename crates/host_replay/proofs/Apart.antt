@@ -1,13 +1,5 @@
 -- Where each symbol belongs to one function, none comes twice.
-use Rattle.std.proofs.Common.{◌≡◌, ℕ, zero, suc, Bool, true, false, ◌&&◌, ◌||◌, not, List, [], ◌∷◌, ◌++◌, map, slice_get, option_map, bytes_eq, Some, refl, sym, ap, ◌∙◌}
-use Rattle.std.proofs.lemmas.Option.{slice_get-map}
-use Rattle.std.proofs.lemmas.Slice.Eq.{bytes_eq-Decides}
-use Rattle.w2c_base.specs.Run.{Host}
-use Rattle.c_tree.specs.Rules.{are_distinct}
-use Rattle.c_tree.specs.Scope.{Name, is_among}
-use Rattle.name_table.proofs.Lookups.{among-append}
-use Rattle.host_replay.specs.Reading.{symbol_at, symbol_of}
-use Rattle.host_replay.specs.Writable.{symbols_of, AreDistinct}
+use Rattle.host_replay.proofs.Common.{◌≡◌, ℕ, zero, suc, Bool, true, false, not, ◌&&◌, ◌||◌, List, [], ◌∷◌, ◌++◌, map, slice_get, Some, option_map, bytes_eq, sym, refl, ap, ◌∙◌, slice_get-map, bytes_eq-Decides, Host, among-append, are_distinct, Name, is_among, symbol_at, symbol_of, AreDistinct, symbols_of}
 
 -- a name that is among others has a place there
 place_of : (xs : List Name) (s : Name) → is_among s xs ≡ true → (k : ℕ) × (slice_get xs k ≡ Some s)

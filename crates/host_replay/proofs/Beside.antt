@@ -1,17 +1,8 @@
 -- Two runs of one program whose hosts reply the same so many times.
-use Rattle.std.proofs.Common.{◌≡◌, ◌⊎◌, inl, inr, ℕ, zero, suc, ◌+◌, Bool, true, false, if◌then◌else◌, List, [], ◌∷◌, ◌++◌, length, map, append_assoc, Option, Some, None, option_map, refl, sym, ap, ◌∙◌, subst, arith}
-use Rattle.w2c_base.specs.declared.signature.FuncType.{FuncType}
-use Rattle.w2c_base.specs.declared.value.Value.{Value}
-use Rattle.w2c_base.specs.Values.{equal_types, is_result, types_of}
-use Rattle.w2c_base.specs.Run.{Ask, Asked, CallEnded, Event, Reply, Gave, HostTrapped, asked, asks_in, Trail, Phase, Init, Call}
-use Rattle.c_meaning.specs.State.{FuncAddress, CValue, Number, Pointer, FuncPointer, Machine, State, Frame, Asks, Stuck, Trapped}
+use Rattle.host_replay.proofs.Common.{◌≡◌, ℕ, zero, suc, ◌+◌, Bool, true, false, ◌⊎◌, List, [], ◌∷◌, ◌++◌, map, length, if◌then◌else◌, Some, None, Option, option_map, sym, refl, ap, ◌∙◌, subst, inl, inr, append_assoc, arith, Ask, Call, CallEnded, Event, Gave, HostTrapped, Init, Phase, Reply, Trail, asked, asks_in, equal_types, is_result, types_of, FuncType, Value, machine_of, Program, SymbolCall, host_type, fresh, with_trail, CRun, Entry, Going, Over, Pending, Progress, Stopped, after, begin_entry, begun, c_run, c_start, came_back, entries_of, go_on, over, run_of, Asks, CValue, Frame, FuncAddress, FuncPointer, Machine, Number, Pointer, State, Stuck, Trapped, events_of}
+use Rattle.w2c_base.specs.Run.{Asked}
 use Rattle.w2c_base.specs.declared.trap.TrapKind.TheVariants.{HostTrap}
-use Rattle.c_meaning.specs.Linking.{Program, SymbolCall, host_type}
-use Rattle.c_meaning.specs.Machine.{fresh, with_trail}
-use Rattle.c_meaning.specs.Run.{CRun, Stopped, Entry, Pending, Progress, Going, Over, over, begun, begin_entry, came_back, go_on, after, run_of, c_run, c_start, entries_of}
 use Rattle.c_meaning.specs.Step as step
-use Rattle.c_meaning.proofs.Told.{machine_of}
-use Rattle.c_sound.specs.Events.{events_of}
 use Rattle.host_replay.proofs.Parting.{PartAt}
 use Rattle.host_replay.proofs.AnyTrail.{Does, Free, act_does, call_does, give_free, in_trail}
 use Rattle.host_replay.proofs.Tellings.{TellsMore, after_tells, begun_tells, on_tells, replied_tells}

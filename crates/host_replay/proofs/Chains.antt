@@ -1,26 +1,8 @@
 -- The lines of a journal that can be written add up to it.
-use Rattle.std.proofs.Common.{◌≡◌, ◌&&◌, ℕ, zero, suc, true, false, length, List, [], ◌∷◌, ◌++◌, map, flat_map, slice_get, option_map, Option, Some, None, refl, sym, ap, ◌∙◌, subst, append_assoc}
-use Rattle.std.specs.List.{list_all}
-use Rattle.std.proofs.lemmas.List.{append-nil}
-use Rattle.w2c_base.proofs.Conjunctions.{both_hold}
-use Rattle.w2c_base.specs.Lookup.{if_found}
-use Rattle.w2c_base.specs.Run.{Host, HostFunction}
+use Rattle.host_replay.proofs.Common.{◌≡◌, ℕ, zero, suc, true, false, ◌&&◌, List, [], ◌∷◌, ◌++◌, map, length, slice_get, Some, None, Option, option_map, flat_map, sym, refl, ap, ◌∙◌, subst, append_assoc, append-nil, list_all, both_hold, if_found, Host, HostFunction, function_name, host_name, JournalLine, Asked, fits, fits_function, Adds, symbol_at, symbol_of, Recorded, AreDistinct}
 use Rattle.w2c_mangle.specs.declared.symbol.SymbolKind.TheVariants as symbol
 use Rattle.w2c_mangle.specs.Symbols.{export_symbol_of}
-use Rattle.crun_lines.specs.declared.hosts.Reply.{Reply}
-use Rattle.crun_lines.specs.declared.hosts.Reply.TheVariants as line_reply
-use Rattle.crun_lines.specs.HostLines.{function_name, host_name}
-use Rattle.crun_lines.specs.Views as views
-use Rattle.journal_lines.specs.declared.line.JournalLine.{JournalLine}
 use Rattle.journal_lines.specs.declared.line.JournalLine.TheVariants as line
-use Rattle.c_hosts.specs.declared.host.HostReply.{HostReply}
-use Rattle.c_hosts.specs.declared.host.HostReply.TheVariants as reply
-use Rattle.c_hosts.specs.declared.journal.Asked.{Asked}
-use Rattle.c_hosts.specs.Journals.{reply_of}
-use Rattle.host_replay.specs.Fitting.{fits, fits_function}
-use Rattle.host_replay.specs.Reading.{symbol_at, symbol_of, Adds}
-use Rattle.host_replay.specs.Texts.{Recorded}
-use Rattle.host_replay.specs.Writable.{AreDistinct}
 
 -- what is added, without the texts
 abbrev pub Chain : Recorded → List JournalLine → Recorded → Type 0
@@ -38,26 +20,17 @@ function_said f = line.Function (record { name = f.name; ty = f.ty })
 abbrev pub module_said : Host → List JournalLine
 module_said m = line.Module m.name ∷ map function_said m.functions
 
-abbrev pub reply_said : HostReply → Reply
-reply_said (reply.Value v) = line_reply.Gave v
-reply_said reply.Trap = line_reply.Trapped
-
 abbrev pub entry_said : List Host → Asked → JournalLine
 entry_said hosts a = line.Host
     (record {
       host = host_name hosts a.host;
       function = function_name hosts a.host a.function;
       args = a.args;
-      reply = reply_said
-          a.reply;
+      reply = a.reply;
     })
 
 abbrev pub said : Recorded → List JournalLine
 said j = flat_map module_said j.hosts ++ map (entry_said j.hosts) j.entries
-
-pub same_reply : (r : HostReply) → views.reply_of (reply_said r) ≡ reply_of r
-same_reply (reply.Value v) = refl
-same_reply reply.Trap = refl
 
 -- ---- functions of a module
 
@@ -190,7 +163,7 @@ entries_chain hosts done (a ∷ rest) fit =
         entry = a;
         is_offered = offered hosts a parts.0;
         args_are = refl;
-        reply_is = sym (same_reply a.reply);
+        reply_is = refl;
         fitting =
             parts.0;
         after_is = refl;

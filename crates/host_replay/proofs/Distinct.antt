@@ -1,14 +1,5 @@
 -- Symbols of which none comes twice belong to one function each.
-use Rattle.std.proofs.Common.{◌≡◌, ℕ, zero, suc, Bool, true, false, ◌&&◌, ◌||◌, not, List, [], ◌∷◌, ◌++◌, map, slice_get, option_map, bytes_eq, Some, refl, sym, ap, ◌∙◌}
-use Rattle.std.proofs.lemmas.Option.{slice_get-map}
-use Rattle.std.proofs.lemmas.Slice.Eq.{bytes_eq-Decides}
-use Rattle.w2c_base.proofs.Conjunctions.{left_holds, right_holds}
-use Rattle.w2c_base.specs.Run.{Host}
-use Rattle.c_tree.specs.Rules.{are_distinct}
-use Rattle.c_tree.specs.Scope.{Name, is_among}
-use Rattle.name_table.proofs.Lookups.{among-append}
-use Rattle.host_replay.specs.Reading.{symbol_at, symbol_of}
-use Rattle.host_replay.specs.Writable.{symbols_of, AreDistinct}
+use Rattle.host_replay.proofs.Common.{◌≡◌, ℕ, zero, suc, Bool, true, false, not, ◌&&◌, ◌||◌, List, [], ◌∷◌, ◌++◌, map, slice_get, Some, option_map, bytes_eq, sym, refl, ap, ◌∙◌, slice_get-map, bytes_eq-Decides, left_holds, right_holds, Host, among-append, are_distinct, Name, is_among, symbol_at, symbol_of, AreDistinct, symbols_of}
 
 or_right : (a b : Bool) → b ≡ true → (a || b) ≡ true
 or_right true b e = refl

@@ -1,21 +1,8 @@
 -- What hosts have answered fits their functions, where a run has told it.
-use Rattle.std.proofs.Common.{◌≡◌, ℕ, ◌&&◌, true, List, [], ◌∷◌, slice_get, Option, Some, None, option_map, refl, sym, ◌∙◌, subst}
-use Rattle.std.specs.List.{list_all, AllByRecursion}
-use Rattle.w2c_base.specs.declared.signature.FuncType.{FuncType}
-use Rattle.w2c_base.specs.Lookup.{if_found}
-use Rattle.w2c_base.specs.Run.{CallEnded, Event, Host, HostFunction}
+use Rattle.host_replay.proofs.Common.{◌≡◌, ℕ, true, ◌&&◌, List, [], ◌∷◌, slice_get, Some, None, Option, option_map, sym, refl, ◌∙◌, subst, AllByRecursion, list_all, if_found, CallEnded, Event, Host, HostFunction, equal_types, types_of, FuncType, Program, SymbolCall, host_type, HostReply, hosts_of, event_in, events_in, replies_in, reply_in, reply_of, HostModule, Asked, fits, fits_function, function_at, is_reply, IsAnsweredRun, asked_events, program_with, run_with}
 use Rattle.w2c_base.specs.Run as run
-use Rattle.w2c_base.specs.Values.{equal_types, types_of}
 use Rattle.c_tree.specs.Tree as tree
-use Rattle.c_meaning.specs.Linking.{Program, SymbolCall, host_type}
-use Rattle.c_hosts.specs.declared.host.HostModule.{Ghosts as HostModule}
-use Rattle.c_hosts.specs.declared.host.HostReply.{HostReply}
-use Rattle.c_hosts.specs.declared.host.HostReply.TheVariants as reply
-use Rattle.c_hosts.specs.declared.journal.Asked.{Asked}
-use Rattle.c_hosts.specs.Asking.{hosts_of}
-use Rattle.c_hosts.specs.Journals.{event_in, events_in, replies_in, reply_in, reply_of}
-use Rattle.host_replay.specs.Fitting.{fits, fits_function, function_at, is_reply}
-use Rattle.host_replay.specs.Runs.{asked_events, program_with, run_with, IsAnsweredRun}
+use Rattle.c_meaning.specs.declared.reply.HostReply.TheVariants as reply
 use Rattle.host_replay.proofs.Answering.{IsAnswered, IsReplyOf}
 use Rattle.host_replay.proofs.Tellings.{run_answered}
 

@@ -1,21 +1,6 @@
 -- Hosts that reply again: what they offer, and that they stay such where one has a call more.
-use Rattle.std.proofs.Common.{◌≡◌, ◌==◌, ◌≤◌, ◌+◌, ◌⊎◌, inl, inr, ◌<◌, ℕ, zero, suc, Bool, true, false, IfSome, slice_set, get_or, take, List, [], ◌∷◌, ◌++◌, length, map, slice_get, option_map, Option, Some, None, refl, sym, ap, ◌∙◌, subst, arith}
-use Rattle.std.proofs.lemmas.Bool.{eq-eqb, eqb-false, eqb-true}
-use Rattle.std.proofs.lemmas.Option.{slice_get-map, slice_get_within}
-use Rattle.std.proofs.lemmas.List.{append-nil, length-append, length-set, take_more}
+use Rattle.host_replay.proofs.Common.{◌≡◌, ℕ, zero, suc, ◌+◌, ◌<◌, ◌≤◌, Bool, true, false, ◌⊎◌, List, [], ◌∷◌, ◌++◌, map, length, get_or, take, IfSome, ◌==◌, slice_get, slice_set, Some, None, Option, option_map, sym, refl, ap, ◌∙◌, subst, inl, inr, append-nil, arith, length-append, length-set, eq-eqb, eqb-true, eqb-false, length-map, take_more, filter-append, slice_get-map, slice_get_within, list_all, get_front, by_test, Host, function_of, host_of, hosts_of, Asked, fits, HasMore, IsGiven, AreReplays, IsReplayOf, replaying, calls_of, fits_own, Recorded, ReplayHost}
 use Rattle.std.proofs.lemmas.List.Folds.{list_all_at}
-use Rattle.std.specs.List.{list_all}
-use Rattle.std.proofs.lemmas.List.Elements.{filter-append}
-use Rattle.w2c_base.specs.Run.{Host}
-use Rattle.c_hosts.specs.declared.journal.Asked.{Asked}
-use Rattle.c_hosts.specs.Asking.{function_of, host_of, hosts_of}
-use Rattle.host_replay.specs.declared.replay.ReplayHost.{ReplayHost}
-use Rattle.host_replay.specs.Giving.{HasMore, IsGiven}
-use Rattle.host_replay.specs.Replayed.{replaying, AreReplays, IsReplayOf}
-use Rattle.host_replay.specs.Fitting.{fits}
-use Rattle.host_replay.specs.Replaying.{calls_of, fits_own}
-use Rattle.host_replay.specs.Texts.{Recorded}
-use Rattle.c_sound.proofs.Choices.{by_test}
 use Rattle.host_replay.proofs.Replays.{own}
 use Rattle.host_replay.proofs.Used.{get-behind, other_call, own_call, set_other, set_same}
 
@@ -31,10 +16,6 @@ list_same (x ∷ xs) (y ∷ ys) n h =
     let same : x ≡ y = cc in
     λ i. same i ∷ list_same xs ys (omega (arith, n)) (λ k a at. h (suc k) a at) i
 
-length-map : {A B : Type 0} (f : A → B) (xs : List A) → length (map f xs) ≡ length xs
-length-map f [] = refl
-length-map f (x ∷ xs) = ap suc (length-map f xs)
-
 -- nothing more
 stays : (r s : ReplayHost) → r ≡ s → HasMore r [] s
 stays r s same = record {
@@ -48,7 +29,7 @@ stays r s same = record {
 
 pub hosts_same : (j : Recorded) (hosts : List ReplayHost) → AreReplays j hosts → hosts_of replaying hosts ≡ j.hosts
 hosts_same j hosts are =
-    list_same (hosts_of replaying hosts) j.hosts (length-map (host_of replaying) hosts ∙ are.so_many) (λ k x at.
+    list_same (hosts_of replaying hosts) j.hosts (length-map hosts (host_of replaying) ∙ are.so_many) (λ k x at.
     by k (slice_get hosts k) refl x (sym (slice_get-map (host_of replaying) hosts k) ∙ at))
   where
     by : (k : ℕ) (o : Option ReplayHost) → slice_get hosts k ≡ o → (x : Host) → option_map (host_of replaying) o ≡ Some x
@@ -67,11 +48,6 @@ last_get (z ∷ xs) y (suc k) x at = elim (last_get xs y k x at) [
   | inl h ↦ inl h
   | inr h ↦ inr (ap suc h.0, h.1)
 ]
-
-get_front : {A : Type 0} (xs ys : List A) (k : ℕ) (x : A) → slice_get xs k ≡ Some x → slice_get (xs ++ ys) k ≡ Some x
-get_front [] ys k x at = absurd cc
-get_front (z ∷ xs) ys zero x at = at
-get_front (z ∷ xs) ys (suc k) x at = get_front xs ys k x at
 
 abbrev without_calls : List Host → Recorded
 without_calls hosts = record { hosts = hosts; entries = [] }

@@ -1,16 +1,8 @@
 -- What a table of symbols finds, where there is a module or a function more.
-use Rattle.std.proofs.Common.{◌≡◌, inl, inr, ℕ, Bool, true, false, if◌then◌else◌, length, List, [], ◌∷◌, ◌++◌, bytes_eq, is_some, IfSome, Option, Some, None, refl, sym, ap, ◌∙◌, subst, arith}
+use Rattle.host_replay.proofs.Common.{◌≡◌, ℕ, Bool, true, false, List, [], ◌∷◌, ◌++◌, length, is_some, IfSome, if◌then◌else◌, Some, None, Option, bytes_eq, sym, refl, ap, ◌∙◌, subst, inl, inr, arith, same_from_push, bytes_eq-Decides, named, Host, HostFunction, FunctionLine, Knows, IsNewIn, AddsFunction, IsOffered, named_function, symbol_at, symbol_of, with_function, Recorded}
 use Rattle.std.specs.Option.{option_or}
-use Rattle.std.proofs.lemmas.Slice.Eq.{bytes_eq-Decides}
-use Rattle.w2c_base.specs.Lookup.{named}
-use Rattle.w2c_base.specs.Run.{Host, HostFunction}
 use Rattle.host_replay.specs.declared.place.Place.{Place}
-use Rattle.host_replay.specs.Knowing.{Knows}
 use Rattle.host_replay.specs.declared.place.NewFunction.{NewFunction}
-use Rattle.host_replay.specs.NewFunctions.{IsNewIn}
-use Rattle.host_replay.specs.Reading.{named_function, symbol_at, symbol_of, with_function, AddsFunction, IsOffered}
-use Rattle.host_replay.specs.Texts.{Recorded}
-use Rattle.journal_lines.specs.declared.line.FunctionLine.{FunctionLine}
 use Rattle.host_replay.proofs.Symbols.{function_kept, function_more, function_there, module_more}
 
 pub nothing_known : (table : List (List ℕ × Place)) (hosts : List Host) → table ≡ [] → hosts ≡ [] → Knows table hosts
@@ -83,18 +75,6 @@ is_none : {A : Type 0} (o : Option A) → is_some o ≡ false → o ≡ None
 is_none None e = refl
 is_none (Some x) e = absurd cc
 
-last_same : {A : Type 0} (xs ys : List A) (x y : A) → xs ++ x ∷ [] ≡ ys ++ y ∷ [] → (xs ≡ ys) × (x ≡ y)
-last_same [] [] x y e = (refl, cc)
-last_same [] (b ∷ []) x y e = absurd cc
-last_same [] (b ∷ c ∷ ys) x y e = absurd cc
-last_same (a ∷ []) [] x y e = absurd cc
-last_same (a ∷ b ∷ xs) [] x y e = absurd cc
-last_same (a ∷ xs) (b ∷ ys) x y e =
-    let rest : xs ++ x ∷ [] ≡ ys ++ y ∷ [] = cc in
-    let both = last_same xs ys x y rest in
-    let first : a ≡ b = cc in
-    ((λ i. first i ∷ both.0 i), both.1)
-
 module _ (before : Recorded) (f : FunctionLine) (new : NewFunction) (is : IsNewIn before.hosts f new) (table : List (List ℕ × Place))
     (knows : Knows table before.hosts) where
   symbol_there : (o : Option Place) → named new.symbol table ≡ o → is_some o ≡ true → IsOffered before.hosts new.symbol
@@ -103,7 +83,7 @@ module _ (before : Recorded) (f : FunctionLine) (new : NewFunction) (is : IsNewI
 
   pub known_already : is_some (named new.symbol table) ≡ true → (after : Recorded) → AddsFunction before f after → ⊥
   known_already e after adds =
-      let same : is.last ≡ adds.last = (last_same is.front adds.front is.last adds.last (sym is.hosts_are ∙ adds.hosts_are)).1 in
+      let same : is.last ≡ adds.last = (same_from_push is.front adds.front is.last adds.last (sym is.hosts_are ∙ adds.hosts_are)).1 in
       let symbols : new.symbol ≡ symbol_of adds.last (named_function f) = is.symbol_is
       ∙ ap (λ (m : Host). symbol_of m (named_function f)) same in
       adds.is_new (subst (IsOffered before.hosts) symbols (symbol_there (named new.symbol table) refl e))

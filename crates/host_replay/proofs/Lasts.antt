@@ -1,9 +1,5 @@
 -- The last of some modules, with a function more.
-use Rattle.std.proofs.Common.{◌≡◌, ℕ, zero, suc, ◌-◌, length, List, [], ◌∷◌, ◌++◌, ap, arith}
-use Rattle.std.specs.Prelude.{slice_set, slice_index_or}
-use Rattle.w2c_base.specs.Run.{Host}
-use Rattle.host_replay.specs.declared.module.JournalModule.{JournalModule}
-use Rattle.host_replay.specs.Modules.{module_of, modules_of}
+use Rattle.host_replay.proofs.Common.{◌≡◌, ℕ, zero, suc, ◌-◌, List, [], ◌∷◌, ◌++◌, length, slice_index_or, slice_set, ap, arith, Host, module_of, modules_of, JournalModule}
 
 last_in : (items : List JournalModule) (front : List Host) (last : Host) (k : ℕ) (d : JournalModule) → modules_of items ≡ front ++ last ∷ []
     → length items ≡ suc k → module_of (slice_index_or items k d) ≡ last

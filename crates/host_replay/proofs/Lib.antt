@@ -1,3 +1,5 @@
+-- What the proofs of this crate cite from elsewhere
+mod Common
 -- Journals: their texts, and what lines say
 mod Arguments
 mod Chains

@@ -1,17 +1,6 @@
 -- Lines that are read, one more; and the first that is refused.
-use Rattle.std.proofs.Common.{◌≡◌, ◌+◌, ◌≤◌, ◌==◌, ℕ, zero, suc, true, false, Bool, not, ◌&&◌, length, List, [], ◌∷◌, ◌++◌, map, take, drop, slice_get, codes, cond, Some, refl, sym, ap, ◌∙◌, subst, append_assoc, arith}
-use Rattle.std.specs.List.{join_with_byte, onto_first, AllByRecursion}
-use Rattle.std.proofs.lemmas.List.{append-nil, map_push}
-use Rattle.std.proofs.lemmas.List.Splits.{length-slice_split}
+use Rattle.host_replay.proofs.Common.{◌≡◌, ℕ, zero, suc, ◌+◌, ◌≤◌, Bool, true, false, cond, not, ◌&&◌, List, [], ◌∷◌, ◌++◌, map, length, take, drop, ◌==◌, slice_get, Some, codes, sym, refl, ap, ◌∙◌, subst, append_assoc, append-nil, arith, map_push, length-slice_split, AllByRecursion, join_with_byte, onto_first, take_next, AllLack, cut, lacks, joined, IsLine, line_text, line_words, JournalLine, Adds, IsRefused, Read, Says, empty, ended, Recorded}
 use Rattle.std.proofs.lemmas.List.Sums.{count_by-le-length}
-use Rattle.journal_lines.specs.declared.line.JournalLine.{JournalLine}
-use Rattle.journal_lines.specs.Lines.{line_text, IsLine}
-use Rattle.journal_lines.specs.Words.{line_words}
-use Rattle.journal_lines.proofs.Cutting.{cut, lacks, AllLack}
-use Rattle.journal_lines.proofs.Items.{next_at}
-use Rattle.journal_lines.proofs.Joins.{joined}
-use Rattle.host_replay.specs.Reading.{empty, ended, Adds, IsRefused, Read, Says}
-use Rattle.host_replay.specs.Texts.{Recorded}
 
 abbrev pub with_newline : List ℕ → List ℕ
 with_newline text = text ++ codes "\n"
@@ -47,7 +36,7 @@ pub part_read : (parts : List (List ℕ)) (k : ℕ) (text : List ℕ) (known aft
     → Read empty (with_newlines (take (k + 1) parts)) after
 part_read parts k text known after at read it =
     subst (λ (lines : List (List ℕ)). Read empty lines after)
-    (sym (ap with_newlines (next_at parts k text at) ∙ map_push with_newline (take k parts) text))
+    (sym (ap with_newlines (take_next parts k text at) ∙ map_push with_newline (take k parts) text))
     (read_more empty known after (with_newlines (take k parts)) (with_newline text) it.0 read it.1 it.2)
 
 pub take_all : (xs : List (List ℕ)) (k : ℕ) → k ≡ length xs → take k xs ≡ xs

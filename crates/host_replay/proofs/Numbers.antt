@@ -1,8 +1,5 @@
 -- The numbers of slices are numbers of their types.
-use Rattle.std.proofs.Common.{◌<◌, ℕ, suc, List, [], ◌∷◌, Fits, w8, get_or, rules}
-use Rattle.std.specs.List.{AllByRecursion}
-use Rattle.std.proofs.lemmas.List.Elements.{All-from_recursion}
-use Rattle.journal_lines.specs.Lines.{IsBytes}
+use Rattle.host_replay.proofs.Common.{ℕ, suc, ◌<◌, List, [], ◌∷◌, get_or, w8, Fits, rules, All-from_recursion, AllByRecursion, IsBytes}
 
 bytes_each : (bytes : List ℕ) → ((i : ℕ) → Fits w8 (get_or bytes i 0)) → AllByRecursion (λ b. b < 256) bytes
 bytes_each [] fits = tt

@@ -1,23 +1,8 @@
 -- The calls of a module fit its functions.
-use Rattle.std.proofs.Common.{◌≡◌, ◌==◌, ◌<◌, ◌+◌, ◌&&◌, inl, ℕ, zero, suc, Bool, true, false, List, [], ◌∷◌, cond, map, length, slice_get, slice_index_or, option_map, IfSome, Option, Some, None, refl, sym, ap, ◌∙◌, subst, arith}
-use Rattle.std.specs.List.{list_all}
-use Rattle.std.proofs.lemmas.Bool.{eqb-true}
-use Rattle.std.proofs.lemmas.Option.{slice_get-map}
-use Rattle.w2c_base.proofs.Conjunctions.{both_hold}
-use Rattle.w2c_base.specs.Lookup.{if_found}
-use Rattle.w2c_base.specs.Run.{Host}
-use Rattle.w2c_base.specs.declared.value.Value.{Value}
-use Rattle.w2c_base.specs.Values.{equal_types, types_of}
+use Rattle.host_replay.proofs.Common.{◌≡◌, ℕ, zero, suc, ◌+◌, ◌<◌, Bool, true, false, cond, ◌&&◌, List, [], ◌∷◌, map, length, IfSome, ◌==◌, slice_get, slice_index_or, Some, None, Option, option_map, sym, refl, ap, ◌∙◌, subst, inl, arith, eqb-true, slice_get-map, list_all, both_hold, if_found, Host, equal_types, types_of, Value, HostReply, function_of, Asked, fits, fits_function, is_reply, module_of, modules_of, Replays, calls_of, fits_own, JournalModule}
 use Rattle.c_hosts.specs.declared.host.HostFunction.{HostFunction}
-use Rattle.c_hosts.specs.declared.host.HostReply.{HostReply}
-use Rattle.c_hosts.specs.declared.host.HostReply.TheVariants as reply
-use Rattle.c_hosts.specs.declared.journal.Asked.{Asked}
-use Rattle.c_hosts.specs.Asking.{function_of}
+use Rattle.c_meaning.specs.declared.reply.HostReply.TheVariants as reply
 use Rattle.c_hosts.specs.Hosts.{IsReply}
-use Rattle.host_replay.specs.Fitting.{fits, fits_function, is_reply}
-use Rattle.host_replay.specs.declared.module.JournalModule.{JournalModule}
-use Rattle.host_replay.specs.Modules.{module_of, modules_of}
-use Rattle.host_replay.specs.Replaying.{calls_of, fits_own, Replays}
 
 module _ (hosts : List Host) (k : ℕ) (name : List ℕ) (functions : List HostFunction)
     (at : slice_get hosts k ≡ Some (record { name = name; functions = map function_of functions })) where

@@ -1,14 +1,6 @@
 -- The sample can be written; a module behind its calls is refused.
-use Rattle.std.proofs.Common.{◌≡◌, ◌+◌, ◌<◌, ℕ, zero, suc, length, get_or, List, [], ◌∷◌, ◌++◌, codes, Option, Some, None, refl, sym, ap, ◌∙◌, subst, lit<, arith}
-use Rattle.std.specs.List.{AllByRecursion}
-use Rattle.std.proofs.lemmas.List.Elements.{All-from_recursion}
-use Rattle.journal_lines.specs.declared.line.JournalLine.{JournalLine}
+use Rattle.host_replay.proofs.Common.{◌≡◌, ℕ, zero, suc, ◌+◌, ◌<◌, List, [], ◌∷◌, ◌++◌, length, get_or, Some, None, codes, Option, sym, refl, ap, ◌∙◌, subst, arith, lit<, All-from_recursion, AllByRecursion, IsBytes, JournalLine, Adds, AddsModule, IsRefusedAt, Says, lines_of, env, ticks, Recorded, journal_text, AreDistinct, IsWritable}
 use Rattle.journal_lines.specs.declared.line.JournalLine.TheVariants as line
-use Rattle.journal_lines.specs.Lines.{IsBytes}
-use Rattle.host_replay.specs.Reading.{lines_of, Adds, AddsModule, IsRefusedAt, Says}
-use Rattle.host_replay.specs.Samples.{env, ticks}
-use Rattle.host_replay.specs.Texts.{journal_text, Recorded}
-use Rattle.host_replay.specs.Writable.{AreDistinct, IsWritable}
 use Rattle.host_replay.proofs.Spelled.{spelled}
 use Rattle.host_replay.proofs.Verdicts.{one_said}
 

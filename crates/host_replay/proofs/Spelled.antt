@@ -1,32 +1,12 @@
 -- The text of a journal that can be written is that journal.
-use Rattle.std.proofs.Common.{◌≡◌, ◌==◌, ◌<◌, ◌^◌, ◌&&◌, ℕ, zero, suc, true, length, List, [], ◌∷◌, ◌++◌, codes, map, flat_map, slice_get, lit<, Option, Some, None, refl, sym, ap, ◌∙◌, subst, append_assoc, arith}
-use Rattle.std.specs.List.{join_with_byte, list_all, AllByRecursion}
-use Rattle.std.proofs.lemmas.Bool.{ltb-true}
+use Rattle.host_replay.proofs.Common.{◌≡◌, ℕ, zero, suc, ◌^◌, ◌<◌, true, ◌&&◌, List, [], ◌∷◌, ◌++◌, map, length, ◌==◌, slice_get, Some, None, codes, Option, flat_map, sym, refl, ap, ◌∙◌, subst, append_assoc, arith, lit<, ltb-true, All-from_recursion, length-slice_split, AllByRecursion, join_with_byte, list_all, both_hold, all_append, Host, HostFunction, IsNumber, bits, equal_type, is_number, number_of, type_of, ValType, Value, HostReply, function_name, host_name, AllLack, cut, cut-first, lacks, lacks-append, joined, words_are_high, IsBytes, line_text, function_words, host_words, line_words, JournalLine, Asked, fits, fits_function, function_at, is_reply, IsJournal, Read, empty, ended, lines_of, Recorded, entry_text, function_texts, journal_text, module_text, HasName, HasNames, HasNumbers, IsWritable}
 use Rattle.std.proofs.lemmas.Grind.{flat_map-append}
-use Rattle.std.proofs.lemmas.List.Elements.{All-from_recursion}
-use Rattle.std.proofs.lemmas.List.Splits.{length-slice_split}
-use Rattle.w2c_base.proofs.Conjunctions.{both_hold}
-use Rattle.w2c_base.specs.declared.value.ValType.{ValType}
-use Rattle.w2c_base.specs.declared.value.Value.{Value}
-use Rattle.w2c_base.specs.Run.{Host, HostFunction}
-use Rattle.w2c_base.specs.Values.{bits, equal_type, is_number, number_of, type_of, IsNumber}
 use Rattle.crun_lines.specs.Words.{name_text}
-use Rattle.crun_lines.specs.HostLines.{function_name, host_name, replied_line}
-use Rattle.journal_lines.specs.declared.line.JournalLine.{JournalLine}
 use Rattle.journal_lines.specs.declared.line.JournalLine.TheVariants as line
-use Rattle.journal_lines.specs.Lines.{line_text, module_line, IsBytes, IsGiven, IsProper}
-use Rattle.journal_lines.specs.Words.{function_words, host_words, line_words}
-use Rattle.journal_lines.proofs.Cutting.{cut, cut-first, lacks, lacks-append, AllLack}
-use Rattle.journal_lines.proofs.Joins.{joined, words_are_high}
+use Rattle.journal_lines.specs.Lines.{module_line, IsGiven, IsProper}
 use Rattle.journal_lines.proofs.Texts.{all_lack}
-use Rattle.c_hosts.specs.declared.host.HostReply.{HostReply}
-use Rattle.c_hosts.specs.declared.host.HostReply.TheVariants as reply
-use Rattle.c_hosts.specs.declared.journal.Asked.{Asked}
-use Rattle.host_replay.specs.Fitting.{fits, fits_function, function_at, is_reply}
-use Rattle.host_replay.specs.Reading.{empty, ended, lines_of, IsJournal, Read}
-use Rattle.host_replay.specs.Texts.{entry_text, function_texts, module_text, journal_text, Recorded}
-use Rattle.host_replay.specs.Writable.{HasName, HasNames, HasNumbers, IsWritable}
-use Rattle.host_replay.proofs.Chains.{entry_said, function_said, journal_chain, module_said, reply_said, said, same_reply, Chain}
+use Rattle.c_meaning.specs.declared.reply.HostReply.TheVariants as reply
+use Rattle.host_replay.proofs.Chains.{entry_said, function_said, journal_chain, module_said, said, Chain}
 
 -- ---- lines of texts
 
@@ -75,9 +55,7 @@ modules_text (m ∷ hosts) =
 entries_text : (hosts : List Host) (entries : List Asked)
     → flat_map line_text (map (entry_said hosts) entries) ≡ flat_map (entry_text hosts) entries
 entries_text hosts [] = refl
-entries_text hosts (a ∷ entries) = λ i.
-    replied_line (host_name hosts a.host) (function_name hosts a.host a.function) a.args (same_reply a.reply i)
-    ++ entries_text hosts entries i
+entries_text hosts (a ∷ entries) = ap (λ (t : List ℕ). entry_text hosts a ++ t) (entries_text hosts entries)
 
 said_text : (j : Recorded) → flat_map line_text (said j) ≡ journal_text j
 said_text j =
@@ -85,10 +63,6 @@ said_text j =
     ∙ (λ i. modules_text j.hosts i ++ entries_text j.hosts j.entries i)
 
 -- ---- its lines can stand in journals
-
-all_join : {A : Type 0} (P : A → Type 0) (xs ys : List A) → AllByRecursion P xs → AllByRecursion P ys → AllByRecursion P (xs ++ ys)
-all_join P [] ys x y = y
-all_join P (a ∷ xs) ys x y = (x.0, all_join P xs ys x.1 y)
 
 functions_proper : (functions : List HostFunction) → AllByRecursion HasName functions
     → AllByRecursion IsProper (map function_said functions)
@@ -98,7 +72,7 @@ functions_proper (f ∷ functions) h = (h.0, functions_proper functions h.1)
 modules_proper : (hosts : List Host) → AllByRecursion HasNames hosts → AllByRecursion IsProper (flat_map module_said hosts)
 modules_proper [] h = tt
 modules_proper (m ∷ hosts) h =
-    all_join IsProper (module_said m) (flat_map module_said hosts) (h.0.0, functions_proper m.functions h.0.1) (modules_proper hosts h.1)
+    all_append IsProper (module_said m) (flat_map module_said hosts) (h.0.0, functions_proper m.functions h.0.1) (modules_proper hosts h.1)
 
 no_bytes : IsBytes []
 no_bytes = All-from_recursion (λ b. b < 256) [] tt
@@ -122,13 +96,13 @@ function_bytes (m ∷ hosts) (suc h) f are = function_bytes hosts h f are.1
 number : (v : Value) → is_number v ≡ true → IsNumber v
 number v e = ltb-true (number_of v) (2 ^ bits (type_of v)) e
 
-given : (t : Option ValType) (r : HostReply) → is_reply t r ≡ true → IsGiven (reply_said r)
+given : (t : Option ValType) (r : HostReply) → is_reply t r ≡ true → IsGiven r
 given t reply.Trap e = tt
 given t (reply.Value None) e = tt
 given None (reply.Value (Some v)) e = absurd cc
 given (Some t) (reply.Value (Some v)) e = number v (both_hold (equal_type t (type_of v)) (is_number v) e).1
 
-given_by : (o : Option HostFunction) (a : Asked) → fits_function o a ≡ true → IsGiven (reply_said a.reply)
+given_by : (o : Option HostFunction) (a : Asked) → fits_function o a ≡ true → IsGiven a.reply
 given_by None a e = absurd cc
 given_by (Some f) a e = given f.ty.result a.reply (both_hold _ (is_reply f.ty.result a.reply) e).1
 
@@ -149,7 +123,7 @@ entries_proper hosts (a ∷ entries) names fit numbers =
 
 said_proper : (j : Recorded) → IsWritable j → AllByRecursion IsProper (said j)
 said_proper j is =
-    all_join IsProper (flat_map module_said j.hosts) (map (entry_said j.hosts) j.entries) (modules_proper j.hosts is.names)
+    all_append IsProper (flat_map module_said j.hosts) (map (entry_said j.hosts) j.entries) (modules_proper j.hosts is.names)
     (entries_proper j.hosts j.entries is.names is.fitting is.numbers)
 
 -- ---- it is read back

@@ -1,10 +1,5 @@
 -- What is refused of the line that a text says is refused of the text, which says no other.
-use Rattle.std.proofs.Common.{◌≡◌, ℕ, Bool, false, List, Result, Ok, Err, IfOk, subst}
-use Rattle.journal_lines.specs.declared.line.JournalLine.{JournalLine}
-use Rattle.journal_lines.specs.Lines.{IsLine}
-use Rattle.journal_lines.proofs.Single.{one_line}
-use Rattle.host_replay.specs.Reading.{Adds}
-use Rattle.host_replay.specs.Texts.{Recorded}
+use Rattle.host_replay.proofs.Common.{◌≡◌, ℕ, Bool, false, List, IfOk, Ok, Err, Result, subst, one_line, IsLine, JournalLine, Adds, Recorded}
 
 pub refused_text : {E : Type 0} (text : List ℕ) (said : JournalLine) (before : Recorded) (r : Result Bool E) → IsLine text said
     → IfOk r (λ b. b ≡ false → (after : Recorded) → Adds before said after → ⊥)

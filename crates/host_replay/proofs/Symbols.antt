@@ -1,7 +1,5 @@
 -- The symbols of functions by their numbers, where there is a module or a function more.
-use Rattle.std.proofs.Common.{◌≡◌, ◌⊎◌, inl, inr, ℕ, zero, suc, length, List, [], ◌∷◌, ◌++◌, slice_get, option_map, Some, refl, ap}
-use Rattle.w2c_base.specs.Run.{Host, HostFunction}
-use Rattle.host_replay.specs.Reading.{symbol_at, symbol_of, with_function}
+use Rattle.host_replay.proofs.Common.{◌≡◌, ℕ, zero, suc, ◌⊎◌, List, [], ◌∷◌, ◌++◌, length, slice_get, Some, option_map, refl, ap, inl, inr, Host, HostFunction, symbol_at, symbol_of, with_function}
 
 pub module_more : (hosts : List Host) (name : List ℕ) (h f : ℕ)
     → symbol_at (hosts ++ record { name = name; functions = [] } ∷ []) h f ≡ symbol_at hosts h f

@@ -1,19 +1,8 @@
 -- What a run tells more: asks that hosts answer as their functions' types say, asks without a reply, and ends of calls.
-use Rattle.std.proofs.Common.{◌≡◌, inl, inr, ℕ, zero, suc, Bool, true, false, if◌then◌else◌, List, [], ◌∷◌, ◌++◌, map, append_assoc, Option, Some, None, option_map, refl, sym, ap, ◌∙◌, subst}
-use Rattle.std.specs.List.{AllByRecursion}
-use Rattle.std.proofs.lemmas.List.{append-nil}
-use Rattle.w2c_base.specs.declared.signature.FuncType.{FuncType}
-use Rattle.w2c_base.specs.declared.value.Value.{Value}
-use Rattle.w2c_base.specs.Values.{equal_types, is_result, types_of}
-use Rattle.w2c_base.specs.Run.{Ask, Asked, CallEnded, Event, Reply, Gave, HostTrapped, asked, Trail, Phase, Init, Call}
-use Rattle.c_meaning.specs.State.{CValue, Number, Machine, Frame, Asks}
-use Rattle.c_meaning.specs.Linking.{Program, SymbolCall, host_type}
-use Rattle.c_meaning.specs.Machine.{fresh, with_trail}
-use Rattle.c_meaning.specs.Run.{Entry, Pending, Progress, Going, Over, begun, begin_entry, told_end, came_back, go_on, after, run_of, c_run, c_start, entries_of}
+use Rattle.host_replay.proofs.Common.{◌≡◌, ℕ, zero, suc, Bool, true, false, List, [], ◌∷◌, ◌++◌, map, if◌then◌else◌, Some, None, Option, option_map, sym, refl, ap, ◌∙◌, subst, inl, inr, append_assoc, append-nil, AllByRecursion, all_append, Ask, Call, CallEnded, Event, Gave, HostTrapped, Init, Phase, Reply, Trail, asked, equal_types, is_result, types_of, FuncType, Value, machine_of, Program, SymbolCall, host_type, fresh, with_trail, Entry, Going, Over, Pending, Progress, after, begin_entry, begun, c_run, c_start, came_back, entries_of, go_on, run_of, told_end, Asks, CValue, Frame, Machine, Number, events_of}
+use Rattle.w2c_base.specs.Run.{Asked}
 use Rattle.c_meaning.specs.Step as step
-use Rattle.c_meaning.proofs.Told.{machine_of}
 use Rattle.c_sound.proofs.Trails.{give_keeps, there_or_not}
-use Rattle.c_sound.specs.Events.{events_of}
 use Rattle.host_replay.proofs.Answering.{IsAnswered}
 use Rattle.host_replay.proofs.AnyTrail.{Does, act_does, call_does, in_trail}
 
@@ -22,10 +11,6 @@ pub record TellsMore (p : Program) (before events : List Event) : Type 0 where
   pub more : List Event
   pub is : events ≡ before ++ more
   pub answered : AllByRecursion (IsAnswered p) more
-
-pub each-append : {A : Type 0} (P : A → Type 0) (xs ys : List A) → AllByRecursion P xs → AllByRecursion P ys → AllByRecursion P (xs ++ ys)
-each-append P [] ys h k = k
-each-append P (x ∷ xs) ys h k = (h.0, each-append P xs ys h.1 k)
 
 module _ (p : Program) where
   pub nothing_more : (before events : List Event) → events ≡ before → TellsMore p before events
@@ -38,7 +23,7 @@ module _ (p : Program) where
   more_on before middle events h k = record {
     more = h.more ++ k.more;
     is = k.is ∙ ap (λ es. es ++ k.more) h.is ∙ append_assoc before h.more k.more;
-    answered = each-append (IsAnswered p) h.more k.more h.answered k.answered;
+    answered = all_append (IsAnswered p) h.more k.more h.answered k.answered;
   }
 
   -- ---- statements

@@ -1,18 +1,5 @@
 -- Hosts that reply again what a journal says have, behind some calls, used up the calls of their modules among these.
-use Rattle.std.proofs.Common.{◌≡◌, inl, inr, ℕ, zero, suc, ◌+◌, ◌==◌, List, [], ◌∷◌, ◌++◌, length, cond, Some, refl, sym, ap, ◌∙◌, subst}
-use Rattle.std.specs.Prelude.{set, slice_get}
-use Rattle.std.proofs.lemmas.Bool.{eq-eqb, eqb-false, eqb-true, ne_eqb}
-use Rattle.std.proofs.lemmas.List.{append-nil, length-append}
-use Rattle.std.proofs.lemmas.List.Elements.{filter-append}
-use Rattle.w2c_base.specs.Run.{Ask}
-use Rattle.c_sound.proofs.Choices.{by_test}
-use Rattle.w2c_base.specs.declared.value.Value.{Value}
-use Rattle.c_hosts.specs.declared.host.HostModule.{Ghosts as HostModule}
-use Rattle.c_hosts.specs.declared.host.HostReply.{HostReply}
-use Rattle.c_hosts.specs.declared.journal.Asked.{Asked}
-use Rattle.c_hosts.specs.Asking.{Answers}
-use Rattle.c_hosts.specs.Journals.{ask_of}
-use Rattle.host_replay.specs.Replaying.{calls_of, Replays}
+use Rattle.host_replay.proofs.Common.{◌≡◌, ℕ, zero, suc, ◌+◌, cond, List, [], ◌∷◌, ◌++◌, length, set, ◌==◌, slice_get, Some, sym, refl, ap, ◌∙◌, subst, inl, inr, append-nil, length-append, eq-eqb, ne_eqb, eqb-true, eqb-false, filter-append, by_test, Ask, Value, HostReply, Answers, ask_of, HostModule, Asked, Replays, calls_of}
 
 -- ---- lists
 

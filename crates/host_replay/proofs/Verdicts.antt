@@ -1,20 +1,8 @@
 -- Lines have one verdict: they are one journal at most, or one of them is the first that is refused.
-use Rattle.std.proofs.Common.{◌≡◌, ◌⊎◌, ◌+◌, inl, inr, ℕ, suc, length, List, [], ◌∷◌, ◌++◌, Some, refl, sym, ap, ◌∙◌, subst}
-use Rattle.std.specs.List.{join_with_byte}
-use Rattle.w2c_base.specs.Run.{Host, HostFunction}
-use Rattle.journal_lines.specs.declared.line.FunctionLine.{FunctionLine}
+use Rattle.host_replay.proofs.Common.{◌≡◌, ℕ, suc, ◌+◌, ◌⊎◌, List, [], ◌∷◌, ◌++◌, length, Some, sym, refl, ap, ◌∙◌, subst, inl, inr, same_from_push, join_with_byte, Host, HostFunction, HostReply, joined, one_line, line_words, FunctionLine, JournalLine, reply_of, Adds, AddsEntry, AddsFunction, IsOffered, IsRefused, Read, Says, empty, named_function, symbol_of, with_function, Recorded, AreDistinct}
 use Rattle.journal_lines.specs.declared.line.HostLine.{HostLine}
-use Rattle.journal_lines.specs.declared.line.JournalLine.{JournalLine}
 use Rattle.journal_lines.specs.declared.line.JournalLine.TheVariants as line
-use Rattle.journal_lines.specs.Words.{line_words}
-use Rattle.journal_lines.proofs.Joins.{joined}
-use Rattle.journal_lines.proofs.Single.{one_line}
-use Rattle.c_hosts.specs.declared.host.HostReply.{HostReply}
-use Rattle.c_hosts.specs.declared.host.HostReply.TheVariants as reply
-use Rattle.c_hosts.specs.Journals.{reply_of}
-use Rattle.host_replay.specs.Reading.{empty, named_function, symbol_of, with_function, Adds, AddsEntry, AddsFunction, IsOffered, IsRefused, Read, Says}
-use Rattle.host_replay.specs.Texts.{Recorded}
-use Rattle.host_replay.specs.Writable.{AreDistinct}
+use Rattle.c_meaning.specs.declared.reply.HostReply.TheVariants as reply
 use Rattle.host_replay.proofs.Symbols.{function_more, module_more}
 
 -- ---- symbols stay distinct
@@ -52,18 +40,6 @@ stay_distinct before after (line.Host call) d adds =
 
 -- ---- a line adds one thing at most
 
-last_same : {A : Type 0} (xs ys : List A) (x y : A) → xs ++ x ∷ [] ≡ ys ++ y ∷ [] → (xs ≡ ys) × (x ≡ y)
-last_same [] [] x y e = (refl, cc)
-last_same [] (b ∷ []) x y e = absurd cc
-last_same [] (b ∷ c ∷ ys) x y e = absurd cc
-last_same (a ∷ []) [] x y e = absurd cc
-last_same (a ∷ b ∷ xs) [] x y e = absurd cc
-last_same (a ∷ xs) (b ∷ ys) x y e =
-    let rest : xs ++ x ∷ [] ≡ ys ++ y ∷ [] = cc in
-    let both = last_same xs ys x y rest in
-    let first : a ≡ b = cc in
-    ((λ i. first i ∷ both.0 i), both.1)
-
 pub reply_same : (r s : HostReply) → reply_of r ≡ reply_of s → r ≡ s
 reply_same (reply.Value v) (reply.Value w) e = let same : v ≡ w = cc in ap reply.Value same
 reply_same (reply.Value v) reply.Trap e = absurd cc
@@ -72,7 +48,7 @@ reply_same reply.Trap reply.Trap e = refl
 
 one_function : (before a b : Recorded) (f : FunctionLine) → AddsFunction before f a → AddsFunction before f b → a ≡ b
 one_function before a b f x y =
-    let same = last_same x.front y.front x.last y.last (sym x.hosts_are ∙ y.hosts_are) in
+    let same = same_from_push x.front y.front x.last y.last (sym x.hosts_are ∙ y.hosts_are) in
     x.after_is
     ∙ (λ i. record { hosts = same.0 i ++ with_function (same.1 i) (named_function f) ∷ []; entries = [] })
     ∙ sym y.after_is
@@ -81,7 +57,7 @@ one_entry : (before a b : Recorded) (call : HostLine) → AreDistinct before.hos
 one_entry before a b call d x y =
     let places = d x.entry.host x.entry.function y.entry.host y.entry.function _ x.is_offered y.is_offered in
     let args = x.args_are ∙ sym y.args_are in
-    let replies = reply_same x.entry.reply y.entry.reply (x.reply_is ∙ sym y.reply_is) in
+    let replies = x.reply_is ∙ sym y.reply_is in
     let same : x.entry ≡ y.entry = λ i. record { host = places.0 i; function = places.1 i; args = args i; reply = replies i } in
     x.after_is ∙ (λ i. record { hosts = before.hosts; entries = before.entries ++ same i ∷ [] }) ∙ sym y.after_is
 

@@ -4,8 +4,8 @@ use Rattle.w2c_base.specs.declared.value.ValType.{ValType}
 use Rattle.w2c_base.specs.Lookup.{if_found}
 use Rattle.w2c_base.specs.Run.{Host, HostFunction}
 use Rattle.w2c_base.specs.Values.{equal_types, is_result, types_of}
-use Rattle.c_hosts.specs.declared.host.HostReply.{HostReply}
-use Rattle.c_hosts.specs.declared.host.HostReply.TheVariants as reply
+use Rattle.c_meaning.specs.declared.reply.HostReply.{HostReply}
+use Rattle.c_meaning.specs.declared.reply.HostReply.TheVariants as reply
 use Rattle.c_hosts.specs.declared.journal.Asked.{Asked}
 
 -- the function with a number of the module with a number, both from 0

@@ -5,14 +5,12 @@ use Rattle.w2c_base.specs.Lookup.{if_found}
 use Rattle.w2c_base.specs.Run.{Host, HostFunction}
 use Rattle.w2c_mangle.specs.declared.symbol.SymbolKind.TheVariants as symbol
 use Rattle.w2c_mangle.specs.Symbols.{export_symbol_of}
-use Rattle.crun_lines.specs.Views.{reply_of}
 use Rattle.journal_lines.specs.declared.line.FunctionLine.{FunctionLine}
 use Rattle.journal_lines.specs.declared.line.HostLine.{HostLine}
 use Rattle.journal_lines.specs.declared.line.JournalLine.{JournalLine}
 use Rattle.journal_lines.specs.declared.line.JournalLine.TheVariants as line
 use Rattle.journal_lines.specs.Lines.{line_text, IsProper}
 use Rattle.c_hosts.specs.declared.journal.Asked.{Asked}
-use Rattle.c_hosts.specs.Journals.{reply_in}
 use Rattle.host_replay.specs.Fitting.{fits}
 use Rattle.host_replay.specs.Texts.{Recorded}
 
@@ -53,7 +51,7 @@ pub record AddsEntry (before : Recorded) (call : HostLine) (after : Recorded) : 
   pub entry : Asked
   pub is_offered : symbol_at before.hosts entry.host entry.function ≡ Some (export_symbol_of call.host symbol.Func call.function)
   pub args_are : entry.args ≡ call.args
-  pub reply_is : reply_in entry ≡ reply_of call.reply
+  pub reply_is : entry.reply ≡ call.reply
   pub fitting : fits before.hosts entry ≡ true
   pub after_is : after ≡ record { hosts = before.hosts; entries = before.entries ++ entry ∷ [] }
 

@@ -2,8 +2,8 @@
 use Rattle.std.specs.Prelude.{◌≡◌, ◌==◌, ◌⊎◌, ℕ, ◌+◌, Bool, List, [], ◌∷◌, slice_get, option_map, Some, filter}
 use Rattle.w2c_base.specs.declared.value.Value.{Value}
 use Rattle.c_hosts.specs.declared.host.HostFunction.{HostFunction}
-use Rattle.c_hosts.specs.declared.host.HostReply.{HostReply}
-use Rattle.c_hosts.specs.declared.host.HostReply.TheVariants as reply
+use Rattle.c_meaning.specs.declared.reply.HostReply.{HostReply}
+use Rattle.c_meaning.specs.declared.reply.HostReply.TheVariants as reply
 use Rattle.c_hosts.specs.declared.journal.Asked.{Asked}
 use Rattle.c_hosts.specs.Asking.{function_of}
 use Rattle.host_replay.specs.Fitting.{fits_function}

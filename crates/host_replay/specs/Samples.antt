@@ -4,7 +4,7 @@ use Rattle.w2c_base.specs.declared.value.ValType.{ValType}
 use Rattle.w2c_base.specs.declared.value.ValType.TheVariants as type
 use Rattle.w2c_base.specs.declared.value.Value.TheVariants.{I64}
 use Rattle.w2c_base.specs.Run.{Host, HostFunction}
-use Rattle.c_hosts.specs.declared.host.HostReply.TheVariants as reply
+use Rattle.c_meaning.specs.declared.reply.HostReply.TheVariants as reply
 use Rattle.c_hosts.specs.declared.journal.Asked.{Asked}
 use Rattle.host_replay.specs.Texts.{Recorded}
 

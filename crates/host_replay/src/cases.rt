@@ -1,7 +1,7 @@
 // Closed cases of the definitions, chosen by hand.
 ghost use Rattle.std.specs.Prelude.{◌≡◌, ◌∷◌, ◌++◌, [], codes, Some};
 ghost use Rattle.w2c_base.specs.declared.value.Value.TheVariants.{I32, I64};
-ghost use Rattle.c_hosts.specs.declared.host.HostReply.TheVariants as reply;
+ghost use Rattle.c_meaning.specs.declared.reply.HostReply.TheVariants as reply;
 ghost use Rattle.host_replay.specs.Reading.{empty, lines_of, IsJournal, IsRefusedAt};
 ghost use Rattle.host_replay.specs.Replaying.{Replays};
 ghost use Rattle.host_replay.specs.Samples.{tick, ticks};

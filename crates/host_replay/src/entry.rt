@@ -3,15 +3,13 @@ ghost use Rattle.std.specs.Prelude.{◌≡◌, ◌++◌, IfOk, OnOk};
 ghost use Rattle.std.specs.List.{AllByRecursion};
 ghost use Rattle.w2c_base.specs.Values.{IsNumber};
 ghost use Rattle.crun_lines.specs.HostLines.{function_name, host_name};
-ghost use Rattle.crun_lines.specs.Views.{reply_of as line_reply};
-ghost use Rattle.c_hosts.specs.Journals.{reply_of as host_reply};
 ghost use Rattle.host_replay.specs.Modules.{modules_of};
 ghost use Rattle.host_replay.specs.Texts.{entry_text};
 ghost use Rattle.host_replay.specs.Writable.{HasNumbers};
 
 use crate::module::JournalModule;
-use c_hosts::{Asked, HostReply};
-use crun_lines::{Reply, host_line};
+use c_hosts::Asked;
+use crun_lines::host_line;
 use std::alloc::Global;
 use w2c_base::{Bytes, Memory, Value};
 
@@ -51,18 +49,8 @@ pub(crate) fn put_entry(
     are_numbers(asked.args.as_slice());
     let host = name_of_host(modules, asked.host);
     let function = name_of_function(modules, asked.host, asked.function);
-    let reply = reply_in_line(asked.reply);
-    let line = host_line(alloc, host, function, asked.args.as_slice(), reply)?;
+    let line = host_line(alloc, host, function, asked.args.as_slice(), asked.reply)?;
     text.extend(line.as_slice())
-}
-
-fn reply_in_line(reply: HostReply) -> Reply
-    ensures { line_reply result ≡ host_reply reply }
-{
-    match reply {
-        HostReply::Value(value) => Reply::Gave(value),
-        HostReply::Trap => Reply::Trapped,
-    }
 }
 
 fn name_of_host(modules: &[JournalModule], host: usize) -> &[u8]

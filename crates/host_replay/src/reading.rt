@@ -2,8 +2,6 @@
 ghost use Rattle.std.specs.Prelude.{◌≡◌, true, false, ℕ, IfOk};
 ghost use Rattle.journal_lines.specs.declared.line.JournalLine.{JournalLine as AnyLine};
 ghost use Rattle.journal_lines.specs.Lines.{IsLine};
-ghost use Rattle.crun_lines.specs.Views.{reply_of as line_reply};
-ghost use Rattle.c_hosts.specs.Journals.{reply_of as host_reply};
 ghost use Rattle.host_replay.specs.Knowing.{Knows};
 ghost use Rattle.host_replay.specs.Reading.{empty, Adds, AddsEntry, AddsFunction, AddsModule};
 ghost use Rattle.host_replay.specs.Recording.{recorded};
@@ -12,8 +10,7 @@ ghost use Rattle.host_replay.specs.Texts.{Recorded};
 use crate::file::JournalFile;
 use crate::fitting::fits;
 use crate::place::{Place, new_function};
-use c_hosts::{Asked, HostReply};
-use crun_lines::Reply;
+use c_hosts::Asked;
 use journal_lines::{FunctionLine, HostLine, JournalLine, read_line};
 use name_table::{NameTable, Salted};
 use std::alloc::Global;
@@ -117,21 +114,12 @@ impl Reading {
             host: place.host,
             function: place.function,
             args: call.args,
-            reply: reply_of_line(call.reply),
+            reply: call.reply,
         };
         if !fits(self.file.modules.as_slice(), &asked) {
             return Ok(false);
         }
         self.file.push_entry(asked)?;
         Ok(true)
-    }
-}
-
-fn reply_of_line(reply: Reply) -> HostReply
-    ensures { host_reply result ≡ line_reply reply }
-{
-    match reply {
-        Reply::Gave(value) => HostReply::Value(value),
-        Reply::Trapped => HostReply::Trap,
     }
 }

@@ -1,9 +1,5 @@
 -- A text is cut at each byte of a kind, and texts without such bytes, joined by them, are the parts.
-use Rattle.std.proofs.Common.{◌≡◌, ◌==◌, ℕ, Bool, true, false, not, ◌&&◌, List, [], ◌∷◌, ◌++◌, refl, ap, ◌∙◌}
-use Rattle.std.proofs.lemmas.Bool.{eq-eqb}
-use Rattle.std.proofs.lemmas.List.Splits.{slice_split-cons_no, slice_split-cons_yes}
-use Rattle.std.specs.List.{join_with_byte, list_all, onto_first, slice_split, AllByRecursion}
-use Rattle.w2c_base.proofs.Conjunctions.{both_hold}
+use Rattle.journal_lines.proofs.Common.{◌≡◌, ℕ, Bool, true, false, not, ◌&&◌, List, [], ◌∷◌, ◌++◌, ◌==◌, refl, ap, ◌∙◌, eq-eqb, slice_split-cons_no, slice_split-cons_yes, AllByRecursion, join_with_byte, list_all, onto_first, slice_split, both_hold}
 
 -- a byte does not stand in a text
 abbrev pub lacks : ℕ → List ℕ → Bool

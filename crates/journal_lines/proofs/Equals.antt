@@ -1,32 +1,15 @@
 -- Words around =.
-use Rattle.std.proofs.Common.{◌≡◌, ℕ, List, [], ◌∷◌, ◌++◌, codes, false, refl, sym, ap, ◌∙◌, append_assoc, subst}
-use Rattle.std.specs.Borrow.{Bor}
-use Rattle.std.specs.Str.{bytes_eq}
-use Rattle.std.proofs.lemmas.List.{map_push}
-use Rattle.crun_lines.specs.Views.{texts}
-use Rattle.journal_lines.specs.Words.{equals}
+use Rattle.journal_lines.proofs.Common.{◌≡◌, ℕ, false, List, [], ◌∷◌, ◌++◌, codes, bytes_eq, sym, ap, ◌∙◌, subst, append_assoc, Bor, map_push, same_from_push, texts, equals}
 
 texts_push : (words rest : List (Bor (List ℕ))) (x : Bor (List ℕ)) → words ≡ rest ++ x ∷ [] → texts words ≡ texts rest ++ x.now ∷ []
 texts_push words rest x is = ap texts is ∙ map_push (λ (b : Bor (List ℕ)). b.now) rest x
-
-last_same : {A : Type 0} (xs ys : List A) (x y : A) → xs ++ x ∷ [] ≡ ys ++ y ∷ [] → (xs ≡ ys) × (x ≡ y)
-last_same [] [] x y e = (refl, cc)
-last_same [] (b ∷ []) x y e = absurd cc
-last_same [] (b ∷ c ∷ ys) x y e = absurd cc
-last_same (a ∷ []) [] x y e = absurd cc
-last_same (a ∷ b ∷ xs) [] x y e = absurd cc
-last_same (a ∷ xs) (b ∷ ys) x y e =
-    let rest : xs ++ x ∷ [] ≡ ys ++ y ∷ [] = cc in
-    let both = last_same xs ys x y rest in
-    let first : a ≡ b = cc in
-    ((λ i. first i ∷ both.0 i), both.1)
 
 pub equals_same : (f g : List (List ℕ)) (l m : List ℕ) → equals f l ≡ equals g m → (f ≡ g) × (l ≡ m)
 equals_same f g l m is =
     let same : (f ++ codes "=" ∷ []) ++ l ∷ [] ≡ (g ++ codes "=" ∷ []) ++ m ∷ [] =
     append_assoc f (codes "=" ∷ []) (l ∷ []) ∙ is ∙ sym (append_assoc g (codes "=" ∷ []) (m ∷ [])) in
-    let both = last_same (f ++ codes "=" ∷ []) (g ++ codes "=" ∷ []) l m same in
-    ((last_same f g (codes "=") (codes "=") both.0).0, both.1)
+    let both = same_from_push (f ++ codes "=" ∷ []) (g ++ codes "=" ∷ []) l m same in
+    ((same_from_push f g (codes "=") (codes "=") both.0).0, both.1)
 
 module _ (words rest front : List (Bor (List ℕ))) (last sign : Bor (List ℕ)) (is_last : words ≡ rest ++ last ∷ [])
     (is_sign : rest ≡ front ++ sign ∷ []) where
@@ -41,7 +24,7 @@ module _ (words rest front : List (Bor (List ℕ))) (last sign : Bor (List ℕ))
       let same : (texts front ++ sign.now ∷ []) ++ last.now ∷ [] ≡ (f ++ codes "=" ∷ []) ++ l ∷ [] =
       sym two ∙ is ∙ sym (append_assoc f (codes "=" ∷ []) (l ∷ [])) in
       let before : texts front ++ sign.now ∷ []
-      ≡ f ++ codes "=" ∷ [] = (last_same (texts front ++ sign.now ∷ []) (f ++ codes "=" ∷ []) last.now l same).0 in
-      let sign_is : sign.now ≡ codes "=" = (last_same (texts front) f sign.now (codes "=") before).1 in
+      ≡ f ++ codes "=" ∷ [] = (same_from_push (texts front ++ sign.now ∷ []) (f ++ codes "=" ∷ []) last.now l same).0 in
+      let sign_is : sign.now ≡ codes "=" = (same_from_push (texts front) f sign.now (codes "=") before).1 in
       let both : bytes_eq (codes "=") (codes "=") ≡ false = subst (λ w. bytes_eq w (codes "=") ≡ false) sign_is differs in
       cc

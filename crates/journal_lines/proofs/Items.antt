@@ -1,9 +1,6 @@
 -- Words that are written for items, one for each.
-use Rattle.std.proofs.Common.{◌≡◌, ◌<◌, ℕ, zero, suc, ◌+◌, List, [], ◌∷◌, ◌++◌, length, map, take, slice_get, slice_index_or, IfNone, Option, Some, None, refl, sym, ap, ◌∙◌, subst, arith, add-one}
-use Rattle.std.specs.Borrow.{Bor}
-use Rattle.std.specs.List.{AllByRecursion}
-use Rattle.std.proofs.lemmas.List.{map_push}
-use Rattle.crun_lines.specs.Views.{texts}
+use Rattle.journal_lines.proofs.Common.{◌≡◌, ℕ, zero, suc, ◌+◌, ◌<◌, List, [], ◌∷◌, ◌++◌, map, length, take, IfNone, slice_get, slice_index_or, Some, None, Option, sym, refl, ap, ◌∙◌, subst, arith, Bor, map_push, AllByRecursion, texts}
+use Rattle.w2c_base.proofs.Places.{take_next}
 
 pub text_in : (names : List (Bor (List ℕ))) (k : ℕ) (other : Bor (List ℕ)) → k < length names
     → slice_get (texts names) k ≡ Some (slice_index_or names k other).now
@@ -16,14 +13,6 @@ at_none None is h = h
 at_none (Some x) is h = absurd cc
 
 module _ {A : Type 0} where
-  pub next_at : (xs : List A) (k : ℕ) (x : A) → slice_get xs k ≡ Some x → take (k + 1) xs ≡ take k xs ++ x ∷ []
-  next_at xs k x is = ap (λ n. take n xs) (add-one k) ∙ by_recursion xs k is
-    where
-      by_recursion : (xs : List A) (k : ℕ) → slice_get xs k ≡ Some x → take (suc k) xs ≡ take k xs ++ x ∷ []
-      by_recursion [] k is = cc
-      by_recursion (y ∷ ys) zero is = let same : y ≡ x = cc in λ i. same i ∷ []
-      by_recursion (y ∷ ys) (suc k) is = ap (λ (l : List A). y ∷ l) (by_recursion ys k is)
-
   pub all_more : (P : A → Type 0) (xs new : List A) (x : A) → AllByRecursion P xs → P x → new ≡ xs ++ x ∷ [] → AllByRecursion P new
   all_more P xs new x are is same = subst (AllByRecursion P) (sym same) (by_recursion xs are)
     where
@@ -36,7 +25,7 @@ module _ {A : Type 0} (f : A → List ℕ) where
   pub one_more : (words : List (List ℕ)) (k : ℕ) (word : List ℕ) (xs new : List A) (x : A) → slice_get words k ≡ Some word
       → map f xs ≡ take k words → f x ≡ word → new ≡ xs ++ x ∷ [] → map f new ≡ take (k + 1) words
   one_more words k word xs new x at so_far is pushed =
-      ap (map f) pushed ∙ map_push f xs x ∙ (λ i. so_far i ++ is i ∷ []) ∙ sym (next_at words k word at)
+      ap (map f) pushed ∙ map_push f xs x ∙ (λ i. so_far i ++ is i ∷ []) ∙ sym (take_next words k word at)
 
   -- a word that no item has
   pub not_written : (P : A → Type 0) (words : List (List ℕ)) (k : ℕ) (word : List ℕ) → slice_get words k ≡ Some word

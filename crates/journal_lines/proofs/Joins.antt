@@ -1,16 +1,6 @@
 -- A line is its words with blanks between them, and a newline.
-use Rattle.std.proofs.Common.{◌≡◌, ℕ, List, [], ◌∷◌, ◌++◌, flat_map, map, codes, refl, ap, ◌∙◌, append_assoc}
-use Rattle.std.specs.List.{join_with_byte, AllByRecursion}
-use Rattle.std.proofs.lemmas.List.{append-nil}
-use Rattle.w2c_base.specs.declared.value.ValType.{ValType}
-use Rattle.w2c_base.specs.Values.{IsNumber}
-use Rattle.crun_lines.specs.HostLines.{reply_text}
-use Rattle.crun_lines.specs.Views.{reply_of}
-use Rattle.crun_lines.specs.Words.{name_text, number_text, spaced}
-use Rattle.journal_lines.specs.declared.line.JournalLine.{JournalLine}
+use Rattle.journal_lines.proofs.Common.{◌≡◌, ℕ, List, [], ◌∷◌, ◌++◌, map, codes, flat_map, refl, ap, ◌∙◌, append_assoc, append-nil, AllByRecursion, join_with_byte, IsNumber, ValType, reply_of, reply_text, name_text, number_text, spaced, IsProper, line_text, result_text, spaced_type, type_text, equals, line_words, JournalLine}
 use Rattle.journal_lines.specs.declared.line.JournalLine.TheVariants as line
-use Rattle.journal_lines.specs.Lines.{line_text, result_text, spaced_type, type_text, IsProper}
-use Rattle.journal_lines.specs.Words.{equals, line_words}
 use Rattle.journal_lines.proofs.Written.{high_name, high_number, high_reply, high_result, high_type, IsHigh}
 
 module _ {A : Type 0} (text spaced : A → List ℕ) (is_spaced : (x : A) → spaced x ≡ 32 ∷ text x) where

@@ -1,3 +1,4 @@
+mod Common
 pub mod Cutting
 pub mod Equals
 pub mod Items

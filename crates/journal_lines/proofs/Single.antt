@@ -1,26 +1,12 @@
 -- Words say one thing at most.
-use Rattle.std.proofs.Common.{◌≡◌, ℕ, List, [], ◌∷◌, ◌++◌, codes, map, Option, Some, None, inl, inr, refl, sym, ap, ◌∙◌, arith}
-use Rattle.std.specs.Fmt.{decimal}
-use Rattle.std.specs.List.{AllByRecursion}
-use Rattle.std.proofs.lemmas.Fmt.{decimal_injective}
-use Rattle.w2c_base.specs.declared.value.ValType.{ValType}
+use Rattle.journal_lines.proofs.Common.{◌≡◌, ℕ, List, [], ◌∷◌, ◌++◌, map, Some, None, codes, decimal, Option, sym, refl, ap, ◌∙◌, inl, inr, arith, decimal_injective, AllByRecursion, IsNumber, ValType, Value, I32, I64, escaped, reply_of, HostReply, reply_text, name_text, number_text, or_z, IsGiven, IsLine, IsProper, result_text, type_text, equals, line_words, JournalLine}
 use Rattle.w2c_base.specs.declared.value.ValType.TheVariants as type
-use Rattle.w2c_base.specs.declared.value.Value.{Value}
-use Rattle.w2c_base.specs.declared.value.Value.TheVariants.{I32, I64}
-use Rattle.w2c_base.specs.Values.{IsNumber}
-use Rattle.w2c_mangle.specs.Escaping.{escaped}
 use Rattle.w2c_mangle.proofs.EscapedNames.{escaped-injective, escaped_byte-cases, stays-not_Z, z_escape}
-use Rattle.crun_lines.specs.declared.hosts.Reply.{Reply}
-use Rattle.crun_lines.specs.declared.hosts.Reply.TheVariants as reply
-use Rattle.crun_lines.specs.HostLines.{reply_text}
-use Rattle.crun_lines.specs.Views.{reply_of}
-use Rattle.crun_lines.specs.Words.{name_text, number_text, or_z}
+use Rattle.c_meaning.specs.declared.reply.HostReply.TheVariants as reply
 use Rattle.journal_lines.specs.declared.line.FunctionLine.{FunctionLine}
 use Rattle.journal_lines.specs.declared.line.HostLine.{HostLine}
-use Rattle.journal_lines.specs.declared.line.JournalLine.{JournalLine}
 use Rattle.journal_lines.specs.declared.line.JournalLine.TheVariants as line
-use Rattle.journal_lines.specs.Lines.{result_text, type_text, IsGiven, IsLine, IsProper}
-use Rattle.journal_lines.specs.Words.{equals, line_words}
+use Rattle.w2c_base.proofs.Nothing.{same_parts}
 use Rattle.journal_lines.proofs.Equals.{equals_same}
 use Rattle.journal_lines.proofs.Texts.{said_by_words}
 
@@ -42,10 +28,6 @@ or_z_same (b ∷ x) (c ∷ y) hx hy e = e
 pub name_same : (x y : List ℕ) → name_text x ≡ name_text y → x ≡ y
 name_same x y e = escaped-injective x y (or_z_same (escaped x) (escaped y) (not_z x) (not_z y) e)
 
--- the parts of a list that begins with an item
-parts : {A : Type 0} (x y : A) (xs ys : List A) → x ∷ xs ≡ y ∷ ys → (x ≡ y) × (xs ≡ ys)
-parts x y xs ys e = (cc, cc)
-
 type_same : (t u : ValType) → type_text t ≡ type_text u → t ≡ u
 type_same type.I32 type.I32 e = refl
 type_same type.I64 type.I64 e = refl
@@ -57,7 +39,7 @@ types_same [] [] e = refl
 types_same [] (u ∷ us) e = absurd cc
 types_same (t ∷ ts) [] e = absurd cc
 types_same (t ∷ ts) (u ∷ us) e =
-    let both = parts (type_text t) (type_text u) (map type_text ts) (map type_text us) e in
+    let both = same_parts (type_text t) (type_text u) (map type_text ts) (map type_text us) e in
     λ i. type_same t u both.0 i ∷ types_same ts us both.1 i
 
 not_none : (t : ValType) → codes "none" ≡ type_text t → ⊥
@@ -83,23 +65,23 @@ numbers_same [] [] hv hw e = refl
 numbers_same [] (w ∷ ws) hv hw e = absurd cc
 numbers_same (v ∷ vs) [] hv hw e = absurd cc
 numbers_same (v ∷ vs) (w ∷ ws) hv hw e =
-    let both = parts (number_text v) (number_text w) (map number_text vs) (map number_text ws) e in
+    let both = same_parts (number_text v) (number_text w) (map number_text vs) (map number_text ws) e in
     λ i. number_same v w hv.0 hw.0 both.0 i ∷ numbers_same vs ws hv.1 hw.1 both.1 i
 
 no_number : (v : Value) → (codes "none" ≡ number_text v → ⊥) × (codes "trap" ≡ number_text v → ⊥)
 no_number (I32 n) = ((λ e. grind (arith, e)), (λ e. grind (arith, e)))
 no_number (I64 n) = ((λ e. grind (arith, e)), (λ e. grind (arith, e)))
 
-reply_same : (r s : Reply) → IsGiven r → IsGiven s → reply_text (reply_of r) ≡ reply_text (reply_of s) → r ≡ s
-reply_same reply.Trapped reply.Trapped hr hs e = refl
-reply_same (reply.Gave None) (reply.Gave None) hr hs e = refl
-reply_same (reply.Gave (Some v)) (reply.Gave (Some w)) hr hs e = ap (λ (n : Value). reply.Gave (Some n)) (number_same v w hr hs e)
-reply_same reply.Trapped (reply.Gave None) hr hs e = absurd (grind (arith, e))
-reply_same (reply.Gave None) reply.Trapped hr hs e = absurd (grind (arith, e))
-reply_same reply.Trapped (reply.Gave (Some w)) hr hs e = absurd ((no_number w).1 e)
-reply_same (reply.Gave (Some v)) reply.Trapped hr hs e = absurd ((no_number v).1 (sym e))
-reply_same (reply.Gave None) (reply.Gave (Some w)) hr hs e = absurd ((no_number w).0 e)
-reply_same (reply.Gave (Some v)) (reply.Gave None) hr hs e = absurd ((no_number v).0 (sym e))
+reply_same : (r s : HostReply) → IsGiven r → IsGiven s → reply_text (reply_of r) ≡ reply_text (reply_of s) → r ≡ s
+reply_same reply.Trap reply.Trap hr hs e = refl
+reply_same (reply.Value None) (reply.Value None) hr hs e = refl
+reply_same (reply.Value (Some v)) (reply.Value (Some w)) hr hs e = ap (λ (n : Value). reply.Value (Some n)) (number_same v w hr hs e)
+reply_same reply.Trap (reply.Value None) hr hs e = absurd (grind (arith, e))
+reply_same (reply.Value None) reply.Trap hr hs e = absurd (grind (arith, e))
+reply_same reply.Trap (reply.Value (Some w)) hr hs e = absurd ((no_number w).1 e)
+reply_same (reply.Value (Some v)) reply.Trap hr hs e = absurd ((no_number v).1 (sym e))
+reply_same (reply.Value None) (reply.Value (Some w)) hr hs e = absurd ((no_number w).0 e)
+reply_same (reply.Value (Some v)) (reply.Value None) hr hs e = absurd ((no_number v).0 (sym e))
 
 module_same : (x y : List ℕ) → line_words (line.Module x) ≡ line_words (line.Module y) → line.Module x ≡ line.Module y
 module_same x y e = let names : name_text x ≡ name_text y = cc in ap line.Module (name_same x y names)

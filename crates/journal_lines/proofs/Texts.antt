@@ -1,12 +1,6 @@
 -- What a line says, by its text and by its words.
-use Rattle.std.proofs.Common.{◌≡◌, ◌<◌, ℕ, List, [], ◌∷◌, ◌++◌, codes, lit<, IfNone, IfOk, IfSome, Result, Ok, Err, Option, Some, None, sym, ap, ◌∙◌, subst}
-use Rattle.std.proofs.lemmas.List.{append_cancel_right}
-use Rattle.std.proofs.lemmas.List.Splits.{join_with_byte-slice_split}
-use Rattle.std.specs.List.{join_with_byte, AllByRecursion}
-use Rattle.journal_lines.specs.declared.line.JournalLine.{JournalLine}
+use Rattle.journal_lines.proofs.Common.{◌≡◌, ℕ, ◌<◌, List, [], ◌∷◌, ◌++◌, IfSome, IfNone, IfOk, Some, None, Ok, Err, codes, Option, Result, sym, ap, ◌∙◌, subst, lit<, append_cancel_right, join_with_byte-slice_split, AllByRecursion, join_with_byte, IsLine, SayLine, line_words, JournalLine}
 use Rattle.journal_lines.specs.declared.line.JournalLine.TheVariants as line
-use Rattle.journal_lines.specs.Lines.{IsLine}
-use Rattle.journal_lines.specs.Words.{line_words, SayLine}
 use Rattle.journal_lines.proofs.Cutting.{cut, cut-join, AllLack}
 use Rattle.journal_lines.proofs.Joins.{joined, words_are_high}
 use Rattle.journal_lines.proofs.Written.{lacks_low, IsHigh}

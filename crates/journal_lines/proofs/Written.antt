@@ -1,25 +1,11 @@
 -- Words that are written have no byte below 48, and so no blank and no newline: escaped names, numbers and types.
-use Rattle.std.proofs.Common.{◌≡◌, ◌==◌, ◌+◌, ◌<◌, ◌≤◌, ◌^◌, ◌%◌, ℕ, Bool, true, not, nat_le, ◌&&◌, List, [], ◌∷◌, ◌++◌, Option, Some, None, codes, refl, ap, ◌∙◌, arith, ne_eqb}
-use Rattle.std.specs.Fmt.{decimal}
-use Rattle.std.specs.List.{list_all}
+use Rattle.journal_lines.proofs.Common.{◌≡◌, ℕ, ◌+◌, ◌%◌, ◌^◌, ◌<◌, ◌≤◌, Bool, true, not, ◌&&◌, List, [], ◌∷◌, ◌++◌, nat_le, ◌==◌, Some, None, codes, decimal, Option, refl, ap, ◌∙◌, arith, ne_eqb, decimal_by_steps, list_all, both_hold, IsNumber, ValType, Value, I32, I64, escaped, reply_of, HostReply, reply_text, name_text, number_text, or_z, IsBytes, IsGiven, result_text, type_text}
 use Rattle.std.proofs.lemmas.Bool.Decides.{nat_tests}
-use Rattle.std.proofs.lemmas.Fmt.{decimal_by_steps}
 use Rattle.std.proofs.lemmas.List.Folds.{list_all-append}
-use Rattle.w2c_base.proofs.Conjunctions.{both_hold}
-use Rattle.w2c_base.specs.declared.value.ValType.{ValType}
 use Rattle.w2c_base.specs.declared.value.ValType.TheVariants as type
-use Rattle.w2c_base.specs.declared.value.Value.{Value}
-use Rattle.w2c_base.specs.declared.value.Value.TheVariants.{I32, I64}
-use Rattle.w2c_base.specs.Values.{IsNumber}
-use Rattle.w2c_mangle.specs.Escaping.{escaped}
 use Rattle.w2c_mangle.specs.Symbols.{is_identifier_character}
 use Rattle.w2c_mangle.proofs.SymbolNames.{list_all-escaped}
-use Rattle.crun_lines.specs.declared.hosts.Reply.{Reply}
-use Rattle.crun_lines.specs.declared.hosts.Reply.TheVariants as reply
-use Rattle.crun_lines.specs.HostLines.{reply_text}
-use Rattle.crun_lines.specs.Views.{reply_of}
-use Rattle.crun_lines.specs.Words.{name_text, number_text, or_z}
-use Rattle.journal_lines.specs.Lines.{result_text, type_text, IsBytes, IsGiven}
+use Rattle.c_meaning.specs.declared.reply.HostReply.TheVariants as reply
 use Rattle.journal_lines.proofs.Cutting.{lacks}
 
 abbrev pub is_high : ℕ → Bool
@@ -75,10 +61,10 @@ pub high_number : (v : Value) → IsNumber v → IsHigh (number_text v)
 high_number (I32 n) is = high-append (codes "i32:") (decimal n) refl (high_decimal n (omega (arith, is)))
 high_number (I64 n) is = high-append (codes "i64:") (decimal n) refl (high_decimal n is)
 
-pub high_reply : (r : Reply) → IsGiven r → IsHigh (reply_text (reply_of r))
-high_reply (reply.Gave None) is = refl
-high_reply (reply.Gave (Some v)) is = high_number v is
-high_reply reply.Trapped is = refl
+pub high_reply : (r : HostReply) → IsGiven r → IsHigh (reply_text (reply_of r))
+high_reply (reply.Value None) is = refl
+high_reply (reply.Value (Some v)) is = high_number v is
+high_reply reply.Trap is = refl
 
 pub high_type : (t : ValType) → IsHigh (type_text t)
 high_type type.I32 = refl

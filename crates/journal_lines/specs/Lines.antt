@@ -5,10 +5,10 @@ use Rattle.w2c_base.specs.declared.signature.FuncType.{FuncType}
 use Rattle.w2c_base.specs.declared.value.ValType.{ValType}
 use Rattle.w2c_base.specs.declared.value.ValType.TheVariants as type
 use Rattle.w2c_base.specs.Values.{IsNumber}
-use Rattle.crun_lines.specs.declared.hosts.Reply.{Reply}
-use Rattle.crun_lines.specs.declared.hosts.Reply.TheVariants as reply
+use Rattle.c_meaning.specs.declared.reply.HostReply.{HostReply}
+use Rattle.c_meaning.specs.declared.reply.HostReply.TheVariants as reply
 use Rattle.crun_lines.specs.HostLines.{replied_line}
-use Rattle.crun_lines.specs.Views.{reply_of}
+use Rattle.c_meaning.specs.Views.{reply_of}
 use Rattle.crun_lines.specs.Words.{name_text}
 use Rattle.journal_lines.specs.declared.line.JournalLine.{JournalLine}
 use Rattle.journal_lines.specs.declared.line.JournalLine.TheVariants as line
@@ -44,9 +44,9 @@ abbrev pub IsBytes : List ℕ → Type 0
 IsBytes name = All (λ b. b < 256) name
 
 -- a reply that hosts can give
-abbrev pub IsGiven : Reply → Type 0
-IsGiven (reply.Gave v) = IfSome v IsNumber
-IsGiven reply.Trapped = ⊤
+abbrev pub IsGiven : HostReply → Type 0
+IsGiven (reply.Value v) = IfSome v IsNumber
+IsGiven reply.Trap = ⊤
 
 -- names are of bytes, and values are numbers of their types
 abbrev pub IsProper : JournalLine → Type 0

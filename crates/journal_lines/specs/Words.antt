@@ -4,9 +4,9 @@ use Rattle.std.specs.List.{AllByRecursion}
 use Rattle.w2c_base.specs.declared.signature.FuncType.{FuncType}
 use Rattle.w2c_base.specs.declared.value.Value.{Value}
 use Rattle.w2c_base.specs.Values.{IsNumber}
-use Rattle.crun_lines.specs.declared.hosts.Reply.{Reply}
+use Rattle.c_meaning.specs.declared.reply.HostReply.{HostReply}
 use Rattle.crun_lines.specs.HostLines.{reply_text}
-use Rattle.crun_lines.specs.Views.{reply_of}
+use Rattle.c_meaning.specs.Views.{reply_of}
 use Rattle.crun_lines.specs.Words.{name_text, number_text}
 use Rattle.journal_lines.specs.declared.line.FunctionLine.{FunctionLine}
 use Rattle.journal_lines.specs.declared.line.HostLine.{HostLine}
@@ -21,7 +21,7 @@ equals words last = words ++ codes "=" ∷ last ∷ []
 abbrev pub type_words : FuncType → List (List ℕ)
 type_words ty = equals (map type_text ty.params) (result_text ty.result)
 
-abbrev pub call_words : List Value → Reply → List (List ℕ)
+abbrev pub call_words : List Value → HostReply → List (List ℕ)
 call_words args reply = equals (map number_text args) (reply_text (reply_of reply))
 
 abbrev pub function_words : FunctionLine → List (List ℕ)

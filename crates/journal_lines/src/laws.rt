@@ -2,7 +2,7 @@
 ghost use Rattle.std.specs.Prelude.{◌≡◌, ℕ, List, [], ◌∷◌, codes, Some, None};
 ghost use Rattle.w2c_base.specs.declared.value.ValType.TheVariants as type;
 ghost use Rattle.w2c_base.specs.declared.value.Value.TheVariants.{I32, I64};
-ghost use Rattle.crun_lines.specs.declared.hosts.Reply.TheVariants as reply;
+ghost use Rattle.c_meaning.specs.declared.reply.HostReply.TheVariants as reply;
 ghost use Rattle.journal_lines.specs.declared.line.JournalLine.{JournalLine as AnyLine};
 ghost use Rattle.journal_lines.specs.declared.line.JournalLine.TheVariants as line;
 ghost use Rattle.journal_lines.specs.Lines.{line_text, IsLine};
@@ -20,8 +20,8 @@ pub fn line_cases()
         ≡ codes "function put_i32 i32 = none\n" }
     ensures result { line_text (line.Function (record { name = codes "tick"; ty = record { params = []; result = Some type.I64 } }))
         ≡ codes "function tick = i64\n" }
-    ensures call { line_text (line.Host (record { host = codes "env"; function = codes "tick"; args = []; reply = reply.Gave (Some (I64 1)) }))
+    ensures call { line_text (line.Host (record { host = codes "env"; function = codes "tick"; args = []; reply = reply.Value (Some (I64 1)) }))
         ≡ codes "host env tick = i64:1\n" }
-    ensures trap { line_text (line.Host (record { host = codes "env"; function = codes "put_i32"; args = I32 5 ∷ []; reply = reply.Trapped }))
+    ensures trap { line_text (line.Host (record { host = codes "env"; function = codes "put_i32"; args = I32 5 ∷ []; reply = reply.Trap }))
         ≡ codes "host env put_i32 i32:5 = trap\n" }
 {}

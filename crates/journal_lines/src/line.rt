@@ -1,5 +1,5 @@
 // What the lines of a journal say.
-use crun_lines::Reply;
+use crun_lines::HostReply;
 use w2c_base::{Bytes, FuncType, Values};
 
 /// What a line of a journal says.
@@ -26,5 +26,5 @@ pub struct HostLine {
     pub host: Bytes,
     pub function: Bytes,
     pub args: Values,
-    pub reply: Reply,
+    pub reply: HostReply,
 }

@@ -4,7 +4,7 @@ ghost use Rattle.std.specs.List.{AllByRecursion};
 ghost use Rattle.w2c_base.specs.declared.signature.FuncType.{FuncType as AnyType};
 ghost use Rattle.w2c_base.specs.declared.value.Value.{Value as AnyValue};
 ghost use Rattle.w2c_base.specs.Values.{IsNumber};
-ghost use Rattle.crun_lines.specs.declared.hosts.Reply.{Reply as AnyReply};
+ghost use Rattle.c_meaning.specs.declared.reply.HostReply.{HostReply as AnyReply};
 ghost use Rattle.crun_lines.specs.Views.{texts};
 ghost use Rattle.journal_lines.specs.declared.line.FunctionLine.{FunctionLine as AnyFunction};
 ghost use Rattle.journal_lines.specs.declared.line.HostLine.{HostLine as AnyHost};
@@ -18,7 +18,7 @@ use crate::lists::around_equals;
 use crate::names::name_of;
 use crate::types::{result_of, types_of};
 use crate::values::{reply_of, values_of};
-use crun_lines::Reply;
+use crun_lines::HostReply;
 use std::alloc::Global;
 use w2c_base::{Bytes, FuncType, Memory, Values};
 
@@ -127,7 +127,7 @@ fn host_of(alloc: Global, words: &[&[u8]]) -> Result<Option<JournalLine>, Memory
 }
 
 // The arguments of a call, =, and the reply.
-fn call_of(alloc: Global, words: &[&[u8]]) -> Result<Option<(Values, Reply)>, Memory>
+fn call_of(alloc: Global, words: &[&[u8]]) -> Result<Option<(Values, HostReply)>, Memory>
     ensures some { IfOk result (λ found. IfSome found (λ p. AllByRecursion IsNumber p.0 × IsGiven p.1
         × (texts words.now ≡ call_words p.0 p.1))) }
     ensures none { IfOk result (λ found. IfNone found ((args : List AnyValue) (reply : AnyReply)

@@ -5,15 +5,16 @@ ghost use Rattle.std.specs.List.{AllByRecursion};
 ghost use Rattle.w2c_base.specs.declared.value.ValType.TheVariants as type;
 ghost use Rattle.w2c_base.specs.declared.value.Value.{Value as AnyValue};
 ghost use Rattle.w2c_base.specs.Values.{number_of, type_of, IsNumber};
-ghost use Rattle.crun_lines.specs.declared.hosts.Reply.{Reply as AnyReply};
+ghost use Rattle.c_meaning.specs.declared.reply.HostReply.{HostReply as AnyReply};
 ghost use Rattle.crun_lines.specs.HostLines.{reply_text};
-ghost use Rattle.crun_lines.specs.Views.{reply_of as reply_seen, texts};
+ghost use Rattle.c_meaning.specs.Views.{reply_of as reply_seen};
+ghost use Rattle.crun_lines.specs.Views.{texts};
 ghost use Rattle.crun_lines.specs.Words.{number_text};
 ghost use Rattle.journal_lines.specs.Lines.{IsGiven};
 
 use crate::cuts::part_at;
 use crate::number::number;
-use crun_lines::Reply;
+use crun_lines::HostReply;
 use std::alloc::Global;
 use w2c_base::{Memory, Value, Values};
 
@@ -69,18 +70,18 @@ fn i64_of(digits: &[u8]) -> Option<Value>
 }
 
 /// The reply that a word is.
-pub(crate) fn reply_of(word: &[u8]) -> Option<Reply>
+pub(crate) fn reply_of(word: &[u8]) -> Option<HostReply>
     ensures some { IfSome result (λ r. IsGiven r × (reply_text (reply_seen r) ≡ word.now)) }
     ensures none { IfNone result ((r : AnyReply) → IsGiven r → reply_text (reply_seen r) ≡ word.now → ⊥) }
 {
     if word == b"trap".as_slice() {
-        return Some(Reply::Trapped);
+        return Some(HostReply::Trap);
     }
     if word == b"none".as_slice() {
-        return Some(Reply::Gave(None));
+        return Some(HostReply::Value(None));
     }
     match value_of(word) {
-        Some(value) => Some(Reply::Gave(Some(value))),
+        Some(value) => Some(HostReply::Value(Some(value))),
         None => None,
     }
 }

@@ -1,11 +1,5 @@
 -- Each number of a width has a shortest spelling.
-use Rattle.std.proofs.Common.{◌≡◌, ℕ, zero, suc, ◌+◌, ◌*◌, ◌-◌, ◌/◌, ◌%◌, ◌^◌, ◌<◌, ◌≤◌, ℤ, pos, negsuc, ◌-ℤ◌, List, [], ◌∷◌, length, refl, sym, ap, ◌∙◌, ◌⊎◌, arith, inl, inr}
-use Rattle.std.proofs.lemmas.Bool.{cases_lt}
-use Rattle.std.proofs.lemmas.Int.{ints}
-use Rattle.std.proofs.Math.Pow.{pow_mono}
-use Rattle.w2c_base.specs.SpelledNumber.{IsNumberRun, SpellsSigned, SpellsUnsigned, most_bytes, seven_bit_sum, signed_sum}
-use Rattle.leb_bytes.specs.Run.{InRange, IsRunOf}
-use Rattle.leb_bytes.specs.Shortest.{IsShortest}
+use Rattle.leb_bytes.proofs.Common.{◌≡◌, ℕ, zero, suc, ◌+◌, ◌-◌, ◌*◌, ◌/◌, ◌%◌, ◌^◌, ◌<◌, ◌≤◌, ◌⊎◌, List, [], ◌∷◌, length, ℤ, pos, negsuc, ◌-ℤ◌, sym, refl, ap, ◌∙◌, inl, inr, arith, pow_mono, cases_lt, ints, IsNumberRun, SpellsSigned, SpellsUnsigned, most_bytes, seven_bit_sum, signed_sum, InRange, IsRunOf, IsShortest}
 use Rattle.leb_bytes.proofs.Fits.{half, signed_sum-high, signed_sum-low}
 use Rattle.leb_bytes.proofs.Runs.{power}
 use Rattle.leb_bytes.proofs.ShortestLemmas.{signed_shortest, unsigned_shortest}

@@ -1,12 +1,6 @@
 -- Which sums are numbers of a width: by their bits, and by their range.
-use Rattle.std.proofs.Common.{◌≡◌, ◌≢◌, ℕ, zero, suc, ◌+◌, ◌*◌, ◌-◌, ◌/◌, ◌^◌, ◌<◌, ◌≤◌, pos, ◌-ℤ◌, ◌<ℤ◌, ◌≤ℤ◌, cond, sym, ap, subst, ◌∙◌, arith, inl, inr}
-use Rattle.std.proofs.lemmas.Bool.{cases_lt, le-ltb, lt-ltb}
-use Rattle.std.proofs.lemmas.Int.{ints}
-use Rattle.std.proofs.lemmas.Nat.{pow-add, pow_pos}
-use Rattle.std.proofs.Math.Nat.{div-eq_of_lt, div-mul-le_self, lt-div-mul-add, lt_of_mul-lt-mul_right}
-use Rattle.std.proofs.Math.Pow.{pow_mono}
-use Rattle.w2c_base.specs.SpelledNumber.{most_bytes, signed_sum}
-use Rattle.leb_bytes.specs.Run.{InRange}
+use Rattle.leb_bytes.proofs.Common.{◌≡◌, ℕ, zero, suc, ◌+◌, ◌-◌, ◌*◌, ◌/◌, ◌^◌, ◌<◌, ◌≤◌, cond, ◌≢◌, pos, ◌-ℤ◌, ◌≤ℤ◌, ◌<ℤ◌, sym, ap, ◌∙◌, subst, inl, inr, lt_of_mul-lt-mul_right, div-mul-le_self, arith, pow_pos, pow_mono, pow-add, le-ltb, lt-ltb, cases_lt, ints, most_bytes, signed_sum, InRange}
+use Rattle.std.proofs.Math.Nat.{div-eq_of_lt, lt-div-mul-add}
 
 -- ---- quotients
 

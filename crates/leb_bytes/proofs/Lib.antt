@@ -1,3 +1,4 @@
+mod Common
 pub mod Existence
 pub mod Fits
 pub mod Numbers

@@ -1,10 +1,5 @@
 -- Runs of bytes: where one ends, and what its low seven bits sum up to.
-use Rattle.std.proofs.Common.{◌≡◌, ℕ, zero, suc, ◌+◌, ◌*◌, ◌%◌, ◌^◌, ◌<◌, ◌≤◌, List, [], ◌∷◌, ◌++◌, length, get_or, take, refl, ap, ◌∙◌, arith}
-use Rattle.std.specs.Prelude.{All}
-use Rattle.std.proofs.lemmas.Nat.{pow-add}
-use Rattle.std.proofs.lemmas.List.Elements.{All-head, All-tail}
-use Rattle.w2c_base.specs.SpelledNumber.{IsNumberRun, seven_bit_sum}
-use Rattle.leb_bytes.specs.Reading.{GoOn}
+use Rattle.leb_bytes.proofs.Common.{◌≡◌, ℕ, zero, suc, ◌+◌, ◌*◌, ◌%◌, ◌^◌, ◌<◌, ◌≤◌, List, [], ◌∷◌, ◌++◌, length, get_or, take, All, refl, ap, ◌∙◌, arith, pow-add, All-head, All-tail, IsNumberRun, seven_bit_sum, GoOn}
 
 -- ---- sums
 

@@ -1,8 +1,5 @@
 -- Groups of seven bits by shifts and masks.
-use Rattle.std.proofs.Common.{◌≡◌, ℕ, suc, ◌+◌, ◌*◌, ◌%◌, ◌^◌, ◌<◌, List, length, get_or, take, bit_and, bit_or, refl, sym, ap, subst, ◌∙◌, arith}
-use Rattle.std.proofs.lemmas.Grind.{and_high_numeral}
-use Rattle.std.proofs.lemmas.Nat.{and_mask, or_comm, or_shifted, shl_whole}
-use Rattle.w2c_base.specs.SpelledNumber.{seven_bit_sum}
+use Rattle.leb_bytes.proofs.Common.{◌≡◌, ℕ, suc, ◌+◌, ◌*◌, ◌%◌, ◌^◌, ◌<◌, List, length, get_or, take, bit_and, bit_or, sym, refl, ap, ◌∙◌, subst, arith, and_high_numeral, and_mask, or_comm, or_shifted, shl_whole, seven_bit_sum}
 use Rattle.leb_bytes.proofs.Runs.{seven_bit_sum-more}
 use Rattle.leb_bytes.proofs.Windows.{sum-below}
 

@@ -1,20 +1,7 @@
 -- What stands at the front of a window: the answer that is computed is the one that the bytes have.
-use Rattle.std.proofs.Common.{◌≡◌, ◌≢◌, ℕ, zero, suc, ◌+◌, ◌*◌, ◌-◌, ◌/◌, ◌^◌, ◌<◌, ◌≤◌, ℤ, pos, ◌-ℤ◌, ◌<ℤ◌, ◌≤ℤ◌, Bool, true, false, cond, leb, ltb, List, [], ◌∷◌, ◌++◌, length, get_or, take, Result, Ok, Err, refl, sym, ap, subst, ◌∙◌, arith, inl, inr}
-use Rattle.std.specs.Prelude.{int_le, int_lt}
+use Rattle.leb_bytes.proofs.Common.{◌≡◌, ℕ, zero, suc, ◌+◌, ◌-◌, ◌*◌, ◌/◌, ◌^◌, ◌<◌, ◌≤◌, Bool, true, false, cond, ltb, leb, ◌≢◌, List, [], ◌∷◌, ◌++◌, length, get_or, take, ℤ, pos, ◌-ℤ◌, ◌≤ℤ◌, ◌<ℤ◌, int_lt, int_le, Ok, Err, Result, sym, refl, ap, ◌∙◌, subst, inl, inr, arith, length-append, length-take-le, pow_mono, ltb-false, ltb-true, le-ltb, lt-ltb, le-leb, leb-false, take-append_seam, take-length, and_from, and_parts, cases_lt, lt-leb, ints, All-cons, All-head, All-nil, All-tail, IsNumberRun, SpellsSigned, SpellsUnsigned, most_bytes, seven_bit_sum, signed_sum, count_of, fits_signed, fitting, signed_after, signed_of, unsigned_after, unsigned_of, Answers, AnswersSigned, AnswersUnsigned, GoOn, HasBitsPast, HasBitsUnlikeSign, InRange, IsRunOf, NeverWrong, LebFault, Ends, TooLong, Unused}
 use Rattle.std.specs.List.{prefix_len}
-use Rattle.std.proofs.Math.Pow.{pow_mono}
-use Rattle.std.proofs.Math.Seq.{take-append_seam, take-length}
-use Rattle.std.proofs.lemmas.Bool.{and_from, and_parts, cases_lt, le-leb, le-ltb, leb-false, lt-leb, lt-ltb, ltb-false, ltb-true}
-use Rattle.std.proofs.lemmas.Int.{ints}
-use Rattle.std.proofs.lemmas.List.{length-append, length-take-le}
-use Rattle.std.proofs.lemmas.List.Elements.{All-cons, All-head, All-nil, All-tail}
 use Rattle.std.proofs.lemmas.List.Sums.{prefix_len-le-length, prefix_len_stops}
-use Rattle.w2c_base.specs.SpelledNumber.{IsNumberRun, SpellsSigned, SpellsUnsigned, most_bytes, seven_bit_sum, signed_sum}
-use Rattle.leb_bytes.specs.declared.fault.LebFault.{LebFault}
-use Rattle.leb_bytes.specs.declared.fault.LebFault.TheVariants.{Ends, TooLong, Unused}
-use Rattle.leb_bytes.specs.Computed.{count_of, fits_signed, fitting, signed_after, signed_of, unsigned_after, unsigned_of}
-use Rattle.leb_bytes.specs.Reading.{Answers, AnswersSigned, AnswersUnsigned, GoOn, HasBitsPast, HasBitsUnlikeSign}
-use Rattle.leb_bytes.specs.Run.{InRange, IsRunOf, NeverWrong}
 use Rattle.leb_bytes.proofs.Fits.{Unlike, below-div_zero, div-zero_below, in_range_short, in_range_unlike, unlike_from}
 use Rattle.leb_bytes.proofs.Runs.{IsNumberRun-from_go_on, IsNumberRun-some, seven_bit_sum-below}
 

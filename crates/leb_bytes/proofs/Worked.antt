@@ -1,7 +1,5 @@
 -- The definitions at the examples of WebAssembly Core 1.0, 5.2.2, which are numbers of 8 and 16 bits.
-use Rattle.std.proofs.Common.{◌≡◌, [], ◌∷◌, negsuc, Ok, Err, refl}
-use Rattle.leb_bytes.specs.declared.fault.LebFault.TheVariants.{TooLong, Unused}
-use Rattle.leb_bytes.specs.Computed.{signed_of, unsigned_of}
+use Rattle.leb_bytes.proofs.Common.{◌≡◌, [], ◌∷◌, negsuc, Ok, Err, refl, signed_of, unsigned_of, TooLong, Unused}
 
 three : unsigned_of 8 (0x03 ∷ []) ≡ Ok (3, 1)
 three = refl

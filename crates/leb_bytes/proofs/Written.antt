@@ -1,13 +1,6 @@
 -- Groups of seven bits, written one after the other.
-use Rattle.std.proofs.Common.{◌≡◌, ℕ, suc, ◌+◌, ◌*◌, ◌/◌, ◌%◌, ◌^◌, ◌<◌, ◌≤◌, List, length, get_or, take, set, bit_and, bit_or, refl, sym, ap, subst, ◌∙◌, arith}
-use Rattle.std.proofs.Math.ListN.{length-set}
-use Rattle.std.proofs.lemmas.Grind.{or_numeral}
-use Rattle.std.proofs.lemmas.List.{get_or-set_same, length-take-le, take-set, take_more_set}
-use Rattle.std.proofs.lemmas.List.Elements.{All-push, All-same}
-use Rattle.std.proofs.lemmas.Nat.{mod-pow-add, shr_split}
-use Rattle.w2c_base.specs.SpelledNumber.{seven_bit_sum}
-use Rattle.leb_bytes.specs.Reading.{GoOn}
-use Rattle.leb_bytes.specs.Run.{IsRunOf}
+use Rattle.leb_bytes.proofs.Common.{◌≡◌, ℕ, suc, ◌+◌, ◌*◌, ◌/◌, ◌%◌, ◌^◌, ◌<◌, ◌≤◌, List, length, get_or, take, set, bit_and, bit_or, sym, refl, ap, ◌∙◌, subst, arith, length-set, length-take-le, get_or-set_same, or_numeral, All-push, All-same, mod-pow-add, shr_split, seven_bit_sum, GoOn, IsRunOf}
+use Rattle.std.proofs.lemmas.List.{take-set, take_more_set}
 use Rattle.leb_bytes.proofs.Runs.{IsNumberRun-from_go_on, seven_bit_sum-more}
 use Rattle.leb_bytes.proofs.Shifts.{low_seven}
 

@@ -1,10 +1,5 @@
 -- Places that each hold a value, and those that are filled or emptied one after the other.
-use Rattle.std.proofs.Common.{◌≡◌, ℕ, zero, suc, ◌+◌, ◌<◌, ◌≤◌, List, [], ◌∷◌, ◌++◌, Option, Some, None, length, get_or, set, take, drop, refl, sym, ap, ◌∙◌, append_assoc, arith}
-use Rattle.std.specs.Prelude.{All, map, replicate}
-use Rattle.std.proofs.lemmas.List.{take_all}
-use Rattle.std.proofs.lemmas.List.Elements.{All-cons, All-nil}
-use Rattle.w2c_base.specs.LittleEndian.{with_bytes}
-use Rattle.lin_mem.specs.Places.{IsFull, somes}
+use Rattle.lin_mem.proofs.Common.{◌≡◌, ℕ, zero, suc, ◌+◌, ◌<◌, ◌≤◌, List, [], ◌∷◌, ◌++◌, map, length, get_or, take, drop, set, replicate, Some, None, All, Option, sym, refl, ap, ◌∙◌, append_assoc, arith, take_all, All-cons, All-nil, with_bytes, IsFull, somes}
 
 module _ {X : Type 0} where
   abbrev held : List X → List (Option X)

@@ -1,3 +1,4 @@
+mod Common
 pub mod Full
 pub mod Numbers
 pub mod Pages

@@ -1,8 +1,7 @@
 -- Numbers as their bytes: the library's words and ours say the same.
-use Rattle.std.proofs.Common.{◌≡◌, ℕ, List, [], ◌∷◌, length, refl, arith, w8, w32, w64}
+use Rattle.lin_mem.proofs.Common.{◌≡◌, ℕ, List, [], ◌∷◌, length, refl, arith, w8, w16, w32, w64, little_endian, low_bytes}
 use Rattle.std.proofs.Math.Nat.{div-div-eq-div-mul}
-use Rattle.std.specs.Int.{from_le_bytes, to_le_bytes, w16}
-use Rattle.w2c_base.specs.LittleEndian.{little_endian, low_bytes}
+use Rattle.std.specs.Int.{from_le_bytes, to_le_bytes}
 
 pub from_8 : (bs : List ℕ) → length bs ≡ 1 → from_le_bytes w8 bs ≡ little_endian bs
 from_8 [] e = absurd (omega (arith, e))

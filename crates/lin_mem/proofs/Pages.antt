@@ -1,11 +1,6 @@
 -- Pages of one size, joined to one list of bytes.
-use Rattle.std.proofs.Common.{◌≡◌, ℕ, zero, suc, ◌+◌, ◌*◌, ◌<◌, ◌≤◌, List, [], ◌∷◌, ◌++◌, length, get_or, set, take, drop, refl, sym, ap, ◌∙◌, append_assoc, arith}
-use Rattle.std.specs.Prelude.{All, replicate}
-use Rattle.std.specs.List.{concat}
-use Rattle.std.proofs.Math.Seq.{drop-append-add, take-add, take-append-add, take-append_seam}
-use Rattle.std.proofs.lemmas.List.{drop-append-le, drop-drop, length-append, length-drop, length-take-le, take-append-le}
-use Rattle.std.proofs.lemmas.List.Elements.{All-head, All-tail}
-use Rattle.w2c_base.specs.LittleEndian.{with_bytes}
+use Rattle.lin_mem.proofs.Common.{◌≡◌, ℕ, zero, suc, ◌+◌, ◌*◌, ◌<◌, ◌≤◌, List, [], ◌∷◌, ◌++◌, length, get_or, take, drop, set, replicate, All, sym, refl, ap, ◌∙◌, append_assoc, arith, length-append, length-drop, length-take-le, drop-drop, take-add, drop-append-add, take-append-add, take-append_seam, All-head, All-tail, concat, with_bytes}
+use Rattle.std.proofs.lemmas.List.{drop-append-le, take-append-le}
 
 pub concat-append : (ps qs : List (List ℕ)) → concat (ps ++ qs) ≡ concat ps ++ concat qs
 concat-append [] qs = refl

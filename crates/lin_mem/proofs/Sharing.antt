@@ -1,6 +1,5 @@
 -- A `&` to the places is made where one to an item is. Assumes `Logic`.
-use Prim.Native.Nat.{ℕ, ◌+◌}
-use Rattle.std.specs.Prelude.{List, [], ◌∷◌, Option, Some, None}
+use Rattle.std.proofs.Common.{ℕ, ◌+◌, List, [], ◌∷◌, Option, Some, None}
 use Rattle.std.specs.Mem.{type_size}
 use seplogic.Ra.Ura.{Ura}
 use base.Fml.{Lft, Incl, ftrue, ffalse}

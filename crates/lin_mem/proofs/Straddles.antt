@@ -1,8 +1,5 @@
 -- Bytes that lie in two pages.
-use Rattle.std.proofs.Common.{◌≡◌, ℕ, ◌-◌, List, [], ◌∷◌, ◌++◌, length, take, drop, refl, sym, ap, ◌∙◌, arith}
-use Rattle.std.proofs.Math.ListN.{drop_of_length-le}
-use Rattle.std.proofs.Math.Seq.{take-append_seam}
-use Rattle.std.proofs.lemmas.List.{length-drop}
+use Rattle.lin_mem.proofs.Common.{◌≡◌, ℕ, ◌-◌, List, [], ◌∷◌, ◌++◌, length, take, drop, sym, refl, ap, ◌∙◌, arith, length-drop, drop_of_length-le, take-append_seam}
 use borrow.Rule.Slice.PartMut.{put_mid}
 
 append-nil : (xs : List ℕ) → xs ++ [] ≡ xs

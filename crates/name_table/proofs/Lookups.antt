@@ -3,14 +3,11 @@ use Rattle.std.proofs.Common.{◌≡◌, ℕ, Bool, true, false, ◌||◌, if◌
 use Rattle.std.specs.Option.{option_or}
 use Rattle.std.specs.List.{list_any}
 use Rattle.w2c_base.specs.Lookup.{named}
+use Rattle.w2c_base.proofs.Options.{or_assoc}
 
 pub or_none : {A : Type 0} (a : Option A) → option_or a None ≡ a
 or_none None = refl
 or_none (Some x) = refl
-
-pub or_assoc : {A : Type 0} (a b c : Option A) → option_or (option_or a b) c ≡ option_or a (option_or b c)
-or_assoc None b c = refl
-or_assoc (Some x) b c = refl
 
 pub named-append : {A : Type 0} (q : List ℕ) (xs ys : List (List ℕ × A)) → named q (xs ++ ys) ≡ option_or (named q xs) (named q ys)
 named-append q [] ys = refl

@@ -1,7 +1,5 @@
 -- What calls have written, one behind another.
-use Rattle.std.proofs.Common.{◌≡◌, ℕ, List, [], ◌++◌, Option, Some, None, append_assoc, refl, sym, ap, ◌∙◌, subst, arith}
-use Rattle.std.specs.Prelude.{Result, Ok, Err, IfOk}
-use Rattle.std.proofs.lemmas.List.{append-nil}
+use Rattle.std.proofs.Common.{◌≡◌, ℕ, List, [], ◌++◌, Option, Some, None, append_assoc, refl, sym, ap, ◌∙◌, subst, arith, Result, Ok, Err, IfOk, append-nil}
 use Rattle.w2c_io.specs.declared.answers.WriteAnswer.{WriteAnswer}
 use Rattle.w2c_io.specs.declared.answers.WriteAnswer.TheVariants as answer
 use Rattle.w2c_io.specs.Contents.{extended, IsPrefix}

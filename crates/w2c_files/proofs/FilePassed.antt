@@ -1,12 +1,6 @@
 -- What passes through files as one is written.
-use Rattle.std.proofs.Common.{◌≡◌, ℕ, List, [], ◌∷◌, ◌++◌, Ok, Err, length, ◌==◌, true, arith, refl, sym, ◌∙◌, ap, append_assoc}
+use Rattle.w2c_files.proofs.Common.{◌≡◌, ℕ, true, List, [], ◌∷◌, ◌++◌, length, ◌==◌, Ok, Err, sym, refl, ap, ◌∙◌, append_assoc, append-nil, arith, both_put, file_written, finished_in_vain, nothing_put, one_put, part_behind, part_written, put_in_vain, Name, Begin, Event, Finish, Put, BreaksOff, Finishes, Passes, PutsPart, PutsText, WritesFile, WriteAnswer}
 use Rattle.std.proofs.lemmas.Bool.Decides.{nat_tests}
-use Rattle.std.proofs.lemmas.List.{append-nil}
-use Rattle.w2c_io.specs.Contents.{Name}
-use Rattle.w2c_io.specs.declared.answers.WriteAnswer.{WriteAnswer}
-use Rattle.w2c_io.specs.Events.{Event, Begin, Put, Finish}
-use Rattle.w2c_io.specs.Passed.{Passes, PutsText, PutsPart, WritesFile, BreaksOff, Finishes}
-use Rattle.w2c_io.proofs.Passed.{both_put, file_written, finished_in_vain, nothing_put, one_put, part_behind, part_written, put_in_vain}
 
 -- a file was begun, and so much of it was put
 abbrev pub Began : Name → List ℕ → List Event → Type 0

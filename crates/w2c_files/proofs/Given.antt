@@ -1,10 +1,5 @@
 -- What reads gave is told by the calls: there is one list of bytes, and one last read.
-use Rattle.std.proofs.Common.{◌≡◌, ℕ, ◌+◌, List, [], ◌∷◌, ◌++◌, length, Result, Ok, refl, sym, ◌∙◌, ap, subst, arith}
-use Rattle.w2c_io.specs.Contents.{Name}
-use Rattle.w2c_io.specs.Events.{Event, Read}
-use Rattle.w2c_io.specs.declared.answers.ReadAnswer.{ReadAnswer}
-use Rattle.w2c_files.specs.Passing.{ReadsAll}
-use Rattle.w2c_files.specs.Reading.{total}
+use Rattle.w2c_files.proofs.Common.{◌≡◌, ℕ, ◌+◌, List, [], ◌∷◌, ◌++◌, length, Ok, Result, sym, refl, ap, ◌∙◌, subst, arith, Name, Event, Read, ReadAnswer, ReadsAll, total}
 
 -- ---- lists of calls
 

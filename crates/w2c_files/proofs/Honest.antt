@@ -1,18 +1,7 @@
 -- What files hold after calls that passed, where they behave as files.
-use Rattle.std.proofs.Common.{◌≡◌, ℕ, ◌≤◌, List, [], ◌∷◌, ◌++◌, length, append_assoc, refl, sym, ◌∙◌, ap, subst, Option, Some, Result, Ok, Err, inl, inr}
-use Rattle.std.specs.FinMap.{get}
-use Rattle.std.specs.List.{AllByRecursion}
-use Rattle.std.proofs.lemmas.List.{append-nil}
-use Rattle.w2c_io.specs.Contents.{Name, Contents, Told, HasFile, holding}
-use Rattle.w2c_io.specs.Events.{Event, Read, Begin, Put, Finish}
+use Rattle.w2c_files.proofs.Common.{◌≡◌, ℕ, ◌≤◌, List, [], ◌∷◌, ◌++◌, length, Some, Ok, Err, Option, Result, sym, refl, ap, ◌∙◌, subst, inl, inr, append_assoc, append-nil, AllByRecursion, file_told, Contents, Name, Told, holding, Begin, Event, Finish, Put, Read, BreaksOff, FailsOn, PutsPart, PutsText, WritesFile, joined, puts, ReadAnswer, WriteAnswer, BreaksOffAt, ReadsAll, ReadsInOrder, WritesFiles, WritesSome, AreHeld, IsBegun, Stands, StandsAt, written}
 use Rattle.w2c_io.specs.Honest.{AreHonest, Does}
-use Rattle.w2c_io.specs.Passed.{puts, joined, PutsText, PutsPart, FailsOn, WritesFile, BreaksOff}
-use Rattle.w2c_io.specs.declared.answers.ReadAnswer.{ReadAnswer}
 use Rattle.w2c_io.specs.declared.answers.ReadAnswer.TheVariants as reading
-use Rattle.w2c_io.specs.declared.answers.WriteAnswer.{WriteAnswer}
-use Rattle.w2c_files.specs.Passing.{ReadsAll, ReadsInOrder, WritesFiles, BreaksOffAt, WritesSome}
-use Rattle.w2c_files.specs.Reading.{AreHeld}
-use Rattle.w2c_files.specs.Standing.{written, IsBegun, Stands, StandsAt}
 use Rattle.w2c_files.proofs.Standing.{part_begun, put_more, whole_begun}
 
 -- one part, then the next
@@ -45,9 +34,6 @@ in_order_keep (f ∷ files) (e ∷ events) old new current after (inr (answer, i
     let here = read_keeps f.0 f.1 answer old told current name (subst (λ (x : Event). Does x old current told name) is does) in
     let more = subst (λ (es : List Event). AreHonest es told name new after) none behind in (more.0 ∙ here.0, more.1 ∙ here.1)
 
-held_here : (told : Told) (m : Contents) (name : Name) (bytes : List ℕ) → told ≡ Some m → HasFile told name bytes → get m name ≡ Some bytes
-held_here told m name bytes is has = subst (λ (t : Told). HasFile t name bytes) is has
-
 pub reads_held : (each : ℕ) (names : List Name) (all : List (List ℕ)) (given : List Event) (m : Contents) (old new : Told)
     (current after : Option Name) → old ≡ Some m → ReadsAll each names all given → AreHonest given old current new after
     → AreHeld m names all
@@ -57,7 +43,7 @@ reads_held each (n ∷ names) [] given m old new current after told_is reads hon
 reads_held each (n ∷ names) (b ∷ all) [] m old new current after told_is reads honest = absurd reads
 reads_held each (n ∷ names) (b ∷ all) (e ∷ given) m old new current after told_is (is, reads) (told, name, does, rest) =
     let found = subst (λ (x : Event). Does x old current told name) is does in
-    (held_here old m n b told_is found.0, reads_held each names all given m told new name after (found.1 ∙ told_is) reads rest)
+    (file_told old m n b told_is found.0, reads_held each names all given m told new name after (found.1 ∙ told_is) reads rest)
 
 pub reads_kept : (each : ℕ) (names : List Name) (all : List (List ℕ)) (given : List Event) (old new : Told) (current after : Option Name)
     → ReadsAll each names all given → AreHonest given old current new after → new ≡ old

@@ -1,11 +1,6 @@
 -- Files that are read in order, as far as they give bytes.
-use Rattle.std.proofs.Common.{◌≡◌, inl, inr, ℕ, List, [], ◌∷◌, ◌++◌, Result, refl, sym, subst}
-use Rattle.std.proofs.lemmas.List.{append-nil, map-append}
-use Rattle.w2c_io.specs.Contents.{Name}
-use Rattle.w2c_io.specs.Events.{Event, Read}
-use Rattle.w2c_io.specs.declared.answers.ReadAnswer.{ReadAnswer}
-use Rattle.w2c_files.specs.Passing.{limited, ReadsAll, ReadsInOrder, ReadsSome}
-use Rattle.w2c_files.specs.declared.reading.ReadStop.{ReadStop}
+use Rattle.w2c_files.proofs.Common.{◌≡◌, ℕ, List, [], ◌∷◌, ◌++◌, Result, sym, refl, subst, inl, inr, append-nil, Name, Event, Read, ReadAnswer, ReadsAll, ReadsInOrder, ReadsSome, limited, ReadStop}
+use Rattle.std.proofs.lemmas.List.{map-append}
 
 -- files that gave bytes, then others
 pub all_then : (each : ℕ) (names : List Name) (all : List (List ℕ)) (first : List Event) (more : List (Name × ℕ)) (last : List Event)

@@ -1,3 +1,4 @@
+mod Common
 pub mod Given
 pub mod Honest
 pub mod InOrder

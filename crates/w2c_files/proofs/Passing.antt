@@ -1,11 +1,5 @@
 -- What passes through files that are written one after another.
-use Rattle.std.proofs.Common.{ℕ, List, [], ◌∷◌, ◌++◌, refl, sym, ◌∙◌, ap, append_assoc, inl, inr}
-use Rattle.std.proofs.lemmas.List.{append-nil}
-use Rattle.w2c_io.specs.Contents.{Name}
-use Rattle.w2c_io.specs.declared.answers.WriteAnswer.{WriteAnswer}
-use Rattle.w2c_io.specs.Events.{Event}
-use Rattle.w2c_io.specs.Passed.{WritesFile, BreaksOff}
-use Rattle.w2c_files.specs.Passing.{WritesFiles, BreaksOffAt, WritesSome}
+use Rattle.w2c_files.proofs.Common.{ℕ, List, [], ◌∷◌, ◌++◌, sym, refl, ap, ◌∙◌, inl, inr, append_assoc, append-nil, Name, Event, BreaksOff, WritesFile, WriteAnswer, BreaksOffAt, WritesFiles, WritesSome}
 
 pub none_written : WritesFiles [] []
 none_written = refl

@@ -1,14 +1,7 @@
 -- What passed through files that are read one after another.
-use Rattle.std.proofs.Common.{◌≡◌, ℕ, ◌+◌, ◌-◌, List, [], ◌∷◌, ◌++◌, take, drop, suc, length, slice_get, Some, Result, Ok, Err, IfErr, IsErrAnd, refl, sym, ◌∙◌, ap, subst, append_assoc, inl, inr, arith}
-use Rattle.std.proofs.lemmas.List.{append-nil}
-use Rattle.w2c_io.specs.Contents.{Name}
-use Rattle.w2c_io.specs.Events.{Event, Read}
-use Rattle.w2c_io.specs.Passed.{Passes}
-use Rattle.w2c_files.specs.declared.reading.ReadStop.{ReadStop}
+use Rattle.w2c_files.proofs.Common.{◌≡◌, ℕ, suc, ◌+◌, ◌-◌, List, [], ◌∷◌, ◌++◌, length, take, drop, IsErrAnd, IfErr, slice_get, Some, Ok, Err, Result, sym, refl, ap, ◌∙◌, subst, inl, inr, append_assoc, append-nil, arith, take_next, Name, Event, Read, Passes, ReadsAll, ReadsOne, ReadsSome, StopsBy, total, ReadStop}
 use Rattle.w2c_files.specs.declared.reading.ReadStop.TheVariants as stop
-use Rattle.w2c_files.specs.Passing.{ReadsAll, ReadsOne, ReadsSome, StopsBy}
-use Rattle.w2c_files.specs.Reading.{total}
-use Rattle.w2c_files.proofs.Loops.{next_at, split_at}
+use Rattle.w2c_files.proofs.Loops.{split_at}
 
 reads_joined : (each : ℕ) (names : List Name) (all : List (List ℕ)) (events : List Event) (name : Name) (bytes : List ℕ)
     → ReadsAll each names all events
@@ -29,7 +22,7 @@ one_more_read each left old before new names k number name all more bytes at sam
       ∙ append_assoc old events (Read name each (Ok bytes) ∷ []),
   subst (λ (l : List (List ℕ)). ReadsAll each (take (k + 1) names) l (events ++ Read name each (Ok bytes) ∷ [])) (sym same)
       (subst (λ (l : List Name). ReadsAll each l (all ++ bytes ∷ []) (events ++ Read name each (Ok bytes) ∷ []))
-      (sym (next_at names k name at)) (reads_joined each (take k names) all events name bytes reads)),
+      (sym (take_next names k name at)) (reads_joined each (take k names) all events name bytes reads)),
 )
 
 -- the next file is refused

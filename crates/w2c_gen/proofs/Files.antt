@@ -1,10 +1,6 @@
 -- Each file of a generated module is accepted.
-use Rattle.std.proofs.Common.{ℕ, ◌≤◌, List}
-use Rattle.wasm_spelling.specs.Places.{SpellsAside}
+use Rattle.w2c_gen.proofs.Common.{ℕ, ◌≤◌, List, SpellsAside, short_file_spells, generated, IsAcceptedAs, IsGeneratedFile}
 use Rattle.wasm_valid.proofs.Verdicts.{accepted}
-use Rattle.wasm_writing.proofs.Whole.{short_file_spells}
-use Rattle.w2c_gen.specs.Generated.{generated}
-use Rattle.w2c_gen.specs.GeneratedFile.{IsAcceptedAs, IsGeneratedFile}
 use Rattle.w2c_gen.proofs.Formed.{file_is_small}
 use Rattle.w2c_gen.proofs.Valid.{generated_valid}
 

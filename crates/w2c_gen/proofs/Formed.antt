@@ -1,25 +1,9 @@
 -- A generated module has a file, and one shortest file.
-use Rattle.std.proofs.Common.{◌≡◌, ℕ, ℤ, pos, ◌-ℤ◌, zero, suc, ◌+◌, ◌-◌, ◌*◌, ◌%◌, ◌^◌, ◌<◌, ◌≤◌, Bool, true, false, IsTrue, List, map, length, replicate, refl, ap, sym, subst, ◌∙◌, inl, inr, eq-eqb, le-ltb, lt-ltb, arith}
-use Rattle.std.specs.Prelude.{◌==◌, if◌then◌else◌, nat_eq, slice_index}
+use Rattle.w2c_gen.proofs.Common.{◌≡◌, ℕ, zero, suc, ◌+◌, ◌-◌, ◌*◌, ◌%◌, ◌^◌, ◌<◌, ◌≤◌, Bool, true, false, List, map, length, replicate, ℤ, pos, ◌-ℤ◌, if◌then◌else◌, IsTrue, nat_eq, ◌==◌, slice_index, sym, refl, ap, ◌∙◌, subst, inl, inr, arith, le-ltb, lt-ltb, eq-eqb, le-leb, cases_lt, ints, length-map-range_with_len, range_with_len, InRange, Call, end_code, then_code, AreBytes, Fields, finished, bodies, code, code_fields, content, data_count, each, elements, exports, func_entry, functions, globals, imports, instr_fields, magic, memories, segments, start, tables, types, version, IsFormed, short_file_spells, short_fields, body_of, code_with, generated, of_first_type, operator, run_name, signed_reading, IsGeneratedFile, number_at}
 use Rattle.std.specs.Str.{is_utf8}
 use Rattle.std.proofs.lemmas.Str.{IsUtf8-from_ascii, is_utf8-from_IsUtf8}
-use Rattle.std.specs.List.{range_with_len}
-use Rattle.std.proofs.lemmas.Bool.{cases_lt, le-leb}
-use Rattle.std.proofs.lemmas.Int.{ints}
 use Rattle.std.proofs.lemmas.List.{length-replicate}
-use Rattle.std.proofs.lemmas.List.FromFn.{length-map-range_with_len}
-use Rattle.leb_bytes.specs.Run.{InRange}
-use Rattle.wasm_tree.specs.Instructions.{end_code, then_code, Call}
-use Rattle.wasm_spelling.specs.Bytes.{AreBytes}
-use Rattle.wasm_spelling.specs.Fields.{Fields, finished}
 use Rattle.wasm_spelling.specs.Limits.{most_functions, most_module_bytes}
-use Rattle.wasm_spelling.specs.ModuleFields.{types, imports, functions, tables, memories, globals, exports, start, elements, data_count, code, segments, bodies, code_fields, content, each, func_entry, instr_fields, magic, version}
-use Rattle.wasm_spelling.specs.Places.{IsFormed}
-use Rattle.wasm_writing.specs.ShortFile.{short_fields}
-use Rattle.wasm_writing.proofs.Whole.{short_file_spells}
-use Rattle.w2c_gen.specs.Generated.{body_of, code_with, generated, of_first_type, operator, run_name, signed_reading}
-use Rattle.w2c_gen.specs.GeneratedFile.{IsGeneratedFile}
-use Rattle.w2c_gen.specs.Numbers.{number_at}
 use Rattle.w2c_gen.proofs.Within.{Within, within_more, within_finished, within_byte, within_text, within_here, within_provided, within_number, within_signed, within_window, within_empty, within_filled}
 
 -- 32 bits that are read with a sign, by whether the sign is clear

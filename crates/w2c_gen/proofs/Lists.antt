@@ -1,6 +1,5 @@
 -- Lists that are mapped to a list of known length, and lists of one item again and again.
-use Rattle.std.proofs.Common.{◌≡◌, ℕ, zero, suc, ◌<◌, List, [], ◌∷◌, map, replicate, refl, arith, Some}
-use Rattle.std.specs.Prelude.{slice_get}
+use Rattle.std.proofs.Common.{◌≡◌, ℕ, zero, suc, ◌<◌, List, [], ◌∷◌, map, replicate, refl, arith, Some, slice_get}
 
 pub none_of : {A B : Type 0} (f : A → B) (l : List A) → map f l ≡ [] → l ≡ []
 none_of f [] e = refl

@@ -1,12 +1,6 @@
 -- Fields that are spelled in the shortest way by one list of bytes at most.
-use Rattle.std.proofs.Common.{◌≡◌, ℕ, ℤ, ◌<◌, List, ◌++◌, length, sym, ap, subst, ◌∙◌}
+use Rattle.w2c_gen.proofs.Common.{◌≡◌, ℕ, ◌<◌, List, ◌++◌, length, ℤ, sym, ap, ◌∙◌, subst, all_split, SpellsSigned, SpellsUnsigned, one_shortest_signed, one_shortest_unsigned, IsShortest, AreBytes, Fields, window}
 use Rattle.std.proofs.lemmas.List.Elements.{All-from_recursion}
-use Rattle.w2c_base.specs.SpelledNumber.{SpellsSigned, SpellsUnsigned}
-use Rattle.leb_bytes.specs.Shortest.{IsShortest}
-use Rattle.leb_bytes.proofs.ShortestLemmas.{one_shortest_signed, one_shortest_unsigned}
-use Rattle.wasm_spelling.specs.Bytes.{AreBytes}
-use Rattle.wasm_spelling.specs.Fields.{Fields, window}
-use Rattle.wasm_spelling.proofs.Behind.{all_split}
 use Rattle.wasm_writing.specs.Aside.{Next, SpelledBy, SpelledShort}
 
 abbrev pub OnlyOne : (List ℕ → Type 0) → Type 0

@@ -1,12 +1,5 @@
 -- The files of one and of two functions.
-use Rattle.std.proofs.Common.{ℕ, pos, [], ◌∷◌, ◌++◌, refl, arith}
-use Rattle.w2c_base.specs.SpelledNumber.{SpellsSigned}
-use Rattle.leb_bytes.specs.Shortest.{IsShortest}
-use Rattle.wasm_spelling.specs.Fields.{finished}
-use Rattle.wasm_spelling.specs.ModuleFields.{types, imports, functions, tables, memories, globals, exports, start, elements, data_count, code, segments, content}
-use Rattle.wasm_writing.specs.ShortFile.{short_fields}
-use Rattle.w2c_gen.specs.Generated.{generated}
-use Rattle.w2c_gen.specs.GeneratedFile.{IsGeneratedFile}
+use Rattle.w2c_gen.proofs.Common.{ℕ, [], ◌∷◌, ◌++◌, pos, refl, arith, SpellsSigned, IsShortest, finished, code, content, data_count, elements, exports, functions, globals, imports, memories, segments, start, tables, types, short_fields, generated, IsGeneratedFile}
 use Rattle.w2c_gen.specs.Samples.{one_type, one_export, only_body, first_body, second_body, file_of_one, file_of_two}
 use Rattle.w2c_gen.proofs.Bytes.{tested_bytes}
 use Rattle.w2c_gen.proofs.Formed.{run_is_text}

@@ -1,16 +1,6 @@
 -- Bytes that spell fields in the shortest way, piece by piece.
-use Rattle.std.proofs.Common.{◌≡◌, ℕ, zero, suc, ℤ, pos, ◌*◌, ◌^◌, ◌<◌, ◌≤◌, List, [], ◌∷◌, ◌++◌, length, Bool, true, false, IsTrue, refl, sym, subst, arith}
-use Rattle.std.proofs.lemmas.Int.{ints}
-use Rattle.w2c_base.specs.SpelledNumber.{IsNumberRun, SpellsSigned, SpellsUnsigned, seven_bit_sum, signed_sum}
-use Rattle.leb_bytes.specs.Run.{InRange}
-use Rattle.leb_bytes.specs.Shortest.{IsShortest}
-use Rattle.leb_bytes.proofs.ShortestLemmas.{signed_shortest, unsigned_shortest}
-use Rattle.wasm_tree.specs.declared.tree.Module.{Module}
-use Rattle.wasm_spelling.specs.Fields.{Fields, finished, byte, number, signed, text, here, provided, window}
-use Rattle.wasm_spelling.specs.ModuleFields.{Part, content, id_of, is_empty}
+use Rattle.w2c_gen.proofs.Common.{◌≡◌, ℕ, zero, suc, ◌*◌, ◌^◌, ◌<◌, ◌≤◌, Bool, true, false, List, [], ◌∷◌, ◌++◌, length, ℤ, pos, IsTrue, sym, refl, subst, arith, ints, IsNumberRun, SpellsSigned, SpellsUnsigned, seven_bit_sum, signed_sum, signed_shortest, unsigned_shortest, InRange, IsShortest, Module, Fields, byte, finished, here, number, provided, signed, text, window, Part, content, id_of, is_empty, filled-empty, filled-full, filled}
 use Rattle.wasm_writing.specs.Aside.{SpelledBy, SpelledShort}
-use Rattle.wasm_writing.specs.ShortFile.{filled}
-use Rattle.wasm_writing.proofs.PartLemmas.{filled-empty, filled-full}
 
 pub record Short (fields : Fields) (bytes : List ℕ) : Type 0 where
   pub is : SpelledShort fields bytes

@@ -1,10 +1,6 @@
 -- Each number of 32 bits has a shortest spelling in bytes.
-use Rattle.std.proofs.Common.{◌≡◌, ℕ, ℤ, ◌+◌, ◌%◌, ◌^◌, ◌<◌, List, [], ◌∷◌, length, refl, sym, ap, ◌∙◌, arith}
-use Rattle.w2c_base.specs.SpelledNumber.{IsNumberRun, SpellsSigned, SpellsUnsigned, seven_bit_sum, signed_sum}
-use Rattle.leb_bytes.specs.Run.{InRange}
-use Rattle.leb_bytes.specs.Shortest.{IsShortest}
+use Rattle.w2c_gen.proofs.Common.{◌≡◌, ℕ, ◌+◌, ◌%◌, ◌^◌, ◌<◌, List, [], ◌∷◌, length, ℤ, sym, refl, ap, ◌∙◌, arith, IsNumberRun, SpellsSigned, SpellsUnsigned, seven_bit_sum, signed_sum, InRange, IsShortest, AreBytes}
 use Rattle.leb_bytes.proofs.Existence.{shortest_signed, shortest_unsigned}
-use Rattle.wasm_spelling.specs.Bytes.{AreBytes}
 
 -- of all but the last what counts is the low seven bits, and that they are at least 128
 in_bytes : List ℕ → List ℕ

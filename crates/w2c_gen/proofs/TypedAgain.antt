@@ -1,10 +1,6 @@
 -- Code has the types that it has with every place 0.
-use Rattle.std.proofs.Common.{[], ◌∷◌, Option, None}
+use Rattle.w2c_gen.proofs.Common.{[], ◌∷◌, None, Option, Block, Code, If, Kind, Loop, Otherwise, else_code, end_code, no_else, then_code, bare_code, bare_kind, bare_otherwise, Context, Labels, ElseHasType, HasType, KindHasType, Stack, values}
 use Rattle.w2c_base.specs.declared.value.ValType.{ValType}
-use Rattle.wasm_tree.specs.Instructions.{Code, end_code, then_code, Kind, Otherwise, no_else, else_code, Block, Loop, If}
-use Rattle.wasm_spelling.specs.Places.{bare_code, bare_kind, bare_otherwise}
-use Rattle.wasm_valid.specs.Context.{Context, Labels}
-use Rattle.wasm_valid.specs.Typing.{ElseHasType, HasType, KindHasType, Stack, values}
 
 mutual
   pub typed_again : (c : Context) (labels : Labels) (code : Code) (old new : Stack) → HasType c labels (bare_code code) old new

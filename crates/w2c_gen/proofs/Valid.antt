@@ -1,11 +1,8 @@
 -- A generated module is valid, whatever its places are.
-use Rattle.std.proofs.Common.{◌≡◌, ℕ, zero, suc, ◌+◌, ◌-◌, ◌<◌, ◌≤◌, ◌%◌, Bool, true, false, List, [], ◌∷◌, map, replicate, zip, Option, None, Some, refl, sym, ap, subst, ◌∙◌, arith}
-use Rattle.std.specs.Prelude.{◌==◌, if◌then◌else◌, flat_map, is_none, slice_get, option_map}
-use Rattle.std.specs.List.{range_with_len}
+use Rattle.w2c_gen.proofs.Common.{◌≡◌, ℕ, zero, suc, ◌+◌, ◌-◌, ◌%◌, ◌<◌, ◌≤◌, Bool, true, false, List, [], ◌∷◌, map, replicate, is_none, if◌then◌else◌, ◌==◌, slice_get, Some, None, Option, option_map, zip, flat_map, sym, refl, ap, ◌∙◌, subst, arith, range_with_len, Call, end_code, then_code, BodyEntry, Module, SameApartFromPlaces, bare_body, bare_code, bare_data_count, bare_export, bare_func, bare_kind, bare_start, bare_type, Context, Labels, context_of, BodyHasType, HasType, KindHasType, body_of, code_with, generated, number_to_number, of_first_type, operator, run_export, run_name, number_at}
 use Rattle.std.proofs.lemmas.Option.{slice_get-map}
 use Rattle.w2c_base.specs.declared.value.ValType.TheVariants.{I32}
 use Rattle.w2c_base.specs.declared.signature.FuncType.{FuncType}
-use Rattle.wasm_tree.specs.Instructions.{end_code, then_code, Call}
 use Rattle.wasm_tree.specs.IndexSpaces.{func_space, type_in}
 use Rattle.wasm_tree.specs.declared.entries.TypeEntry.{TypeEntry}
 use Rattle.wasm_tree.specs.declared.entries.FuncEntry.{FuncEntry}
@@ -13,16 +10,9 @@ use Rattle.wasm_tree.specs.declared.entries.Export.{Export}
 use Rattle.wasm_tree.specs.declared.entries.ExportKind.TheVariants.{Func as ExportFunc}
 use Rattle.wasm_tree.specs.declared.entries.Start.{Start}
 use Rattle.wasm_tree.specs.declared.entries.DataCount.{DataCount}
-use Rattle.wasm_tree.specs.declared.entries.BodyEntry.{BodyEntry}
-use Rattle.wasm_tree.specs.declared.tree.Module.{Module}
-use Rattle.wasm_spelling.specs.Places.{SameApartFromPlaces, bare_body, bare_code, bare_data_count, bare_export, bare_func, bare_kind, bare_start, bare_type}
-use Rattle.wasm_valid.specs.Context.{Context, Labels, context_of}
-use Rattle.wasm_valid.specs.Typing.{BodyHasType, HasType, KindHasType}
 use Rattle.wasm_valid.specs.declared.fault.ValidCause.TheVariants as cause
 use Rattle.wasm_valid.specs.ModuleFaults.{fault_if, is_out, module_faults}
 use Rattle.wasm_valid.specs.Verdict.{AreTyped, IsTyped, IsValid}
-use Rattle.w2c_gen.specs.Generated.{body_of, code_with, generated, number_to_number, of_first_type, operator, run_export, run_name}
-use Rattle.w2c_gen.specs.Numbers.{number_at}
 use Rattle.w2c_gen.proofs.Lists.{none_of, one_of, slice_get-replicate}
 use Rattle.w2c_gen.proofs.TypedAgain.{typed_again}
 

@@ -1,17 +1,6 @@
 -- Fields that exactly one list of bytes spells in the shortest way, which has at most so many.
-use Rattle.std.proofs.Common.{◌≡◌, ℕ, ℤ, ◌+◌, ◌^◌, ◌<◌, ◌≤◌, List, [], ◌∷◌, ◌++◌, length, length-append, Bool, true, IsTrue, refl, sym, subst, inl, inr, arith}
-use Rattle.std.proofs.lemmas.Bool.{cases_Bool}
-use Rattle.w2c_base.specs.SpelledNumber.{SpellsSigned, SpellsUnsigned}
-use Rattle.leb_bytes.specs.Run.{InRange}
-use Rattle.leb_bytes.specs.Shortest.{IsShortest}
-use Rattle.wasm_tree.specs.declared.tree.Module.{Module}
-use Rattle.wasm_spelling.specs.Bytes.{AreBytes}
-use Rattle.wasm_spelling.specs.Fields.{Fields, finished, byte, number, signed, text, here, provided, window}
-use Rattle.wasm_spelling.specs.ModuleFields.{Part, types, imports, functions, tables, memories, globals, exports, start, elements, data_count, code, segments, content, id_of, is_empty}
-use Rattle.wasm_spelling.proofs.Behind.{all_append}
+use Rattle.w2c_gen.proofs.Common.{◌≡◌, ℕ, ◌+◌, ◌^◌, ◌<◌, ◌≤◌, Bool, true, List, [], ◌∷◌, ◌++◌, length, ℤ, IsTrue, sym, refl, subst, inl, inr, arith, length-append, cases_Bool, all_append, SpellsSigned, SpellsUnsigned, InRange, IsShortest, Module, AreBytes, Fields, byte, finished, here, number, provided, signed, text, window, Part, code, content, data_count, elements, exports, functions, globals, id_of, imports, is_empty, memories, segments, start, tables, types, filled-empty, filled-full, filled}
 use Rattle.wasm_writing.specs.Aside.{SpelledBy, SpelledShort}
-use Rattle.wasm_writing.specs.ShortFile.{filled}
-use Rattle.wasm_writing.proofs.PartLemmas.{filled-empty, filled-full}
 use Rattle.w2c_gen.proofs.ShortestBytes.{signed_in_bytes, unsigned_in_bytes}
 use Rattle.w2c_gen.proofs.OnlyOne.{OnlyOne, one_list, one_next, one_number, one_signed, one_window}
 

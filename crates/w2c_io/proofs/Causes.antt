@@ -1,8 +1,5 @@
 -- Causes of a call behind others, in which counts and names have stayed.
-use Rattle.std.proofs.Common.{◌≡◌, ℕ, ◌≤◌, ap, ◌∙◌, subst, arith, Option, Result, Ok, Err}
-use Rattle.w2c_io.specs.Contents.{Name}
-use Rattle.w2c_io.specs.Causes.{WriteCause, name_after_write}
-use Rattle.w2c_io.specs.declared.answers.WriteAnswer.{WriteAnswer}
+use Rattle.w2c_io.proofs.Common.{◌≡◌, ℕ, ◌≤◌, Ok, Err, Option, Result, ap, ◌∙◌, subst, arith, WriteCause, name_after_write, Name, WriteAnswer}
 use Rattle.w2c_io.specs.declared.answers.WriteAnswer.TheVariants as writing
 
 -- the last call's cause

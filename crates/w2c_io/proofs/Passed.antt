@@ -1,10 +1,6 @@
 -- What passed through files in calls one after another.
-use Rattle.std.proofs.Common.{◌≡◌, ℕ, List, [], ◌∷◌, ◌++◌, Result, Ok, Err, OnOk, IfErr, refl, sym, ◌∙◌, ap, subst, append_assoc, inl, inr}
-use Rattle.std.proofs.lemmas.List.{append-nil}
-use Rattle.w2c_io.specs.Contents.{Name}
-use Rattle.w2c_io.specs.declared.answers.WriteAnswer.{WriteAnswer}
+use Rattle.w2c_io.proofs.Common.{◌≡◌, ℕ, List, [], ◌∷◌, ◌++◌, IfErr, OnOk, Ok, Err, Result, sym, refl, ap, ◌∙◌, subst, inl, inr, append_assoc, append-nil, Name, Begin, Event, Finish, Put, Read, WriteAnswer}
 use Rattle.w2c_io.specs.declared.answers.WriteAnswer.TheVariants as writing
-use Rattle.w2c_io.specs.Events.{Event, Read, Begin, Put, Finish}
 use Rattle.w2c_io.specs.Passed.{Passes, puts, joined, PutsText, PutsPart, FailsOn, WritesFile, BreaksOff, Finishes}
 
 -- ---- one part behind the other

@@ -1,8 +1,5 @@
 -- Pieces that pass one behind the other.
-use Rattle.std.proofs.Common.{◌≡◌, ℕ, ◌<◌, List, [], ◌++◌, append_assoc, refl, sym, ◌∙◌, ap, arith, length, Option, Some, None}
-use Rattle.std.proofs.lemmas.List.{append-nil, length-append}
-use Rattle.std.specs.Io.KnownBytes.{Appends, Keeps, Consumes, IsAtEnd}
-use Rattle.std.specs.Prelude.{IfSome}
+use Rattle.w2c_io.proofs.Common.{◌≡◌, ℕ, ◌<◌, List, [], ◌++◌, length, IfSome, Some, None, Option, sym, refl, ap, ◌∙◌, append_assoc, append-nil, arith, length-append, Appends, Consumes, IsAtEnd, Keeps}
 
 pub appends_more : (old mid new : Option (List ℕ)) (a b : List ℕ) → Appends old mid a → Appends mid new b → Appends old new (a ++ b)
 appends_more None mid new a b p q = tt

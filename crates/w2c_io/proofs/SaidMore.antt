@@ -1,9 +1,5 @@
 -- One piece more.
-use Rattle.std.proofs.Common.{◌≡◌, ℕ, List, [], ◌∷◌, ◌++◌, Some, Result, Ok, Err, OnOk, OnErr, refl, sym, ◌∙◌, ap, append_assoc}
-use Rattle.std.proofs.lemmas.List.{append-nil}
-use Rattle.w2c_io.specs.Contents.{extended, IsPrefix}
-use Rattle.w2c_io.specs.Events.{Event, Read, Begin, Put, Finish}
-use Rattle.w2c_io.specs.declared.answers.WriteAnswer.{WriteAnswer}
+use Rattle.w2c_io.proofs.Common.{◌≡◌, ℕ, List, [], ◌∷◌, ◌++◌, OnOk, OnErr, Some, Ok, Err, Result, sym, refl, ap, ◌∙◌, append_assoc, append-nil, IsPrefix, extended, Begin, Event, Finish, Put, Read, WriteAnswer}
 use Rattle.w2c_io.specs.Said.{said, taken}
 
 said_more : (events : List Event) (piece : List ℕ) (answer : Result (Unit {0}) WriteAnswer)

@@ -9,7 +9,7 @@ ghost use Rattle.w2c_io.specs.declared.answers.WriteAnswer.TheVariants as writin
 
 use crate::plan::FaultPlan;
 use crate::record::{Call, Record};
-use crate::store::{Entry, add, find, grow, newest_name};
+use crate::store::{Entry, add, add_copy, find, grow, newest_name};
 use crate::sure_files::read_stored;
 use crate::writing::first_half;
 use crate::{Files, ReadAnswer, WriteAnswer};
@@ -83,9 +83,7 @@ impl MemFiles {
         ensures fault_name { mem_fault_name self.new ≡ mem_fault_name self.old }
         ensures trace { mem_trace self.new ≡ mem_trace self.old }
     {
-        let name = String::from_str(self.alloc, name)?;
-        let bytes = bytes.to_vec(self.alloc)?;
-        add(&mut self.entries, name, bytes)?;
+        add_copy(self.alloc, &mut self.entries, name, bytes)?;
         self.is_open = false;
         Ok(())
     }

@@ -7,7 +7,7 @@ ghost use Rattle.w2c_io.specs.declared.answers.WriteAnswer.TheVariants as writin
 ghost use Rattle.w2c_io.specs.Stored.{stored, open_name};
 
 use crate::record::{Call, Record};
-use crate::store::{Entry, add, find, grow};
+use crate::store::{Entry, add, add_copy, find, grow};
 use crate::{Files, ReadAnswer, WriteAnswer};
 use std::alloc::Global;
 use w2c_base::{Bytes, Memory};
@@ -46,9 +46,7 @@ impl SureFiles {
         ensures current { OnErr result (sure_current self.new ≡ sure_current self.old) }
         ensures trace { sure_trace self.new ≡ sure_trace self.old }
     {
-        let name = String::from_str(self.alloc, name)?;
-        let bytes = bytes.to_vec(self.alloc)?;
-        add(&mut self.entries, name, bytes)?;
+        add_copy(self.alloc, &mut self.entries, name, bytes)?;
         self.is_open = false;
         Ok(())
     }

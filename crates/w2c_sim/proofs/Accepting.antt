@@ -1,15 +1,5 @@
 -- A file's module is one that c_unit accepts: it is valid, and has a file.
-use Rattle.std.proofs.Common.{◌≡◌, ◌<◌, ◌≤◌, ℕ, List, length, refl}
-use Rattle.std.proofs.lemmas.List.Elements.{All-from_recursion}
-use Rattle.wasm_tree.specs.declared.tree.Module.{Module}
-use Rattle.wasm_spelling.proofs.Whole.{one_tree}
-use Rattle.wasm_valid.specs.Verdict.{Accepted, IsValid}
-use Rattle.wasm_valid.specs.FileVerdict.{Read, IsVerdictOn}
-use Rattle.wasm_valid.proofs.Verdicts.{accepted, valid}
-use Rattle.wasm_spelling.specs.Bytes.{AreBytes}
-use Rattle.wasm_spelling.specs.Places.{IsFormed}
-use Rattle.c_unit.specs.Sets.{IsAccepted}
-use Rattle.w2c_sim.specs.Translation.{IsModuleOf}
+use Rattle.w2c_sim.proofs.Common.{◌≡◌, ℕ, ◌<◌, ◌≤◌, List, length, refl, All-from_recursion, Module, one_tree, AreBytes, IsFormed, accepted, valid, IsVerdictOn, Read, Accepted, IsValid, IsAccepted, IsModuleOf}
 
 -- a valid module that has a file, under a name
 pub named_is_accepted : (name : List ℕ) (tree : Module) → IsValid tree → IsFormed tree → 1 ≤ length name → length name ≤ 1024

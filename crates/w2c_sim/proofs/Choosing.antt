@@ -1,21 +1,10 @@
 -- A selection of translated files: its modules are accepted, and its units are those of c_unit.
-use Rattle.std.proofs.Common.{◌≡◌, ◌<◌, List, [], ◌∷◌, map, refl, sym, subst}
-use Rattle.std.specs.List.{All, AllByRecursion}
-use Rattle.std.proofs.lemmas.List.Elements.{All-from_recursion}
+use Rattle.w2c_sim.proofs.Common.{◌≡◌, ◌<◌, List, [], ◌∷◌, map, All, sym, refl, subst, All-from_recursion, AllByRecursion, Module, one_tree, AreBytes, CSpells, print_of, LinkedSet, NamedModule, Program, items, UnitsDoTheSame}
 use Rattle.w2c_base.specs.Run.{Host}
-use Rattle.wasm_tree.specs.declared.tree.Module.{Module}
-use Rattle.wasm_spelling.proofs.Whole.{one_tree}
-use Rattle.wasm_meaning.specs.LinkedSet.{LinkedSet, NamedModule}
-use Rattle.c_tree.specs.Spelled.{CSpells}
-use Rattle.c_tree.proofs.OfEach.{of_contained}
-use Rattle.c_print.specs.Print.{print_of}
-use Rattle.c_meaning.specs.Linking.{Program}
-use Rattle.wasm_spelling.specs.Bytes.{AreBytes}
-use Rattle.c_unit.specs.Items.{items}
 use Rattle.c_unit.specs.Sets as sets
-use Rattle.c_unit.specs.Sets.{UnitsDoTheSame}
 use Rattle.c_unit.proofs.Linking.{units_link}
 use Rattle.w2c_sim.specs.Selections.{File, IsTranslated, Chosen, ComesFrom, ComesFromOne, LinkAndDoTheSame, TranslationTheorem, set_of, program_of}
+use Rattle.w2c_base.proofs.OfEach.{of_contained}
 use Rattle.w2c_sim.proofs.Accepting.{module_is_accepted}
 use Rattle.w2c_sim.proofs.Spelling.{spells_no_other}
 use Rattle.w2c_sim.proofs.Wiring.{calls_fit}

@@ -1,10 +1,7 @@
 -- The items that `UnitItems` gives, one after another.
-use Rattle.std.proofs.Common.{◌≡◌, ◌<◌, List, length, [], ◌∷◌, refl, ◌∙◌, ap, arith, Option, Some, None}
-use Rattle.std.specs.Prelude.{option_map}
+use Rattle.w2c_sim.proofs.Common.{◌≡◌, ◌<◌, List, [], ◌∷◌, length, Some, None, Option, option_map, refl, ap, ◌∙◌, arith, item_of, Given}
 use Rattle.c_tree.specs.declared.tree.Item.{Item}
 use Rattle.c_tree.specs.Tree as tree
-use Rattle.c_tree.specs.View.{item_of}
-use Rattle.c_unit.specs.Tails.{Given}
 
 -- the item that was given next
 pub given_item : (item : Item) (found : Option Item) (before after : List tree.Item) → found ≡ Some item

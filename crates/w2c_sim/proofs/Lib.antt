@@ -1,3 +1,4 @@
+mod Common
 pub mod Accepting
 pub mod Spelling
 pub mod Wiring

@@ -1,13 +1,10 @@
 -- Refusals are verdicts: each comes where its verdict does, and there is one at most.
-use Rattle.std.proofs.Common.{◌≡◌, ◌≢◌, ℕ, List, Result, Ok, Err, IfOk, IfErr, IsOk, refl, sym, ◌∙◌, ap}
-use Rattle.wasm_tree.specs.declared.tree.Module.{Module}
+use Rattle.w2c_sim.proofs.Common.{◌≡◌, ℕ, ◌≢◌, List, IfOk, IfErr, IsOk, Ok, Err, Result, sym, refl, ap, ◌∙◌, Module, FileVerdict, IsVerdictOn, Read, Unread, Accepted, Verdict, is_invalid}
 use Rattle.wasm_spelling.specs.declared.fault.ReadFault.TheVariants as fault
 use Rattle.wasm_spelling.specs.ModuleFields.{Spells}
 use Rattle.wasm_valid.specs.declared.fault.Fault.{Fault}
 use Rattle.wasm_valid.specs.declared.fault.ValidRefusal.{ValidRefusal}
 use Rattle.wasm_valid.specs.declared.fault.ValidRefusal.TheVariants as rule
-use Rattle.wasm_valid.specs.Verdict.{Verdict, Accepted, Invalid as is_invalid}
-use Rattle.wasm_valid.specs.FileVerdict.{FileVerdict, Unread, Read, IsVerdictOn}
 use Rattle.wasm_valid.proofs.Files.{one_file_verdict}
 use Rattle.w2c_sim.specs.declared.refusal.Refusal.{Refusal}
 use Rattle.w2c_sim.specs.declared.refusal.Refusal.TheVariants.{Malformed, Float, Limit, Invalid, Memory}

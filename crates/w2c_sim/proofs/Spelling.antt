@@ -1,17 +1,10 @@
 -- The text of a module's unit spells this unit and no other.
-use Rattle.std.proofs.Common.{◌≡◌, ℕ, List}
-use Rattle.wasm_tree.specs.declared.tree.Module.{Module}
-use Rattle.wasm_meaning.specs.LinkedSet.{NamedModule}
+use Rattle.w2c_sim.proofs.Common.{◌≡◌, ℕ, List, Module, CSpells, Formed, print_of, NamedModule, items, IsAccepted, IsModuleOf, SpellsUnit, text_of}
 use Rattle.c_tree.specs.Tree as tree
-use Rattle.c_tree.specs.Spelled.{CSpells, Formed}
 use Rattle.c_tree.proofs.WellFormedUnits.{formed}
 use Rattle.c_tree.proofs.OneUnit.{one_unit}
-use Rattle.c_print.specs.Print.{print_of}
 use Rattle.c_print.proofs.Spells as print
-use Rattle.c_unit.specs.Items.{items}
-use Rattle.c_unit.specs.Sets.{IsAccepted}
 use Rattle.c_unit.proofs.UnitsAreProper.{units_are_proper}
-use Rattle.w2c_sim.specs.Translation.{IsModuleOf, SpellsUnit, text_of}
 use Rattle.w2c_sim.proofs.Accepting.{module_is_accepted}
 
 pub unit_is_formed : (m : NamedModule) → IsAccepted m → Formed (items m)

@@ -1,6 +1,5 @@
 -- A listed call that fits the modules fits the units under its symbol.
-use Rattle.std.proofs.Common.{◌≡◌, List, [], ◌∷◌, Bool, true, false, ◌&&◌, Option, Some, None, option_map, is_some, refl, sym, ap, ◌∙◌, subst}
-use Rattle.std.specs.List.{AllByRecursion, position_from, list_any, list_all}
+use Rattle.w2c_sim.proofs.Common.{◌≡◌, Bool, true, false, ◌&&◌, List, [], ◌∷◌, is_some, Some, None, Option, option_map, sym, refl, ap, ◌∙◌, subst, AllByRecursion, list_all, list_any, position_from, IsFunc, LinkedSet, exported, instances, Program, c_func_type_of, c_params_of, c_result_of, called_func, defined_for_all, fits, func_type, IsAcceptedSet, program_of, symbol_call}
 use Rattle.w2c_base.specs.declared.value.ValType.{ValType}
 use Rattle.w2c_base.specs.declared.value.ValType.TheVariants.{I32, I64}
 use Rattle.w2c_base.specs.declared.value.Value.{Value}
@@ -11,17 +10,14 @@ use Rattle.w2c_base.proofs.Numbers.{number_is_found}
 use Rattle.w2c_mangle.specs.declared.symbol.SymbolKind.TheVariants.{Func}
 use Rattle.w2c_mangle.specs.Symbols.{export_symbol_of}
 use Rattle.wasm_meaning.specs.LinkedSet as link
-use Rattle.wasm_meaning.specs.LinkedSet.{LinkedSet, IsFunc, instances, exported}
 use Rattle.wasm_meaning.specs.Run.{ListedCall, Fits}
 use Rattle.c_tree.specs.declared.tree.CType.TheVariants.{Void, U32, U64}
 use Rattle.c_tree.specs.Tree as tree
 use Rattle.c_tree.specs.Scope.{Name}
 use Rattle.c_tree.specs.Runtime.{same_type, same_types}
 use Rattle.c_meaning.specs.State.{UnitFunc}
-use Rattle.c_meaning.specs.Linking.{Program, called_func, c_params_of, c_result_of, c_func_type_of, defined_for_all, fits, func_type}
 use Rattle.c_body.proofs.Indirect.{same_c_types}
 use Rattle.c_symbols.specs.Symbols.{export_symbol}
-use Rattle.c_unit.specs.Sets.{IsAcceptedSet, program_of, symbol_call}
 use Rattle.c_unit.proofs.Linked.{ExportedBy, exported_by}
 use Rattle.c_unit.proofs.External.{SymbolFound, symbol_found}
 use Rattle.c_unit.proofs.Funcs.{as_func_is}

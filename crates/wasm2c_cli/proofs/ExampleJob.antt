@@ -1,26 +1,20 @@
 -- README's first module: its tree, which is valid, its unit, and their texts; so the job of its words.
-use Rattle.std.proofs.Common.{◌≡◌, ℕ, ◌+◌, pos, Bool, true, false, List, [], ◌∷◌, length, Option, Some, None, MatchOption, codes, refl, sym, ap, ◌∙◌, subst, arith}
 use Rattle.std.specs.Char.{encode_utf8}
+use Rattle.std.specs.Str.{chars}
+use Rattle.wasm2c_cli.proofs.Common.{◌≡◌, ℕ, ◌+◌, Bool, true, false, List, [], ◌∷◌, length, pos, Some, None, codes, Option, MatchOption, sym, refl, ap, ◌∙◌, subst, arith, leb-true, Contents, Name, Told, written, Module, file_takes, most_module_bytes, IsValid, header_text_of, text_of, Line, line_of, translate, two_c, two_files, two_h, two_wasm, two_words, IsJob, IsJobOf, Job, Usage, Write, files_of, most_set_bytes, targets_of, Done, Answers}
 use Rattle.std.specs.Fmt.{digits}
 use Rattle.std.specs.FinMap.{get}
-use Rattle.std.specs.Str.{chars, is_utf8}
-use Rattle.std.proofs.lemmas.Bool.{leb-true}
+use Rattle.std.specs.Str.{is_utf8}
 use Rattle.clap.proofs.OnLiterals.{clap_on_literals}
 use Rattle.w2c_base.specs.declared.value.ValType.TheVariants.{I32}
-use Rattle.w2c_io.specs.Contents.{Name, Contents, Told}
-use Rattle.w2c_files.specs.Standing.{written}
 use Rattle.leb_bytes.specs.Computed.{s32_of, u32_of}
 use Rattle.wasm_tree.specs.Instructions.{end_code, then_code, I32Const, Binary}
 use Rattle.wasm_tree.specs.declared.operators.BinaryOp.TheVariants.{Add}
 use Rattle.wasm_tree.specs.declared.entries.ExportKind.TheVariants.{Func}
-use Rattle.wasm_tree.specs.declared.tree.Module.{Module}
-use Rattle.wasm_spelling.specs.Limits.{most_module_bytes}
 use Rattle.wasm_spelling.specs.ModuleFields.{Spells}
 use Rattle.wasm_spelling.specs.Steps.{bytes_at, checked, number_at, reads, signed32_at}
 use Rattle.wasm_spelling.specs.Reading.{bodies_at, body_at, body_content_at, content_at, exactly_at, export_entry_at, file_at, form_at, func_entry_at, func_type_at, item_at, items_at, kind_at, magic_at, module_at, name_at, part_at, sections_at, times_at, type_at, type_entry_at, utf8_at, version_at, window_at}
-use Rattle.wasm_spelling.proofs.Whole.{file_takes}
 use Rattle.wasm_valid.specs.ModuleFaults.{module_faults}
-use Rattle.wasm_valid.specs.Verdict.{IsValid}
 use Rattle.wasm_valid.proofs.Verdicts as verdicts
 use Rattle.c_tree.specs.declared.tree.CType.{CType}
 use Rattle.c_tree.specs.declared.tree.CType.TheVariants as c_type
@@ -29,15 +23,8 @@ use Rattle.c_tree.specs.declared.tree.COp.TheVariants as op
 use Rattle.c_tree.specs.Tree as tree
 use Rattle.c_print.specs.Print.{print_of}
 use Rattle.c_unit.specs.Items.{items_of}
-use Rattle.w2c_sim.specs.Translation.{header_text_of, text_of}
 use Rattle.program_words.specs.Command.{rows_read}
 use Rattle.wasm2c_words.specs.Command.{values_of}
-use Rattle.wasm2c_words.specs.CommandLine.{Line, line_of, translate}
-use Rattle.wasm2c_cli.specs.Example.{two_c, two_files, two_h, two_wasm, two_words}
-use Rattle.wasm2c_cli.specs.Job.{IsJob, IsJobOf, Job, Usage, Write, files_of}
-use Rattle.wasm2c_cli.specs.Plan.{most_set_bytes, targets_of}
-use Rattle.wasm2c_cli.specs.Stops.{Done}
-use Rattle.wasm2c_cli.specs.Top.{Answers}
 use Rattle.wasm2c_cli.proofs.JobLaws.{one_job}
 
 -- ---- the words

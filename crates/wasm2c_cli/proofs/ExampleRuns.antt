@@ -1,9 +1,6 @@
 -- Runs of README's unit: two.c spells it and no other, and each call of its export is nine statements and gives 42.
-use Rattle.std.proofs.Common.{◌≡◌, ◌≢◌, ◌⊎◌, inl, inr, ℕ, zero, suc, ◌+◌, ◌*◌, ◌<◌, ◌≤◌, List, [], ◌∷◌, ◌++◌, length, map, replicate, append_assoc, Some, refl, sym, ap, ◌∙◌, subst, arith}
-use Rattle.std.specs.Prelude.{zip}
-use Rattle.std.specs.List.{range_with_len}
+use Rattle.wasm2c_cli.proofs.Common.{◌≡◌, ℕ, zero, suc, ◌+◌, ◌*◌, ◌<◌, ◌≤◌, ◌≢◌, ◌⊎◌, List, [], ◌∷◌, ◌++◌, map, length, replicate, Some, zip, sym, refl, ap, ◌∙◌, subst, inl, inr, append_assoc, append-nil, arith, range_with_len, two_c, two_call, two_run}
 use Rattle.std.proofs.lemmas.Bool.{cases_lt}
-use Rattle.std.proofs.lemmas.List.{append-nil}
 use Rattle.w2c_base.specs.declared.value.Value.TheVariants.{I32}
 use Rattle.w2c_base.specs.Run.{Call, CallEnded, Event, Host, Init, Phase, Reply, values_in}
 use Rattle.c_tree.specs.Spelled.{CSpells}
@@ -16,7 +13,6 @@ use Rattle.c_meaning.specs.Linking.{Program, SymbolCall, called_func}
 use Rattle.c_meaning.specs.State.{Machine, Objects}
 use Rattle.c_meaning.specs.Run.{CRun, Ended, Entry, OutOfSteps, Outcome, Over, after, begin_entry, c_run, c_start, over, run_of}
 use Rattle.c_meaning.proofs.Longer.{after_sum, run_longer}
-use Rattle.wasm2c_cli.specs.Example.{two_c, two_call, two_run}
 use Rattle.wasm2c_cli.proofs.ExampleJob.{two_printed, two_unit}
 
 -- ---- the unit

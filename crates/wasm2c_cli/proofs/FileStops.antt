@@ -1,32 +1,11 @@
 -- Where reading stops, by the name of the file.
-use Rattle.std.proofs.Common.{◌≡◌, ℕ, zero, suc, List, [], ◌∷◌, refl, sym, ◌∙◌, subst, Option, Some, slice_get, string_bytes, inl, inr}
-use Rattle.w2c_io.specs.Contents.{Name, Told}
-use Rattle.w2c_io.specs.Telling.{Tells}
-use Rattle.w2c_files.specs.Reading.{StopsReading, TooLong, Past}
-use Rattle.w2c_files.specs.Standing.{IsOneOf}
+use Rattle.wasm2c_cli.proofs.Common.{◌≡◌, ℕ, List, [], slice_get, Some, string_bytes, Option, sym, refl, ◌∙◌, subst, inl, inr, same_Some, Name, Told, Tells, one_at, Past, StopsReading, TooLong, ReadStop, most_module_bytes, ModuleBytes, SetBytes, IsAtFile, StopsAtLimit, StopsAtRead, StopsAtUnreadable, StopsByReading, most_set_bytes, PassesLimit, Reason, Limit, Stop}
 use Rattle.w2c_files.specs.Stopping.{IsUnread, StopsAt}
-use Rattle.w2c_files.specs.declared.reading.ReadStop.{ReadStop}
 use Rattle.w2c_files.specs.declared.reading.ReadStop.TheVariants as read
-use Rattle.wasm_spelling.specs.Limits.{most_module_bytes}
-use Rattle.wasm_spelling.specs.declared.fault.Which.TheVariants.{ModuleBytes, SetBytes}
-use Rattle.wasm2c_cli.specs.declared.stop.Reason.{Reason}
-use Rattle.wasm2c_cli.specs.declared.stop.Reason.TheVariants.{Limit}
-use Rattle.wasm2c_cli.specs.declared.stop.Stop.{Stop}
 use Rattle.wasm2c_cli.specs.declared.stop.Stop.TheVariants as stops
-use Rattle.wasm2c_cli.specs.Parts.{IsAtFile, StopsAtLimit, StopsAtRead, StopsAtUnreadable, StopsReading as StopsByReading}
-use Rattle.wasm2c_cli.specs.Plan.{most_set_bytes}
-use Rattle.wasm2c_cli.specs.Reasons.{PassesLimit}
-
-pub one_at : (names : List Name) (k : ℕ) (name : Name) → slice_get names k ≡ Some name → IsOneOf name names
-one_at [] k name at = cc
-one_at (n ∷ names) zero name at = let same : n ≡ name = cc in inl (sym same)
-one_at (n ∷ names) (suc k) name at = inr (one_at names k name at)
-
-some_same : {A : Type 0} (a b : A) → ◌≡◌ {A = Option A} (Some a) (Some b) → a ≡ b
-some_same a b e = cc
 
 same_name : (names : List Name) (k : ℕ) (name other : Name) → slice_get names k ≡ Some name → slice_get names k ≡ Some other → name ≡ other
-same_name names k name other at at' = some_same name other (sym at ∙ at')
+same_name names k name other at at' = same_Some name other (sym at ∙ at')
 
 module _ (told : Told) (names : List Name) (before after : ℕ) (named : Option Name) where
   abbrev At : ReadStop → Type 0

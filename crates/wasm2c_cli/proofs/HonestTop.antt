@@ -1,26 +1,8 @@
 -- What stands after a call, where the files behave as files: what its clauses on contents say.
-use Rattle.std.proofs.Common.{◌≡◌, ◌⊎◌, ℕ, List, [], ◌∷◌, ◌++◌, refl, ◌∙◌, ap, subst, arith, Option, Some, None, Result, Ok, Err, MatchOption, inl, inr}
-use Rattle.w2c_io.specs.Contents.{Name, Contents, Told}
-use Rattle.w2c_io.specs.Events.{Event, Read}
-use Rattle.w2c_io.specs.Honest.{AreHonest, Does}
-use Rattle.w2c_io.specs.declared.answers.ReadAnswer.{ReadAnswer}
+use Rattle.wasm2c_cli.proofs.Common.{◌≡◌, ℕ, ◌⊎◌, List, [], ◌∷◌, ◌++◌, Some, None, Ok, Err, Option, Result, MatchOption, refl, ap, ◌∙◌, subst, inl, inr, append-nil, arith, Contents, Name, Told, Event, Read, AreHonest, Does, ReadAnswer, WriteAnswer, BreaksOffAt, FailsLast, WritesFiles, WritesSome, limited, AreHeld, AreRead, IsUnreadable, NotThere, Past, StopsReading, TooLong, Unreadable, total, Stands, StandsAt, written, most_module_bytes, Line, generate, line_of, runtime, set, translate, AreReadOf, AreSourcesBy, IsJob, IsJobOf, Job, Missing, Refused, TranslatesBy, Usage, Write, WritesBy, read_line, refused_line, usage_line, write_line, Follows, IsJobOver, PassesLine, ReadsFirst, ReadsWhole, StopsAfter, StopsByAnswer, inputs_of, most_set_bytes, Done, StandsOfJob, Answers, Reason}
 use Rattle.w2c_io.specs.declared.answers.ReadAnswer.TheVariants as reading
-use Rattle.w2c_io.specs.declared.answers.WriteAnswer.{WriteAnswer}
-use Rattle.std.proofs.lemmas.List.{append-nil}
-use Rattle.w2c_files.specs.Passing.{FailsLast, limited, WritesFiles, BreaksOffAt, WritesSome}
-use Rattle.w2c_files.specs.Reading.{AreHeld, AreRead, Unreadable, Missing as NotThere, TooLong, Past, IsUnreadable, StopsReading, total}
-use Rattle.w2c_files.specs.Standing.{written, Stands, StandsAt}
 use Rattle.w2c_files.proofs.Honest.{broken_stands, files_hold, honest_both, in_order_keep, reads_fit, reads_held, reads_kept, some_stand}
-use Rattle.wasm_spelling.specs.Limits.{most_module_bytes}
-use Rattle.wasm2c_words.specs.CommandLine.{Line, translate, set, generate, runtime, line_of}
-use Rattle.wasm2c_cli.specs.declared.stop.Reason.{Reason}
 use Rattle.wasm2c_cli.specs.HonestPassing.{PassesHonestly}
-use Rattle.wasm2c_cli.specs.Job.{Job, Usage, Missing, Refused, Write, AreReadOf, AreSourcesBy, IsJob, IsJobOf, TranslatesBy, WritesBy}
-use Rattle.wasm2c_cli.specs.Lines.{read_line, refused_line, usage_line, write_line}
-use Rattle.wasm2c_cli.specs.Passing.{Follows, IsJobOver, PassesLine, ReadsFirst, ReadsWhole, StopsAfter, StopsByAnswer}
-use Rattle.wasm2c_cli.specs.Plan.{inputs_of, most_set_bytes}
-use Rattle.wasm2c_cli.specs.Stops.{Done, StandsOfJob}
-use Rattle.wasm2c_cli.specs.Top.{Answers}
 use Rattle.wasm2c_cli.proofs.TopLaws.{is_job, usage_job}
 
 -- ---- reads

@@ -1,16 +1,5 @@
 -- The units that were put stand, where the files behave as files.
-use Rattle.std.proofs.Common.{◌≡◌, ℕ, List, [], ◌∷◌, ◌++◌, refl, subst, Option, Some, inl, inr}
-use Rattle.w2c_io.specs.Contents.{Name, Contents, Told, HasFile}
-use Rattle.w2c_io.specs.Events.{Event}
-use Rattle.w2c_io.specs.Honest.{AreHonest}
-use Rattle.w2c_files.specs.Standing.{AreDistinct, HasText}
-use Rattle.wasm_tree.specs.declared.tree.Module.{Module}
-use Rattle.w2c_sim.specs.Translation.{text_of, header_text_of}
-use Rattle.wasm2c_words.specs.CommandLine.{Line, translate, set, generate, runtime, line_of}
-use Rattle.wasm2c_cli.specs.Job.{AreReadOf, files_of}
-use Rattle.wasm2c_cli.specs.Passing.{IsUnitOf, PutsLinked, PutsLinkedUnits, ReadsWhole}
-use Rattle.wasm2c_cli.specs.Plan.{Target, inputs_of, names_of_targets, targets_of}
-use Rattle.wasm2c_cli.specs.Units.{DoTheSameWithOthers, HoldAll, HoldsText, HoldsUnit, StandAll, WritesLinkedUnits, WritesUnits, texts_made}
+use Rattle.wasm2c_cli.proofs.Common.{◌≡◌, ℕ, List, [], ◌∷◌, ◌++◌, Some, Option, refl, subst, inl, inr, Contents, HasFile, Name, Told, Event, AreHonest, AreDistinct, HasText, Module, header_text_of, text_of, Line, generate, line_of, runtime, set, translate, AreReadOf, files_of, IsUnitOf, PutsLinked, PutsLinkedUnits, ReadsWhole, Target, inputs_of, names_of_targets, targets_of, DoTheSameWithOthers, HoldAll, HoldsText, HoldsUnit, StandAll, WritesLinkedUnits, WritesUnits, texts_made}
 use Rattle.wasm2c_cli.proofs.HonestTop.{all_held, sources_so, whole_put}
 use Rattle.wasm2c_cli.proofs.JobLaws.{files_distinct}
 use Rattle.wasm2c_cli.proofs.Passed.{distinct_outputs, passed}

@@ -1,35 +1,6 @@
 -- Words ask for at most one job, and the files of a job have distinct names.
-use Rattle.std.proofs.Common.{◌≡◌, ◌⊎◌, ℕ, List, [], ◌∷◌, ◌++◌, refl, sym, ap, ◌∙◌, subst, Option, Some, None, MatchOption, inl, inr}
-use Rattle.w2c_io.specs.Contents.{Name, Contents}
-use Rattle.w2c_io.specs.Events.{Event}
-use Rattle.w2c_files.specs.Reading.{StopsReading, Unreadable, Missing as NotThere, TooLong, Past}
-use Rattle.w2c_files.specs.Standing.{IsOneOf, AreDistinct, file_names}
+use Rattle.wasm2c_cli.proofs.Common.{◌≡◌, ℕ, ◌⊎◌, List, [], ◌∷◌, ◌++◌, Some, None, Option, MatchOption, sym, refl, ap, ◌∙◌, subst, inl, inr, Contents, Name, Event, NotThere, Past, StopsReading, TooLong, Unreadable, AreDistinct, IsOneOf, file_names, Module, most_module_bytes, Line, generate, line_of, runtime, set, translate, AreReadOf, AreSourcesBy, IsJob, IsJobBy, IsJobOf, Job, Missing, Refused, Translates, TranslatesBy, Usage, Write, Writes, WritesBy, files_of, HasPassed, IsJobOver, ReadsWhole, StopsAfter, Target, inputs_of, most_set_bytes, names_of_targets, targets_of, IsFirstRefused, PassesLimitBy, Reason}
 use Rattle.w2c_gen.proofs.Formed.{one_file}
-use Rattle.wasm_tree.specs.declared.tree.Module.{Module}
-use Rattle.wasm_spelling.specs.Limits.{most_module_bytes}
-use Rattle.wasm2c_words.specs.CommandLine.{Line, translate, set, generate, runtime, line_of}
-use Rattle.wasm2c_cli.specs.declared.stop.Reason.{Reason}
-use Rattle.wasm2c_cli.specs.Job.{
-  Job,
-  Usage,
-  Missing,
-  Refused,
-  Write,
-  AreReadOf,
-  AreSourcesBy,
-  files_of,
-  IsJob,
-  IsJobBy,
-  IsJobOf,
-  Translates,
-  TranslatesBy,
-  Writes,
-  WritesBy,
-}
-use Rattle.wasm2c_cli.specs.Parts.{HasPassed}
-use Rattle.wasm2c_cli.specs.Plan.{Target, inputs_of, most_set_bytes, names_of_targets, targets_of}
-use Rattle.wasm2c_cli.specs.Passing.{IsJobOver, ReadsWhole, StopsAfter}
-use Rattle.wasm2c_cli.specs.Reasons.{IsFirstRefused, PassesLimitBy}
 use Rattle.wasm2c_cli.proofs.ModuleFiles.{one_of_targets}
 use Rattle.wasm2c_cli.proofs.OneReading.{contents_end, EndsOnce, reads_end}
 use Rattle.wasm2c_cli.proofs.Passed.{passed, distinct_outputs}

@@ -1,3 +1,4 @@
+mod Common
 pub mod ExampleJob
 pub mod ExampleRuns
 pub mod FileStops

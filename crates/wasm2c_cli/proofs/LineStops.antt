@@ -1,21 +1,7 @@
 -- What the stop of each form says of its line's job.
-use Rattle.std.proofs.Common.{◌≡◌, ℕ, List, [], ◌∷◌, length, refl, ◌∙◌, ap, subst, Option, Some, Result, Ok, Err, OnOk, IfOk, IfErr, string_bytes, inl, inr}
-use Rattle.std.proofs.lemmas.Result.{IfErr-weaker, IfOk-weaker}
-use Rattle.w2c_io.specs.Contents.{Name, Contents, Told}
-use Rattle.w2c_files.specs.Standing.{written}
-use Rattle.w2c_files.proofs.Standing.{is_one}
-use Rattle.wasm_spelling.specs.Bytes.{AreBytes}
-use Rattle.wasm_tree.specs.declared.tree.Module.{Module}
-use Rattle.wasm2c_words.specs.CommandLine.{Line, Translation, FileSet, Generation, translate, set, generate, runtime, line_of}
-use Rattle.wasm2c_cli.specs.declared.stop.Stop.{Stop}
+use Rattle.wasm2c_cli.proofs.Common.{◌≡◌, ℕ, List, [], ◌∷◌, length, IfOk, IfErr, OnOk, Some, Ok, Err, string_bytes, Option, Result, refl, ap, ◌∙◌, subst, inl, inr, IfErr-weaker, IfOk-weaker, Contents, Name, Told, is_one, written, Module, AreBytes, FileSet, Generation, Line, Translation, generate, line_of, runtime, set, translate, Translates, files_of, module_files, AreAllTaken, FinishesLine, FinishesWork, HasPassed, IsGenerated, IsTakenFile, StopsTranslating, StopsWriting, inputs_of, target, targets_of, runtime_files, KeepsCurrent, StopsLine, StopsWork, Stop, Finished}
 use Rattle.wasm2c_cli.specs.declared.stop.Stop.TheVariants as stops
-use Rattle.wasm2c_cli.specs.declared.work.Finished.{Finished}
 use Rattle.wasm2c_cli.specs.declared.work.Finished.TheVariants as finished
-use Rattle.wasm2c_cli.specs.Job.{Translates, files_of, module_files}
-use Rattle.wasm2c_cli.specs.Parts.{AreAllTaken, FinishesLine, FinishesWork, HasPassed, IsGenerated, IsTakenFile, StopsTranslating, StopsWriting}
-use Rattle.wasm2c_cli.specs.Plan.{inputs_of, target, targets_of}
-use Rattle.wasm2c_cli.specs.Runtime.{runtime_files}
-use Rattle.wasm2c_cli.specs.Stops.{KeepsCurrent, StopsLine, StopsWork}
 use Rattle.wasm2c_cli.proofs.ModuleFiles.{one_of_targets}
 
 -- the files of a generated module that is taken

@@ -1,28 +1,10 @@
 -- The files of modules, one module after another.
-use Rattle.std.proofs.Common.{◌≡◌, ◌<◌, ◌+◌, ◌≤◌, ℕ, zero, suc, List, [], ◌∷◌, ◌++◌, length, take, drop, map, add-one, refl, sym, ◌∙◌, ap, subst, arith, Option, Some, Result, Ok, Err, OnOk, OnErr, slice_get, slice_index_or, string_bytes, inl, inr}
-use Rattle.std.specs.List.{AllByRecursion}
-use Rattle.w2c_io.specs.Contents.{Name, Told, holding, appending, AppendsPart}
-use Rattle.w2c_io.specs.Causes.{Faulted}
-use Rattle.w2c_io.specs.Events.{Event}
-use Rattle.w2c_io.specs.Passed.{Passes}
-use Rattle.w2c_io.specs.declared.answers.WriteAnswer.{WriteAnswer}
+use Rattle.wasm2c_cli.proofs.Common.{◌≡◌, ℕ, zero, suc, ◌+◌, ◌<◌, ◌≤◌, List, [], ◌∷◌, ◌++◌, map, length, take, drop, OnOk, OnErr, slice_get, slice_index_or, Some, Ok, Err, string_bytes, Option, Result, sym, refl, ap, ◌∙◌, subst, inl, inr, add-one, arith, AllByRecursion, take_next, both_passed, Faulted, Name, Told, holding, Event, Passes, WriteAnswer, both_written, at_before, at_behind, at_first, stands_before, stands_behind, written_joined, WritesFiles, IsBegun, IsOneOf, Stands, StandsAt, file_names, written, Module, files_of, module_files, IsNamed, StopsAtFile, StopsWriting, seen_target, seen_targets, EndsWriting, names_of_targets, Stop}
 use Rattle.w2c_io.specs.declared.answers.WriteAnswer.TheVariants as answers
-use Rattle.w2c_io.proofs.Passed.{both_passed}
 use Rattle.w2c_io.proofs.Telling.{rose_from}
-use Rattle.w2c_files.specs.Passing.{WritesFiles}
-use Rattle.w2c_files.specs.Standing.{IsOneOf, file_names, written, IsBegun, Stands, StandsAt}
-use Rattle.w2c_files.proofs.Loops.{next_at}
-use Rattle.w2c_files.proofs.Passing.{both_written}
-use Rattle.w2c_files.proofs.Standing.{at_before, at_behind, at_first, put_more, part_begun, stands_before, stands_behind, written_joined}
-use Rattle.wasm_tree.specs.declared.tree.Module.{Module}
 use Rattle.wasm2c_cli.specs.declared.plan.Target.{Target}
-use Rattle.wasm2c_cli.specs.declared.stop.Stop.{Stop}
 use Rattle.wasm2c_cli.specs.declared.stop.Stop.TheVariants as stops
-use Rattle.wasm2c_cli.specs.Job.{files_of, module_files}
-use Rattle.wasm2c_cli.specs.Parts.{IsNamed, StopsAtFile, StopsWriting, seen_target, seen_targets}
-use Rattle.wasm2c_cli.specs.PartsPassing.{EndsWriting}
 use Rattle.wasm2c_cli.specs.Plan as plan
-use Rattle.wasm2c_cli.specs.Plan.{names_of_targets}
 use Rattle.wasm2c_cli.proofs.Passing.{ends_among}
 
 -- ---- what holds, whatever the answer
@@ -34,20 +16,6 @@ in_ok (Err e) holds = tt
 pub in_err : {A E P : Type 0} (result : Result A E) → P → OnErr result P
 in_err (Ok x) holds = tt
 in_err (Err e) holds = holds
-
--- ---- one file
-
-pub put_whole : (old begun new : Told) (current : Option Name) (name : Name) (text : List ℕ) → begun ≡ holding old name []
-    → current ≡ Some name → new ≡ appending begun current text → new ≡ holding old name text
-put_whole old begun new current name text is_begun is_current put = put_more old begun new current name [] text is_begun is_current put
-
--- the file is given up after a part
-pub put_part : (old begun part_put new : Told) (current : Option Name) (name : Name) (text : List ℕ) → begun ≡ holding old name []
-    → current ≡ Some name → AppendsPart begun part_put current text → new ≡ part_put → IsBegun old new name text
-put_part old begun part_put new current name text is_begun is_current (inl same) given_up =
-    part_begun old new name text [] text refl (given_up ∙ same ∙ is_begun)
-put_part old begun part_put new current name text is_begun is_current (inr (part, (rest, cut), put)) given_up =
-    part_begun old new name text part rest cut (given_up ∙ put_more old begun part_put current name [] part is_begun is_current put)
 
 -- ---- both files of a module
 
@@ -209,7 +177,7 @@ named_joined (x ∷ ts) t all one = (all.0, named_joined ts t all.1 one)
 pub named_more : (ts : List plan.Target) (k : ℕ) (t : plan.Target) → slice_get ts k ≡ Some t → AllByRecursion IsNamed (take k ts)
     → IsNamed t → AllByRecursion IsNamed (take (k + 1) ts)
 named_more ts k t at all one =
-    subst (λ (l : List plan.Target). AllByRecursion IsNamed l) (sym (next_at ts k t at)) (named_joined (take k ts) t all one)
+    subst (λ (l : List plan.Target). AllByRecursion IsNamed l) (sym (take_next ts k t at)) (named_joined (take k ts) t all one)
 
 -- ---- the names of the files
 
@@ -241,7 +209,7 @@ pub one_more_target : (f : Name → plan.Target) (names : List Name) (k : ℕ) (
     → seen_targets more ≡ take (k + 1) (map f names)
 one_more_target f names k name ts more t at so_far is same =
     seen_more ts more t same ∙ (λ i. so_far i ++ is i ∷ [])
-    ∙ sym (next_at (map f names) k (f name) (mapped_at f names k name at))
+    ∙ sym (take_next (map f names) k (f name) (mapped_at f names k name at))
 
 pub all_targets : (f : Name → plan.Target) (names : List Name) (k : ℕ) (ts : List Target) → k ≡ length names
     → seen_targets ts ≡ take k (map f names) → seen_targets ts ≡ map f names

@@ -1,16 +1,8 @@
 -- Reading files ends in one way: they all give bytes, or it stops at one of them.
-use Rattle.std.proofs.Common.{◌≡◌, ℕ, ◌+◌, ◌≤◌, List, [], ◌∷◌, ◌++◌, length, refl, sym, ◌∙◌, ap, subst, arith, Result, Ok, Err}
-use Rattle.w2c_io.specs.Contents.{Name, Contents}
-use Rattle.w2c_io.specs.Events.{Event, Read}
-use Rattle.w2c_io.specs.declared.answers.ReadAnswer.{ReadAnswer}
+use Rattle.wasm2c_cli.proofs.Common.{◌≡◌, ℕ, ◌+◌, ◌≤◌, List, [], ◌∷◌, ◌++◌, length, Ok, Err, Result, sym, refl, ap, ◌∙◌, subst, arith, Contents, Name, Event, Read, ReadAnswer, ReadsAll, AreRead, NotThere, Past, StopsReading, TooLong, Unreadable, total, most_module_bytes, ReadsWhole, StopsAfter, StopsByAnswer, most_set_bytes}
 use Rattle.w2c_io.specs.declared.answers.ReadAnswer.TheVariants as reading
-use Rattle.w2c_files.specs.Passing.{ReadsAll}
-use Rattle.w2c_files.specs.Reading.{AreRead, StopsReading, Unreadable, Missing as NotThere, TooLong, Past, total}
 use Rattle.w2c_files.proofs.Given.{gave_last, one_answer, one_given, one_last}
 use Rattle.w2c_files.proofs.Stops.{no_stop, one_stop, same_bytes}
-use Rattle.wasm_spelling.specs.Limits.{most_module_bytes}
-use Rattle.wasm2c_cli.specs.Passing.{ReadsWhole, StopsAfter, StopsByAnswer}
-use Rattle.wasm2c_cli.specs.Plan.{most_set_bytes}
 
 pub record EndsOnce (names : List Name) (Stops : Name → Unreadable → Type 0) (Reads : List (List ℕ) → Type 0) : Type 0 where
   pub one_stops : (file other : Name) (why reason : Unreadable) → Stops file why → Stops other reason → (file ≡ other) × (why ≡ reason)

@@ -1,25 +1,15 @@
 -- What a line has passed, and what follows of the modules and files that it asks for.
-use Rattle.std.proofs.Common.{◌≡◌, ℕ, ◌≤◌, ◌&&◌, ◌||◌, nat_le, Bool, true, false, not, if◌then◌else◌, List, [], ◌∷◌, ◌++◌, length, map, get_or, codes, IsTrue, refl, sym, ap, ◌∙◌, subst, arith, Option, Some, None, unwrap_or, option_and_then, inl, inr}
-use Rattle.std.specs.List.{AllByRecursion, list_all, list_any}
-use Rattle.std.specs.Str.{bytes_eq}
+use Rattle.wasm2c_cli.proofs.Common.{◌≡◌, ℕ, ◌≤◌, Bool, true, false, not, ◌&&◌, ◌||◌, List, [], ◌∷◌, ◌++◌, map, length, get_or, if◌then◌else◌, IsTrue, nat_le, Some, None, codes, Option, option_and_then, bytes_eq, unwrap_or, sym, refl, ap, ◌∙◌, subst, inl, inr, arith, leb-true, append_cancel_left, length-map, AllByRecursion, list_all, list_any, Name, AreDistinct, IsOneOf, file_names, FileSet, Generation, Line, Translation, are_names, count_of, generate, generation, in_range, is_set, line_by, line_of, line_of_values, line_with_count, line_with_dir, line_with_output, line_with_runtime, runtime, set, translate, translation, HasName, HasPassed, inputs_of, names_of_targets, outputs_of, target_in, targets_of, runtime_files}
 use Rattle.std.specs.Str.Parse.{digits_value}
-use Rattle.std.proofs.lemmas.Bool.{leb-true}
-use Rattle.std.proofs.lemmas.List.{append_cancel_left, length-map}
 use Rattle.std.proofs.lemmas.Slice.Eq.{bytes_eq-Decides}
 use Rattle.w2c_base.proofs.Conjunctions.{both_hold}
-use Rattle.w2c_io.specs.Contents.{Name}
-use Rattle.w2c_files.specs.Standing.{IsOneOf, AreDistinct, file_names}
 use Rattle.wasm2c_words.specs.Command.{Values, values_of}
 use Rattle.program_words.specs.Tests.{is_decimal, is_module_name}
-use Rattle.wasm2c_words.specs.CommandLine.{Line, Translation, FileSet, Generation, translate, set, generate, runtime, are_names, is_set, in_range, count_of, translation, generation, line_with_output, line_with_dir, line_with_count, line_with_runtime, line_by, line_of_values, line_of}
 use Rattle.w2c_files.specs.CFile.{is_c_file}
 use Rattle.wasm2c_words.specs.Names.{are_distinct, header_name_of, module_name_of}
 use Rattle.wasm2c_words.specs.SetFiles.{files_of}
 use Rattle.wasm2c_words.proofs.HeaderName.{is_apart}
 use Rattle.wasm2c_words.proofs.SetFiles.{files_are_distinct}
-use Rattle.wasm2c_cli.specs.Parts.{HasName, HasPassed}
-use Rattle.wasm2c_cli.specs.Plan.{target_in, inputs_of, targets_of, names_of_targets, outputs_of}
-use Rattle.wasm2c_cli.specs.Runtime.{runtime_files}
 
 -- what is given where a test is passed, was given since it was
 given : {A : Type 0} (b : Bool) (x y : A) → ◌≡◌ {A = Option A} (if b then Some x else None) (Some y) → (b ≡ true) × (x ≡ y)
@@ -129,12 +119,6 @@ pub passed : (words : List Name) (line : Line) → line_of words ≡ Some line �
 passed words line is = values_passed (values_of words) line is
 
 -- ---- the modules of a line
-
-pub targets_fit : (line : Line) → HasPassed line → AllByRecursion HasName (targets_of line)
-targets_fit (translate t) p = (p.1, tt)
-targets_fit (set s) p = p.0
-targets_fit (generate g) p = (p.1, tt)
-targets_fit (runtime dir) p = tt
 
 pub many_of_translation : (t : Translation) → length (targets_of (translate t)) ≡ length (inputs_of (translate t))
 many_of_translation t = refl

@@ -1,30 +1,10 @@
 -- What passes through files that are read or written one after another, by the stop.
-use Rattle.std.proofs.Common.{◌≡◌, ℕ, ◌-◌, zero, suc, List, [], ◌∷◌, ◌++◌, length, refl, sym, ◌∙◌, ap, subst, append_assoc, arith, Some, Result, Ok, Err, OnOk, IfErr, slice_get, string_bytes, inl, inr}
-use Rattle.w2c_io.specs.Contents.{Name}
-use Rattle.w2c_io.specs.Events.{Event, Read, Begin, Finish}
-use Rattle.w2c_io.specs.Passed.{Passes, PutsText, WritesFile, BreaksOff}
-use Rattle.w2c_io.specs.declared.answers.ReadAnswer.{ReadAnswer}
+use Rattle.wasm2c_cli.proofs.Common.{◌≡◌, ℕ, zero, suc, ◌-◌, List, [], ◌∷◌, ◌++◌, length, IfErr, OnOk, slice_get, Some, Ok, Err, string_bytes, Result, sym, refl, ap, ◌∙◌, subst, inl, inr, append_assoc, arith, both_passed, file_written, finished_in_vain, passed_so, Name, Begin, Event, Finish, Read, BreaksOff, Passes, PutsText, WritesFile, ReadAnswer, WriteAnswer, behind_broken, both_written, broken_some, first_broken, longer_broken, one_written, BreaksOffAt, ReadsAll, ReadsSome, StopsBy, WritesFiles, NotThere, Past, TooLong, Unreadable, total, ReadStop, most_module_bytes, ModuleBytes, SetBytes, StopsAtFile, StopsAtLimit, StopsAtRead, StopsAtUnreadable, EndsReading, EndsWriting, TriesReading, ReadsFirst, StopsAfter, StopsByAnswer, most_set_bytes, PassesLimitBy, Reason, Limit, Stop}
 use Rattle.w2c_io.specs.declared.answers.ReadAnswer.TheVariants as reading
-use Rattle.w2c_io.specs.declared.answers.WriteAnswer.{WriteAnswer}
 use Rattle.w2c_io.specs.declared.answers.WriteAnswer.TheVariants as writing
-use Rattle.w2c_io.proofs.Passed.{both_passed, file_written, finished_in_vain, passed_so}
-use Rattle.w2c_files.specs.Passing.{ReadsAll, ReadsSome, StopsBy, WritesFiles, BreaksOffAt}
-use Rattle.w2c_files.specs.Reading.{Unreadable, Missing as NotThere, TooLong, Past, total}
-use Rattle.w2c_files.specs.declared.reading.ReadStop.{ReadStop}
 use Rattle.w2c_files.specs.declared.reading.ReadStop.TheVariants as read
 use Rattle.w2c_files.proofs.InOrder.{all_in_order, some_in_order}
-use Rattle.w2c_files.proofs.Passing.{behind_broken, both_written, broken_some, first_broken, longer_broken, one_written}
-use Rattle.wasm_spelling.specs.Limits.{most_module_bytes}
-use Rattle.wasm_spelling.specs.declared.fault.Which.TheVariants.{ModuleBytes, SetBytes}
-use Rattle.wasm2c_cli.specs.declared.stop.Reason.{Reason}
-use Rattle.wasm2c_cli.specs.declared.stop.Reason.TheVariants.{Limit}
-use Rattle.wasm2c_cli.specs.declared.stop.Stop.{Stop}
 use Rattle.wasm2c_cli.specs.declared.stop.Stop.TheVariants as stops
-use Rattle.wasm2c_cli.specs.Parts.{StopsAtFile, StopsAtLimit, StopsAtRead, StopsAtUnreadable}
-use Rattle.wasm2c_cli.specs.PartsPassing.{EndsReading, EndsWriting, TriesReading}
-use Rattle.wasm2c_cli.specs.Passing.{ReadsFirst, StopsAfter, StopsByAnswer}
-use Rattle.wasm2c_cli.specs.Plan.{most_set_bytes}
-use Rattle.wasm2c_cli.specs.Reasons.{PassesLimitBy}
 
 -- ---- the first of files are read
 

@@ -1,27 +1,7 @@
 -- What passes through the files for each form of a line.
-use Rattle.std.proofs.Common.{◌≡◌, ℕ, ◌≤◌, List, [], ◌∷◌, ◌++◌, length, refl, sym, subst, Some, Result, Ok, Err, OnOk, IfErr, inl, inr}
-use Rattle.std.specs.List.{AllByRecursion}
-use Rattle.std.proofs.lemmas.List.{append-nil}
-use Rattle.std.proofs.lemmas.Result.{IfErr-weaker}
-use Rattle.w2c_io.specs.Contents.{Name}
-use Rattle.w2c_io.specs.Events.{Event}
-use Rattle.w2c_io.specs.Passed.{Passes}
-use Rattle.w2c_io.proofs.Passed.{both_passed, none_passed, passed_so}
-use Rattle.w2c_files.specs.Passing.{ReadsAll, WritesFiles}
-use Rattle.w2c_files.specs.Reading.{total}
-use Rattle.wasm_spelling.specs.Bytes.{AreBytes}
-use Rattle.wasm_spelling.specs.Limits.{most_module_bytes}
-use Rattle.wasm_tree.specs.declared.tree.Module.{Module}
-use Rattle.wasm2c_words.specs.CommandLine.{Line, Translation, FileSet, Generation, translate, set, generate, runtime, line_of}
-use Rattle.wasm2c_cli.specs.declared.stop.Stop.{Stop}
+use Rattle.wasm2c_cli.proofs.Common.{◌≡◌, ℕ, ◌≤◌, List, [], ◌∷◌, ◌++◌, length, IfErr, OnOk, Some, Ok, Err, Result, sym, refl, subst, inl, inr, append-nil, IfErr-weaker, AllByRecursion, both_passed, none_passed, passed_so, Name, Event, Passes, ReadsAll, WritesFiles, total, Module, AreBytes, most_module_bytes, FileSet, Generation, Line, Translation, generate, line_of, runtime, set, translate, Write, files_of, module_files, AreTaken, HasPassed, IsNamed, IsTakenFile, StopsAccepting, AllAccepted, EndsLine, EndsTranslating, EndsWriting, PassesWhole, PassesWork, TranslatesAll, TriesLine, TriesReading, TriesTranslating, TriesWork, IsJobOver, inputs_of, most_set_bytes, target, targets_of, runtime_files, Stop}
 use Rattle.wasm2c_cli.specs.declared.stop.Stop.TheVariants as stops
-use Rattle.wasm2c_cli.specs.Job.{Write, files_of, module_files}
-use Rattle.wasm2c_cli.specs.Parts.{AreTaken, HasPassed, IsNamed, IsTakenFile, StopsAccepting}
-use Rattle.wasm2c_cli.specs.PartsPassing.{AllAccepted, EndsLine, EndsTranslating, EndsWriting, PassesWhole, PassesWork, TranslatesAll, TriesLine, TriesReading, TriesTranslating, TriesWork}
-use Rattle.wasm2c_cli.specs.Passing.{IsJobOver}
 use Rattle.wasm2c_cli.specs.Plan as plan
-use Rattle.wasm2c_cli.specs.Plan.{inputs_of, most_set_bytes, target, targets_of}
-use Rattle.wasm2c_cli.specs.Runtime.{runtime_files}
 use Rattle.wasm2c_cli.proofs.Passing.{all_read_first, none_read}
 use Rattle.wasm2c_cli.proofs.Taken.{taken_accepted}
 

@@ -1,27 +1,7 @@
 -- What the end of the work says of what passed through the files.
-use Rattle.std.proofs.Common.{◌≡◌, ◌⊎◌, ℕ, List, [], ◌∷◌, ◌++◌, length, refl, sym, ◌∙◌, ap, subst, Option, Some, None, MatchOption, string_bytes, inl, inr}
-use Rattle.std.specs.List.{AllByRecursion}
-use Rattle.std.proofs.lemmas.List.{length-map}
-use Rattle.w2c_io.specs.Contents.{Name}
-use Rattle.w2c_io.specs.Events.{Event}
+use Rattle.wasm2c_cli.proofs.Common.{◌≡◌, ℕ, ◌⊎◌, List, [], ◌∷◌, ◌++◌, length, Some, None, string_bytes, Option, MatchOption, sym, refl, ap, ◌∙◌, subst, inl, inr, length-map, AllByRecursion, Name, Event, all_some, broken_some, WritesFiles, Module, most_module_bytes, TranslationTheorem, Line, generate, line_of, runtime, set, translate, AreSourcesBy, Job, Missing, Refused, Write, files_of, line_for, status_of, usage_line, AreTaken, IsNamed, PassesWhole, PassesWork, TranslatesAll, TriesLine, TriesWork, Follows, IsJobOver, IsUnitOf, PassesFor, PassesLine, PutsLinkedUnits, ReadsFirst, ReadsWhole, Target, inputs_of, target_in, targets_of, runtime_files, NamesModules, HoldAll, HoldsText, HoldsUnit, texts_made, Stop}
 use Rattle.w2c_io.specs.declared.answers.WriteAnswer.TheVariants as writing
-use Rattle.w2c_files.specs.Passing.{WritesFiles}
-use Rattle.w2c_files.proofs.Passing.{all_some, broken_some}
-use Rattle.wasm_spelling.specs.Limits.{most_module_bytes}
-use Rattle.wasm_tree.specs.declared.tree.Module.{Module}
-use Rattle.w2c_sim.specs.Selections.{TranslationTheorem}
-use Rattle.wasm2c_words.specs.CommandLine.{Line, translate, set, generate, runtime, line_of}
-use Rattle.wasm2c_cli.specs.declared.stop.Stop.{Stop}
 use Rattle.wasm2c_cli.specs.declared.stop.Stop.TheVariants as stops
-use Rattle.wasm2c_cli.specs.Job.{Job, Missing, Refused, Write, AreSourcesBy, files_of}
-use Rattle.wasm2c_cli.specs.Lines.{line_for, status_of, usage_line}
-use Rattle.wasm2c_cli.specs.Parts.{AreTaken, IsNamed}
-use Rattle.wasm2c_cli.specs.PartsPassing.{PassesWhole, PassesWork, TranslatesAll, TriesLine, TriesWork}
-use Rattle.wasm2c_cli.specs.Passing.{Follows, IsJobOver, IsUnitOf, PassesFor, PassesLine, PutsLinkedUnits, ReadsFirst, ReadsWhole}
-use Rattle.wasm2c_cli.specs.Plan.{Target, inputs_of, targets_of, target_in}
-use Rattle.wasm2c_cli.specs.Runtime.{runtime_files}
-use Rattle.wasm2c_cli.specs.Top.{NamesModules}
-use Rattle.wasm2c_cli.specs.Units.{HoldAll, HoldsText, HoldsUnit, texts_made}
 use Rattle.wasm2c_cli.proofs.Passing.{all_read_first, many_read, none_read}
 use Rattle.wasm2c_cli.proofs.Taken.{length-taken, taken_accepted}
 use Rattle.wasm2c_cli.proofs.TopLaws.{all_translated, hold_units, hold_weaker, no_runtime, targets_have}

@@ -1,31 +1,18 @@
 -- Bytes are refused for at most one reason, and those of a valid module for none; so the first file that is refused is one, and so
 -- is the one that passes a limit.
-use Rattle.std.proofs.Common.{◌≡◌, ℕ, List, [], ◌∷◌, Option, Some, None, refl, sym, ap, ◌∙◌, subst, inl, inr}
-use Rattle.w2c_io.specs.Contents.{Name}
-use Rattle.w2c_files.specs.Reading.{Unreadable, Missing, TooLong, Past}
-use Rattle.wasm_tree.specs.declared.tree.Module.{Module}
-use Rattle.wasm_spelling.specs.declared.fault.Which.TheVariants.{ModuleBytes, SetBytes}
-use Rattle.wasm_spelling.specs.Limits.{most_module_bytes}
-use Rattle.wasm_spelling.proofs.Whole.{one_tree}
-use Rattle.wasm_valid.specs.Verdict.{Accepted}
+use Rattle.wasm2c_cli.proofs.Common.{◌≡◌, ℕ, List, [], ◌∷◌, Some, None, Option, sym, refl, ap, ◌∙◌, subst, inl, inr, same_Some, Name, Past, TooLong, Unreadable, Module, one_tree, most_module_bytes, ModuleBytes, SetBytes, Accepted, AreAccepted, IsAccepted, IsFirstRefused, IsRefused, PassesLimitBy, reason_for, Reason, Limit}
+use Rattle.w2c_files.specs.Reading.{Missing}
 use Rattle.wasm_valid.specs.FileVerdict.{Read}
 use Rattle.wasm_valid.proofs.Files.{one_file_verdict}
-use Rattle.wasm2c_cli.specs.declared.stop.Reason.{Reason}
-use Rattle.wasm2c_cli.specs.declared.stop.Reason.TheVariants.{Limit}
-use Rattle.wasm2c_cli.specs.Job.{AreAccepted}
-use Rattle.wasm2c_cli.specs.Reasons.{IsAccepted, IsFirstRefused, IsRefused, PassesLimitBy, reason_for}
 
 -- ---- bytes
-
-some_same : {A : Type 0} (a b : A) → ◌≡◌ {A = Option A} (Some a) (Some b) → a ≡ b
-some_same a b e = cc
 
 no_reason : (reason : Reason) → ◌≡◌ {A = Option Reason} None (Some reason) → ⊥
 no_reason reason e = cc
 
 pub one_reason : (bytes : List ℕ) (reason other : Reason) → IsRefused bytes reason → IsRefused bytes other → reason ≡ other
 one_reason bytes reason other (v, is, for) (w, is', for') =
-    some_same reason other (sym for ∙ ap reason_for (one_file_verdict bytes v w is is') ∙ for')
+    same_Some reason other (sym for ∙ ap reason_for (one_file_verdict bytes v w is is') ∙ for')
 
 pub accepted_not_refused : (bytes : List ℕ) (reason : Reason) → IsAccepted bytes → IsRefused bytes reason → ⊥
 accepted_not_refused bytes reason (tree, is) (w, is', for) =
@@ -97,7 +84,7 @@ module _ (Stops : Name → Unreadable → Type 0)
       let (why, s, for) = over (Stops file) reason limit in
       let (why', s', for') = over (Stops other) r limit' in
       let same = one file other why why' s s' in
-      (same.0, some_same reason r (sym for ∙ ap limit_of same.1 ∙ for'))
+      (same.0, same_Some reason r (sym for ∙ ap limit_of same.1 ∙ for'))
 
   pub limit_not_missing : (file other : Name) (reason : Reason) → PassesLimitBy (Stops file) reason → Stops other Missing → ⊥
   limit_not_missing file other reason limit s' =

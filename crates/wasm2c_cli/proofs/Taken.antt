@@ -1,23 +1,10 @@
 -- Bytes that are accepted in order, and the first that are refused.
-use Rattle.std.proofs.Common.{◌≡◌, ◌<◌, ◌+◌, ℕ, zero, suc, List, [], ◌∷◌, ◌++◌, length, take, refl, sym, ap, subst, arith, Option, Some, None, slice_get, slice_index_or, string_bytes, MatchOption, inl, inr}
-use Rattle.std.specs.List.{AllByRecursion}
-use Rattle.w2c_io.specs.Contents.{Name}
-use Rattle.w2c_files.specs.Standing.{IsOneOf}
-use Rattle.w2c_files.proofs.Loops.{next_at}
-use Rattle.wasm_tree.specs.declared.tree.Module.{Module}
-use Rattle.wasm_spelling.specs.Bytes.{AreBytes}
+use Rattle.wasm2c_cli.proofs.Common.{◌≡◌, ℕ, zero, suc, ◌+◌, ◌<◌, List, [], ◌∷◌, ◌++◌, length, take, slice_get, slice_index_or, Some, None, string_bytes, Option, MatchOption, sym, refl, ap, subst, inl, inr, arith, AllByRecursion, take_next, Name, IsOneOf, Module, AreBytes, Accepted, is_invalid, IsRefusal, AreAccepted, AreTaken, StopsAccepting, StopsAtRefused, IsFirstRefused, IsRefused, reason_of, Reason, Stop}
 use Rattle.wasm_spelling.specs.declared.fault.ReadFault.TheVariants as fault
-use Rattle.wasm_valid.specs.Verdict.{Accepted, Invalid as is_invalid}
 use Rattle.wasm_valid.specs.FileVerdict.{Unread, Read, IsVerdictOn}
 use Rattle.w2c_sim.specs.declared.refusal.Refusal.{Refusal}
 use Rattle.w2c_sim.specs.declared.refusal.Refusal.TheVariants as refusals
-use Rattle.w2c_sim.specs.Refusals.{IsRefusal}
-use Rattle.wasm2c_cli.specs.declared.stop.Reason.{Reason}
-use Rattle.wasm2c_cli.specs.declared.stop.Stop.{Stop}
 use Rattle.wasm2c_cli.specs.declared.stop.Stop.TheVariants as stops
-use Rattle.wasm2c_cli.specs.Job.{AreAccepted}
-use Rattle.wasm2c_cli.specs.Parts.{AreTaken, StopsAccepting, StopsAtRefused}
-use Rattle.wasm2c_cli.specs.Reasons.{IsFirstRefused, IsRefused, reason_of}
 
 -- ---- the refusal of bytes
 
@@ -44,7 +31,7 @@ pub one_more_taken : (sources : List (List ℕ)) (k : ℕ) (bytes : List ℕ) (m
     → more ≡ modules ++ m ∷ [] → AreTaken (take (k + 1) sources) more
 one_more_taken sources k bytes modules more m at taken are is same =
     subst (λ (l : List Module). AreTaken (take (k + 1) sources) l) (sym same)
-    (subst (λ (l : List (List ℕ)). AreTaken l (modules ++ m ∷ [])) (sym (next_at sources k bytes at))
+    (subst (λ (l : List (List ℕ)). AreTaken l (modules ++ m ∷ [])) (sym (take_next sources k bytes at))
     (taken_joined (take k sources) modules bytes m taken are is))
 
 pub source_at : (sources : List (List ℕ)) (k : ℕ) (bytes : List ℕ) → k < length sources → bytes ≡ slice_index_or sources k bytes

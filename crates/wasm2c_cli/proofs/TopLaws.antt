@@ -1,33 +1,10 @@
 -- What the end of the work says of the status, and of what stands.
-use Rattle.std.proofs.Common.{◌≡◌, ◌⊎◌, ◌≤◌, ℕ, List, [], ◌∷◌, ◌++◌, length, suc, refl, sym, ◌∙◌, ap, subst, arith, Option, Some, None, MatchOption, string_bytes, inl, inr}
-use Rattle.std.specs.List.{AllByRecursion}
-use Rattle.std.proofs.lemmas.List.{append-nil, length-map}
-use Rattle.w2c_io.specs.Contents.{Name, Contents, Told, HasFile, extended}
-use Rattle.w2c_io.specs.Causes.{Rose, Faulted}
-use Rattle.w2c_io.specs.Telling.{Tells, Says, SaysPart}
-use Rattle.w2c_files.specs.Reading.{AreHeld}
-use Rattle.w2c_files.specs.Standing.{AreDistinct, HasText, file_names, written, StandsAt}
-use Rattle.w2c_files.proofs.Standing.{all_stand, stand_whole}
-use Rattle.wasm_tree.specs.declared.tree.Module.{Module}
+use Rattle.wasm2c_cli.proofs.Common.{◌≡◌, ℕ, suc, ◌≤◌, ◌⊎◌, List, [], ◌∷◌, ◌++◌, length, Some, None, string_bytes, Option, MatchOption, sym, refl, ap, ◌∙◌, subst, inl, inr, append-nil, arith, length-map, AllByRecursion, Faulted, Rose, Contents, HasFile, Name, Told, extended, Says, SaysPart, Tells, all_stand, stand_whole, AreHeld, AreDistinct, HasText, StandsAt, file_names, written, Module, File, IsTranslatedFile, TranslationTheorem, IsModuleOf, header_text_of, text_of, Generation, Line, generate, line_of, runtime, set, translate, AreSources, IsJob, IsJobOf, Job, Missing, Refused, Translates, Usage, Write, files_of, IsLine, line_for, memory_line, read_line, refused_line, status_of, summary_line, write_line, AreTaken, FinishesLine, FinishesWork, HasName, HasPassed, IsNamed, IsTranslated, SumsUp, SumsUpPart, Target, inputs_of, names_of_targets, outputs_of, target_in, targets_of, runtime_files, Done, Generates, IsInput, IsOutput, KeepsCurrent, StandsOfJob, StandsOfLine, StopsLine, StopsWork, Answers, NamesModules, DoTheSameWithOthers, HoldAll, HoldsText, HoldsUnit, Stand, StandAll, WritesLinkedUnits, WritesUnits, texts_made, Reason, Stop, Finished}
 use Rattle.w2c_gen.specs.GeneratedFile.{IsGeneratedFile}
-use Rattle.w2c_sim.specs.Selections.{File, IsTranslated as IsTranslatedFile, TranslationTheorem}
-use Rattle.w2c_sim.specs.Translation.{IsModuleOf, text_of, header_text_of}
 use Rattle.w2c_sim.proofs.Accepting.{module_of}
 use Rattle.w2c_sim.proofs.Spelling.{spells_unit}
-use Rattle.wasm2c_words.specs.CommandLine.{Line, Generation, translate, set, generate, runtime, line_of}
-use Rattle.wasm2c_cli.specs.declared.stop.Reason.{Reason}
-use Rattle.wasm2c_cli.specs.declared.stop.Stop.{Stop}
 use Rattle.wasm2c_cli.specs.declared.stop.Stop.TheVariants as stops
-use Rattle.wasm2c_cli.specs.declared.work.Finished.{Finished}
 use Rattle.wasm2c_cli.specs.declared.work.Finished.TheVariants as finished
-use Rattle.wasm2c_cli.specs.Job.{Job, Usage, Missing, Refused, Write, AreSources, IsJob, IsJobOf, Translates, files_of}
-use Rattle.wasm2c_cli.specs.Lines.{IsLine, line_for, memory_line, read_line, refused_line, status_of, summary_line, write_line}
-use Rattle.wasm2c_cli.specs.Parts.{AreTaken, FinishesLine, FinishesWork, HasName, HasPassed, IsNamed, IsTranslated, SumsUp, SumsUpPart}
-use Rattle.wasm2c_cli.specs.Plan.{Target, inputs_of, outputs_of, names_of_targets, targets_of, target_in}
-use Rattle.wasm2c_cli.specs.Runtime.{runtime_files}
-use Rattle.wasm2c_cli.specs.Stops.{Done, Generates, IsInput, IsOutput, KeepsCurrent, StandsOfJob, StandsOfLine, StopsLine, StopsWork}
-use Rattle.wasm2c_cli.specs.Top.{Answers, NamesModules}
-use Rattle.wasm2c_cli.specs.Units.{DoTheSameWithOthers, HoldAll, HoldsText, HoldsUnit, Stand, StandAll, WritesLinkedUnits, WritesUnits, texts_made}
 use Rattle.wasm2c_cli.proofs.Taken.{length-taken, taken_accepted}
 
 -- ---- the job of words, by that of their line

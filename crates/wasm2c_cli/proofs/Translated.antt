@@ -1,23 +1,9 @@
 -- What reading, accepting and writing say of a translation.
-use Rattle.std.proofs.Common.{◌≡◌, ℕ, List, ◌∙◌, ap, subst, Option, Result, Ok, Err, OnOk, IfOk, IfErr, string_bytes, inl, inr}
-use Rattle.std.proofs.lemmas.Result.{IfErr-weaker}
-use Rattle.std.specs.List.{AllByRecursion}
-use Rattle.w2c_io.specs.Contents.{Name, Told}
-use Rattle.w2c_io.specs.Causes.{Rose}
-use Rattle.w2c_io.specs.Telling.{Tells}
-use Rattle.w2c_files.specs.Reading.{AreRead}
-use Rattle.w2c_files.specs.Standing.{written, Stands, StandsAt}
-use Rattle.w2c_files.proofs.Standing.{is_one}
-use Rattle.wasm_tree.specs.declared.tree.Module.{Module}
-use Rattle.wasm_spelling.specs.Limits.{most_module_bytes}
-use Rattle.wasm2c_cli.specs.declared.stop.Stop.{Stop}
+use Rattle.wasm2c_cli.proofs.Common.{◌≡◌, ℕ, List, IfOk, IfErr, OnOk, Ok, Err, string_bytes, Option, Result, ap, ◌∙◌, subst, inl, inr, IfErr-weaker, AllByRecursion, Rose, Name, Told, Tells, is_one, AreRead, Stands, StandsAt, written, Module, most_module_bytes, files_of, AreTaken, IsNamed, IsTranslated, StopsAccepting, StopsTranslating, StopsWriting, most_set_bytes, Stop, Finished}
 use Rattle.wasm2c_cli.specs.declared.stop.Stop.TheVariants as stops
-use Rattle.wasm2c_cli.specs.declared.work.Finished.{Finished}
 use Rattle.wasm2c_cli.specs.declared.work.Finished.TheVariants as finished
-use Rattle.wasm2c_cli.specs.Job.{files_of}
-use Rattle.wasm2c_cli.specs.Parts.{AreTaken, FinishesTranslating, IsNamed, IsTranslated, StopsAccepting, StopsReading, StopsTranslating, StopsWriting}
+use Rattle.wasm2c_cli.specs.Parts.{FinishesTranslating, StopsReading}
 use Rattle.wasm2c_cli.specs.Plan as plan
-use Rattle.wasm2c_cli.specs.Plan.{most_set_bytes}
 use Rattle.wasm2c_cli.proofs.ModuleFiles.{one_of_targets}
 use Rattle.wasm2c_cli.proofs.Taken.{refused_is_one, taken_accepted}
 

@@ -1,13 +1,9 @@
 -- What a text of 1 to 5 digits is parsed as.
-use Rattle.std.proofs.Common.{◌≡◌, ◌&&◌, ◌^◌, ◌<◌, ◌≤◌, refl, sym, ap, ◌∙◌, ℕ, true, List, [], ◌∷◌, length, Result, Ok, Err, arith}
-use Rattle.std.specs.List.{list_all}
+use Rattle.wasm2c_words.proofs.Common.{◌≡◌, ℕ, ◌^◌, ◌<◌, ◌≤◌, true, ◌&&◌, List, [], ◌∷◌, length, Ok, Err, Result, sym, refl, ap, ◌∙◌, arith, leb-true, list_all, left_holds, right_holds, is_decimal}
 use Rattle.std.specs.Char.{is_ascii_digit}
 use Rattle.std.specs.Str.{all_ascii_digits}
 use Rattle.std.specs.Str.Parse.{ParsesUnsigned, digits_value}
 use Rattle.std.proofs.lemmas.Str.Parse.{digits_value_short, numerals_by_value, parse_gives, tells_all_ascii_digits}
-use Rattle.std.proofs.lemmas.Bool.{leb-true}
-use Rattle.w2c_base.proofs.Conjunctions.{left_holds, right_holds}
-use Rattle.program_words.specs.Tests.{is_decimal}
 
 all_digits : (text : List ℕ) → list_all is_ascii_digit text ≡ all_ascii_digits text
 all_digits [] = refl

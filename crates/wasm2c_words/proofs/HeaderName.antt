@@ -1,11 +1,5 @@
 -- The header's name: what it is made of, and that it is not the C file's.
-use Rattle.std.proofs.Common.{append_assoc, take-append-drop, ◌≡◌, ℕ, ◌-◌, ◌<◌, ◌&&◌, Bool, true, false, List, [], ◌∷◌, ◌++◌, length, length-append, get_or, take, drop, sym, ◌∙◌, ap, subst, arith, IsTrue, codes}
-use Rattle.std.proofs.Math.Seq.{get_or-append_seam, take-append_seam}
-use Rattle.std.proofs.lemmas.List.{append_cancel_left}
-use Rattle.std.proofs.lemmas.Slice.Eq.{bytes_eq-Decides}
-use Rattle.w2c_io.specs.Contents.{Name}
-use Rattle.w2c_files.specs.CFile.{is_c_file}
-use Rattle.wasm2c_words.specs.Names.{header_name_of}
+use Rattle.wasm2c_words.proofs.Common.{◌≡◌, ℕ, ◌-◌, ◌<◌, Bool, true, false, ◌&&◌, List, [], ◌∷◌, ◌++◌, length, get_or, take, drop, IsTrue, codes, sym, ap, ◌∙◌, subst, append_assoc, arith, length-append, take-append-drop, get_or-append_seam, take-append_seam, append_cancel_left, bytes_eq-Decides, Name, is_c_file, header_name_of}
 
 not_true : IsTrue false → ⊥
 not_true h = cc

@@ -1,11 +1,5 @@
 -- Tests of the names that files give their modules.
-use Rattle.std.proofs.Common.{◌≡◌, ◌&&◌, ◌||◌, ◌∙◌, ◌<◌, ◌-◌, ℕ, refl, sym, ap, Bool, true, false, not, List, [], ◌∷◌, map, take, take_all, drop, length, get_or, arith}
-use Rattle.std.specs.List.{list_all, list_any}
-use Rattle.std.specs.Str.{bytes_eq}
-use Rattle.std.specs.Borrow.{Bor}
-use Rattle.wasm2c_words.specs.Names.{are_distinct, module_name_of}
-use Rattle.w2c_files.specs.Words.{names_of}
-use Rattle.program_words.specs.Tests.{is_module_name}
+use Rattle.wasm2c_words.proofs.Common.{◌≡◌, ℕ, ◌-◌, ◌<◌, Bool, true, false, not, ◌&&◌, ◌||◌, List, [], ◌∷◌, map, length, get_or, take, drop, bytes_eq, sym, refl, ap, ◌∙◌, arith, take_all, Bor, list_all, list_any, names_of, is_module_name, are_distinct, module_name_of}
 
 abbrev pub modules : List (Bor (List ℕ)) → List (List ℕ)
 modules files = map module_name_of (names_of files)

@@ -1,21 +1,9 @@
 -- The names of a set's files are distinct, and each is a C file's or a header's.
-use Rattle.std.proofs.Common.{◌≡◌, ◌<◌, ◌≤◌, ◌-◌, ◌&&◌, ◌||◌, ◌∙◌, ℕ, Bool, true, false, not, refl, sym, ap, List, [], ◌∷◌, ◌++◌, length, take, drop, get_or, All, codes, IsTrue, arith, append_assoc, le-leb, length-append}
-use Rattle.std.specs.List.{list_any}
-use Rattle.std.specs.Str.{bytes_eq}
-use Rattle.std.proofs.Math.Seq.{take-append_seam, drop-append_seam}
+use Rattle.wasm2c_words.proofs.Common.{◌≡◌, ℕ, ◌-◌, ◌<◌, ◌≤◌, Bool, true, false, not, ◌&&◌, ◌||◌, List, [], ◌∷◌, ◌++◌, length, get_or, take, drop, IsTrue, codes, All, bytes_eq, sym, refl, ap, ◌∙◌, append_assoc, arith, length-append, le-leb, drop-append_seam, take-append_seam, append_cancel_left, append_cancel_right, All-weaker, AllPass-from_list_all, bytes_eq-Decides, list_any, both_hold, Name, is_c_file, escaped, are_distinct, header_name_of}
 use Rattle.std.proofs.lemmas.Bool.Decides.{nat_tests}
-use Rattle.std.proofs.lemmas.List.{append_cancel_left, append_cancel_right}
-use Rattle.std.proofs.lemmas.List.Elements.{All-weaker}
-use Rattle.std.proofs.lemmas.List.Sums.{AllPass-from_list_all}
-use Rattle.std.proofs.lemmas.Slice.Eq.{bytes_eq-Decides}
-use Rattle.w2c_base.proofs.Conjunctions.{both_hold}
-use Rattle.w2c_io.specs.Contents.{Name}
-use Rattle.w2c_mangle.specs.Escaping.{escaped}
 use Rattle.w2c_mangle.specs.Symbols.{is_identifier_character}
 use Rattle.w2c_mangle.proofs.EscapedNames.{escaped-injective}
 use Rattle.w2c_mangle.proofs.SymbolNames.{list_all-escaped}
-use Rattle.w2c_files.specs.CFile.{is_c_file}
-use Rattle.wasm2c_words.specs.Names.{are_distinct, header_name_of}
 use Rattle.wasm2c_words.specs.SetFiles.{c_file_of, files_of, header_of}
 
 ascii : (b : ℕ) → is_identifier_character b ≡ true → b < 128

@@ -1,15 +1,9 @@
 -- A block is what its opcode says: instructions in which no `else` may stand are closed by an `end`.
-use Rattle.std.proofs.Common.{◌≡◌, ℕ, Bool, true, false, Option, Result, Ok, Err, refl}
+use Rattle.wasm_binary.proofs.Common.{◌≡◌, ℕ, Bool, true, false, Ok, Err, Option, Result, refl, Block, Code, Loop, code_takes, At, Ender, block_of, block_type_at, by_else, by_end, code_at, ender_place, if_closed, a_block, a_loop, an_if, ◌>>=◌, ReadFault, block_closed, head_of_opener, opened_at}
 use Rattle.w2c_base.specs.declared.value.ValType.{ValType}
-use Rattle.wasm_tree.specs.Instructions.{Code, Block, Loop}
-use Rattle.wasm_spelling.specs.declared.fault.ReadFault.{ReadFault}
-use Rattle.wasm_spelling.specs.At.{At}
-use Rattle.wasm_spelling.specs.Steps.{◌>>=◌, reads, a_block, a_loop, an_if}
-use Rattle.wasm_spelling.specs.Reading.{Ender, by_end, by_else, ender_place, if_closed, block_of, block_type_at, code_at}
-use Rattle.wasm_spelling.proofs.CodeTaken.{code_takes}
+use Rattle.wasm_spelling.specs.Steps.{reads}
 use Rattle.wasm_binary.specs.declared.code.Opener.{Opener}
 use Rattle.wasm_binary.specs.declared.code.Opener.TheVariants as opener
-use Rattle.wasm_binary.specs.Enders.{head_of_opener, block_closed, opened_at}
 
 unlike : ◌≡◌ {A = Bool} false true → ⊥
 unlike e = absurd cc

@@ -1,5 +1,5 @@
 -- Instructions but for blocks: what their opcodes say of what is read behind them.
-use Rattle.std.proofs.Common.{◌≡◌, ℕ, pos, [], Option, Some, None, Result, Ok, Err, refl, sym, ap, subst, ◌∙◌}
+use Rattle.wasm_binary.proofs.Common.{◌≡◌, ℕ, [], pos, Some, None, Ok, Err, Option, Result, sym, refl, ap, ◌∙◌, subst, Makes, form_in, form_of, Form, Prefixed, Row, a_mem_arg, a_sub_opcode, a_type, a_zero, an_i32, an_i64, an_index, labels, nothing, opcode_of, prefixed_of, row_of, Binary, Block, Br, BrIf, BrTable, Call, CallIndirect, Compare, Drop, Eqz, Extend, GlobalGet, GlobalSet, I32Const, I32WrapI64, I64Const, I64ExtendI32S, I64ExtendI32U, If, Kind, Load, LocalGet, LocalSet, LocalTee, Loop, MemoryCopy, MemoryFill, MemoryGrow, MemorySize, Nop, Return, Select, Store, Unary, Unreachable, At, times_at, number_at, ◌>>=◌, ReadFault, Float, Limit, Malformed, Memory, Fails, Gives, kept}
 use Rattle.wasm_tree.specs.declared.code.MemArg.{MemArg}
 use Rattle.wasm_tree.specs.declared.opcodes.Op.{Op}
 use Rattle.wasm_tree.specs.declared.opcodes.Op.TheVariants as op
@@ -7,20 +7,11 @@ use Rattle.wasm_tree.specs.declared.operators.Simple.TheVariants as simple
 use Rattle.wasm_tree.specs.declared.operators.IndexOp.TheVariants as index
 use Rattle.wasm_tree.specs.declared.operators.AccessOp.TheVariants as access
 use Rattle.wasm_tree.specs.declared.operators.Numeric.TheVariants as numeric
-use Rattle.wasm_tree.specs.Instructions.{Kind, Unreachable, Nop, Return, Drop, Select, MemorySize, MemoryGrow, MemoryCopy, MemoryFill, Block, Loop, If, Br, BrIf, BrTable, Call, CallIndirect, LocalGet, LocalSet, LocalTee, GlobalGet, GlobalSet, Load, Store, I32Const, I64Const, Eqz, Compare, Unary, Binary, I32WrapI64, I64ExtendI32S, I64ExtendI32U, Extend}
 use Rattle.wasm_tree.specs.Parts.{access_tree, index_tree, numeric_tree, op_opcode, simple_tree, HasOp}
-use Rattle.wasm_tree.specs.InstructionTable.{Form, nothing, an_index, a_mem_arg, labels, a_type, a_zero, an_i32, an_i64, a_sub_opcode}
-use Rattle.wasm_tree.specs.InstructionTable.{Row, row_of}
-use Rattle.wasm_tree.specs.InstructionTable.{opcode_of, Prefixed, prefixed_of}
-use Rattle.wasm_tree.specs.Forms.{form_of, form_in, Makes}
 use Rattle.wasm_tree.proofs.ExactTable.{has_row, row_makes}
-use Rattle.wasm_spelling.specs.declared.fault.ReadFault.{ReadFault}
-use Rattle.wasm_spelling.specs.declared.fault.ReadFault.TheVariants.{Malformed, Float, Limit, Memory}
-use Rattle.wasm_spelling.specs.At.{At}
 use Rattle.wasm_spelling.specs.declared.fault.Cause.TheVariants as cause
-use Rattle.wasm_spelling.specs.Steps.{◌>>=◌, reads, checked, number_at, sub_opcode_in, sub_opcode_of}
-use Rattle.wasm_spelling.specs.Reading.{exactly_at, form_at, times_at}
-use Rattle.wasm_binary.specs.View.{Fails, Gives, kept}
+use Rattle.wasm_spelling.specs.Steps.{reads, checked, sub_opcode_in, sub_opcode_of}
+use Rattle.wasm_spelling.specs.Reading.{exactly_at, form_at}
 use Rattle.wasm_binary.specs.Opcodes.{op_form, fault_of, by_form, plain_at}
 
 -- ---- the opcode of a row

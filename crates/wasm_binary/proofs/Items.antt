@@ -1,77 +1,12 @@
 -- The loop over instructions, and one turn of it.
-use Rattle.std.proofs.Common.{
-  ◌≡◌,
-  ℕ,
-  zero,
-  suc,
-  ◌-◌,
-  ◌<◌,
-  Bool,
-  true,
-  false,
-  ◌&&◌,
-  cond,
-  eqb,
-  length,
-  Option,
-  Some,
-  None,
-  Result,
-  Ok,
-  Err,
-  refl,
-  sym,
-  ap,
-  subst,
-  ◌∙◌,
-  arith,
-}
-use Rattle.std.proofs.lemmas.Bool.{eqb-true, and_parts}
-use Rattle.wasm_tree.specs.Instructions.{Code, end_code, then_code, Kind}
-use Rattle.wasm_tree.specs.InstructionTable.{Form, row_of}
-use Rattle.wasm_tree.specs.Forms.{form_in}
+use Rattle.wasm_binary.proofs.Common.{◌≡◌, ℕ, zero, suc, ◌-◌, ◌<◌, Bool, true, false, cond, ◌&&◌, eqb, length, Some, None, Ok, Err, Option, Result, sym, refl, ap, ◌∙◌, subst, arith, eqb-true, form_in, Form, row_of, Code, Kind, end_code, then_code, block_takes, item_takes, At, Ender, block_of, by_else, by_end, code_at, Reader, a_block, a_loop, an_if, ◌>>=◌, ReadFault, Float, Limit, Malformed, Memory, opener_head, Fails}
+use Rattle.std.proofs.lemmas.Bool.{and_parts}
 use Rattle.wasm_tree.specs.Appended.{InstrTree, ◌+>◌}
-use Rattle.wasm_spelling.specs.declared.fault.ReadFault.{ReadFault}
-use Rattle.wasm_spelling.specs.declared.fault.ReadFault.TheVariants.{Malformed, Float, Limit, Memory}
 use Rattle.wasm_spelling.specs.declared.fault.Cause.TheVariants as cause
 use Rattle.wasm_spelling.specs.declared.fault.Which.TheVariants as which
-use Rattle.wasm_spelling.specs.At.{At}
-use Rattle.wasm_spelling.specs.Steps.{
-  ◌>>=◌,
-  Reader,
-  reads,
-  checked,
-  byte_at,
-  Head,
-  a_block,
-  a_loop,
-  an_if,
-  opened,
-  formed,
-  is_float,
-  head_of,
-}
-use Rattle.wasm_spelling.specs.Reading.{
-  Ender,
-  by_end,
-  by_else,
-  Item,
-  closed,
-  one,
-  as_one,
-  item_of,
-  item_at,
-  put_before,
-  after_item,
-  items_at,
-  block_of,
-  block_at,
-  code_at,
-}
-use Rattle.wasm_spelling.proofs.CodeTaken.{item_takes, block_takes}
-use Rattle.wasm_binary.specs.View.{Fails}
+use Rattle.wasm_spelling.specs.Steps.{reads, checked, byte_at, Head, opened, formed, is_float, head_of}
+use Rattle.wasm_spelling.specs.Reading.{Item, closed, one, as_one, item_of, item_at, put_before, after_item, items_at, block_at}
 use Rattle.wasm_binary.specs.Opcodes.{plain_at, by_form}
-use Rattle.wasm_binary.specs.Enders.{opener_head}
 
 -- ---- the loop
 

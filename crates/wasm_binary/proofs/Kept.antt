@@ -1,11 +1,6 @@
 -- A value that is kept, seen as what it stands for.
-use Rattle.std.proofs.Common.{◌≡◌, Result, Ok, Err, refl, sym, ap, ◌∙◌}
-use Rattle.wasm_spelling.specs.declared.fault.ReadFault.{ReadFault}
-use Rattle.wasm_spelling.specs.declared.fault.ReadFault.TheVariants.{Malformed, Float, Limit, Memory}
-use Rattle.wasm_spelling.specs.At.{At}
-use Rattle.wasm_spelling.specs.Steps.{◌>>=◌}
+use Rattle.wasm_binary.proofs.Common.{◌≡◌, Ok, Err, Result, sym, refl, ap, ◌∙◌, At, ◌>>=◌, ReadFault, Float, Limit, Malformed, Memory, Gives, at, kept, seen}
 use Rattle.wasm_binary.specs.declared.rest.Rest.{Rest}
-use Rattle.wasm_binary.specs.View.{Gives, at, seen, kept}
 
 abbrev see : {T V : Type 0} → (T → V) → Result (T × At) ReadFault → Result (V × At) ReadFault
 see view read = read >>= λ x. Ok (view x.0, x.1)

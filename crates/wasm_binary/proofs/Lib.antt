@@ -1,6 +1,6 @@
+mod Common
 pub mod NoWindow
 pub mod Loop
-pub mod Utf8
 pub mod Instructions
 pub mod Items
 pub mod Blocks

@@ -1,13 +1,7 @@
 -- The loop over a vector's entries.
-use Rattle.std.proofs.Common.{◌≡◌, ℕ, suc, ◌+◌, ◌-◌, ◌<◌, ◌≤◌, List, [], ◌∷◌, ◌++◌, append_assoc, Result, Ok, Err, refl, sym, ap, subst, ◌∙◌, arith}
-use Rattle.std.proofs.lemmas.List.{append-nil}
-use Rattle.wasm_spelling.specs.declared.fault.ReadFault.{ReadFault}
-use Rattle.wasm_spelling.specs.declared.fault.ReadFault.TheVariants.{Malformed, Float, Limit, Memory}
-use Rattle.wasm_spelling.specs.At.{At}
-use Rattle.wasm_spelling.specs.Steps.{◌>>=◌, Reader}
+use Rattle.wasm_binary.proofs.Common.{◌≡◌, ℕ, suc, ◌+◌, ◌-◌, ◌<◌, ◌≤◌, List, [], ◌∷◌, ◌++◌, Ok, Err, Result, sym, refl, ap, ◌∙◌, subst, append_assoc, append-nil, arith, At, Reader, ◌>>=◌, ReadFault, Float, Limit, Malformed, Memory, Fails}
 use Rattle.wasm_spelling.specs.Reading.{times_at}
 use Rattle.wasm_spelling.proofs.Vectors.{with_front}
-use Rattle.wasm_binary.specs.View.{Fails}
 
 abbrev pub after_front : {A : Type 0} → List A → List A × At → Result (List A × At) ReadFault
 after_front front xs = Ok (front ++ xs.0, xs.1)

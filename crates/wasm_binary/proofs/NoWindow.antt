@@ -1,13 +1,8 @@
 -- Where no window stands, nothing is read in it.
-use Rattle.std.proofs.Common.{◌≡◌, ℕ, Bool, true, false, cond, length, Result, Ok, Err, nat_lt}
-use Rattle.wasm_spelling.specs.declared.fault.ReadFault.{ReadFault}
-use Rattle.wasm_spelling.specs.declared.fault.ReadFault.TheVariants.{Malformed, Float, Limit, Memory}
+use Rattle.wasm_binary.proofs.Common.{◌≡◌, ℕ, Bool, true, false, cond, length, nat_lt, Ok, Err, Result, At, Reader, malformed, number_at, ◌>>=◌, ReadFault, Float, Limit, Malformed, Memory, Fails}
 use Rattle.wasm_spelling.specs.declared.fault.Cause.{Cause}
 use Rattle.wasm_spelling.specs.declared.fault.Cause.TheVariants as cause
-use Rattle.wasm_spelling.specs.At.{At}
-use Rattle.wasm_spelling.specs.Steps.{◌>>=◌, malformed, Reader, number_at}
 use Rattle.wasm_spelling.specs.Reading.{inside_at, window_at}
-use Rattle.wasm_binary.specs.View.{Fails}
 use Rattle.wasm_binary.specs.Windows.{split_off, window_of}
 
 by_size : {A : Type 0} (f : ReadFault) (place : ℕ) (past : Bool) (x : At × At) (y : Result (A × At) ReadFault)

@@ -1,16 +1,10 @@
 -- What a file's reading says of the result.
-use Rattle.std.proofs.Common.{rules, ◌≡◌, ◌≢◌, ℕ, suc, ◌≤◌, Fits, w8, get_or, List, [], ◌∷◌, length, Result, Ok, Err, refl, sym, ◌∙◌}
-use Rattle.std.specs.Prelude.{IfOk}
-use Rattle.wasm_tree.specs.declared.tree.Module.{Module}
-use Rattle.wasm_spelling.specs.declared.fault.ReadFault.{ReadFault}
-use Rattle.wasm_spelling.specs.declared.fault.ReadFault.TheVariants.{Malformed, Float, Limit, Memory}
+use Rattle.wasm_binary.proofs.Common.{◌≡◌, ℕ, ◌≤◌, ◌≢◌, List, [], length, IfOk, Ok, Err, Result, sym, refl, ◌∙◌, Module, file_at, ReadFault, Float, Limit, Malformed, Memory, Fails, Gives, UnlessMemory}
 use Rattle.wasm_spelling.specs.Bytes.{AreBytes}
 use Rattle.wasm_spelling.specs.ModuleFields.{Spells}
 use Rattle.wasm_spelling.specs.Places.{IsFormed}
 use Rattle.wasm_spelling.specs.Table.{Upto}
-use Rattle.wasm_spelling.specs.Reading.{file_at}
 use Rattle.wasm_spelling.proofs.Whole.{file_takes, file_again, file_stops, first_is_read}
-use Rattle.wasm_binary.specs.View.{Fails, Gives, UnlessMemory}
 
 abbrev bad : ReadFault → Result Module ReadFault
 bad f = Err f
@@ -45,13 +39,6 @@ is_first bytes result g f n e =
 pub is_first_only : (bytes : List ℕ) (result : Result Module ReadFault) → Gives (λ x. x) result (file_at bytes) → (f : ReadFault)
     → Upto bytes f → UnlessMemory result (Err f)
 is_first_only bytes result g f u n = given result (file_at bytes) g n ∙ first_is_read bytes f u
-
--- a slice of bytes
-pub slice_bytes : (bytes : List ℕ) → ((i : ℕ) → Fits w8 (get_or bytes i 0)) → AreBytes bytes
-slice_bytes [] fits = tt
-slice_bytes (b ∷ bytes) fits =
-    let first : Fits w8 b = fits 0 in
-    (search rules, slice_bytes bytes (λ i. fits (suc i)))
 
 -- what some file spells is formed
 pub formed_of : (bytes : List ℕ) (result : Result Module ReadFault) → AreBytes bytes → IfOk result (λ tree. Spells tree bytes)

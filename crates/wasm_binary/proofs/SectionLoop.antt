@@ -1,14 +1,8 @@
 -- The loop over sections.
-use Rattle.std.proofs.Common.{◌≡◌, ℕ, zero, suc, ◌<◌, true, false, length, Result, Ok, Err, refl, sym, ap, ◌∙◌, arith}
-use Rattle.wasm_tree.specs.declared.tree.Module.{Module}
-use Rattle.wasm_spelling.specs.declared.fault.ReadFault.{ReadFault}
-use Rattle.wasm_spelling.specs.declared.fault.ReadFault.TheVariants.{Malformed, Float, Limit, Memory}
-use Rattle.wasm_spelling.specs.At.{At}
-use Rattle.wasm_spelling.specs.Steps.{◌>>=◌, reads, SectionId, no_section, a_custom, a_part, section_id_at}
-use Rattle.wasm_spelling.specs.Reading.{after_id, sections_at, all_sections_at}
+use Rattle.wasm_binary.proofs.Common.{◌≡◌, ℕ, zero, suc, ◌<◌, true, false, length, Ok, Err, Result, sym, refl, ap, ◌∙◌, arith, Module, At, all_sections_at, ◌>>=◌, ReadFault, Float, Limit, Malformed, Memory, behind_id, is_no_section, Fails}
+use Rattle.wasm_spelling.specs.Steps.{reads, SectionId, no_section, a_custom, a_part, section_id_at}
+use Rattle.wasm_spelling.specs.Reading.{after_id, sections_at}
 use Rattle.wasm_spelling.proofs.Sections.{IdIs, id_takes, custom_taken, section_shorter}
-use Rattle.wasm_binary.specs.View.{Fails}
-use Rattle.wasm_binary.specs.Sections.{is_no_section, behind_id}
 
 -- the sections that are still to be read give the whole
 abbrev pub Ahead : Module → At → Result (Module × At) ReadFault → Type 0

@@ -1,15 +1,9 @@
 -- What an operator gives has its width.
-use Rattle.std.proofs.Common.{◌≡◌, ℕ, zero, suc, ◌+◌, ◌-◌, ◌*◌, ◌/◌, ◌%◌, ◌^◌, ◌<◌, ◌≤◌, Bool, true, false, cond, List, [], ◌∷◌, take, drop, length, nat_le, arith, ◌∙◌}
-use Rattle.std.specs.Prelude.{nat_eq, ℤ, pos, negsuc, int_div, int_rem, bit_or}
+use Rattle.wasm_meaning.proofs.Common.{◌≡◌, ℕ, zero, suc, ◌+◌, ◌-◌, ◌*◌, ◌/◌, ◌%◌, ◌^◌, ◌<◌, ◌≤◌, Bool, true, false, cond, List, [], ◌∷◌, length, take, drop, ℤ, pos, negsuc, nat_eq, nat_le, bit_or, int_div, int_rem, ◌∙◌, add-zero, mod-lt, pow-suc, div-le_self, arith, pow_pos, AllByRecursion, bits, DivByZero, IntOverflow, MemoryOut, ValType, I32, I64}
 use Rattle.std.specs.Int.{int_div_euclid}
-use Rattle.std.proofs.lemmas.Nat.{pow_pos, ones-le, leading_le, trailing_le, or_lt, xor_lt, shr_le, or_shifted, shr_below, mod-pow-add, shl-shr}
+use Rattle.std.proofs.lemmas.Nat.{ones-le, leading_le, trailing_le, or_lt, xor_lt, shr_le, or_shifted, shr_below, mod-pow-add, shl-shr}
 use lib.Bits.{and_lt}
-use native.Mathlib.Nat.{mod-lt, div-le_self, mod-le, pow-suc, mul-mod_left, add-zero}
-use Rattle.w2c_base.specs.declared.value.ValType.{ValType}
-use Rattle.w2c_base.specs.declared.value.ValType.TheVariants.{I32, I64}
-use Rattle.w2c_base.specs.declared.trap.TrapKind.TheVariants.{DivByZero, IntOverflow, MemoryOut}
-use Rattle.std.specs.List.{AllByRecursion}
-use Rattle.w2c_base.specs.Values.{bits}
+use native.Mathlib.Nat.{mod-le, mul-mod_left}
 use Rattle.w2c_base.specs.LittleEndian.{little_endian, bytes_at}
 use Rattle.wasm_tree.specs.declared.operators.UnaryOp.{UnaryOp}
 use Rattle.wasm_tree.specs.declared.operators.UnaryOp.TheVariants.{Clz, Ctz, Popcnt}

@@ -1,3 +1,4 @@
+mod Common
 pub mod Fits
 pub mod Longer
 pub mod LongerRun

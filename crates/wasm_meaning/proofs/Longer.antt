@@ -1,21 +1,12 @@
 -- A larger budget changes nothing but what is left of it, where the smaller one was enough.
-use Rattle.std.proofs.Common.{◌≡◌, ℕ, zero, suc, ◌+◌, ◌≤◌, Bool, true, false, if◌then◌else◌, List, [], ◌∷◌, ◌++◌, length, take, drop, reverse, slice_get, Option, Some, None, unwrap_or, refl, sym, ap, subst, arith}
+use Rattle.wasm_meaning.proofs.Common.{◌≡◌, ℕ, zero, suc, ◌+◌, ◌≤◌, Bool, true, false, List, [], ◌∷◌, ◌++◌, reverse, length, take, drop, if◌then◌else◌, slice_get, Some, None, Option, unwrap_or, sym, refl, ap, subst, arith, if_found, Ask, Event, Gave, HostTrapped, Reply, Trail, asked, equal_func_types, equal_types, is_result, types_of, zeros, FuncType, Signature, ValType, Value, Asks, Back, Branch, CallStops, Called, Calls, Done, Faults, Leaves, NoRule, Normal, OutOfSteps, Result, Returned, Stop, Stops, Stuck, Trapped, and_then, call, call_element, call_indirect, call_within, came_back, choose, count_on, did, did_all, dropped, enter, exec, exec_else, exec_kind, finish, gave, gives_all, gives_top, invoke, leave, onto, pick, plain, replied, spend, spend_all, top, turn, turns, FuncAddress, HostFunc, LinkedSet, ModuleFunc, body_of, func_at, func_type, table_at, type_at}
 use Rattle.std.specs.Prelude.{⊤}
-use Rattle.w2c_base.specs.declared.value.ValType.{ValType}
-use Rattle.w2c_base.specs.declared.value.Value.{Value}
 use Rattle.w2c_base.specs.declared.value.Value.TheVariants.{I32, I64}
-use Rattle.w2c_base.specs.declared.signature.FuncType.{FuncType}
-use Rattle.w2c_base.specs.declared.trap.TrapKind.TheVariants.{Signature}
 use Rattle.w2c_base.specs.declared.trap.TrapKind.TheVariants as trap
-use Rattle.w2c_base.specs.Lookup.{if_found}
-use Rattle.w2c_base.specs.Values.{types_of, equal_types, equal_func_types, is_result, zeros}
-use Rattle.w2c_base.specs.Run.{Reply, Gave, HostTrapped, Ask, Event, Trail, asked}
 use Rattle.wasm_tree.specs.Instructions.{Code, end_code, then_code, Kind, Otherwise, no_else, else_code, Unreachable, Nop, Return, Drop, Block, Loop, If, Br, BrIf, BrTable, Call, CallIndirect, MemoryCopy, MemoryFill}
 use Rattle.wasm_tree.specs.declared.entries.BodyEntry.{BodyEntry}
 use Rattle.wasm_tree.specs.IndexSpaces.{declared_locals}
-use Rattle.wasm_meaning.specs.LinkedSet.{LinkedSet, FuncAddress, ModuleFunc, HostFunc, func_at, table_at, type_at, func_type, body_of}
 use Rattle.wasm_meaning.specs.Store as store
-use Rattle.wasm_meaning.specs.Execution.{Stop, Trapped, Asks, OutOfSteps, Stuck, Result, Normal, Branch, Returned, Stops, Called, Back, CallStops, Calls, Done, Leaves, Faults, NoRule, spend, spend_all, did, did_all, count_on, dropped, and_then, top, onto, leave, turn, turns, choose, pick, came_back, invoke, call, call_element, call_indirect, exec, exec_kind, exec_else, plain, gives_all, gives_top, gave, finish, enter, replied, call_within}
 
 -- the second is the first with so much more left, where the first was not out of steps
 abbrev pub Longer : ℕ → Result → Result → Type 0

@@ -1,18 +1,11 @@
 -- A run that is not out of steps is the same with a larger budget.
-use Rattle.std.proofs.Common.{◌≡◌, ◌≢◌, ℕ, zero, suc, ◌+◌, ◌-◌, ◌≤◌, Bool, true, false, List, [], ◌∷◌, ◌++◌, length, replicate, slice_set, nat_le, Option, Some, None, refl, sym, ap, ◌∙◌, arith}
+use Rattle.wasm_meaning.proofs.Common.{◌≡◌, ℕ, zero, suc, ◌+◌, ◌-◌, ◌≤◌, Bool, true, false, ◌≢◌, List, [], ◌∷◌, ◌++◌, length, replicate, nat_le, slice_set, Some, None, Option, sym, refl, ap, ◌∙◌, arith, if_found, Init, Phase, Reply, Trail, ImportKind, ImportFunc, ImportGlobal, ImportMemory, ImportTable, Asks, Back, CallStops, Called, OutOfSteps, Stuck, Trapped, call_within, LinkedSet, as_memory, as_table, func_at, import_at, memory_at, table_at, Begin, CallExport, CallStart, Ended, ListedCall, MakeGlobal, MakeMemory, MakeTable, Outcome, Planned, Stopped, Take, Task, TestData, TestElements, WasmRun, WriteByte, WriteElement, as_offset, called_func, constant_of, do_task, done, first_value, is_free, limits_fit, paid, plan_of, run_tasks, tested, then_run, trail_after, wasm_run, with_found, with_memory_at, with_table_at}
 use Rattle.w2c_base.specs.declared.trap.TrapKind.{TrapKind}
 use Rattle.w2c_base.specs.declared.trap.TrapKind.TheVariants as trap
-use Rattle.w2c_base.specs.Lookup.{if_found}
-use Rattle.w2c_base.specs.Run.{Reply, Trail, Phase, Init}
 use Rattle.wasm_tree.specs.declared.entries.Import.{Import}
-use Rattle.wasm_tree.specs.declared.entries.ImportKind.{ImportKind}
 use Rattle.wasm_tree.specs.declared.entries.ElementEntry.{ElementEntry}
 use Rattle.wasm_tree.specs.declared.entries.SegmentEntry.{SegmentEntry}
-use Rattle.wasm_tree.specs.declared.entries.ImportKind.TheVariants.{Func as ImportFunc, Table as ImportTable, Memory as ImportMemory, Global as ImportGlobal}
-use Rattle.wasm_meaning.specs.LinkedSet.{LinkedSet, as_table, as_memory, import_at, func_at, table_at, memory_at}
 use Rattle.wasm_meaning.specs.Store as store
-use Rattle.wasm_meaning.specs.Execution.{Trapped, Asks, OutOfSteps, Stuck, Called, Back, CallStops, call_within}
-use Rattle.wasm_meaning.specs.Run.{Task, Begin, Take, MakeTable, MakeMemory, MakeGlobal, TestElements, TestData, WriteElement, WriteByte, CallStart, CallExport, Planned, ListedCall, Outcome, Ended, Stopped, WasmRun, done, tested, with_found, with_table_at, with_memory_at, limits_fit, constant_of, first_value, as_offset, called_func, do_task, is_free, paid, trail_after, then_run, run_tasks, plan_of, wasm_run}
 use Rattle.wasm_meaning.proofs.Longer.{LongerCall, calls_longer}
 
 tested_longer : (d : ℕ) (passes : Bool) (kind : TrapKind) (n : ℕ) (made : store.Store) (trail : Trail)

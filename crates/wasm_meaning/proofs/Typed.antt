@@ -1,10 +1,6 @@
 -- Values that go where a value of their type is wanted.
-use Rattle.std.proofs.Common.{◌≡◌, Some, refl}
-use Rattle.w2c_base.specs.declared.value.ValType.{ValType}
-use Rattle.w2c_base.specs.declared.value.Value.{Value}
-use Rattle.w2c_base.specs.Values.{type_of}
+use Rattle.wasm_meaning.proofs.Common.{◌≡◌, Some, refl, type_of, ValType, Value, Done, of_one_type, of_type}
 use Rattle.w2c_base.proofs.Types.{equal_type_of_same}
-use Rattle.wasm_meaning.specs.Execution.{Done, of_type, of_one_type}
 
 pub of_its_type : {A : Type 0} (t : ValType) (v : Value) (a : A) → t ≡ type_of v → of_type t v a ≡ Some a
 of_its_type t v a e = rw (equal_type_of_same t (type_of v) e) refl

@@ -1,24 +1,6 @@
 -- A call fits exactly where the module of its name offers a function that takes its arguments.
-use Rattle.std.proofs.Common.{◌≡◌, ◌≤◌, true, List, [], ◌∷◌, map, length, append-nil, Option, Some, None, option_map, refl, sym, ap, ◌∙◌, subst, arith}
-use Rattle.std.specs.List.{AllByRecursion, list_all}
-use Rattle.std.proofs.lemmas.Bool.Decides.{nat_tests}
-use Rattle.std.proofs.lemmas.List.{take_all}
-use Rattle.w2c_base.proofs.Conjunctions.{both_hold}
-use Rattle.w2c_base.specs.declared.value.Value.{Value}
-use Rattle.w2c_base.specs.declared.value.ValType.{ValType}
-use Rattle.w2c_base.specs.declared.signature.FuncType.{FuncType}
-use Rattle.w2c_base.specs.Lookup.{if_found}
-use Rattle.w2c_base.specs.Values.{IsNumber, is_number, types_of, equal_types}
-use Rattle.wasm_tree.specs.declared.tree.Module.{Module}
-use Rattle.wasm_tree.specs.IndexSpaces.{type_in}
-use Rattle.wasm_meaning.specs.LinkedSet.{LinkedSet, NamedModule, Instance, External, IsFunc, IsTable, IsMemory, IsGlobal, FuncAddress, IsLinked, as_func, instances, exported, func_type}
+use Rattle.wasm_set.proofs.Common.{◌≡◌, ◌≤◌, true, List, [], ◌∷◌, map, length, Some, None, Option, option_map, sym, refl, ap, ◌∙◌, subst, append-nil, arith, take_all, nat_tests, AllByRecursion, list_all, both_hold, if_found, IsNumber, equal_types, is_number, types_of, FuncType, ValType, Value, type_in, Module, External, FuncAddress, Instance, IsFunc, IsGlobal, IsLinked, IsMemory, IsTable, LinkedSet, NamedModule, as_func, exported, func_type, instances, module_named, module_takes, offer_takes, takes, offered, named_of, set_of, Offer, Func, Global, Memory, Table, SetModule}
 use Rattle.wasm_meaning.specs.Run.{ListedCall, Fits}
-use Rattle.wasm_set.specs.declared.set_module.SetModule.{SetModule}
-use Rattle.wasm_set.specs.declared.offer.Offer.{Offer}
-use Rattle.wasm_set.specs.declared.offer.Offer.TheVariants.{Func, Table, Memory, Global}
-use Rattle.wasm_set.specs.Sets.{named_of, set_of}
-use Rattle.wasm_set.specs.Offers.{offered}
-use Rattle.wasm_set.specs.Joining.{module_named, takes, offer_takes, module_takes}
 use Rattle.wasm_set.proofs.Pairs.{Together}
 use Rattle.wasm_set.proofs.EqualTypes.{one_list, same_list}
 use Rattle.wasm_set.proofs.Stands.{Stands}

@@ -1,13 +1,5 @@
 -- A table of offers grows by one export after the other.
-use Rattle.std.proofs.Common.{◌≡◌, ℕ, ◌+◌, ◌<◌, ◌≤◌, Bool, true, false, if◌then◌else◌, List, ◌∷◌, map, drop, length, get_or, bytes_eq, Option, Some, None, refl, sym, ap, ◌∙◌, subst}
-use Rattle.std.specs.Option.{option_or}
-use Rattle.std.proofs.lemmas.List.{at_drop_more, at_drop_all}
-use Rattle.w2c_base.specs.Lookup.{named}
-use Rattle.wasm_tree.specs.declared.tree.Module.{Module}
-use Rattle.wasm_tree.specs.declared.entries.Export.{Export}
-use Rattle.wasm_set.specs.declared.offer.Offer.{Offer}
-use Rattle.wasm_set.specs.Offers.{offer_of, offers}
-use Rattle.wasm_set.specs.Tables.{OfferTable, Tells}
+use Rattle.wasm_set.proofs.Common.{◌≡◌, ℕ, ◌+◌, ◌<◌, ◌≤◌, Bool, true, false, List, ◌∷◌, map, length, get_or, drop, if◌then◌else◌, Some, None, Option, bytes_eq, sym, refl, ap, ◌∙◌, subst, at_drop_all, at_drop_more, option_or, named, Export, Module, offer_of, offers, OfferTable, Tells, Offer}
 
 -- what exports enter
 abbrev pub entries : Module → List Export → OfferTable

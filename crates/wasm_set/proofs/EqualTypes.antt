@@ -1,11 +1,6 @@
 -- Tests of types: each holds exactly of equal ones.
-use Rattle.std.proofs.Common.{◌≡◌, ◌&&◌, Bool, true, false, List, [], ◌∷◌, Option, Some, None, refl, ap, ◌∙◌}
-use Rattle.w2c_base.proofs.Conjunctions.{both_hold}
-use Rattle.w2c_base.specs.declared.value.ValType.{ValType}
+use Rattle.wasm_set.proofs.Common.{◌≡◌, Bool, true, false, ◌&&◌, List, [], ◌∷◌, Some, None, Option, refl, ap, ◌∙◌, both_hold, equal_func_types, equal_results, equal_type, equal_types, FuncType, ValType, are_one_type, equal_bool}
 use Rattle.w2c_base.specs.declared.value.ValType.TheVariants as type
-use Rattle.w2c_base.specs.declared.signature.FuncType.{FuncType}
-use Rattle.w2c_base.specs.Values.{equal_type, equal_types, equal_results, equal_func_types}
-use Rattle.wasm_set.specs.Offers.{are_one_type, equal_bool}
 
 pub both : (a b : Bool) → a ≡ true → b ≡ true → (a && b) ≡ true
 both true true e e' = refl

@@ -1,19 +1,5 @@
 -- A set with more modules behind it: what resolves in the front resolves in the whole.
-use Rattle.std.proofs.Common.{◌≡◌, ℕ, zero, suc, ◌≤◌, Bool, List, [], ◌∷◌, ◌++◌, length, take, slice_get, Option, Some, None, option_map, refl, ap, ◌∙◌, arith}
-use Rattle.std.specs.List.{AllByRecursion}
-use Rattle.std.proofs.lemmas.List.{take-append-le}
-use Rattle.w2c_base.specs.declared.value.ValType.{ValType}
-use Rattle.w2c_base.specs.declared.signature.FuncType.{FuncType}
-use Rattle.w2c_base.specs.Lookup.{if_found}
-use Rattle.w2c_base.specs.Run.{Host}
-use Rattle.wasm_tree.specs.declared.tree.Module.{Module}
-use Rattle.wasm_tree.specs.declared.entries.Import.{Import}
-use Rattle.wasm_tree.specs.declared.entries.FuncEntry.{FuncEntry}
-use Rattle.wasm_tree.specs.declared.entries.GlobalEntry.{GlobalEntry}
-use Rattle.wasm_tree.specs.declared.entries.ImportKind.{ImportKind}
-use Rattle.wasm_tree.specs.declared.entries.ImportKind.TheVariants.{Func as ImportFunc, Table as ImportTable, Memory as ImportMemory, Global as ImportGlobal}
-use Rattle.wasm_tree.specs.IndexSpaces.{type_in, at_defined}
-use Rattle.wasm_meaning.specs.LinkedSet.{LinkedSet, NamedModule, Instance, FuncAddress, ModuleFunc, HostFunc, GlobalAddress, instance_of, instances_behind, instances, meaning_of, module_at, import_at, type_at, func_type, global_type, Resolves}
+use Rattle.wasm_set.proofs.Common.{◌≡◌, ℕ, zero, suc, ◌≤◌, Bool, List, [], ◌∷◌, ◌++◌, length, take, slice_get, Some, None, Option, option_map, refl, ap, ◌∙◌, arith, take-append-le, AllByRecursion, if_found, Host, FuncType, ValType, at_defined, type_in, FuncEntry, GlobalEntry, Import, ImportKind, ImportFunc, ImportGlobal, ImportMemory, ImportTable, Module, FuncAddress, GlobalAddress, HostFunc, Instance, LinkedSet, ModuleFunc, NamedModule, Resolves, func_type, global_type, import_at, instance_of, instances, instances_behind, meaning_of, module_at, type_at}
 use Rattle.wasm_set.proofs.Stands.{of_kind}
 use Rattle.wasm_set.proofs.Instances.{behind_is}
 

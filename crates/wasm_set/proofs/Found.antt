@@ -1,17 +1,5 @@
 -- Looking for a module by its name, and for what it offers.
-use Rattle.std.proofs.Common.{◌≡◌, ℕ, zero, suc, ◌+◌, ◌<◌, ◌≤◌, ◌&&◌, nat_lt, Bool, true, false, if◌then◌else◌, List, [], ◌∷◌, ◌++◌, length, drop, get_or, bytes_eq, is_none, slice_get, Option, Some, None, option_map, refl, sym, ap, ◌∙◌, arith}
-use Rattle.std.specs.List.{list_all}
-use Rattle.std.proofs.lemmas.List.{at_drop_more, at_drop_all, length-append}
-use Rattle.std.proofs.lemmas.Option.{slice_get-get_or}
-use Rattle.w2c_base.specs.declared.value.Value.{Value}
-use Rattle.w2c_base.specs.Lookup.{if_found, named}
-use Rattle.wasm_tree.specs.declared.tree.Module.{Module}
-use Rattle.wasm_tree.specs.declared.entries.Import.{Import}
-use Rattle.wasm_set.specs.declared.set_module.SetModule.{SetModule}
-use Rattle.wasm_set.specs.declared.offer.Offer.{Offer}
-use Rattle.wasm_set.specs.Offers.{offered, offers}
-use Rattle.wasm_set.specs.Tables.{OfferTable, AreTables}
-use Rattle.wasm_set.specs.Joining.{module_named, gives_if_any, gives, is_given, may_join, offer_takes, module_takes}
+use Rattle.wasm_set.proofs.Common.{◌≡◌, ℕ, zero, suc, ◌+◌, ◌<◌, ◌≤◌, Bool, true, false, ◌&&◌, List, [], ◌∷◌, ◌++◌, length, get_or, drop, is_none, if◌then◌else◌, nat_lt, slice_get, Some, None, Option, option_map, bytes_eq, sym, refl, ap, ◌∙◌, arith, length-append, at_drop_all, at_drop_more, slice_get-get_or, list_all, if_found, named, Value, Import, Module, gives, gives_if_any, is_given, may_join, module_named, module_takes, offer_takes, offered, offers, AreTables, OfferTable, Offer, SetModule}
 use Rattle.wasm_set.proofs.Joins.{LastCase, Earlier, Last, last_case}
 
 -- the module at a place from which on the first of the name is looked for

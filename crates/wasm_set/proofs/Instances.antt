@@ -1,14 +1,5 @@
 -- The instances of a set go together with its modules, as far as the imports of these resolve.
-use Rattle.std.proofs.Common.{◌≡◌, ℕ, suc, ◌+◌, Bool, true, false, if◌then◌else◌, List, [], ◌∷◌, ◌++◌, map, length, take, find, bytes_eq, slice_get, append-nil, append_assoc, Option, Some, None, refl, sym, ap, ◌∙◌, subst, arith}
-use Rattle.std.specs.List.{AllByRecursion}
-use Rattle.std.proofs.lemmas.List.{take_at, length-append}
-use Rattle.w2c_base.specs.Run.{Host}
-use Rattle.w2c_base.specs.Lookup.{if_found, named}
-use Rattle.wasm_meaning.specs.LinkedSet.{LinkedSet, NamedModule, Instance, External, instance_of, instances_behind, instances, spaces_of, export_of, meaning_of, module_at, exported, Resolves}
-use Rattle.wasm_set.specs.declared.set_module.SetModule.{SetModule}
-use Rattle.wasm_set.specs.Sets.{named_of}
-use Rattle.wasm_set.specs.Offers.{offered}
-use Rattle.wasm_set.specs.Joining.{module_named}
+use Rattle.wasm_set.proofs.Common.{◌≡◌, ℕ, suc, ◌+◌, Bool, true, false, List, [], ◌∷◌, ◌++◌, map, length, take, if◌then◌else◌, slice_get, Some, None, Option, find, bytes_eq, sym, refl, ap, ◌∙◌, subst, append_assoc, append-nil, arith, length-append, take_at, AllByRecursion, if_found, named, Host, External, Instance, LinkedSet, NamedModule, Resolves, export_of, exported, instance_of, instances, instances_behind, meaning_of, module_at, spaces_of, module_named, offered, named_of, SetModule}
 use Rattle.wasm_set.proofs.Pairs.{Together}
 use Rattle.wasm_set.proofs.Stands.{Stands, name_stands}
 

@@ -1,18 +1,6 @@
 -- A module joins exactly where the list with it is a linked set.
-use Rattle.std.proofs.Common.{◌≡◌, ◌≢◌, ℕ, zero, suc, ◌<◌, ◌≤◌, ◌&&◌, nat_lt, Bool, true, false, if◌then◌else◌, List, [], ◌∷◌, ◌++◌, map, length, take, bytes_eq, is_none, append-nil, Some, option_map, slice_get, refl, sym, ap, ◌∙◌, subst, arith}
-use Rattle.std.specs.List.{AllByRecursion, list_all}
-use Rattle.std.proofs.lemmas.Bool.Decides.{nat_tests}
-use Rattle.std.proofs.lemmas.List.{length-append, length-map, map-append}
-use Rattle.std.proofs.lemmas.Option.{slice_get_within}
+use Rattle.wasm_set.proofs.Common.{◌≡◌, ℕ, zero, suc, ◌<◌, ◌≤◌, Bool, true, false, ◌&&◌, ◌≢◌, List, [], ◌∷◌, ◌++◌, map, length, take, is_none, if◌then◌else◌, nat_lt, slice_get, Some, option_map, bytes_eq, sym, refl, ap, ◌∙◌, subst, append-nil, arith, length-append, nat_tests, length-map, map-append, slice_get_within, AllByRecursion, list_all, both_hold, AreDistinct, Host, Module, Instance, IsLinked, LinkedSet, NamedModule, Resolves, instances, module_at, is_given, may_join, module_named, named_of, set_of, SetModule}
 use Rattle.std.proofs.lemmas.Slice.Eq.{bytes_eq-Decides}
-use Rattle.w2c_base.proofs.Conjunctions.{both_hold}
-use Rattle.w2c_base.specs.Lookup.{AreDistinct}
-use Rattle.w2c_base.specs.Run.{Host}
-use Rattle.wasm_tree.specs.declared.tree.Module.{Module}
-use Rattle.wasm_meaning.specs.LinkedSet.{LinkedSet, NamedModule, Instance, IsLinked, instances, module_at, Resolves}
-use Rattle.wasm_set.specs.declared.set_module.SetModule.{SetModule}
-use Rattle.wasm_set.specs.Sets.{named_of, set_of}
-use Rattle.wasm_set.specs.Joining.{module_named, is_given, may_join}
 use Rattle.wasm_set.proofs.Pairs.{Together}
 use Rattle.wasm_set.proofs.EqualTypes.{both}
 use Rattle.wasm_set.proofs.Instances.{IsInstanceOf, IsSound, first_stand}

@@ -1,6 +1,5 @@
 -- Lists whose items go together one by one.
-use Rattle.std.proofs.Common.{ℕ, zero, suc, List, [], ◌∷◌, ◌++◌, slice_get, Option, Some, None}
-use Rattle.std.specs.Prelude.{⊤}
+use Rattle.wasm_set.proofs.Common.{ℕ, zero, suc, List, [], ◌∷◌, ◌++◌, slice_get, Some, None, Option, ⊤}
 
 abbrev pub Together : {A B : Type 0} → (A → B → Type 0) → List A → List B → Type 0
 Together R [] [] = ⊤

@@ -1,25 +1,5 @@
 -- An import of the module behind others resolves exactly where one of these offers what it asks for.
-use Rattle.std.proofs.Common.{◌≡◌, ℕ, Bool, true, List, [], ◌∷◌, map, take, Option, Some, None, refl, sym, ap, ◌∙◌, subst}
-use Rattle.std.specs.List.{AllByRecursion, list_all}
-use Rattle.std.specs.Option.{option_or}
-use Rattle.std.proofs.lemmas.Option.{some_pair_parts}
-use Rattle.w2c_base.proofs.Conjunctions.{both_hold}
-use Rattle.w2c_base.specs.declared.value.ValType.{ValType}
-use Rattle.w2c_base.specs.declared.signature.FuncType.{FuncType}
-use Rattle.w2c_base.specs.Values.{equal_type}
-use Rattle.w2c_base.specs.Run.{Host}
-use Rattle.wasm_tree.specs.declared.tree.Module.{Module}
-use Rattle.wasm_tree.specs.declared.entries.Import.{Import}
-use Rattle.wasm_tree.specs.declared.entries.ImportKind.{ImportKind}
-use Rattle.wasm_tree.specs.declared.entries.ImportKind.TheVariants.{Func as ImportFunc, Table as ImportTable, Memory as ImportMemory, Global as ImportGlobal}
-use Rattle.wasm_tree.specs.IndexSpaces.{type_in}
-use Rattle.wasm_meaning.specs.LinkedSet.{LinkedSet, External, IsFunc, IsTable, IsMemory, IsGlobal, instances, import_at, module_at, exported, offered as host_offers, Resolves}
-use Rattle.wasm_set.specs.declared.set_module.SetModule.{SetModule}
-use Rattle.wasm_set.specs.declared.offer.Offer.{Offer}
-use Rattle.wasm_set.specs.declared.offer.Offer.TheVariants.{Func, Table, Memory, Global}
-use Rattle.wasm_set.specs.Sets.{named_of}
-use Rattle.wasm_set.specs.Offers.{offered, are_one_type, equal_bool, is_of_kind}
-use Rattle.wasm_set.specs.Joining.{module_named, gives_if_any, gives, is_given}
+use Rattle.wasm_set.proofs.Common.{◌≡◌, ℕ, Bool, true, List, [], ◌∷◌, map, take, Some, None, Option, sym, refl, ap, ◌∙◌, subst, some_pair_parts, AllByRecursion, list_all, option_or, both_hold, Host, equal_type, FuncType, ValType, type_in, Import, ImportKind, ImportFunc, ImportGlobal, ImportMemory, ImportTable, Module, External, IsFunc, IsGlobal, IsMemory, IsTable, LinkedSet, Resolves, exported, host_offers, import_at, instances, module_at, gives, gives_if_any, is_given, module_named, are_one_type, equal_bool, is_of_kind, offered, named_of, Offer, Func, Global, Memory, Table, SetModule}
 use Rattle.wasm_set.proofs.Pairs.{Together}
 use Rattle.wasm_set.proofs.EqualTypes.{both, one_type, same_type, one_bool, same_bool, same_func_type, are_one}
 use Rattle.wasm_set.proofs.Stands.{Stands, of_kind, type_at_is}

@@ -1,26 +1,9 @@
 -- What each index of a module stands for in a set has the type that the module's own index space says.
-use Rattle.std.proofs.Common.{◌≡◌, ℕ, suc, ◌+◌, ◌-◌, nat_lt, Bool, true, false, if◌then◌else◌, List, [], ◌∷◌, map, flat_map, length, replicate, bytes_eq, slice_get, Option, Some, None, option_map, refl, sym, ap, ◌∙◌, subst, arith}
-use Rattle.std.specs.Prelude.{⊤}
-use Rattle.std.specs.List.{AllByRecursion, range_with_len}
-use Rattle.std.proofs.lemmas.Bool.Decides.{nat_tests}
-use Rattle.w2c_base.specs.declared.value.ValType.{ValType}
-use Rattle.w2c_base.specs.Lookup.{if_found, at_index, named}
-use Rattle.wasm_tree.specs.declared.tree.Module.{Module}
-use Rattle.wasm_tree.specs.declared.entries.Import.{Import}
-use Rattle.wasm_tree.specs.declared.entries.Export.{Export}
+use Rattle.wasm_set.proofs.Common.{◌≡◌, ℕ, suc, ◌+◌, ◌-◌, Bool, true, false, List, [], ◌∷◌, map, length, replicate, if◌then◌else◌, nat_lt, slice_get, Some, None, Option, option_map, flat_map, bytes_eq, sym, refl, ap, ◌∙◌, subst, arith, nat_tests, AllByRecursion, range_with_len, ⊤, at_index, if_found, named, ValType, at_defined, func_of_import, func_space, global_of_import, global_space, imported_funcs, is_func_import, is_global_import, is_memory_import, is_table_import, memory_of_import, memory_space, table_of_import, table_space, type_in, Export, FuncEntry, GlobalEntry, Import, ImportKind, ImportFunc, ImportGlobal, ImportMemory, ImportTable, Module, External, FuncAddress, GlobalAddress, IsFunc, IsGlobal, IsMemory, IsTable, LinkedSet, ModuleFunc, Resolves, as_func, as_global, as_memory, as_table, export_of, func_type, global_type, import_at, imports_of, module_at, spaces_of, type_at, offer_of, offered, Offer, Func, Global, Memory, Table}
 use Rattle.wasm_tree.specs.declared.entries.Limits.{Limits}
 use Rattle.wasm_tree.specs.declared.entries.LimitsEntry.{LimitsEntry}
-use Rattle.wasm_tree.specs.declared.entries.FuncEntry.{FuncEntry}
-use Rattle.wasm_tree.specs.declared.entries.GlobalEntry.{GlobalEntry}
 use Rattle.wasm_tree.specs.declared.entries.ExportKind.{ExportKind}
 use Rattle.wasm_tree.specs.declared.entries.ExportKind.TheVariants.{Func as ExportFunc, Table as ExportTable, Memory as ExportMemory, Global as ExportGlobal}
-use Rattle.wasm_tree.specs.declared.entries.ImportKind.{ImportKind}
-use Rattle.wasm_tree.specs.declared.entries.ImportKind.TheVariants.{Func as ImportFunc, Table as ImportTable, Memory as ImportMemory, Global as ImportGlobal}
-use Rattle.wasm_tree.specs.IndexSpaces.{func_of_import, table_of_import, memory_of_import, global_of_import, is_func_import, is_table_import, is_memory_import, is_global_import, func_space, table_space, memory_space, global_space, type_in, imported_funcs, at_defined}
-use Rattle.wasm_meaning.specs.LinkedSet.{LinkedSet, External, IsFunc, IsTable, IsMemory, IsGlobal, FuncAddress, ModuleFunc, GlobalAddress, as_func, as_table, as_memory, as_global, imports_of, spaces_of, export_of, import_at, module_at, type_at, func_type, global_type, Resolves}
-use Rattle.wasm_set.specs.declared.offer.Offer.{Offer}
-use Rattle.wasm_set.specs.declared.offer.Offer.TheVariants.{Func, Table, Memory, Global}
-use Rattle.wasm_set.specs.Offers.{offer_of, offered}
 use Rattle.wasm_set.proofs.Pairs.{Together, Both, together_append, together_at}
 
 -- an import with another kind

@@ -1,8 +1,5 @@
 -- Lists of types of different lengths are not equal.
-use Rattle.std.proofs.Common.{◌≡◌, ◌≢◌, suc, ◌&&◌, length, Bool, true, false, List, [], ◌∷◌, refl, ap}
-use Rattle.w2c_base.specs.declared.value.Value.{Value}
-use Rattle.w2c_base.specs.declared.value.ValType.{ValType}
-use Rattle.w2c_base.specs.Values.{equal_type, equal_types, types_of}
+use Rattle.wasm_set.proofs.Common.{◌≡◌, suc, Bool, true, false, ◌&&◌, ◌≢◌, List, [], ◌∷◌, length, refl, ap, equal_type, equal_types, types_of, ValType, Value}
 
 pub unequal : (types others : List ValType) → length types ≢ length others → false ≡ equal_types types others
 unequal [] [] differ = absurd (differ refl)

@@ -1,22 +1,8 @@
 -- What bytes of a file say that spell fields, behind so many bytes of the file.
-use Rattle.std.proofs.Common.{◌≡◌, ℕ, ℤ, ◌+◌, ◌^◌, ◌<◌, ◌≤◌, Bool, List, [], ◌∷◌, ◌++◌, length, length-append, ap, subst, ◌∙◌, ◌⊎◌, inl, inr, arith}
-use Rattle.std.specs.Prelude.{IsTrue}
-use Rattle.std.specs.List.{AllByRecursion}
-use Rattle.w2c_base.specs.SpelledNumber.{SpellsSigned, SpellsUnsigned}
+use Rattle.wasm_spelling.proofs.Common.{◌≡◌, ℕ, ◌+◌, ◌^◌, ◌<◌, ◌≤◌, Bool, ◌⊎◌, List, [], ◌∷◌, length, ℤ, IsTrue, ap, ◌∙◌, subst, inl, inr, arith, length-append, AllByRecursion, all_split, SpellsSigned, SpellsUnsigned, AreBytes, Custom, Fields, Sized, Spelled, Then, byte, either, for_some, here, number, provided, signed, text, window, most_module_bytes}
 use Rattle.leb_bytes.proofs.Runs.{IsNumberRun-some}
-use Rattle.wasm_spelling.specs.Bytes.{AreBytes}
-use Rattle.wasm_spelling.specs.Fields.{Custom, Fields, Then, Sized, Spelled, byte, number, signed, text, here, provided, window, either, for_some}
-use Rattle.wasm_spelling.specs.Limits.{most_module_bytes}
 
 -- ---- lists
-
-pub all_append : {A : Type 0} (P : A → Type 0) (xs ys : List A) → AllByRecursion P xs → AllByRecursion P ys → AllByRecursion P (xs ++ ys)
-all_append P [] ys h k = k
-all_append P (x ∷ xs) ys h k = (h.0, all_append P xs ys h.1 k)
-
-pub all_split : {A : Type 0} (P : A → Type 0) (xs ys : List A) → AllByRecursion P (xs ++ ys) → AllByRecursion P xs × AllByRecursion P ys
-all_split P [] ys h = (tt, h)
-all_split P (x ∷ xs) ys h = let r = all_split P xs ys h.1 in ((h.0, r.0), r.1)
 
 pub all_more : {A : Type 0} (P Q : A → Type 0) → ((x : A) → P x → Q x) → (xs : List A) → AllByRecursion P xs → AllByRecursion Q xs
 all_more P Q f [] h = tt

@@ -1,36 +1,17 @@
 -- Instructions that are spelled are read, and what closes them stands behind them.
-use Rattle.std.proofs.Common.{◌≡◌, ℕ, zero, suc, ◌-◌, ◌<◌, Bool, true, false, eqb, length, Option, Some, None, Result, Ok, refl, sym, ap, subst, ◌∙◌, arith}
-use Rattle.std.specs.Prelude.{IsTrue, nat_lt}
-use Rattle.std.proofs.lemmas.Bool.{eqb-true}
-use Rattle.w2c_base.specs.declared.value.ValType.{ValType}
-use Rattle.wasm_tree.specs.Instructions.{Code, end_code, then_code, Kind, no_else, else_code, Block, Loop, If}
-use Rattle.wasm_tree.specs.InstructionTable.{Form, row_of}
-use Rattle.wasm_tree.specs.InstructionTable.{opcode_of}
-use Rattle.wasm_tree.specs.Forms.{form_of, form_in}
-use Rattle.wasm_tree.proofs.ExactTable.{has_row}
-use Rattle.wasm_spelling.specs.declared.fault.ReadFault.{ReadFault}
-use Rattle.wasm_spelling.specs.At.{At}
-use Rattle.wasm_spelling.specs.Limits.{most_blocks}
-use Rattle.wasm_spelling.specs.Fields.{Fields, byte, here, provided}
-use Rattle.wasm_spelling.specs.ModuleFields.{code_fields, instr_fields, immediates, block_type_code, end_byte, expression}
-use Rattle.wasm_spelling.specs.Steps.{Reader, reads, checked, byte_at, Head, the_end, the_else, a_block, a_loop, an_if, a_form, opened, formed, head_of}
+use Rattle.wasm_spelling.proofs.Common.{◌≡◌, ℕ, zero, suc, ◌-◌, ◌<◌, Bool, true, false, eqb, length, IsTrue, nat_lt, Some, None, Ok, Option, Result, sym, refl, ap, ◌∙◌, subst, arith, eqb-true, ValType, has_row, form_in, form_of, Form, opcode_of, row_of, Block, Code, If, Kind, Loop, else_code, end_code, no_else, then_code, At, Fields, byte, here, provided, most_blocks, block_type_code, code_fields, end_byte, expression, immediates, instr_fields, Head, Reader, a_block, a_form, a_loop, an_if, byte_at, checked, done, formed, head_of, opened, the_else, the_end, ReadFault}
+use Rattle.wasm_spelling.specs.Steps.{reads}
 use Rattle.wasm_spelling.specs.Reading.{block_type_at, form_at, Ender, by_end, by_else, ender_place, Item, closed, one, as_one, item_of, item_at, put_before, after_item, items_at, all_items_at, if_closed, block_of, block_at, code_at, expression_at}
-use Rattle.wasm_spelling.proofs.Tools.{reads_again, checked_again}
+use Rattle.wasm_spelling.proofs.Tools.{none_some, reads_again, checked_again}
 use Rattle.wasm_spelling.proofs.Took.{SpelledAt, Again, first_again}
-use Rattle.wasm_spelling.proofs.Leaves.{byte_again, block_type_again}
-use Rattle.wasm_spelling.proofs.Forms.{no_form, form_again, plain_fields}
-use Rattle.wasm_spelling.proofs.CodeTaken.{InnerTakes, item_takes, block_takes}
-
-abbrev Inner : Type 0
-Inner = Head → Reader Kind
+use Rattle.wasm_spelling.proofs.Leaves.{byte_again, block_type_reads}
+use Rattle.wasm_spelling.proofs.Forms.{form_again, plain_fields}
+use Rattle.wasm_spelling.proofs.CodeTaken.{Inner, InnerTakes, body_fields, item_takes, block_takes}
 
 -- ---- opcodes
 
-no_row : (A : Type 0) (n b : ℕ) (f : Form) → form_in (row_of n) ≡ None → b ≡ n → form_in (row_of b) ≡ Some f → A
-no_row A n b f none e is = no_form A f (sym none ∙ ap (λ (m : ℕ). form_in (row_of m)) (sym e) ∙ is)
-
 not_this : (n b : ℕ) (f : Form) (t : Bool) → form_in (row_of n) ≡ None → eqb b n ≡ t → form_in (row_of b) ≡ Some f → t ≡ false
-not_this n b f true none e is = no_row _ n b f none (eqb-true b n e) is
+not_this n b f true none e is = none_some f (sym none ∙ ap (λ (m : ℕ). form_in (row_of m)) (sym (eqb-true b n e)) ∙ is)
 not_this n b f false none e is = refl
 
 pub form_head : (room : ℕ) (may_else : Bool) (place b : ℕ) (f : Form) → form_in (row_of b) ≡ Some f
@@ -60,22 +41,20 @@ item_again_by room may_else inner a op h b z e head is =
 
 -- ---- what stands behind a block's opcode
 
-abbrev pub body_of : ℕ → Option ValType → Code → Fields → Fields
-body_of room r c rest = provided (nat_lt 0 room) (byte (block_type_code r) (code_fields (room - 1) c rest))
-
 abbrev ReadsKind : Reader Kind → Kind → Fields → Fields → Type 0
 ReadsKind read k fields rest = (a : At) → SpelledAt fields a → (b : At) × (read a ≡ Ok (k, b)) × SpelledAt rest b
 
+abbrev ClosedAgain : ℕ → Reader Kind → (Option ValType → Code → ℕ → Kind) → Type 0
+ClosedAgain room read make =
+    (r : Option ValType) (c : Code) (e : ℕ) (rest : Fields) → ReadsKind read (make r c e) (body_fields room r c (end_byte e rest)) rest
+
 pub record InnerAgain (room : ℕ) (inner : Inner) : Type 0 where
-  pub block : (r : Option ValType) (c : Code) (e : ℕ) (rest : Fields)
-      → ReadsKind (inner a_block) (Block r c e) (body_of room r c (end_byte e rest)) rest
-  pub loops : (r : Option ValType) (c : Code) (e : ℕ) (rest : Fields)
-      → ReadsKind (inner a_loop) (Loop r c e) (body_of room r c (end_byte e rest)) rest
-  pub one_sided : (r : Option ValType) (c : Code) (e : ℕ) (rest : Fields)
-      → ReadsKind (inner an_if) (If r c no_else e) (body_of room r c (end_byte e rest)) rest
+  pub block : ClosedAgain room (inner a_block) Block
+  pub loops : ClosedAgain room (inner a_loop) Loop
+  pub one_sided : ClosedAgain room (inner an_if) (λ r c e. If r c no_else e)
   pub two_sided : (r : Option ValType) (c : Code) (q : ℕ) (o : Code) (e : ℕ) (rest : Fields)
       → ReadsKind (inner an_if) (If r c (else_code q o) e)
-      (body_of room r c (here q (byte 0x05 (code_fields (room - 1) o (end_byte e rest))))) rest
+      (body_fields room r c (here q (byte 0x05 (code_fields (room - 1) o (end_byte e rest))))) rest
 
 -- ---- one instruction
 
@@ -189,54 +168,28 @@ lower : (room : ℕ) (c : Code) (tail : Fields) (a : At) → SpelledAt (code_fie
     → SpelledAt (code_fields room c tail) a
 lower room c tail a s = let less : suc room - 1 ≡ room = omega arith in subst (λ n. SpelledAt (code_fields n c tail) a) less s
 
-block_reads : (room : ℕ) (code : Bool → Reader (Code × Ender)) → ReadsCode room code
-    → (r : Option ValType) (c : Code) (e : ℕ) (rest : Fields)
-    → ReadsKind (block_of code a_block) (Block r c e) (body_of (suc room) r c (end_byte e rest)) rest
-block_reads room code h r c e rest a s =
-    first_again block_type_at (λ r. byte (block_type_code r)) block_type_again a r (code_fields (suc room - 1) c (end_byte e rest)) s.1
-    (λ b0 e0 s0.
-    let y = h false c (end_byte e rest) (λ x b. (x ≡ by_end e) × SpelledAt rest b) (ends_at room false (block_at room) e rest) b0
+-- a block's type, its body and what is read behind it, where an end closes the body
+closed_reads : (room : ℕ) (code : Bool → Reader (Code × Ender)) → ReadsCode room code → (may_else : Bool)
+    (make : Option ValType → Code → ℕ → Kind) (more : Option ValType → Code × Ender → Reader Kind)
+    → ((r : Option ValType) (c : Code) (e : ℕ) (b : At) → more r (c, by_end e) b ≡ Ok (make r c e, b))
+    → ClosedAgain (suc room) (reads block_type_at (λ r. reads (code may_else) (more r))) make
+closed_reads room code h may_else make more is r c e rest a s =
+    first_again block_type_at (λ r. byte (block_type_code r)) block_type_reads.again a r
+    (code_fields (suc room - 1) c (end_byte e rest)) s.1 (λ b0 e0 s0.
+    let y = h may_else c (end_byte e rest) (λ x b. (x ≡ by_end e) × SpelledAt rest b) (ends_at room may_else (block_at room) e rest) b0
     (lower room c (end_byte e rest) b0 s0) in (
       y.1,
-      reads_again _ _ a r b0 _ e0 (reads_again _ _ b0 (c, y.0)
-          y.1 _ y.2 (ap (λ (x : Ender). Ok (Block r c (ender_place x), y.1)) y.3.0)),
-      y.3.1,
-    ))
-
-loop_reads : (room : ℕ) (code : Bool → Reader (Code × Ender)) → ReadsCode room code
-    → (r : Option ValType) (c : Code) (e : ℕ) (rest : Fields)
-    → ReadsKind (block_of code a_loop) (Loop r c e) (body_of (suc room) r c (end_byte e rest)) rest
-loop_reads room code h r c e rest a s =
-    first_again block_type_at (λ r. byte (block_type_code r)) block_type_again a r (code_fields (suc room - 1) c (end_byte e rest)) s.1
-    (λ b0 e0 s0.
-    let y = h false c (end_byte e rest) (λ x b. (x ≡ by_end e) × SpelledAt rest b) (ends_at room false (block_at room) e rest) b0
-    (lower room c (end_byte e rest) b0 s0) in (
-      y.1,
-      reads_again _ _ a r b0 _ e0 (reads_again _ _ b0 (c, y.0)
-          y.1 _ y.2 (ap (λ (x : Ender). Ok (Loop r c (ender_place x), y.1)) y.3.0)),
-      y.3.1,
-    ))
-
-one_sided_reads : (room : ℕ) (code : Bool → Reader (Code × Ender)) → ReadsCode room code
-    → (r : Option ValType) (c : Code) (e : ℕ) (rest : Fields)
-    → ReadsKind (block_of code an_if) (If r c no_else e) (body_of (suc room) r c (end_byte e rest)) rest
-one_sided_reads room code h r c e rest a s =
-    first_again block_type_at (λ r. byte (block_type_code r)) block_type_again a r (code_fields (suc room - 1) c (end_byte e rest)) s.1
-    (λ b0 e0 s0.
-    let y = h true c (end_byte e rest) (λ x b. (x ≡ by_end e) × SpelledAt rest b) (ends_at room true (block_at room) e rest) b0
-    (lower room c (end_byte e rest) b0 s0) in (
-      y.1,
-      reads_again _ _ a r b0 _ e0 (reads_again _ (if_closed (code false) r) b0
-          (c, y.0) y.1 _ y.2 (ap (λ (x : Ender). if_closed (code false) r (c, x) y.1) y.3.0)),
+      reads_again _ _ a r b0 _ e0
+          (reads_again _ (more r) b0 (c, y.0) y.1 _ y.2 (ap (λ (x : Ender). more r (c, x) y.1) y.3.0 ∙ is r c e y.1)),
       y.3.1,
     ))
 
 two_sided_reads : (room : ℕ) (code : Bool → Reader (Code × Ender)) → ReadsCode room code
     → (r : Option ValType) (c : Code) (q : ℕ) (o : Code) (e : ℕ) (rest : Fields)
     → ReadsKind (block_of code an_if) (If r c (else_code q o) e)
-    (body_of (suc room) r c (here q (byte 0x05 (code_fields (suc room - 1) o (end_byte e rest))))) rest
+    (body_fields (suc room) r c (here q (byte 0x05 (code_fields (suc room - 1) o (end_byte e rest))))) rest
 two_sided_reads room code h r c q o e rest a s =
-    first_again block_type_at (λ r. byte (block_type_code r)) block_type_again a r
+    first_again block_type_at (λ r. byte (block_type_code r)) block_type_reads.again a r
     (code_fields (suc room - 1) c (here q (byte 0x05 (code_fields (suc room - 1) o (end_byte e rest))))) s.1 (λ b0 e0 s0.
     let more : Fields = code_fields (suc room - 1) o (end_byte e rest) in
     let y = h true c (here q (byte 0x05 more)) (λ x b. (x ≡ by_else q) × SpelledAt more b) (else_at room (block_at room) q more) b0
@@ -266,9 +219,12 @@ block_again (suc room) =
   where
     all : (room : ℕ) → ReadsCode room (λ may_else. all_items_at room may_else (block_at room)) → InnerAgain (suc room) (block_at (suc room))
     all room h = record {
-      block = block_reads room (λ may_else. all_items_at room may_else (block_at room)) h;
-      loops = loop_reads room (λ may_else. all_items_at room may_else (block_at room)) h;
-      one_sided = one_sided_reads room (λ may_else. all_items_at room may_else (block_at room)) h;
+      block = closed_reads room (λ may_else. all_items_at room may_else (block_at room)) h false Block
+          (λ r c. done (Block r c.0 (ender_place c.1))) (λ r c e b. refl);
+      loops = closed_reads room (λ may_else. all_items_at room may_else (block_at room)) h false Loop
+          (λ r c. done (Loop r c.0 (ender_place c.1))) (λ r c e b. refl);
+      one_sided = closed_reads room (λ may_else. all_items_at room may_else (block_at room)) h true (λ r c e. If r c no_else e)
+          (if_closed (all_items_at room false (block_at room))) (λ r c e b. refl);
       two_sided = two_sided_reads room (λ may_else. all_items_at room may_else (block_at room)) h;
     }
 

@@ -1,21 +1,15 @@
 -- The machine goes over instructions as reading does.
-use Rattle.std.proofs.Common.{◌≡◌, ℕ, zero, suc, ◌-◌, ◌<◌, Bool, true, false, List, [], ◌∷◌, ◌++◌, append_assoc, length, Option, Result, Ok, Err, refl, sym, subst, arith}
-use Rattle.w2c_base.specs.declared.value.ValType.{ValType}
-use Rattle.wasm_tree.specs.Instructions.{Code, Kind, else_code, Block, Loop, If}
-use Rattle.wasm_spelling.specs.declared.fault.ReadFault.{ReadFault}
-use Rattle.wasm_spelling.specs.At.{At}
-use Rattle.wasm_spelling.specs.Limits.{most_blocks}
-use Rattle.wasm_spelling.specs.Steps.{◌>>=◌, Reader, reads, checked, byte_at, Head, the_end, the_else, a_block, a_loop, an_if, a_form, head_of}
-use Rattle.wasm_spelling.specs.Table.{Field, state, instructions, block_type, form_fields, head_fields, row, none_more}
+use Rattle.wasm_spelling.proofs.Common.{◌≡◌, ℕ, zero, suc, ◌-◌, ◌<◌, Bool, true, false, List, [], ◌∷◌, ◌++◌, length, Ok, Err, Option, Result, sym, refl, subst, append_assoc, arith, ValType, Block, Code, If, Kind, Loop, else_code, At, most_blocks, expression, Head, Reader, a_block, a_form, a_loop, an_if, byte_at, checked, done, head_of, the_else, the_end, ◌>>=◌, Field, form_fields, instructions, none_more, state, ReadFault}
+use Rattle.wasm_spelling.specs.Steps.{reads}
+use Rattle.wasm_spelling.specs.Table.{block_type, head_fields, row}
 use Rattle.wasm_spelling.specs.Reading.{block_type_at, form_at, Ender, by_end, by_else, ender_place, Item, closed, one, as_one, item_of, item_at, put_before, after_item, items_at, if_closed, block_of, block_at, code_at, expression_at}
 use Rattle.wasm_spelling.proofs.Tools.{checked_ok}
-use Rattle.wasm_spelling.proofs.Runs.{Runs, lands, Follows, FollowsTo, follows_row, then_reads, runs_now}
-use Rattle.wasm_spelling.proofs.Leaves.{block_type_follows}
+use Rattle.wasm_spelling.proofs.Runs.{Runs, lands, Follows, FollowsTo, follows_row, follows_both, then_reads, runs_now}
+use Rattle.wasm_spelling.proofs.Readings.{Reads, then_done}
+use Rattle.wasm_spelling.proofs.Leaves.{block_type_reads}
 use Rattle.wasm_spelling.proofs.Forms.{form_follows}
-use Rattle.wasm_spelling.proofs.CodeTaken.{HeadIs, head_is, InnerTakes, item_takes, ItemTaken, block_takes, code_takes}
-
-abbrev Inner : Type 0
-Inner = Head → Reader Kind
+use Rattle.wasm_spelling.proofs.CodeTaken.{HeadIs, head_is, Inner, InnerTakes, item_takes, ItemTaken, block_takes, code_takes, expression_takes}
+use Rattle.wasm_spelling.proofs.CodeAgain.{expression_again}
 
 -- what is still expected behind what closes instructions, and behind an item
 abbrev pub ender_left : ℕ → Ender → List Field
@@ -110,14 +104,6 @@ closed_follows room code h none make a outer fields =
     (code_left room) none_more outer fields fields (h false a outer fields)
     (λ c b e. subst (λ (l : List Field). Runs (state b outer (l ++ fields)) (Ok (state b outer fields))) (sym (none a c b e)) (runs_now _))
 
-typed_follows : (room : ℕ) (may_else : Bool) (more : Option ValType → Reader Kind)
-    → ((r : Option ValType) → Follows (instructions room may_else ∷ []) (more r))
-    → Follows (block_type ∷ instructions room may_else ∷ []) (reads block_type_at more)
-typed_follows room may_else more h a outer fields =
-    then_reads (state a outer (block_type ∷ instructions room may_else ∷ fields)) block_type_at more a none_more none_more outer
-    (instructions room may_else ∷ fields) fields (block_type_follows a outer (instructions room may_else ∷ fields))
-    (λ r b e. h r b outer fields)
-
 if_follows : (room : ℕ) (code : Bool → Reader (Code × Ender)) → CodesFollow room code → NoElse room code → (r : Option ValType)
     → Follows (instructions room true ∷ []) (reads (code true) (if_closed (code false) r))
 if_follows room code h none r a outer fields =
@@ -138,15 +124,21 @@ blocks_follow : (room : ℕ) (code : Bool → Reader (Code × Ender)) → CodesF
     → InnerFollows (suc room) (block_of code)
 blocks_follow room code h none = record {
   block = λ _. lowered room false (block_of code a_block)
-      (typed_follows room false (λ r. reads (code false) (λ c a. Ok (Block r c.0 (ender_place c.1), a)))
+      (typed false (λ r. reads (code false) (λ c. done (Block r c.0 (ender_place c.1))))
       (λ r. closed_follows room code h none (λ c. Block r c.0 (ender_place c.1))));
   loops = λ _. lowered room false (block_of code a_loop)
-      (typed_follows room false (λ r. reads (code false) (λ c a. Ok (Loop r c.0 (ender_place c.1), a)))
+      (typed false (λ r. reads (code false) (λ c. done (Loop r c.0 (ender_place c.1))))
       (λ r. closed_follows room code h none (λ c. Loop r c.0 (ender_place c.1))));
   branches =
       λ _. lowered room true (block_of code an_if)
-      (typed_follows room true (λ r. reads (code true) (if_closed (code false) r)) (if_follows room code h none));
+      (typed true (λ r. reads (code true) (if_closed (code false) r)) (if_follows room code h none));
 }
+  where
+    typed : (may_else : Bool) (more : Option ValType → Reader Kind)
+        → ((r : Option ValType) → Follows (instructions room may_else ∷ []) (more r))
+        → Follows (block_type ∷ instructions room may_else ∷ []) (reads block_type_at more)
+    typed may_else more h =
+        follows_both (block_type ∷ []) (instructions room may_else ∷ []) block_type_at more block_type_reads.follows h
 
 no_else_left : (room : ℕ) (q : At) (x : Ender) (b : At) → ItemTaken room false q (closed x) b → ender_left room x ≡ []
 no_else_left room q (by_end place) b t = refl
@@ -185,8 +177,10 @@ ended_code_follows a outer fields =
         (h x.0 x.1 refl) run
     ended (Err f) h run = run
 
-pub expression_follows : Follows (instructions most_blocks false ∷ []) expression_at
+pub expression_reads : Reads expression_at expression (instructions most_blocks false ∷ [])
 unfolding expression_at
-expression_follows a outer fields =
-    then_reads (state a outer (instructions most_blocks false ∷ fields)) (code_at most_blocks false)
-    (λ c b. Ok (c.0, b)) a none_more none_more outer fields fields (ended_code_follows a outer fields) (λ c b e. runs_now _)
+expression_reads = record {
+  takes = expression_takes;
+  again = expression_again;
+  follows = then_done (instructions most_blocks false ∷ []) (code_at most_blocks false) (λ (c : Code × Ender). c.0) ended_code_follows;
+}

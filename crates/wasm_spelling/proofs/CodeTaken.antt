@@ -1,23 +1,11 @@
 -- Instructions that are read are spelled by the bytes that were taken.
-use Rattle.std.proofs.Common.{◌≡◌, ℕ, zero, suc, ◌-◌, ◌<◌, Bool, true, false, ◌&&◌, eqb, length, Option, Some, None, Result, Ok, refl, sym, ap, subst, arith}
-use Rattle.std.specs.Prelude.{IsTrue, nat_lt}
-use Rattle.std.proofs.lemmas.Bool.{eqb-true, and_parts, lt-ltb}
-use Rattle.w2c_base.specs.declared.value.ValType.{ValType}
-use Rattle.wasm_tree.specs.Instructions.{Code, end_code, then_code, Kind, no_else, If}
-use Rattle.wasm_tree.specs.InstructionTable.{Form, row_of}
-use Rattle.wasm_tree.specs.Forms.{form_in}
-use Rattle.wasm_spelling.specs.declared.fault.ReadFault.{ReadFault}
-use Rattle.wasm_spelling.specs.declared.fault.ReadFault.TheVariants.{Float}
+use Rattle.wasm_spelling.proofs.Common.{◌≡◌, ℕ, zero, suc, ◌-◌, ◌<◌, Bool, true, false, ◌&&◌, eqb, length, IsTrue, nat_lt, Some, None, Ok, Option, Result, sym, refl, ap, subst, arith, lt-ltb, eqb-true, and_parts, ValType, form_in, Form, row_of, Block, Code, If, Kind, Loop, end_code, no_else, then_code, At, Fields, byte, here, provided, most_blocks, block_type_code, code_fields, end_byte, expression, instr_fields, Head, Reader, a_block, a_form, a_loop, an_if, byte_at, checked, done, formed, head_of, malformed, opened, the_else, the_end, ReadFault, Float}
 use Rattle.wasm_spelling.specs.declared.fault.Cause.TheVariants as cause
-use Rattle.wasm_spelling.specs.At.{At}
-use Rattle.wasm_spelling.specs.Limits.{most_blocks}
-use Rattle.wasm_spelling.specs.Fields.{Fields, byte, here, provided}
-use Rattle.wasm_spelling.specs.ModuleFields.{code_fields, instr_fields, block_type_code, end_byte, expression}
-use Rattle.wasm_spelling.specs.Steps.{malformed, Reader, reads, checked, byte_at, Head, the_end, the_else, a_block, a_loop, an_if, a_form, opened, formed, is_float, head_of}
-use Rattle.wasm_spelling.specs.Reading.{form_at, Ender, by_end, by_else, ender_place, Item, closed, one, as_one, item_of, item_at, put_before, after_item, items_at, all_items_at, if_closed, block_of, block_at, code_at, expression_at}
-use Rattle.wasm_spelling.proofs.Tools.{bad, ok_is, not_ok, reads_ok, checked_ok}
+use Rattle.wasm_spelling.specs.Steps.{reads, is_float}
+use Rattle.wasm_spelling.specs.Reading.{block_type_at, form_at, Ender, by_end, by_else, ender_place, Item, closed, one, as_one, item_of, item_at, put_before, after_item, items_at, all_items_at, if_closed, block_of, block_at, code_at, expression_at}
+use Rattle.wasm_spelling.proofs.Tools.{bad, ok_is, not_ok, reads_ok, checked_ok, either_way}
 use Rattle.wasm_spelling.proofs.Took.{SpelledAt, Took, took_none, took_as, took_then, Takes, first_taken}
-use Rattle.wasm_spelling.proofs.Leaves.{either_way, byte_front, byte_takes, block_type_takes}
+use Rattle.wasm_spelling.proofs.Leaves.{byte_front, byte_takes, block_type_reads}
 use Rattle.wasm_spelling.proofs.Forms.{row_spells, Behind, form_takes}
 
 -- ---- opcodes
@@ -65,7 +53,7 @@ ItemTaken room may_else a (closed (by_end place)) b = (place ≡ a.place) × Too
 ItemTaken room may_else a (closed (by_else place)) b = (place ≡ a.place) × (may_else ≡ true) × Took a (byte 0x05) b
 ItemTaken room may_else a (one place k) b = Took a (λ rest. here place (instr_fields room k rest)) b × (length b.left < length a.left)
 
-abbrev Inner : Type 0
+abbrev pub Inner : Type 0
 Inner = Head → Reader Kind
 
 pub record InnerTakes (room : ℕ) (inner : Inner) : Type 0 where
@@ -161,7 +149,7 @@ true_room : (room : ℕ) → IsTrue (nat_lt 0 (suc room))
 true_room room = lt-ltb 0 (suc room) (omega arith)
 
 -- the type, and the fields of the body with what closes it
-abbrev body_fields : ℕ → Option ValType → Code → Fields → Fields
+abbrev pub body_fields : ℕ → Option ValType → Code → Fields → Fields
 body_fields room r c rest = provided (nat_lt 0 room) (byte (block_type_code r) (code_fields (room - 1) c rest))
 
 typed : (f : Fields → Fields) (room : ℕ) (a : At) (r : Option ValType) (b : At) (c : Code) (d : At) → Took a (byte (block_type_code r)) b
@@ -175,28 +163,20 @@ abbrev Codes : ℕ → (Bool → Reader (Code × Ender)) → Type 0
 Codes room code =
     (may_else : Bool) (a : At) (c : Code) (x : Ender) (b : At) → code may_else a ≡ Ok ((c, x), b) → CodeTaken room may_else a c x b
 
-block_taken : (room : ℕ) (code : Bool → Reader (Code × Ender)) → Codes room code → (a : At) (k : Kind) (b : At)
-    → block_of code a_block a ≡ Ok (k, b) → Behind (suc room) 0x02 k a b
-block_taken room code h a k b e =
-    first_taken _ _ (λ r. byte (block_type_code r)) block_type_takes a (k, b) e (λ r b0 t0 e0.
+-- a block of one body
+closed_taken : (room : ℕ) (code : Bool → Reader (Code × Ender)) → Codes room code → (op : ℕ) (make : Option ValType → Code → ℕ → Kind)
+    → ((r : Option ValType) (c : Code) (place : ℕ) (rest : Fields)
+    → instr_fields (suc room) (make r c place) rest ≡ byte op (body_fields (suc room) r c (end_byte place rest)))
+    → (a : At) (k : Kind) (b : At)
+    → reads block_type_at (λ r. reads (code false) (λ c. done (make r c.0 (ender_place c.1)))) a ≡ Ok (k, b) → Behind (suc room) op k a b
+closed_taken room code h op make spells a k b e =
+    first_taken _ _ (λ r. byte (block_type_code r)) block_type_reads.takes a (k, b) e (λ r b0 t0 e0.
     let y = reads_ok (code false) _ b0 (k, b) e0 in
     let t = h false b0 y.0.0 y.0.1 y.1 y.2 in
-    subst (λ (z : Kind × At). Behind (suc room) 0x02 z.0 a z.1) (ok_is _ (k, b) y.3) (
+    subst (λ (z : Kind × At). Behind (suc room) op z.0 a z.1) (ok_is _ (k, b) y.3) (
       (λ rest. body_fields (suc room) r y.0.0 (end_byte (ender_place y.0.1) rest)),
       typed (end_byte (ender_place y.0.1)) room a r b0 y.0.0 y.1 t0 (end_taken b0 t.q y.1 y.0.1 room t.code t.ender),
-      λ rest. refl,
-    ))
-
-loop_taken : (room : ℕ) (code : Bool → Reader (Code × Ender)) → Codes room code → (a : At) (k : Kind) (b : At)
-    → block_of code a_loop a ≡ Ok (k, b) → Behind (suc room) 0x03 k a b
-loop_taken room code h a k b e =
-    first_taken _ _ (λ r. byte (block_type_code r)) block_type_takes a (k, b) e (λ r b0 t0 e0.
-    let y = reads_ok (code false) _ b0 (k, b) e0 in
-    let t = h false b0 y.0.0 y.0.1 y.1 y.2 in
-    subst (λ (z : Kind × At). Behind (suc room) 0x03 z.0 a z.1) (ok_is _ (k, b) y.3) (
-      (λ rest. body_fields (suc room) r y.0.0 (end_byte (ender_place y.0.1) rest)),
-      typed (end_byte (ender_place y.0.1)) room a r b0 y.0.0 y.1 t0 (end_taken b0 t.q y.1 y.0.1 room t.code t.ender),
-      λ rest. refl,
+      spells r y.0.0 (ender_place y.0.1),
     ))
 
 -- behind the first branch stands its end, or an `else` and the second branch
@@ -231,7 +211,7 @@ if_taken room other h a r b0 t0 c (by_else place) b1 t k b e =
 branch_taken : (room : ℕ) (code : Bool → Reader (Code × Ender)) → Codes room code → (a : At) (k : Kind) (b : At)
     → block_of code an_if a ≡ Ok (k, b) → Behind (suc room) 0x04 k a b
 branch_taken room code h a k b e =
-    first_taken _ _ (λ r. byte (block_type_code r)) block_type_takes a (k, b) e (λ r b0 t0 e0.
+    first_taken _ _ (λ r. byte (block_type_code r)) block_type_reads.takes a (k, b) e (λ r b0 t0 e0.
     let y = reads_ok (code true) (if_closed (code false) r) b0 (k, b) e0 in
     if_taken room (code false) (h false) a r b0 t0 y.0.0 y.0.1 y.1 (h true b0 y.0.0 y.0.1 y.1 y.2) k b y.3)
 
@@ -244,8 +224,8 @@ block_takes (suc room) =
   where
     all : (room : ℕ) → Codes room (λ may_else. all_items_at room may_else (block_at room)) → InnerTakes (suc room) (block_at (suc room))
     all room h = record {
-      block = block_taken room (λ may_else. all_items_at room may_else (block_at room)) h;
-      loops = loop_taken room (λ may_else. all_items_at room may_else (block_at room)) h;
+      block = closed_taken room (λ may_else. all_items_at room may_else (block_at room)) h 0x02 Block (λ r c place rest. refl);
+      loops = closed_taken room (λ may_else. all_items_at room may_else (block_at room)) h 0x03 Loop (λ r c place rest. refl);
       branches = branch_taken room (λ may_else. all_items_at room may_else (block_at room)) h;
     }
 

@@ -1,6 +1,8 @@
+mod Common
 pub mod Tools
 pub mod Took
 pub mod Runs
+pub mod Readings
 pub mod Leaves
 pub mod Vectors
 pub mod Windows
@@ -10,8 +12,7 @@ pub mod CodeTaken
 pub mod CodeAgain
 pub mod CodeFollows
 pub mod Entries
-pub mod Bodies
-pub mod DataCounts
+pub mod Counted
 pub mod Parts
 pub mod Sections
 pub mod SectionsAgain
@@ -20,3 +21,4 @@ pub mod Behind
 pub mod WithinCode
 pub mod WithinModule
 pub mod WithinPlaces
+pub mod ByteLists

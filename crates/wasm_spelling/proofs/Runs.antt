@@ -1,9 +1,7 @@
 -- Steps of the machine, one after the other.
-use Rattle.std.proofs.Common.{◌≡◌, ℕ, zero, suc, List, [], ◌∷◌, ◌++◌, append_assoc, Result, Ok, Err, refl, sym, ap, subst, ◌∙◌}
-use Rattle.wasm_spelling.specs.declared.fault.ReadFault.{ReadFault}
-use Rattle.wasm_spelling.specs.At.{At}
-use Rattle.wasm_spelling.specs.Steps.{◌>>=◌, Reader, reads}
-use Rattle.wasm_spelling.specs.Table.{State, state, Field, step, after, row, on, none_more}
+use Rattle.wasm_spelling.proofs.Common.{◌≡◌, ℕ, zero, suc, List, [], ◌∷◌, ◌++◌, Ok, Err, Result, sym, refl, ap, ◌∙◌, subst, append_assoc, At, Reader, ◌>>=◌, Field, State, none_more, on, row, state, step, ReadFault}
+use Rattle.wasm_spelling.specs.Steps.{reads}
+use Rattle.wasm_spelling.specs.Table.{after}
 use Rattle.wasm_spelling.proofs.Tools.{bind_ok, bind_bind, ok_is}
 
 -- some number of steps leads there

@@ -1,52 +1,26 @@
 -- Sections: custom ones anywhere, the others in rising order of their ranks.
-use Rattle.std.proofs.Common.{◌≡◌, ℕ, zero, suc, ◌+◌, ◌-◌, ◌<◌, ◌≤◌, Bool, true, false, ◌||◌, ◌&&◌, not, cond, eqb, ltb, List, [], ◌∷◌, ◌++◌, append_assoc, length, Option, Some, None, Result, Ok, refl, sym, ap, subst, ◌∙◌, inl, inr, arith}
-use Rattle.std.specs.Prelude.{find}
-use Rattle.std.proofs.lemmas.List.{append-nil}
-use Rattle.std.proofs.lemmas.Bool.{and_parts, eqb-true, ltb-true, cases_lt}
-use Rattle.wasm_tree.specs.declared.entries.DataCount.{DataCount}
-use Rattle.wasm_tree.specs.declared.tree.Module.{Module}
-use Rattle.wasm_spelling.specs.declared.fault.ReadFault.{ReadFault}
+use Rattle.wasm_spelling.proofs.Common.{◌≡◌, ℕ, zero, suc, ◌+◌, ◌-◌, ◌<◌, ◌≤◌, Bool, true, false, cond, not, ◌&&◌, ◌||◌, eqb, ltb, List, [], ◌∷◌, ◌++◌, length, Some, None, Ok, Option, Result, sym, refl, ap, ◌∙◌, subst, inl, inr, append_assoc, append-nil, arith, ltb-true, eqb-true, and_parts, cases_lt, DataCount, Module, At, Counts, Custom, Fields, Spelled, byte, finished, text, window, Part, content, custom, data_count, each, functions, id_of, is_empty, rank_of, section, sections, segments, start, types, Reader, SectionId, a_custom, a_part, agrees_with, bodies_done, data_done, malformed, no_section, part_of, reads, rest_at, section_begins, section_id_at, section_id_of, ◌>>=◌, Field, content_of, none_more, size, state, used_up, ReadFault}
 use Rattle.wasm_spelling.specs.declared.fault.Cause.TheVariants as cause
-use Rattle.wasm_spelling.specs.At.{At, Counts}
-use Rattle.wasm_spelling.specs.Fields.{Fields, Custom, Spelled, byte, text, window, finished}
 use Rattle.wasm_spelling.specs.ModuleFields as of
-use Rattle.wasm_spelling.specs.ModuleFields.{each, Part, types, imports, functions, tables, memories, globals, exports, start, elements, data_count, code, segments, id_of, rank_of, content, is_empty, section, sections, custom}
-use Rattle.wasm_spelling.specs.Steps.{◌>>=◌, malformed, Reader, reads, rest_at, part_of, agrees_with, bodies_done, data_done, SectionId, no_section, a_custom, a_part, section_begins, section_id_of, section_id_at}
 use Rattle.wasm_spelling.specs.Table as table
-use Rattle.wasm_spelling.specs.Table.{Field, state, used_up, size, content_of, section_fields, row, none_more}
+use Rattle.wasm_spelling.specs.Table.{section_fields, row}
 use Rattle.wasm_spelling.specs.Reading.{any_name_at, content_at, custom_content_at, part_at, custom_at, after_id, sections_at, all_sections_at}
-use Rattle.wasm_spelling.proofs.Tools.{yes, ok_is, not_ok, reads_ok}
+use Rattle.wasm_spelling.proofs.Tools.{yes, ok_is, not_ok, reads_ok, either_way, some_is, found_passes}
 use Rattle.wasm_spelling.proofs.Took.{SpelledAt, Taken, taken_then, Took, took_then}
 use Rattle.wasm_spelling.proofs.Runs.{Runs, lands, Follows, follows_row, follows_both, follows_none, then_reads, runs_now}
-use Rattle.wasm_spelling.proofs.Leaves.{either_way, any_name_takes, any_name_follows, rest_follows}
+use Rattle.wasm_spelling.proofs.Leaves.{any_name_reads, rest_follows}
 use Rattle.wasm_spelling.proofs.Windows.{inner, window_inside, window_taken, window_follows}
-use Rattle.wasm_spelling.proofs.DataCounts.{Agrees}
-use Rattle.wasm_spelling.proofs.Parts.{Same, content_with, content_is, same_content, same_empty, rank_above, Counted, AddsUp, Progress, Ready, ready, part_takes, part_moves, part_follows}
+use Rattle.wasm_spelling.proofs.Counted.{Agrees}
+use Rattle.wasm_spelling.proofs.Parts.{Same, content_with, content_is, same_content, same_empty, rank_above, tallies, Counted, AddsUp, Progress, Ready, ready, part_takes, part_moves, part_follows}
 
 -- ---- ids
 
 pub part_has_id : (p : Part) → part_of (id_of p) ≡ Some p
 part_has_id types = refl
-part_has_id imports = refl
-part_has_id functions = refl
-part_has_id tables = refl
-part_has_id memories = refl
-part_has_id globals = refl
-part_has_id exports = refl
-part_has_id start = refl
-part_has_id elements = refl
-part_has_id data_count = refl
-part_has_id code = refl
-part_has_id segments = refl
-
-abbrev some_part : Part → Option Part
-some_part p = Some p
-
-same_part : (p q : Part) → some_part p ≡ Some q → p ≡ q
-same_part p q e = cc
+part_has_id p = refl
 
 ids_differ : (p q : Part) → id_of p ≡ id_of q → p ≡ q
-ids_differ p q e = same_part p q (sym (part_has_id p) ∙ ap part_of e ∙ part_has_id q)
+ids_differ p q e = some_is p q (sym (part_has_id p) ∙ ap part_of e ∙ part_has_id q)
 
 -- the id of a rank
 abbrev id_at : ℕ → ℕ
@@ -58,20 +32,6 @@ part_has_rank p = refl
 
 pub ranks_differ : (p q : Part) → rank_of p ≡ rank_of q → p ≡ q
 ranks_differ p q e = ids_differ p q (sym (part_has_rank p) ∙ ap id_at e ∙ part_has_rank q)
-
-none_some : (A : Type 0) (p : Part) → ◌≡◌ {A = Option Part} None (Some p) → A
-none_some A p e = absurd cc
-
-choose : {X : Type 0} (b : Bool) (q : Part) (more : Option Part) (p : Part) → cond b (Some q) more ≡ Some p → (b ≡ true → q ≡ p → X)
-    → (more ≡ Some p → X) → X
-choose true q more p e h m = h refl cc
-choose false q more p e h m = m e
-
--- what is found passes the test
-found_passes : (test : Part → Bool) (ps : List Part) (p : Part) → find test ps ≡ Some p → test p ≡ true
-found_passes test [] p e = none_some (test p ≡ true) p e
-found_passes test (q ∷ ps) p e =
-    choose (test q) q (find test ps) p e (λ passes is. sym (ap test is) ∙ passes) (λ e. found_passes test ps p e)
 
 -- the part of an id
 id_is : (id : ℕ) (p : Part) → part_of id ≡ Some p → id ≡ id_of p
@@ -142,7 +102,7 @@ custom_content_taken m a t b e =
     let same : (m, r.1) ≡ (t, b) = ok_is (m, r.1) (t, b) r.3 in (
       record { name = n.0; bytes = r.0 },
       subst (λ (x : At). Took a (λ rest. of.any_name n.0 (text r.0 rest)) x) (ap (λ (y : Module × At). y.1) same)
-          (took_then a n.1 r.1 (any_name_takes a n.0 n.1 n.2) took),
+          (took_then a n.1 r.1 (any_name_reads.takes a n.0 n.1 n.2) took),
       sym (ap (λ (y : Module × At). y.0) same),
     )
   where
@@ -227,13 +187,13 @@ pub record SectionsTaken (last : ℕ) (m : Module) (a : At) (t : Module) : Type 
   pub adds_up : AddsUp t
 
 -- no function lacks its body where all sections were read
-none_lacks : (m : Module) (c : Counts) (b : Bool) → c.code_read ≡ b → Counted m c → b || eqb c.functions 0 ≡ true → length m.funcs
+none_lacks : (m : Module) (c : Counts) (b : Bool) → c.code_read ≡ b → Counted m (tallies c) → b || eqb c.functions 0 ≡ true → length m.funcs
     ≡ length m.bodies
 none_lacks m c true is p done = p.bodies is
 none_lacks m c false is p done = sym p.functions ∙ eqb-true c.functions 0 done ∙ sym (p.no_bodies is)
 
 -- and there are as many data segments as were announced
-all_there : (m : Module) (c : Counts) (b : Bool) → c.data_read ≡ b → Counted m c → b || agrees_with c.data_count 0 ≡ true
+all_there : (m : Module) (c : Counts) (b : Bool) → c.data_read ≡ b → Counted m (tallies c) → b || agrees_with c.data_count 0 ≡ true
     → Agrees m.data_count (length m.segments)
 all_there m c true is p done = subst (λ (o : Option ℕ). agrees_with o (length m.segments) ≡ true) p.data_count (p.segments is)
 all_there m c false is p done =
@@ -290,9 +250,6 @@ abbrev Rest : (Module → Reader Module) → Type 0
 Rest more = (m : Module) (a : At) (t : Module) (b : At) → Progress m a.counts → Clear a.counts.last_rank m → more m a ≡ Ok (t, b)
     → SectionsTaken a.counts.last_rank m a t
 
-less_differ_back : (m n : ℕ) → n < m → m ≡ n → ⊥
-less_differ_back m n l e = absurd (omega (arith, l, e))
-
 pub section_read : (p : Part) (m : Module) (c : At) (n : Module) (d : At) (before : Counts) → Progress m before
     → before.last_rank < rank_of p → c.counts ≡ record before { last_rank = rank_of p } → part_at p m c ≡ Ok (n, d)
     → ContentTaken p n c d × ((q : Part) → (rank_of q ≡ rank_of p → ⊥) → Same q m n) × Progress n d.counts
@@ -330,7 +287,7 @@ after_takes more h m a (a_part p) c t b pr clear is e =
     let u = section_read p m c y.0 y.1 a.counts pr is.1 is.2 y.2 in
     let last : y.1.counts.last_rank ≡ rank_of p = u.3 in
     let clear_then : Clear (rank_of p) y.0 = λ q less.
-    sym (same_empty q m y.0 (u.1 q (less_differ_back (rank_of q) (rank_of p) less))) ∙ clear q (omega (arith, less, is.1)) in
+    sym (same_empty q m y.0 (u.1 q (λ e. less_differ (rank_of p) (rank_of q) less (sym e)))) ∙ clear q (omega (arith, less, is.1)) in
     let rest : SectionsTaken y.1.counts.last_rank y.0 y.1 t = h y.0 y.1 t b u.2 (subst (λ n. Clear n y.0) (sym last) clear_then) y.3 in
     at_part a.counts.last_rank m y.0 a c y.1 t p is.1 clear u.1 is.0 u.0 (subst (λ n. SectionsTaken n y.0 y.1 t) last rest)
 
@@ -352,7 +309,7 @@ unfolding custom_at custom_content_at
 custom_follows m =
     window_follows cause.SectionNotUsedUp (table.any_name ∷ table.any_bytes ∷ []) (custom_content_at m)
     (follows_both (table.any_name ∷ [])
-    (table.any_bytes ∷ []) _ _ any_name_follows (λ name. follows_both (table.any_bytes ∷ [])
+    (table.any_bytes ∷ []) _ _ any_name_reads.follows (λ name. follows_both (table.any_bytes ∷ [])
     [] _ _ rest_follows (λ bytes. follows_none m)))
     (λ a v b e. (custom_content_taken m a v b e).1.taken.moved)
 

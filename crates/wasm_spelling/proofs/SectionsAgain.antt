@@ -1,43 +1,21 @@
 -- Sections that are spelled are read again.
-use Rattle.std.proofs.Common.{◌≡◌, ℕ, zero, suc, ◌+◌, ◌<◌, Bool, true, false, ◌||◌, ◌&&◌, not, eqb, ltb, List, [], ◌∷◌, ◌++◌, length, Option, Some, None, Result, Ok, refl, sym, ap, subst, ◌∙◌, inl, inr, ◌⊎◌, arith}
-use Rattle.std.specs.Prelude.{is_none}
-use Rattle.std.specs.List.{AllByRecursion}
-use Rattle.std.proofs.lemmas.List.{append-nil}
-use Rattle.std.proofs.lemmas.Bool.{and_from, or_right, eqb-true, eq-eqb, lt-ltb, cases_lt}
-use Rattle.wasm_tree.specs.declared.tree.Module.{Module}
-use Rattle.wasm_tree.specs.declared.entries.DataCount.{DataCount}
-use Rattle.wasm_spelling.specs.declared.fault.ReadFault.{ReadFault}
+use Rattle.wasm_spelling.proofs.Common.{◌≡◌, ℕ, zero, suc, ◌+◌, ◌<◌, Bool, true, false, not, ◌&&◌, ◌||◌, eqb, ltb, ◌⊎◌, List, [], ◌∷◌, ◌++◌, length, is_none, Some, None, Ok, Option, Result, sym, refl, ap, ◌∙◌, subst, inl, inr, append-nil, arith, lt-ltb, eq-eqb, eqb-true, and_from, cases_lt, or_right, AllByRecursion, DataCount, Module, At, Counts, Custom, Fields, Spelled, byte, finished, text, window, Part, code, content, custom, data_count, each, elements, exports, functions, globals, id_of, imports, is_empty, memories, parts, rank_of, section, sections, segments, start, tables, types, SectionId, a_custom, a_part, agrees_with, bodies_done, byte_at, byte_of, data_done, no_section, part_of, rest_at, section_begins, section_id_at, section_id_of, ReadFault}
 use Rattle.wasm_spelling.specs.declared.fault.Cause.TheVariants as cause
-use Rattle.wasm_spelling.specs.At.{At, Counts}
-use Rattle.wasm_spelling.specs.Fields.{Fields, Custom, Spelled, byte, text, window, finished}
 use Rattle.wasm_spelling.specs.ModuleFields as of
-use Rattle.wasm_spelling.specs.ModuleFields.{each, Part, types, imports, functions, tables, memories, globals, exports, start, elements, data_count, code, segments, id_of, rank_of, content, is_empty, section, sections, custom, parts}
-use Rattle.wasm_spelling.specs.Steps.{byte_of, byte_at, rest_at, part_of, agrees_with, bodies_done, data_done, SectionId, no_section, a_custom, a_part, section_begins, section_id_of, section_id_at}
-use Rattle.wasm_spelling.specs.Reading.{any_name_at, content_at, custom_content_at, part_at, custom_at, after_id, sections_at}
+use Rattle.wasm_spelling.specs.Reading.{any_name_at, content_at, custom_content_at, part_at, custom_at, after_id, sections_at, no_module}
 use Rattle.wasm_spelling.proofs.Tools.{ok_is, not_ok, reads_again}
 use Rattle.wasm_spelling.proofs.Took.{SpelledAt}
-use Rattle.wasm_spelling.proofs.Leaves.{byte_again, any_name_again}
-use Rattle.wasm_spelling.proofs.Windows.{inner, behind, window_sealed, window_read}
-use Rattle.wasm_spelling.proofs.DataCounts.{count_in, Agrees}
-use Rattle.wasm_spelling.proofs.Parts.{put, Same, same_empty, Counted, AddsUp, Progress, Ready, ready, part_again}
+use Rattle.wasm_spelling.proofs.Leaves.{byte_again, any_name_reads}
+use Rattle.wasm_spelling.proofs.Windows.{nil_from_length, inner, behind, window_sealed, window_read}
+use Rattle.wasm_spelling.proofs.Counted.{count_in, Agrees}
+use Rattle.wasm_spelling.proofs.Parts.{put, put_keeps, Same, same_empty, tallies, Counted, AddsUp, Progress, Ready, ready, part_again}
 use Rattle.wasm_spelling.proofs.Sections.{Rising, part_has_id, custom_taken, section_shorter, section_read}
 
 -- ---- one part of two modules
 
 -- a module without one of its parts
 abbrev clear : Part → Module → Module
-clear types m = record m { types = [] }
-clear imports m = record m { imports = [] }
-clear functions m = record m { funcs = [] }
-clear tables m = record m { tables = [] }
-clear memories m = record m { memories = [] }
-clear globals m = record m { globals = [] }
-clear exports m = record m { exports = [] }
-clear start m = record m { start = None }
-clear elements m = record m { elements = [] }
-clear data_count m = record m { data_count = None }
-clear code m = record m { bodies = [] }
-clear segments m = record m { segments = [] }
+clear p m = put p no_module m
 
 put_clear : (p : Part) (t m : Module) → Same p m t → put p t (clear p m) ≡ m
 put_clear types t m s = λ i. record m { types = (sym s i).types }
@@ -54,8 +32,7 @@ put_clear code t m s = λ i. record m { bodies = (sym s i).bodies }
 put_clear segments t m s = λ i. record m { segments = (sym s i).segments }
 
 nil_from : {A : Type 0} (xs : List A) → eqb (length xs) 0 ≡ true → xs ≡ []
-nil_from [] e = refl
-nil_from (x ∷ xs) e = absurd (omega (arith, eqb-true (suc (length xs)) 0 e))
+nil_from xs e = nil_from_length xs (eqb-true (length xs) 0 e)
 
 none_from : {A : Type 0} (o : Option A) → is_none o ≡ true → o ≡ None
 none_from None e = refl
@@ -76,30 +53,7 @@ clear_empty code m e = λ i. record m { bodies = sym (nil_from m.bodies e) i }
 clear_empty segments m e = λ i. record m { segments = sym (nil_from m.segments e) i }
 
 clear_keeps : (q p : Part) (m t : Module) → (rank_of p ≡ rank_of q → ⊥) → Same p m t → Same p (clear q m) t
-clear_keeps types types m t ne s = absurd (ne refl)
-clear_keeps types p m t ne s = s
-clear_keeps imports imports m t ne s = absurd (ne refl)
-clear_keeps imports p m t ne s = s
-clear_keeps functions functions m t ne s = absurd (ne refl)
-clear_keeps functions p m t ne s = s
-clear_keeps tables tables m t ne s = absurd (ne refl)
-clear_keeps tables p m t ne s = s
-clear_keeps memories memories m t ne s = absurd (ne refl)
-clear_keeps memories p m t ne s = s
-clear_keeps globals globals m t ne s = absurd (ne refl)
-clear_keeps globals p m t ne s = s
-clear_keeps exports exports m t ne s = absurd (ne refl)
-clear_keeps exports p m t ne s = s
-clear_keeps start start m t ne s = absurd (ne refl)
-clear_keeps start p m t ne s = s
-clear_keeps elements elements m t ne s = absurd (ne refl)
-clear_keeps elements p m t ne s = s
-clear_keeps data_count data_count m t ne s = absurd (ne refl)
-clear_keeps data_count p m t ne s = s
-clear_keeps code code m t ne s = absurd (ne refl)
-clear_keeps code p m t ne s = s
-clear_keeps segments segments m t ne s = absurd (ne refl)
-clear_keeps segments p m t ne s = s
+clear_keeps q p m t ne s = sym (put_keeps q p no_module m ne) ∙ s
 
 -- the module without the parts that are still to be read
 abbrev pub cut : List Part → Module → Module
@@ -169,7 +123,7 @@ custom_again : (m : Module) (a : At) (c : Custom) (rest : Fields) → SpelledAt 
 unfolding custom_at custom_content_at
 custom_again m a c rest s =
     let w = window_sealed a (of.any_name c.name (text c.bytes finished)) rest s in
-    let n = any_name_again (inner w.bytes w.start) c.name (text c.bytes finished) w.inside in
+    let n = any_name_reads.again (inner w.bytes w.start) c.name (text c.bytes finished) w.inside in
     let r = rest_again n.0 c.bytes n.2 in (
       behind w.bytes w.start r.0,
       window_read cause.SectionNotUsedUp (custom_content_at m) a w.bytes w.start r.0 m w.number_is w.fits
@@ -218,12 +172,12 @@ part_section_again p m t a rest r as_many agrees s =
       w.after,
     )
 
-done_by : (m : Module) (c : Counts) (b : Bool) → c.code_read ≡ b → Counted m c → length m.funcs ≡ length m.bodies → b || eqb c.functions 0
-    ≡ true
+done_by : (m : Module) (c : Counts) (b : Bool) → c.code_read ≡ b → Counted m (tallies c) → length m.funcs ≡ length m.bodies
+    → b || eqb c.functions 0 ≡ true
 done_by m c true is p same = refl
 done_by m c false is p same = eq-eqb c.functions 0 (p.functions ∙ same ∙ p.no_bodies is)
 
-data_done_by : (m : Module) (c : Counts) (b : Bool) → c.data_read ≡ b → Counted m c → Agrees m.data_count (length m.segments)
+data_done_by : (m : Module) (c : Counts) (b : Bool) → c.data_read ≡ b → Counted m (tallies c) → Agrees m.data_count (length m.segments)
     → b || agrees_with c.data_count 0 ≡ true
 data_done_by m c true is p agrees = refl
 data_done_by m c false is p agrees =

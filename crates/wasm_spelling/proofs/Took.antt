@@ -1,8 +1,5 @@
 -- What is read of bytes spells it, whatever follows; and what is spelled is read again.
-use Rattle.std.proofs.Common.{◌≡◌, ℕ, ◌+◌, ◌≤◌, List, ◌++◌, length, Ok, refl, ap, subst, ◌∙◌, arith, length-append}
-use Rattle.wasm_spelling.specs.At.{At}
-use Rattle.wasm_spelling.specs.Fields.{Fields, Then, Spelled}
-use Rattle.wasm_spelling.specs.Steps.{Reader, reads}
+use Rattle.wasm_spelling.proofs.Common.{◌≡◌, ℕ, ◌+◌, ◌≤◌, List, ◌++◌, length, Ok, refl, ap, ◌∙◌, subst, arith, length-append, At, Counts, Fields, Spelled, Then, Reader, reads}
 use Rattle.wasm_spelling.proofs.Tools.{reads_ok}
 
 abbrev pub SpelledAt : Fields → At → Type 0
@@ -24,15 +21,22 @@ taken_then {f} {g} a b c t u = record {
   within = omega (arith, t.within, u.within);
 }
 
--- and the counts stay
-pub record Took (a : At) (f : Fields → Fields) (b : At) : Type 0 where
+-- and these are the counts then
+pub record Leads (a : At) (f : Fields → Fields) (b : At) (counts : Counts) : Type 0 where
   pub taken : Taken a f b
-  pub kept : b.counts ≡ a.counts
+  pub kept : b.counts ≡ counts
+
+pub leads_then : {f g : Fields → Fields} {k l : Counts} (a b c : At) → Leads a f b k → Leads b g c l → Leads a (λ fields. f (g fields)) c l
+leads_then a b c t u = record { taken = taken_then a b c t.taken u.taken; kept = u.kept }
+
+-- and the counts stay
+abbrev pub Took : At → (Fields → Fields) → At → Type 0
+Took a f b = Leads a f b a.counts
 
 pub took_none : (a : At) → Took a (λ fields. fields) a
 took_none a = record { taken = taken_none a; kept = refl }
 
-pub took_then : {f g : Fields → Fields} (a b c : At) → Took a f b → Took b g c → Took a (λ fields. f (g fields)) c
+pub took_then : {f g : Fields → Fields} {k : Counts} (a b c : At) → Leads a f b k → Took b g c → Leads a (λ fields. f (g fields)) c k
 took_then a b c t u = record { taken = taken_then a b c t.taken u.taken; kept = u.kept ∙ t.kept }
 
 pub took_as : {f : Fields → Fields} (g : Fields → Fields) (a b : At) → Took a f b
@@ -69,6 +73,15 @@ Takes {A} read fields = (a : At) (v : A) (b : At) → read a ≡ Ok (v, b) → T
 abbrev pub Again : {A : Type 0} → Reader A → (A → Fields → Fields) → Type 0
 Again {A} read fields = (a : At) (v : A) (rest : Fields) → SpelledAt (fields v rest) a → (b : At) × (read a ≡ Ok (v, b)) × SpelledAt rest b
 
+-- both, of a reading that counts: what spells a value hangs on the counts in front of it
+pub record CountingSpelling {A : Type 0} (read : Reader A) (fields : Counts → A → Fields → Fields) (after : A → Counts → Counts)
+    : Type 0 where
+  pub takes : (a : At) (v : A) (b : At) → read a ≡ Ok (v, b) → Leads a (fields a.counts v) b (after v a.counts)
+  pub again : (a : At) (v : A) (rest : Fields) → SpelledAt (fields a.counts v rest) a → (b : At) × (read a ≡ Ok (v, b)) × SpelledAt rest b
+
+abbrev pub Spelling : {A : Type 0} → Reader A → (A → Fields → Fields) → Type 0
+Spelling read fields = CountingSpelling read (λ c. fields) (λ v c. c)
+
 -- one reading after another: what the first took, and what is left to read
 pub first_taken : {A B C : Type 0} (r : Reader A) (k : A → Reader B) (fields : A → Fields → Fields) → Takes r fields → (a : At) (y : B × At)
     → reads r k a ≡ Ok y
@@ -80,7 +93,3 @@ pub first_again : {A C : Type 0} (r : Reader A) (fields : A → Fields → Field
     → SpelledAt (fields v rest) a
     → ((b : At) → r a ≡ Ok (v, b) → SpelledAt rest b → C) → C
 first_again r fields again a v rest s more = let t = again a v rest s in more t.0 t.1 t.2
-
-pub at_is : (a : At) (place : ℕ) (left : List ℕ) → a.place ≡ place → a.left ≡ left
-    → a ≡ record { place = place; left = left; counts = a.counts }
-at_is a place left p l = λ i. record { place = p i; left = l i; counts = a.counts }

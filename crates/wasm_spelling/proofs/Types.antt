@@ -1,45 +1,29 @@
 -- Types and limits.
-use Rattle.std.proofs.Common.{◌≡◌, ℕ, Bool, true, false, List, [], ◌∷◌, length, Option, Some, None, Result, Ok, refl, sym, ap, subst, arith}
-use Rattle.w2c_base.specs.declared.value.ValType.{ValType}
+use Rattle.wasm_spelling.proofs.Common.{◌≡◌, ℕ, Bool, true, false, List, [], ◌∷◌, length, Some, None, Ok, Option, Result, sym, refl, ap, subst, arith, ValType, Limits, At, Fields, Spelled, byte, here, number, most_memory_pages, most_parameters, most_results, most_table_elements, each, limits_from, mutability_code, results, Reader, reads, Field, index, none_more, ReadFault, Which}
 use Rattle.w2c_base.specs.declared.signature.FuncType.{FuncType}
-use Rattle.wasm_tree.specs.declared.entries.Limits.{Limits}
-use Rattle.wasm_spelling.specs.declared.fault.ReadFault.{ReadFault}
 use Rattle.wasm_spelling.specs.declared.fault.Cause.TheVariants as cause
-use Rattle.wasm_spelling.specs.declared.fault.Which.{Which}
 use Rattle.wasm_spelling.specs.declared.fault.Which.TheVariants as which
-use Rattle.wasm_spelling.specs.At.{At}
-use Rattle.wasm_spelling.specs.Limits.{most_parameters, most_results, most_memory_pages, most_table_elements}
-use Rattle.wasm_spelling.specs.Fields.{Fields, Spelled, byte, number, here}
 use Rattle.wasm_spelling.specs.ModuleFields as of
-use Rattle.wasm_spelling.specs.ModuleFields.{each, results, mutability_code, limits_from}
-use Rattle.wasm_spelling.specs.Steps.{Reader, reads}
 use Rattle.wasm_spelling.specs.Table as table
-use Rattle.wasm_spelling.specs.Table.{Field, of_parameters, of_results, row, none_more, sizes_of, table_minimum, memory_minimum, index}
+use Rattle.wasm_spelling.specs.Table.{of_parameters, of_results, row, sizes_of, table_minimum, memory_minimum}
 use Rattle.wasm_spelling.specs.Reading.{type_at, flag_at, limited_at, vector_at, func_type_at, first_of_results, maximum_at, limits_at, memory_type_at, table_type_at}
 use Rattle.wasm_spelling.proofs.Tools.{ok_is, reads_ok, reads_again}
 use Rattle.wasm_spelling.proofs.Took.{SpelledAt, Took, took_none, took_as, took_then, Takes, Again, first_taken, first_again}
 use Rattle.wasm_spelling.proofs.Runs.{Follows, FollowsTo, follows_row, follows_from, follows_both, follows_none}
-use Rattle.wasm_spelling.proofs.Leaves.{limited, limited_takes, limited_again, number_takes, number_again, index_follows, place_takes, place_again, place_follows, exactly_takes, exactly_again, exactly_follows, type_takes, type_again, type_follows, flag_takes, flag_again}
-use Rattle.wasm_spelling.proofs.Vectors.{vector_takes, vector_again, vector_follows}
+use Rattle.wasm_spelling.proofs.Readings.{Reads, then_done, next, last, in_order}
+use Rattle.wasm_spelling.proofs.Leaves.{limited, limited_spelling, index_reads, place_reads, exactly_reads, type_reads, flag_spelling}
+use Rattle.wasm_spelling.proofs.Vectors.{vector_reads}
 
 -- ---- function types
 
 abbrev pub short : {A : Type 0} → ℕ → (A → Fields → Fields) → List A → Fields → Fields
 short most fields v rest = limited most (length v) (each fields v rest)
 
-pub parameters_takes : Takes (vector_at of_parameters type_at) (short most_parameters of.value_type)
-parameters_takes =
-    vector_takes of_parameters (limited most_parameters) type_at of.value_type (limited_takes most_parameters which.Parameters) type_takes
+pub parameters_reads : Reads (vector_at of_parameters type_at) (short most_parameters of.value_type) (table.vector of_parameters ∷ [])
+parameters_reads = vector_reads of_parameters (limited_spelling most_parameters which.Parameters) type_reads
 
-pub parameters_again : Again (vector_at of_parameters type_at) (short most_parameters of.value_type)
-parameters_again =
-    vector_again of_parameters (limited most_parameters) type_at of.value_type (limited_again most_parameters which.Parameters) type_again
-
-pub results_takes : Takes (vector_at of_results type_at) (short most_results of.value_type)
-results_takes = vector_takes of_results (limited most_results) type_at of.value_type (limited_takes most_results which.Results) type_takes
-
-pub results_again : Again (vector_at of_results type_at) (short most_results of.value_type)
-results_again = vector_again of_results (limited most_results) type_at of.value_type (limited_again most_results which.Results) type_again
+pub results_reads : Reads (vector_at of_results type_at) (short most_results of.value_type) (table.vector of_results ∷ [])
+results_reads = vector_reads of_results (limited_spelling most_results which.Results) type_reads
 
 -- a list of at most one result is the list of its first
 as_results : (a : At) (ts : List ValType) (fields : Fields) → SpelledAt (short most_results of.value_type ts fields) a
@@ -52,39 +36,33 @@ first_is : (r : Option ValType) → first_of_results (results r) ≡ r
 first_is None = refl
 first_is (Some t) = refl
 
-pub func_type_takes : Takes func_type_at of.func_type
+pub func_type_reads : Reads func_type_at of.func_type (table.parts_of table.of_types)
 unfolding func_type_at
-func_type_takes a v b e =
-    first_taken _ _ (λ u. byte 0x60) (exactly_takes 0x60 cause.BadForm) a (v, b) e (λ x0 b0 t0 e0.
-    first_taken _ _ (short most_parameters of.value_type) parameters_takes b0 (v, b) e0 (λ x1 b1 t1 e1.
-    first_taken _ _ (short most_results of.value_type) results_takes b1 (v, b) e1 (λ x2 b2 t2 e2.
-    subst (λ (y : FuncType × At). Took a (of.func_type y.0) y.1) (ok_is _ (v, b) e2)
-    (took_then a b0 b2 t0 (took_then b0 b1 b2 t1
-    (took_as (short most_results of.value_type (results (first_of_results x2))) b1 b2 t2 (as_results b1 x2)))))))
-
-pub func_type_again : Again func_type_at of.func_type
-unfolding func_type_at
-func_type_again a v rest s =
-    first_again _ (λ u. byte 0x60) (exactly_again 0x60 cause.BadForm) a tt
-    (short most_parameters of.value_type v.params (short most_results of.value_type (results v.result) rest)) s (λ b0 e0 s0.
-    first_again _ (short most_parameters of.value_type) parameters_again b0 v.params
-    (short most_results of.value_type (results v.result) rest) s0 (λ b1 e1 s1.
-    first_again _ (short most_results of.value_type) results_again b1 (results v.result) rest s1 (λ b2 e2 s2. (
-      b2,
-      reads_again _ _ a tt b0 _ e0 (reads_again _ _ b0 v.params b1 _ e1 (reads_again _ _ b1 (results v.result) b2 _ e2
-          (ap (λ (r : Option ValType). Ok (record { params = v.params; result = r }, b2)) (first_is v.result)))),
-      s2,
-    ))))
-
-pub func_type_follows : Follows (table.parts_of table.of_types) func_type_at
-unfolding func_type_at
-func_type_follows =
-    follows_both (table.exactly 0x60 cause.BadForm ∷ [])
-    (table.vector of_parameters ∷ table.vector of_results ∷ []) _ _ (exactly_follows 0x60 cause.BadForm) (λ u.
-    follows_both (table.vector of_parameters ∷ []) (table.vector of_results ∷ []) _ _ (vector_follows of_parameters type_at type_follows)
-    (λ params.
-    follows_both (table.vector of_results ∷ []) [] _ _ (vector_follows of_results type_at type_follows)
-    (λ found. follows_none {A = FuncType} (record { params = params; result = first_of_results found }))))
+func_type_reads = record {
+  takes = λ a v b e.
+      first_taken _ _ (λ u. byte 0x60) (exactly_reads 0x60 cause.BadForm).takes a (v, b) e (λ x0 b0 t0 e0.
+      first_taken _ _ (short most_parameters of.value_type) parameters_reads.takes b0 (v, b) e0 (λ x1 b1 t1 e1.
+      first_taken _ _ (short most_results of.value_type) results_reads.takes b1 (v, b) e1 (λ x2 b2 t2 e2.
+      subst (λ (y : FuncType × At). Took a (of.func_type y.0) y.1) (ok_is _ (v, b) e2)
+      (took_then a b0 b2 t0 (took_then b0 b1 b2 t1
+      (took_as (short most_results of.value_type (results (first_of_results x2))) b1 b2 t2 (as_results b1 x2)))))));
+  again = λ a v rest s.
+      first_again _ (λ u. byte 0x60) (exactly_reads 0x60 cause.BadForm).again a tt
+      (short most_parameters of.value_type v.params (short most_results of.value_type (results v.result) rest)) s (λ b0 e0 s0.
+      first_again _ (short most_parameters of.value_type) parameters_reads.again b0 v.params
+      (short most_results of.value_type (results v.result) rest) s0 (λ b1 e1 s1.
+      first_again _ (short most_results of.value_type) results_reads.again b1 (results v.result) rest s1 (λ b2 e2 s2. (
+        b2,
+        reads_again _ _ a tt b0 _ e0 (reads_again _ _ b0 v.params b1 _ e1 (reads_again _ _ b1 (results v.result) b2 _ e2
+            (ap (λ (r : Option ValType). Ok (record { params = v.params; result = r }, b2)) (first_is v.result)))),
+        s2,
+      ))));
+  follows =
+      follows_both (table.exactly 0x60 cause.BadForm ∷ []) (table.vector of_parameters ∷ table.vector of_results ∷ []) _ _
+      (exactly_reads 0x60 cause.BadForm).follows (λ u.
+      follows_both (table.vector of_parameters ∷ []) (table.vector of_results ∷ []) _ _ parameters_reads.follows (λ params.
+      then_done (table.vector of_results ∷ []) _ _ results_reads.follows));
+}
 
 -- ---- limits
 
@@ -102,7 +80,7 @@ unfolding maximum_at
 maximum_takes false a v b e =
     subst (λ (y : Option ℕ × At). Took a (max_fields y.0) y.1 × (has_max y.0 ≡ false)) (ok_is (None, a) (v, b) e) (took_none a, refl)
 maximum_takes true a v b e =
-    first_taken _ _ number number_takes a (v, b) e
+    first_taken _ _ number index_reads.takes a (v, b) e
     (λ n c t f. subst (λ (y : Option ℕ × At). Took a (max_fields y.0) y.1 × (has_max y.0 ≡ true)) (ok_is (Some n, c) (v, b) f)
     (t, refl))
 
@@ -110,19 +88,19 @@ maximum_again : (a : At) (v : Option ℕ) (rest : Fields) → SpelledAt (max_fie
     → (b : At) × (maximum_at (has_max v) a ≡ Ok (v, b)) × SpelledAt rest b
 unfolding maximum_at
 maximum_again a None rest s = (a, refl, s)
-maximum_again a (Some max) rest s = first_again _ number number_again a max rest s (λ b e t. (b, reads_again _ _ a max b _ e refl, t))
+maximum_again a (Some max) rest s = first_again _ number index_reads.again a max rest s (λ b e t. (b, reads_again _ _ a max b _ e refl, t))
 
 flagged : (most min : ℕ) (max : Option ℕ) (flag : Bool) (rest : Fields) → has_max max ≡ flag
     → byte (mutability_code flag) (limited most min (max_fields max rest)) ≡ limits_from most min max rest
 flagged most min None flag rest e = ap (λ f. byte (mutability_code f) (limited most min rest)) (sym e)
 flagged most min (Some max) flag rest e = ap (λ f. byte (mutability_code f) (limited most min (number max rest))) (sym e)
 
-pub limits_takes : (most : ℕ) (w : Which) → Takes (limits_at most w) (of.limits most)
+limits_takes : (most : ℕ) (w : Which) → Takes (limits_at most w) (of.limits most)
 unfolding limits_at limited_at
 limits_takes most w a v b e =
-    first_taken _ _ here place_takes a (v, b) e (λ x0 b0 t0 e0.
-    first_taken _ _ (λ f. byte (mutability_code f)) flag_takes b0 (v, b) e0 (λ x1 b1 t1 e1.
-    first_taken _ _ (limited most) (limited_takes most w) b1 (v, b) e1 (λ x2 b2 t2 e2.
+    first_taken _ _ here place_reads.takes a (v, b) e (λ x0 b0 t0 e0.
+    first_taken _ _ (λ f. byte (mutability_code f)) flag_spelling.takes b0 (v, b) e0 (λ x1 b1 t1 e1.
+    first_taken _ _ (limited most) (limited_spelling most w).takes b1 (v, b) e1 (λ x2 b2 t2 e2.
     let s = reads_ok _ _ b2 (v, b) e2 in
     with_max a b v x0 b0 t0 x1 b1 t1 x2 b2 t2 s.0 s.1 (maximum_takes x1 b2 s.0 s.1 s.2) s.3)))
   where
@@ -137,13 +115,13 @@ limits_takes most w a v b e =
         (took_then a b0 b3 t0 (took_then b0 b1 b3 t1 (took_then b1 b2 b3 t2 t3.0)))
         (λ fields s. (s.0, subst (λ f. Spelled f a.place a.left) (flagged most x2 x3 x1 fields t3.1) s.1)))
 
-pub limits_again : (most : ℕ) (w : Which) → Again (limits_at most w) (of.limits most)
+limits_again : (most : ℕ) (w : Which) → Again (limits_at most w) (of.limits most)
 unfolding limits_at limited_at
 limits_again most w a v rest s =
-    first_again _ here place_again a v.place (limits_from most v.min v.max rest) s (λ b0 e0 s0.
-    first_again _ (λ f. byte (mutability_code f)) flag_again b0 (has_max v.max) (limited most v.min (max_fields v.max rest))
+    first_again _ here place_reads.again a v.place (limits_from most v.min v.max rest) s (λ b0 e0 s0.
+    first_again _ (λ f. byte (mutability_code f)) flag_spelling.again b0 (has_max v.max) (limited most v.min (max_fields v.max rest))
     (subst (λ f. SpelledAt f b0) (sym (flagged most v.min v.max (has_max v.max) rest refl)) s0) (λ b1 e1 s1.
-    first_again _ (limited most) (limited_again most w) b1 v.min (max_fields v.max rest) s1 (λ b2 e2 s2.
+    first_again _ (limited most) (limited_spelling most w).again b1 v.min (max_fields v.max rest) s1 (λ b2 e2 s2.
     let t = maximum_again b2 v.max rest s2 in (
       t.0,
       reads_again _ _ a v.place b0 _ e0 (reads_again _ _ b0 (has_max v.max)
@@ -155,7 +133,8 @@ limits_follow : (field minimum : Field) (most : ℕ) (w : Which) → FollowsTo (
     → Follows (minimum ∷ []) (limited_at most w) → Follows (field ∷ []) (limits_at most w)
 unfolding limits_at maximum_at
 limits_follow field minimum most w h m =
-    follows_both [] (field ∷ []) _ _ place_follows (λ place. follows_from (field ∷ []) (sizes_of minimum) _ _ h (λ flag. sizes place flag))
+    follows_both [] (field ∷ []) _ _ place_reads.follows
+    (λ place. follows_from (field ∷ []) (sizes_of minimum) _ _ h (λ flag. sizes place flag))
   where
     made : ℕ → ℕ → Option ℕ → Limits
     made place min max = record { min = min; max = max; place = place }
@@ -170,42 +149,29 @@ limits_follow field minimum most w h m =
         (λ max. follows_none (made place min max)))
     sizes place true =
         follows_both (minimum ∷ []) (index ∷ []) _ _ m (λ min. follows_both (index ∷ [])
-        [] _ _ (follows_both (index ∷ []) [] _ _ index_follows (λ n. follows_none {A = Option ℕ} (Some n)))
+        [] _ _ (follows_both (index ∷ []) [] _ _ index_reads.follows (λ n. follows_none {A = Option ℕ} (Some n)))
         (λ max. follows_none (made place min max)))
 
-pub memory_type_takes : Takes memory_type_at of.memory_type
-unfolding memory_type_at
-memory_type_takes = limits_takes most_memory_pages which.MemoryPages
+limits_reads : (field minimum : Field) (most : ℕ) (w : Which) → FollowsTo (field ∷ []) (sizes_of minimum) flag_at
+    → Follows (minimum ∷ []) (limited_at most w) → Reads (limits_at most w) (of.limits most) (field ∷ [])
+limits_reads field minimum most w h m = record {
+  takes = limits_takes most w;
+  again = limits_again most w;
+  follows = limits_follow field minimum most w h m;
+}
 
-pub memory_type_again : Again memory_type_at of.memory_type
-unfolding memory_type_at
-memory_type_again = limits_again most_memory_pages which.MemoryPages
-
-pub memory_type_follows : Follows (table.memory_limits ∷ []) memory_type_at
+pub memory_type_reads : Reads memory_type_at of.memory_type (table.memory_limits ∷ [])
 unfolding memory_type_at row flag_at limited_at
-memory_type_follows =
-    limits_follow table.memory_limits memory_minimum most_memory_pages which.MemoryPages
+memory_type_reads =
+    limits_reads table.memory_limits memory_minimum most_memory_pages which.MemoryPages
     (follows_row table.memory_limits flag_at (sizes_of memory_minimum) (λ a outer fields. refl))
     (follows_row memory_minimum (limited_at most_memory_pages which.MemoryPages) none_more (λ a outer fields. refl))
 
-pub table_type_takes : Takes table_type_at of.table_type
-unfolding table_type_at
-table_type_takes a v b e =
-    first_taken _ _ (λ u. byte 0x70) (exactly_takes 0x70 cause.BadElementType) a (v, b) e (λ x0 b0 t0 e0.
-    took_then a b0 b t0 (limits_takes most_table_elements which.TableLength b0 v b e0))
-
-pub table_type_again : Again table_type_at of.table_type
-unfolding table_type_at
-table_type_again a v rest s =
-    first_again _ (λ u. byte 0x70) (exactly_again 0x70 cause.BadElementType) a tt (of.limits most_table_elements v rest) s (λ b0 e0 s0.
-    first_again _ (of.limits most_table_elements) (limits_again most_table_elements which.TableLength) b0 v rest s0 (λ b1 e1 s1.
-    (b1, reads_again _ _ a tt b0 _ e0 e1, s1)))
-
-pub table_type_follows : Follows (table.exactly 0x70 cause.BadElementType ∷ table.table_limits ∷ []) table_type_at
+pub table_type_reads : Reads table_type_at of.table_type (table.exactly 0x70 cause.BadElementType ∷ table.table_limits ∷ [])
 unfolding table_type_at row flag_at limited_at
-table_type_follows =
-    follows_both (table.exactly 0x70 cause.BadElementType ∷ []) (table.table_limits ∷ []) _ _ (exactly_follows 0x70 cause.BadElementType)
-    (λ u.
-    limits_follow table.table_limits table_minimum most_table_elements which.TableLength
+table_type_reads =
+    in_order (next _ (λ l. tt) (exactly_reads 0x70 cause.BadElementType) (last
+    (limits_reads table.table_limits table_minimum most_table_elements which.TableLength
     (follows_row table.table_limits flag_at (sizes_of table_minimum) (λ a outer fields. refl))
     (follows_row table_minimum (limited_at most_table_elements which.TableLength) none_more (λ a outer fields. refl)))
+    (λ x v. refl)))

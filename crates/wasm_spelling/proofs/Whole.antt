@@ -1,22 +1,15 @@
 -- A file: it has one tree or one first fault, and reading gives it.
-use Rattle.std.proofs.Common.{◌≡◌, ℕ, zero, suc, ◌≤◌, true, eqb, List, [], ◌∷◌, ◌++◌, length, Result, Ok, Err, refl, sym, ap, subst, ◌∙◌, inl, inr, ◌⊎◌, arith}
-use Rattle.std.proofs.lemmas.Bool.{eqb-true, eq-eqb}
-use Rattle.wasm_tree.specs.declared.tree.Module.{Module}
-use Rattle.wasm_spelling.specs.declared.fault.ReadFault.{ReadFault}
+use Rattle.wasm_spelling.proofs.Common.{◌≡◌, ℕ, zero, suc, ◌≤◌, true, eqb, ◌⊎◌, List, [], ◌∷◌, ◌++◌, length, Ok, Err, Result, sym, refl, ap, ◌∙◌, subst, inl, inr, arith, eq-eqb, eqb-true, Module, At, Counts, Fields, Spelled, byte, finished, provided, most_module_bytes, Part, Spells, is_empty, module_fields, parts, sections, reads, ◌>>=◌, Field, State, state, step, Cause, ReadFault}
 use Rattle.wasm_spelling.specs.declared.fault.Cause.TheVariants as cause
-use Rattle.wasm_spelling.specs.At.{At, Counts}
-use Rattle.wasm_spelling.specs.Limits.{most_module_bytes}
-use Rattle.wasm_spelling.specs.Fields.{Fields, Spelled, byte, provided, finished}
 use Rattle.wasm_spelling.specs.ModuleFields as of
-use Rattle.wasm_spelling.specs.ModuleFields.{Part, is_empty, parts, sections, module_fields, Spells}
-use Rattle.wasm_spelling.specs.Steps.{◌>>=◌, reads}
 use Rattle.wasm_spelling.specs.Table as table
-use Rattle.wasm_spelling.specs.Table.{State, state, Field, step, after, start_of, at_first, no_counts, Upto}
-use Rattle.wasm_spelling.specs.Reading.{all_sections_at, no_module, magic_at, version_at, module_at, tree_of, file_at}
+use Rattle.wasm_spelling.specs.Table.{after, start_of, at_first, no_counts, Upto}
+use Rattle.wasm_spelling.specs.Reading.{exactly_at, all_sections_at, no_module, magic_at, version_at, module_at, tree_of, file_at}
 use Rattle.wasm_spelling.proofs.Tools.{bind_ok, ok_is, reads_ok, reads_again}
-use Rattle.wasm_spelling.proofs.Took.{SpelledAt, Took, took_then, Takes, Again, first_taken, first_again}
+use Rattle.wasm_spelling.proofs.Took.{SpelledAt, Took, first_again}
 use Rattle.wasm_spelling.proofs.Runs.{Runs, Follows, follows_both}
-use Rattle.wasm_spelling.proofs.Leaves.{exactly_takes, exactly_again, exactly_follows}
+use Rattle.wasm_spelling.proofs.Readings.{Reads, next, last, in_order}
+use Rattle.wasm_spelling.proofs.Leaves.{exactly_reads}
 use Rattle.wasm_spelling.proofs.Parts.{Progress}
 use Rattle.wasm_spelling.proofs.Sections.{Rising, all_takes, all_follows}
 use Rattle.wasm_spelling.proofs.SectionsAgain.{spelled_agrees, sections_again}
@@ -26,72 +19,23 @@ use Rattle.wasm_spelling.proofs.SectionsAgain.{spelled_agrees, sections_again}
 abbrev four : ℕ → ℕ → ℕ → ℕ → Fields → Fields
 four a b c d rest = byte a (byte b (byte c (byte d rest)))
 
-magic_takes : Takes magic_at (λ u. four 0x00 0x61 0x73 0x6D)
+abbrev four_fields : ℕ → ℕ → ℕ → ℕ → Cause → List Field
+four_fields a b c d fault = table.exactly a fault ∷ table.exactly b fault ∷ table.exactly c fault ∷ table.exactly d fault ∷ []
+
+four_reads : (a b c d : ℕ) (fault : Cause)
+    → Reads (reads (exactly_at a fault) (λ u. reads (exactly_at b fault) (λ u. reads (exactly_at c fault) (λ u. exactly_at d fault))))
+    (λ u. four a b c d) (four_fields a b c d fault)
+four_reads a b c d fault =
+    in_order (next _ (λ u. tt) (exactly_reads a fault) (next _ (λ u. tt) (exactly_reads b fault) (next _ (λ u. tt) (exactly_reads c fault)
+    (last (exactly_reads d fault) (λ x u. refl)))))
+
+magic_reads : Reads magic_at (λ u. four 0x00 0x61 0x73 0x6D) (four_fields 0x00 0x61 0x73 0x6D cause.BadMagic)
 unfolding magic_at
-magic_takes a v b e =
-    first_taken _ _ (λ u. byte 0x00) (exactly_takes 0x00 cause.BadMagic) a (v, b) e (λ x0 b0 t0 e0.
-    first_taken _ _ (λ u. byte 0x61) (exactly_takes 0x61 cause.BadMagic) b0 (v, b) e0 (λ x1 b1 t1 e1.
-    first_taken _ _ (λ u. byte 0x73) (exactly_takes 0x73 cause.BadMagic) b1 (v, b) e1 (λ x2 b2 t2 e2.
-    took_then a b0 b t0 (took_then b0 b1 b t1 (took_then b1 b2 b t2 (exactly_takes 0x6D cause.BadMagic b2 v b e2))))))
+magic_reads = four_reads 0x00 0x61 0x73 0x6D cause.BadMagic
 
-version_takes : Takes version_at (λ u. four 0x01 0x00 0x00 0x00)
+version_reads : Reads version_at (λ u. four 0x01 0x00 0x00 0x00) (four_fields 0x01 0x00 0x00 0x00 cause.BadVersion)
 unfolding version_at
-version_takes a v b e =
-    first_taken _ _ (λ u. byte 0x01) (exactly_takes 0x01 cause.BadVersion) a (v, b) e (λ x0 b0 t0 e0.
-    first_taken _ _ (λ u. byte 0x00) (exactly_takes 0x00 cause.BadVersion) b0 (v, b) e0 (λ x1 b1 t1 e1.
-    first_taken _ _ (λ u. byte 0x00) (exactly_takes 0x00 cause.BadVersion) b1 (v, b) e1 (λ x2 b2 t2 e2.
-    took_then a b0 b t0 (took_then b0 b1 b t1 (took_then b1 b2 b t2 (exactly_takes 0x00 cause.BadVersion b2 v b e2))))))
-
-magic_again : Again magic_at (λ u. four 0x00 0x61 0x73 0x6D)
-unfolding magic_at
-magic_again a v rest s =
-    first_again _ (λ u. byte 0x00) (exactly_again 0x00 cause.BadMagic) a tt (byte 0x61 (byte 0x73 (byte 0x6D rest))) s (λ b0 e0 s0.
-    first_again _ (λ u. byte 0x61) (exactly_again 0x61 cause.BadMagic) b0 tt (byte 0x73 (byte 0x6D rest)) s0 (λ b1 e1 s1.
-    first_again _ (λ u. byte 0x73) (exactly_again 0x73 cause.BadMagic) b1 tt (byte 0x6D rest) s1 (λ b2 e2 s2.
-    first_again _ (λ u. byte 0x6D) (exactly_again 0x6D cause.BadMagic) b2 v rest s2 (λ b3 e3 s3.
-    (b3, reads_again _ _ a tt b0 _ e0 (reads_again _ _ b0 tt b1 _ e1 (reads_again _ _ b1 tt b2 _ e2 e3)), s3)))))
-
-version_again : Again version_at (λ u. four 0x01 0x00 0x00 0x00)
-unfolding version_at
-version_again a v rest s =
-    first_again _ (λ u. byte 0x01) (exactly_again 0x01 cause.BadVersion) a tt (byte 0x00 (byte 0x00 (byte 0x00 rest))) s (λ b0 e0 s0.
-    first_again _ (λ u. byte 0x00) (exactly_again 0x00 cause.BadVersion) b0 tt (byte 0x00 (byte 0x00 rest)) s0 (λ b1 e1 s1.
-    first_again _ (λ u. byte 0x00) (exactly_again 0x00 cause.BadVersion) b1 tt (byte 0x00 rest) s1 (λ b2 e2 s2.
-    first_again _ (λ u. byte 0x00) (exactly_again 0x00 cause.BadVersion) b2 v rest s2 (λ b3 e3 s3.
-    (b3, reads_again _ _ a tt b0 _ e0 (reads_again _ _ b0 tt b1 _ e1 (reads_again _ _ b1 tt b2 _ e2 e3)), s3)))))
-
-abbrev magic_fields : List Field
-magic_fields =
-    table.exactly 0x00 cause.BadMagic ∷ table.exactly 0x61 cause.BadMagic ∷ table.exactly 0x73 cause.BadMagic
-    ∷ table.exactly 0x6D cause.BadMagic ∷ []
-
-abbrev version_fields : List Field
-version_fields =
-    table.exactly 0x01 cause.BadVersion ∷ table.exactly 0x00 cause.BadVersion ∷ table.exactly 0x00 cause.BadVersion
-    ∷ table.exactly 0x00 cause.BadVersion ∷ []
-
-magic_follows : Follows magic_fields magic_at
-unfolding magic_at
-magic_follows =
-    follows_both (table.exactly 0x00 cause.BadMagic ∷ [])
-    (table.exactly 0x61 cause.BadMagic ∷ table.exactly 0x73 cause.BadMagic ∷ table.exactly 0x6D cause.BadMagic
-    ∷ []) _ _ (exactly_follows 0x00 cause.BadMagic) (λ u.
-    follows_both (table.exactly 0x61 cause.BadMagic ∷ [])
-    (table.exactly 0x73 cause.BadMagic ∷ table.exactly 0x6D cause.BadMagic ∷ []) _ _ (exactly_follows 0x61 cause.BadMagic) (λ u.
-    follows_both (table.exactly 0x73 cause.BadMagic ∷ []) (table.exactly 0x6D cause.BadMagic ∷ []) _ _ (exactly_follows 0x73 cause.BadMagic)
-    (λ u. exactly_follows 0x6D cause.BadMagic)))
-
-version_follows : Follows version_fields version_at
-unfolding version_at
-version_follows =
-    follows_both (table.exactly 0x01 cause.BadVersion ∷ [])
-    (table.exactly 0x00 cause.BadVersion ∷ table.exactly 0x00 cause.BadVersion ∷ table.exactly 0x00 cause.BadVersion
-    ∷ []) _ _ (exactly_follows 0x01 cause.BadVersion) (λ u.
-    follows_both (table.exactly 0x00 cause.BadVersion ∷ [])
-    (table.exactly 0x00 cause.BadVersion ∷ table.exactly 0x00 cause.BadVersion ∷ []) _ _ (exactly_follows 0x00 cause.BadVersion) (λ u.
-    follows_both (table.exactly 0x00 cause.BadVersion ∷ [])
-    (table.exactly 0x00 cause.BadVersion ∷ []) _ _ (exactly_follows 0x00 cause.BadVersion)
-    (λ u. exactly_follows 0x00 cause.BadVersion)))
+version_reads = four_reads 0x01 0x00 0x00 0x00 cause.BadVersion
 
 -- ---- what is read is spelled
 
@@ -123,8 +67,8 @@ file_takes bytes t e =
     let x = bind_ok (module_at bytes) tree_of t e in
     let m = reads_ok magic_at _ a x.0 x.1 in
     let v = reads_ok version_at _ m.1 x.0 m.3 in
-    let mt = magic_takes a m.0 m.1 m.2 in
-    let vt = version_takes m.1 v.0 v.1 v.2 in
+    let mt = magic_reads.takes a m.0 m.1 m.2 in
+    let vt = version_reads.takes m.1 v.0 v.1 v.2 in
     let counts_are : v.1.counts ≡ no_counts = vt.kept ∙ mt.kept in
     let s = all_takes no_module v.1 x.0.0 x.0.1 (nothing_read v.1.counts counts_are) (λ q less. all_clear q) v.3 in
     let last : v.1.counts.last_rank ≡ 0 = ap (λ (c : Counts). c.last_rank) counts_are in
@@ -146,9 +90,9 @@ unfolding file_at module_at
 file_again bytes t s =
     let a : At = at_first bytes in
     let rest : Fields = provided (eqb (length t.funcs) (length t.bodies)) (sections parts t finished) in
-    first_again magic_at (λ u. four 0x00 0x61 0x73 0x6D) magic_again a tt (four 0x01 0x00 0x00 0x00 rest) s (λ b0 e0 s0.
-    first_again version_at (λ u. four 0x01 0x00 0x00 0x00) version_again b0 tt rest s0 (λ b1 e1 s1.
-    let counts_are : b1.counts ≡ no_counts = (version_takes b0 tt b1 e1).kept ∙ (magic_takes a tt b0 e0).kept in
+    first_again magic_at (λ u. four 0x00 0x61 0x73 0x6D) magic_reads.again a tt (four 0x01 0x00 0x00 0x00 rest) s (λ b0 e0 s0.
+    first_again version_at (λ u. four 0x01 0x00 0x00 0x00) version_reads.again b0 tt rest s0 (λ b1 e1 s1.
+    let counts_are : b1.counts ≡ no_counts = (version_reads.takes b0 tt b1 e1).kept ∙ (magic_reads.takes a tt b0 e0).kept in
     let as_many : length t.funcs ≡ length t.bodies = eqb-true (length t.funcs) (length t.bodies) s1.0 in
     let all = sections_again parts 1 t rises (record { as_many = as_many; agrees = spelled_agrees t b1.place b1.left s1.1 })
     (suc (length b1.left)) b1 (omega arith) (nothing_read b1.counts counts_are)
@@ -158,13 +102,14 @@ file_again bytes t s =
 
 -- ---- the machine
 
-module_follows : Follows (magic_fields ++ (version_fields ++ table.section ∷ []))
+module_follows : Follows (four_fields 0x00 0x61 0x73 0x6D cause.BadMagic
+    ++ (four_fields 0x01 0x00 0x00 0x00 cause.BadVersion ++ table.section ∷ []))
     (λ a. reads magic_at (λ u. reads version_at (λ u. all_sections_at no_module)) a)
 module_follows =
-    follows_both magic_fields (version_fields ++ table.section ∷ []) magic_at
-    (λ u. reads version_at (λ u. all_sections_at no_module)) magic_follows (λ u.
-    follows_both version_fields (table.section ∷ []) version_at (λ u. all_sections_at no_module) version_follows
-    (λ u. all_follows no_module))
+    follows_both (four_fields 0x00 0x61 0x73 0x6D cause.BadMagic) (four_fields 0x01 0x00 0x00 0x00 cause.BadVersion ++ table.section ∷ [])
+    magic_at (λ u. reads version_at (λ u. all_sections_at no_module)) magic_reads.follows (λ u.
+    follows_both (four_fields 0x01 0x00 0x00 0x00 cause.BadVersion) (table.section ∷ []) version_at (λ u. all_sections_at no_module)
+    version_reads.follows (λ u. all_follows no_module))
 
 abbrev ends : Module × At → Result State ReadFault
 ends x = Ok (state x.1 [] [])
@@ -175,9 +120,6 @@ runs bytes = module_follows (at_first bytes) [] []
 
 abbrev bad_tree : ReadFault → Result Module ReadFault
 bad_tree f = Err f
-
-abbrev bad_state : ReadFault → Result State ReadFault
-bad_state f = Err f
 
 err_is : (g f : ReadFault) → bad_tree g ≡ bad_tree f → g ≡ f
 err_is g f e = cc

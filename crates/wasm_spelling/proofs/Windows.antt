@@ -1,20 +1,12 @@
 -- Windows: a size, and fields that use up so many bytes.
-use Rattle.std.proofs.Common.{◌≡◌, ℕ, ◌+◌, ◌≤◌, Bool, true, false, cond, eqb, ltb, List, [], ◌∷◌, ◌++◌, append_assoc, length, take, drop, Result, Ok, Err, refl, sym, ap, subst, ◌∙◌, inl, inr, arith, length-append}
-use Rattle.std.proofs.Math.Seq.{drop-append_seam, take-append_seam}
-use Rattle.std.proofs.lemmas.List.{take-append-drop, length-take-le, length-drop}
-use Rattle.std.proofs.lemmas.Bool.{eqb-true, ltb-false}
-use Rattle.wasm_spelling.specs.declared.fault.ReadFault.{ReadFault}
-use Rattle.wasm_spelling.specs.declared.fault.Cause.{Cause}
+use Rattle.wasm_spelling.proofs.Common.{◌≡◌, ℕ, ◌+◌, ◌≤◌, Bool, true, false, cond, eqb, ltb, List, [], ◌∷◌, ◌++◌, length, take, drop, Ok, Err, Result, sym, refl, ap, ◌∙◌, subst, inl, inr, append_assoc, arith, length-append, length-drop, take-append-drop, length-take-le, ltb-false, eqb-true, drop-append_seam, take-append_seam, SpellsUnsigned, At, Counts, Fields, Sized, Spelled, Then, finished, window, Reader, malformed, number_at, ◌>>=◌, Field, none_more, size, state, used_up, Cause, ReadFault}
 use Rattle.wasm_spelling.specs.declared.fault.Cause.TheVariants as cause
-use Rattle.wasm_spelling.specs.At.{At}
-use Rattle.wasm_spelling.specs.Fields.{Fields, Then, Sized, Spelled, finished, window}
-use Rattle.w2c_base.specs.SpelledNumber.{SpellsUnsigned}
-use Rattle.wasm_spelling.specs.Steps.{◌>>=◌, malformed, Reader, number_at}
-use Rattle.wasm_spelling.specs.Table.{state, Field, size, used_up, row, opens, none_more}
+use Rattle.wasm_spelling.specs.Table.{row, opens}
 use Rattle.wasm_spelling.specs.Reading.{ended, inside_at, window_at}
 use Rattle.wasm_spelling.proofs.Tools.{bind_ok, bind_bind, ok_is, not_ok, chosen}
 use Rattle.wasm_spelling.proofs.Took.{SpelledAt, Taken, Front}
 use Rattle.wasm_spelling.proofs.Runs.{Runs, From, one_step, in_one, lands, reads_then, Follows}
+use Rattle.wasm_spelling.proofs.Readings.{CountingReads}
 use Rattle.wasm_spelling.proofs.Leaves.{number_is, number_then, not_less}
 
 -- the window of n bytes behind a size, and what is behind the window
@@ -24,7 +16,7 @@ inner n k = record k { left = take n k.left }
 abbrev pub behind : ℕ → At → At → At
 behind n k e = record e { place = k.place + n; left = drop n k.left }
 
-nil_from_length : {A : Type 0} (xs : List A) → length xs ≡ 0 → xs ≡ []
+pub nil_from_length : {A : Type 0} (xs : List A) → length xs ≡ 0 → xs ≡ []
 nil_from_length [] e = refl
 nil_from_length (x ∷ xs) e = absurd (omega (arith, e))
 
@@ -207,3 +199,27 @@ unfolding window_at row
 window_follows c front read h m a outer fields =
     one_step (state a outer (size ∷ ((front ++ used_up c ∷ []) ++ fields))) _ _ refl (by_size c front read h m a.place outer fields
     (number_at a))
+
+-- a size, and a window of so many bytes
+pub window_reads : {A : Type 0} {read : Reader A} {fields : Counts → A → Fields → Fields} {after : A → Counts → Counts} {front : List Field}
+    (c : Cause) → CountingReads read fields after front
+    → CountingReads (window_at c read) (λ k v rest. window (fields k v finished) rest) after (size ∷ (front ++ used_up c ∷ []))
+window_reads {A} {read} {fields} {after} {front} c h = record {
+  takes = λ a v b e.
+      let i = window_inside c read a v b e in
+      let t = h.takes (inner i.bytes i.start) v i.end i.read_is in
+      let kept : i.start.counts ≡ a.counts = i.stands.kept in
+      record {
+        taken = window_taken read a v b i (subst (λ (d : Counts). Taken (inner i.bytes i.start) (fields d v) i.end) kept t.taken);
+        kept = ap (λ (x : At). x.counts) i.behind_is ∙ t.kept ∙ ap (after v) kept;
+      };
+  again = λ a v rest s.
+      let w = window_sealed a (fields a.counts v finished) rest s in
+      let t = h.again (inner w.bytes w.start) v finished
+      (subst (λ (d : Counts). SpelledAt (fields d v finished) (inner w.bytes w.start)) (sym w.kept) w.inside) in (
+        behind w.bytes w.start t.0,
+        window_read c read a w.bytes w.start t.0 v w.number_is w.fits t.1 t.2,
+        w.after,
+      );
+  follows = window_follows c front read h.follows (λ a v b e. (h.takes a v b e).taken.moved);
+}

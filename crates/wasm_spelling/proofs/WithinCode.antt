@@ -1,20 +1,14 @@
 -- Code that is spelled keeps within the limits: its bytes, its depth and the numbers in it.
-use Rattle.std.proofs.Common.{◌≡◌, ℕ, suc, ◌+◌, ◌-◌, ◌^◌, ◌<◌, ◌≤◌, max, false, ◌||◌, List, [], ◌∷◌, length, refl, ap, arith}
-use Rattle.std.specs.Prelude.{nat_lt, not}
-use Rattle.std.specs.List.{AllByRecursion}
-use Rattle.std.proofs.lemmas.Bool.{ltb-true, lt-ltb, or_from}
-use Rattle.wasm_tree.specs.Instructions.{Code, end_code, then_code, Kind, no_else, else_code, Block, Loop, If, Br, BrIf, BrTable, Call, CallIndirect, LocalGet, LocalSet, LocalTee, GlobalGet, GlobalSet, Load, Store, MemorySize, MemoryGrow, MemoryCopy, MemoryFill, I32Const, I64Const}
-use Rattle.wasm_tree.specs.InstructionTable.{opcode_of}
-use Rattle.wasm_spelling.specs.Fields.{Fields, byte, number, here, provided}
-use Rattle.wasm_spelling.specs.ModuleFields.{each, immediates, block_type_code, code_fields, instr_fields, end_byte}
-use Rattle.wasm_spelling.specs.Within.{has_wide, is_wide, some_in, some_inside, least_bytes, least_bytes_of, block_depth, block_depth_of}
+use Rattle.wasm_spelling.proofs.Common.{◌≡◌, ℕ, suc, ◌+◌, ◌-◌, ◌^◌, ◌<◌, ◌≤◌, max, false, not, ◌||◌, List, [], ◌∷◌, length, nat_lt, refl, ap, arith, ltb-true, lt-ltb, or_from, AllByRecursion, opcode_of, Block, Br, BrIf, BrTable, Call, CallIndirect, Code, GlobalGet, GlobalSet, I32Const, I64Const, If, Kind, Load, LocalGet, LocalSet, LocalTee, Loop, MemoryCopy, MemoryFill, MemoryGrow, MemorySize, Store, else_code, end_code, no_else, then_code, Fields, byte, here, number, provided, block_type_code, code_fields, each, end_byte, immediates, instr_fields, block_depth, block_depth_of, has_wide, is_wide, least_bytes, least_bytes_of, some_in, some_inside}
 use Rattle.wasm_spelling.proofs.Behind.{Behind, behind_fewer, past_byte, past_number, past_signed, past_here, past_provided}
 
 -- ---- vectors
 
--- each entry takes a byte at least
-pub each_within : {A : Type 0} (entry : A → Fields → Fields) (P : A → Type 0)
-    → ((v : A) (rest : Fields) (taken : ℕ) → Behind taken (entry v rest) → P v × Behind (taken + 1) rest)
+-- fields take a byte at least, and P is so of what they spell
+abbrev pub Tells : {A : Type 0} → (A → Fields → Fields) → (A → Type 0) → Type 0
+Tells {A} fields P = (v : A) (rest : Fields) (taken : ℕ) → Behind taken (fields v rest) → P v × Behind (taken + 1) rest
+
+pub each_within : {A : Type 0} (entry : A → Fields → Fields) (P : A → Type 0) → Tells entry P
     → (vs : List A) (rest : Fields) (taken : ℕ) → Behind taken (each entry vs rest) → AllByRecursion P vs × Behind (taken + length vs) rest
 each_within entry P one [] rest taken h = (tt, behind_fewer taken (taken + 0) rest (omega arith) h)
 each_within entry P one (v ∷ vs) rest taken h =

@@ -1,49 +1,22 @@
 -- A module that is spelled keeps within the limits, part by part.
-use Rattle.std.proofs.Common.{◌≡◌, ℕ, suc, ◌+◌, ◌≤◌, true, eqb, List, [], ◌∷◌, length, length-append, replicate, Option, Some, None, refl, sym, ap, ◌∙◌, ◌⊎◌, inl, inr, arith}
-use Rattle.std.specs.Prelude.{nat_le, ⊤}
-use Rattle.std.specs.Str.{is_utf8}
-use Rattle.std.specs.List.{AllByRecursion}
-use Rattle.std.proofs.lemmas.List.{length-replicate}
-use Rattle.std.proofs.lemmas.Bool.{eqb-true, leb-true}
-use Rattle.w2c_base.specs.declared.value.ValType.{ValType}
-use Rattle.wasm_tree.specs.declared.entries.TypeEntry.{TypeEntry}
-use Rattle.wasm_tree.specs.declared.entries.Limits.{Limits}
-use Rattle.wasm_tree.specs.declared.entries.ImportKind.{ImportKind}
+use Rattle.wasm_spelling.proofs.Common.{◌≡◌, ℕ, suc, ◌+◌, ◌≤◌, true, eqb, ◌⊎◌, List, [], ◌∷◌, length, replicate, nat_le, Some, None, Option, sym, refl, ap, ◌∙◌, inl, inr, arith, length-append, eqb-true, leb-true, length-replicate, AllByRecursion, is_utf8, declared_locals, Code, BodyEntry, ElementEntry, Export, Import, ImportKind, Limits, LimitsEntry, Run, TypeEntry, Module, AreBytes, Fields, byte, finished, here, number, provided, text, window, most_all_locals, most_blocks, most_functions, most_locals, most_memory_pages, most_module_bytes, most_name_bytes, most_parameters, most_results, most_table_elements, Part, Spells, any_name, bodies, code_fields, content, custom, customs, each, element_entry, end_byte, export_code, export_entry, expression, func_entry, func_ref, func_type, global_entry, id_of, import_entry, import_kind, is_empty, limits, limits_from, locals_of, memory_entry, module_fields, mutability_code, name, parts, results, runs, section, sections, segment_entry, short_vector, table_entry, type_code, type_entry, utf8, value_type, vector, BodyIsWithin, IsMaximum, IsName, least_bytes}
+use Rattle.std.specs.Prelude.{⊤}
 use Rattle.wasm_tree.specs.declared.entries.ImportKind.TheVariants as imported
-use Rattle.wasm_tree.specs.declared.entries.Import.{Import}
-use Rattle.wasm_tree.specs.declared.entries.FuncEntry.{FuncEntry}
-use Rattle.wasm_tree.specs.declared.entries.LimitsEntry.{LimitsEntry}
-use Rattle.wasm_tree.specs.declared.entries.GlobalEntry.{GlobalEntry}
-use Rattle.wasm_tree.specs.declared.entries.Export.{Export}
-use Rattle.wasm_tree.specs.declared.entries.FuncRef.{FuncRef}
-use Rattle.wasm_tree.specs.declared.entries.ElementEntry.{ElementEntry}
 use Rattle.wasm_tree.specs.declared.entries.SegmentEntry.{SegmentEntry}
-use Rattle.wasm_tree.specs.declared.entries.Run.{Run}
-use Rattle.wasm_tree.specs.declared.entries.BodyEntry.{BodyEntry}
-use Rattle.wasm_tree.specs.declared.tree.Module.{Module}
-use Rattle.wasm_tree.specs.Instructions.{Code}
-use Rattle.wasm_tree.specs.IndexSpaces.{declared_locals}
-use Rattle.wasm_spelling.specs.Bytes.{AreBytes}
-use Rattle.wasm_spelling.specs.Fields.{Custom, Fields, finished, byte, number, text, here, provided, window}
-use Rattle.wasm_spelling.specs.Limits.{most_parameters, most_results, most_name_bytes, most_functions, most_locals, most_all_locals, most_blocks, most_memory_pages, most_table_elements, most_module_bytes}
 use Rattle.wasm_spelling.specs.ModuleFields as of
-use Rattle.wasm_spelling.specs.ModuleFields.{Part, each, vector, short_vector, utf8, any_name, name, type_code, value_type, results, func_type, limits_from, limits, mutability_code, code_fields, end_byte, expression, type_entry, import_kind, import_entry, func_entry, table_entry, memory_entry, global_entry, export_code, export_entry, func_ref, element_entry, segment_entry, runs, locals_of, bodies, custom, customs, parts, id_of, content, is_empty, section, sections, module_fields, Spells}
-use Rattle.wasm_spelling.specs.Within.{BodyIsWithin, IsMaximum, IsName, least_bytes}
 use Rattle.wasm_spelling.proofs.Behind.{Behind, behind_fewer, past_byte, past_number, past_text, past_here, past_provided, past_window, past_either, past_some, within_file}
-use Rattle.wasm_spelling.proofs.WithinCode.{each_within, code_within}
+use Rattle.wasm_spelling.proofs.WithinCode.{Tells, each_within, code_within}
 
 -- ---- vectors and names
 
-vector_within : {A : Type 0} (entry : A → Fields → Fields) (P : A → Type 0)
-    → ((v : A) (rest : Fields) (taken : ℕ) → Behind taken (entry v rest) → P v × Behind (taken + 1) rest)
+vector_within : {A : Type 0} (entry : A → Fields → Fields) (P : A → Type 0) → Tells entry P
     → (vs : List A) (rest : Fields) (taken : ℕ) → Behind taken (vector entry vs rest)
     → AllByRecursion P vs × Behind (taken + length vs) rest
 vector_within entry P one vs rest taken h =
     let e = each_within entry P one vs rest (taken + 1) (past_number taken (length vs) (each entry vs rest) h).1 in
     (e.0, behind_fewer (taken + 1 + length vs) (taken + length vs) rest (omega arith) e.1)
 
-short_within : {A : Type 0} (most : ℕ) (entry : A → Fields → Fields) (P : A → Type 0)
-    → ((v : A) (rest : Fields) (taken : ℕ) → Behind taken (entry v rest) → P v × Behind (taken + 1) rest)
+short_within : {A : Type 0} (most : ℕ) (entry : A → Fields → Fields) (P : A → Type 0) → Tells entry P
     → (vs : List A) (rest : Fields) (taken : ℕ) → Behind taken (short_vector most entry vs rest)
     → (length vs ≤ most) × AllByRecursion P vs × Behind (taken + length vs) rest
 short_within most entry P one vs rest taken h =
@@ -52,7 +25,7 @@ short_within most entry P one vs rest taken h =
     let e = each_within entry P one vs rest (taken + 1) p.1 in
     (leb-true (length vs) most p.0, e.0, behind_fewer (taken + 1 + length vs) (taken + length vs) rest (omega arith) e.1)
 
-name_within : (t : List ℕ) (rest : Fields) (taken : ℕ) → Behind taken (name t rest) → IsName t × Behind (taken + 1) rest
+name_within : Tells name IsName
 name_within t rest taken h =
     let n = past_number taken (length t) (provided (nat_le (length t) most_name_bytes) (utf8 t rest)) h in
     let p = past_provided (taken + 1) (nat_le (length t) most_name_bytes) (utf8 t rest) n.1 in
@@ -62,11 +35,10 @@ name_within t rest taken h =
 
 -- ---- types
 
-value_types : (t : ValType) (rest : Fields) (taken : ℕ) → Behind taken (value_type t rest) → Unit {0} × Behind (taken + 1) rest
+value_types : Tells value_type (λ t. Unit {0})
 value_types t rest taken h = (tt, past_byte taken (type_code t) rest h)
 
-type_within : (t : TypeEntry) (rest : Fields) (taken : ℕ) → Behind taken (type_entry t rest)
-    → (length t.ty.params ≤ most_parameters) × Behind (taken + 1) rest
+type_within : Tells type_entry (λ t. length t.ty.params ≤ most_parameters)
 type_within t rest taken h =
     let given = short_vector most_results value_type (results t.ty.result) rest in
     let form = past_byte taken 0x60 (short_vector most_parameters value_type t.ty.params given)
@@ -92,8 +64,7 @@ sizes_within most min (Some max) rest taken h =
     let m = past_number (taken + 1 + 1) max rest p.1 in
     ((leb-true min most p.0, m.0), behind_fewer (taken + 1 + 1 + 1) (taken + 1) rest (omega arith) m.1)
 
-limits_within : (most : ℕ) (l : Limits) (rest : Fields) (taken : ℕ) → Behind taken (limits most l rest)
-    → LimitsAreWithin most l × Behind (taken + 1) rest
+limits_within : (most : ℕ) → Tells (limits most) (LimitsAreWithin most)
 limits_within most l rest taken h = sizes_within most l.min l.max rest taken (past_here taken l.place (limits_from most l.min l.max rest) h)
 
 -- ---- entries
@@ -125,24 +96,22 @@ pub record ImportIsWithin (i : Import) : Type 0 where
   pub names : IsName i.«module» × IsName i.field
   pub kind : KindIsWithin i.kind
 
-import_within : (i : Import) (rest : Fields) (taken : ℕ) → Behind taken (import_entry i rest) → ImportIsWithin i × Behind (taken + 1) rest
+import_within : Tells import_entry ImportIsWithin
 import_within i rest taken h =
     let m = name_within i.«module» (name i.field (import_kind i.kind i.place rest)) taken h in
     let f = name_within i.field (import_kind i.kind i.place rest) (taken + 1) m.1 in
     let k = kind_within i.kind i.place rest (taken + 1 + 1) f.1 in
     (record { names = (m.0, f.0); kind = k.0 }, behind_fewer (taken + 1 + 1 + 1) (taken + 1) rest (omega arith) k.1)
 
-func_within : (f : FuncEntry) (rest : Fields) (taken : ℕ) → Behind taken (func_entry f rest) → Unit {0} × Behind (taken + 1) rest
+func_within : Tells func_entry (λ f. Unit {0})
 func_within f rest taken h = (tt, (past_number taken f.type_index rest (past_here taken f.place _ h)).1)
 
-table_within : (t : LimitsEntry) (rest : Fields) (taken : ℕ) → Behind taken (table_entry t rest)
-    → LimitsAreWithin most_table_elements t.limits × Behind (taken + 1) rest
+table_within : Tells table_entry (λ t. LimitsAreWithin most_table_elements t.limits)
 table_within t rest taken h =
     let n = limits_within most_table_elements t.limits rest (taken + 1) (past_byte taken 0x70 _ (past_here taken t.place _ h)) in
     (n.0, behind_fewer (taken + 1 + 1) (taken + 1) rest (omega arith) n.1)
 
-memory_within : (m : LimitsEntry) (rest : Fields) (taken : ℕ) → Behind taken (memory_entry m rest)
-    → LimitsAreWithin most_memory_pages m.limits × Behind (taken + 1) rest
+memory_within : Tells memory_entry (λ m. LimitsAreWithin most_memory_pages m.limits)
 memory_within m rest taken h = limits_within most_memory_pages m.limits rest taken (past_here taken m.place _ h)
 
 -- an expression and its end
@@ -151,25 +120,24 @@ expression_within code rest taken h =
     let c = code_within most_blocks code (byte 0x0B rest) taken h in
     behind_fewer (taken + least_bytes code + 1) (taken + 1) rest (omega arith) (past_byte (taken + least_bytes code) 0x0B rest c.1)
 
-global_within : (g : GlobalEntry) (rest : Fields) (taken : ℕ) → Behind taken (global_entry g rest) → Unit {0} × Behind (taken + 1) rest
+global_within : Tells global_entry (λ g. Unit {0})
 global_within g rest taken h =
     let t = past_byte taken (type_code g.ty) _ h in
     let m = past_byte (taken + 1) (mutability_code g.mutable) _ t in
     let e = expression_within g.code rest (taken + 1 + 1) (past_here (taken + 1 + 1) g.place _ m) in
     (tt, behind_fewer (taken + 1 + 1 + 1) (taken + 1) rest (omega arith) e)
 
-export_within : (e : Export) (rest : Fields) (taken : ℕ) → Behind taken (export_entry e rest) → IsName e.name × Behind (taken + 1) rest
+export_within : Tells export_entry (λ e. IsName e.name)
 export_within e rest taken h =
     let n = name_within e.name (byte (export_code e.kind) (here e.index_place (number e.index rest))) taken
     (past_here taken e.name_place _ h) in
     let k = past_here (taken + 1 + 1) e.index_place _ (past_byte (taken + 1) (export_code e.kind) _ n.1) in
     (n.0, behind_fewer (taken + 1 + 1 + 1) (taken + 1) rest (omega arith) (past_number (taken + 1 + 1) e.index rest k).1)
 
-ref_within : (f : FuncRef) (rest : Fields) (taken : ℕ) → Behind taken (func_ref f rest) → Unit {0} × Behind (taken + 1) rest
+ref_within : Tells func_ref (λ f. Unit {0})
 ref_within f rest taken h = (tt, (past_number taken f.index rest (past_here taken f.place _ h)).1)
 
-element_within : (e : ElementEntry) (rest : Fields) (taken : ℕ) → Behind taken (element_entry e rest)
-    → (length e.funcs ≤ most_module_bytes) × Behind (taken + 1) rest
+element_within : Tells element_entry (λ e. length e.funcs ≤ most_module_bytes)
 element_within e rest taken h =
     let t = past_number taken e.table _ (past_here taken e.place _ h) in
     let o = expression_within e.offset (vector func_ref e.funcs rest) (taken + 1) (past_here (taken + 1) e.offset_place _ t.1) in
@@ -181,8 +149,7 @@ pub record SegmentIsWithin (s : SegmentEntry) : Type 0 where
   pub are_bytes : AreBytes s.bytes
   pub long : length s.bytes ≤ most_module_bytes
 
-segment_within : (s : SegmentEntry) (rest : Fields) (taken : ℕ) → Behind taken (segment_entry s rest)
-    → SegmentIsWithin s × Behind (taken + 1) rest
+segment_within : Tells segment_entry SegmentIsWithin
 segment_within s rest taken h =
     let m = past_number taken s.memory _ (past_here taken s.place _ h) in
     let o = expression_within s.offset (number (length s.bytes) (text s.bytes rest)) (taken + 1)
@@ -258,8 +225,7 @@ PartIsWithin of.data_count t = ⊤
 PartIsWithin of.code t = AllByRecursion BodyIsWithin t.bodies
 PartIsWithin of.segments t = AreWithin most_module_bytes SegmentIsWithin t.segments
 
-counted : {A : Type 0} (entry : A → Fields → Fields) (P : A → Type 0)
-    → ((v : A) (rest : Fields) (taken : ℕ) → Behind taken (entry v rest) → P v × Behind (taken + 1) rest)
+counted : {A : Type 0} (entry : A → Fields → Fields) (P : A → Type 0) → Tells entry P
     → (vs : List A) (taken : ℕ) → Behind taken (vector entry vs finished) → AreWithin most_module_bytes P vs
 counted entry P one vs taken h =
     let v = vector_within entry P one vs finished taken h in
@@ -301,7 +267,7 @@ empty_within of.segments t e = none_there most_module_bytes SegmentIsWithin t.se
 
 -- ---- sections
 
-custom_within : (c : Custom) (rest : Fields) (taken : ℕ) → Behind taken (custom c rest) → Unit {0} × Behind (taken + 1) rest
+custom_within : Tells custom (λ c. Unit {0})
 custom_within c rest taken h =
     let w = past_window (taken + 1) (any_name c.name (text c.bytes finished)) rest (past_byte taken 0x00 _ h) in
     (tt, behind_fewer (taken + 1 + 1) (taken + 1) rest (omega arith) w.1)

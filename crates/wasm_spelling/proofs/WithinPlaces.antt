@@ -1,23 +1,9 @@
 -- The limits say nothing of places, so a module keeps within them wherever a module that differs in places alone does.
-use Rattle.std.proofs.Common.{◌≡◌, ℕ, suc, ◌+◌, ◌≤◌, max, false, ◌||◌, List, [], ◌∷◌, length, map, flat_map, refl, sym, ap, subst, ◌∙◌, arith}
-use Rattle.std.specs.List.{AllByRecursion}
-use Rattle.std.proofs.lemmas.List.{length-map}
-use Rattle.wasm_tree.specs.declared.entries.TypeEntry.{TypeEntry}
-use Rattle.wasm_tree.specs.declared.entries.Limits.{Limits}
-use Rattle.wasm_tree.specs.declared.entries.ImportKind.{ImportKind}
+use Rattle.wasm_spelling.proofs.Common.{◌≡◌, ℕ, suc, ◌+◌, ◌≤◌, max, false, ◌||◌, List, [], ◌∷◌, map, length, flat_map, sym, refl, ap, ◌∙◌, subst, arith, length-map, AllByRecursion, all_append, all_flat, all_map, memory_of_import, memory_space, table_of_import, table_space, Block, Code, If, Kind, Loop, else_code, end_code, no_else, then_code, ElementEntry, Export, Import, ImportKind, Limits, LimitsEntry, TypeEntry, Module, most_functions, most_memory_pages, most_module_bytes, most_parameters, most_table_elements, BodyIsWithin, IsMaximum, IsName, WithinLimits, block_depth, block_depth_of, has_wide, least_bytes, least_bytes_of, some_in, some_inside}
 use Rattle.wasm_tree.specs.declared.entries.ImportKind.TheVariants as imported
-use Rattle.wasm_tree.specs.declared.entries.Import.{Import}
-use Rattle.wasm_tree.specs.declared.entries.LimitsEntry.{LimitsEntry}
-use Rattle.wasm_tree.specs.declared.entries.Export.{Export}
-use Rattle.wasm_tree.specs.declared.entries.ElementEntry.{ElementEntry}
-use Rattle.wasm_tree.specs.declared.tree.Module.{Module}
-use Rattle.wasm_tree.specs.Instructions.{Code, end_code, then_code, Kind, no_else, else_code, Block, Loop, If}
-use Rattle.wasm_tree.specs.IndexSpaces.{table_of_import, memory_of_import, table_space, memory_space}
-use Rattle.wasm_spelling.specs.Limits.{most_parameters, most_functions, most_memory_pages, most_table_elements, most_module_bytes}
 use Rattle.wasm_spelling.specs.Places.{bare_code, bare_kind, bare_type, bare_import_kind, bare_import, bare_func, bare_limits_entry, bare_global, bare_export, bare_func_ref, bare_element, bare_segment, bare_body, bare_module, IsFormed}
-use Rattle.wasm_spelling.specs.Within.{has_wide, some_in, some_inside, least_bytes, least_bytes_of, block_depth, block_depth_of, BodyIsWithin, IsMaximum, IsName, WithinLimits}
-use Rattle.wasm_spelling.proofs.Behind.{all_append, all_more}
-use Rattle.wasm_spelling.proofs.WithinModule.{KindIsWithin, ImportIsWithin, SegmentIsWithin, LimitsAreWithin, PartsAreWithin, spelled_within}
+use Rattle.wasm_spelling.proofs.Behind.{all_more}
+use Rattle.wasm_spelling.proofs.WithinModule.{AreWithin, KindIsWithin, ImportIsWithin, SegmentIsWithin, LimitsAreWithin, PartsAreWithin, spelled_within}
 
 -- ---- code
 
@@ -147,16 +133,11 @@ same_length bare xs ys e = sym (length-map xs bare) ∙ ap length e ∙ length-m
 same_count : {A : Type 0} (bare : A → A) (most : ℕ) (xs ys : List A) → map bare xs ≡ map bare ys → length ys ≤ most → length xs ≤ most
 same_count bare most xs ys e le = omega (arith, same_length bare xs ys e, le)
 
+same_within : {A : Type 0} (bare : A → A) (most : ℕ) (P : A → Type 0) → Aside bare P → (xs ys : List A) → map bare xs ≡ map bare ys
+    → AreWithin most P ys → AreWithin most P xs
+same_within bare most P aside xs ys e h = (same_count bare most xs ys e h.0, same_all bare P aside xs ys e h.1)
+
 -- ---- index spaces
-
-all_images : {A B : Type 0} (P : B → Type 0) (f : A → B) (xs : List A) → AllByRecursion (λ x. P (f x)) xs → AllByRecursion P (map f xs)
-all_images P f [] h = tt
-all_images P f (x ∷ xs) h = (h.0, all_images P f xs h.1)
-
-all_flat : {A B : Type 0} (P : B → Type 0) (f : A → List B) (xs : List A) → AllByRecursion (λ x. AllByRecursion P (f x)) xs
-    → AllByRecursion P (flat_map f xs)
-all_flat P f [] h = tt
-all_flat P f (x ∷ xs) h = all_append P (f x) (flat_map f xs) h.0 (all_flat P f xs h.1)
 
 -- the import with this kind
 abbrev of_kind : Import → ImportKind → Import
@@ -184,7 +165,7 @@ tables_within m imports tables =
     (all_flat (LimitsAreWithin most_table_elements) table_of_import m.imports
     (all_more ImportIsWithin (λ i. AllByRecursion (LimitsAreWithin most_table_elements) (table_of_import i))
     (λ i h. table_imported i i.kind h.kind) m.imports imports))
-    (all_images (LimitsAreWithin most_table_elements) (λ (t : LimitsEntry). t.limits) m.tables tables)
+    (all_map (LimitsAreWithin most_table_elements) (λ (t : LimitsEntry). t.limits) m.tables tables)
 
 memories_within : (m : Module) → AllByRecursion ImportIsWithin m.imports
     → AllByRecursion (λ (e : LimitsEntry). LimitsAreWithin most_memory_pages e.limits) m.memories
@@ -194,51 +175,28 @@ memories_within m imports memories =
     (all_flat (LimitsAreWithin most_memory_pages) memory_of_import m.imports
     (all_more ImportIsWithin (λ i. AllByRecursion (LimitsAreWithin most_memory_pages) (memory_of_import i))
     (λ i h. memory_imported i i.kind h.kind) m.imports imports))
-    (all_images (LimitsAreWithin most_memory_pages) (λ (t : LimitsEntry). t.limits) m.memories memories)
+    (all_map (LimitsAreWithin most_memory_pages) (λ (t : LimitsEntry). t.limits) m.memories memories)
 
 -- ---- modules
 
 differ_in_places : (t u : Module) → bare_module t ≡ bare_module u → PartsAreWithin u → PartsAreWithin t
 differ_in_places t u e h = record {
-  types = (
-    same_count bare_type most_module_bytes t.types u.types types h.types.0,
-    same_all bare_type _ types_aside t.types u.types types h.types.1,
-  );
-  imports = (
-    same_count bare_import most_module_bytes t.imports u.imports imports h.imports.0,
-    same_all bare_import ImportIsWithin imports_aside t.imports u.imports imports h.imports.1,
-  );
+  types = same_within bare_type most_module_bytes _ types_aside t.types u.types (ap (λ (m : Module). m.types) e) h.types;
+  imports = same_within bare_import most_module_bytes _ imports_aside t.imports u.imports (ap (λ (m : Module). m.imports) e) h.imports;
   functions = same_count bare_func most_functions t.funcs u.funcs funcs h.functions;
   tables = same_all bare_limits_entry _ tables_aside t.tables u.tables (ap (λ (m : Module). m.tables) e) h.tables;
   memories = same_all bare_limits_entry _ memories_aside t.memories u.memories (ap (λ (m : Module). m.memories) e) h.memories;
   globals = same_count bare_global most_module_bytes t.globals u.globals (ap (λ (m : Module). m.globals) e) h.globals;
-  exports = (
-    same_count bare_export most_module_bytes t.exports u.exports exports h.exports.0,
-    same_all bare_export _ exports_aside t.exports u.exports exports h.exports.1,
-  );
+  exports = same_within bare_export most_module_bytes _ exports_aside t.exports u.exports (ap (λ (m : Module). m.exports) e) h.exports;
   elements = same_all bare_element _ elements_aside t.elements u.elements (ap (λ (m : Module). m.elements) e) h.elements;
   code = same_all bare_body BodyIsWithin bodies_aside t.bodies u.bodies bodies h.code;
-  segments = (
-    same_count bare_segment most_module_bytes t.segments u.segments segments h.segments.0,
-    same_all bare_segment SegmentIsWithin segments_aside t.segments u.segments segments h.segments.1,
-  );
+  segments = same_within bare_segment most_module_bytes _ segments_aside t.segments u.segments (ap (λ (m : Module). m.segments) e)
+      h.segments;
   as_many = same_length bare_body t.bodies u.bodies bodies ∙ h.as_many ∙ sym (same_length bare_func t.funcs u.funcs funcs);
 }
   where
-    types : map bare_type t.types ≡ map bare_type u.types
-    types = ap (λ (m : Module). m.types) e
-
-    imports : map bare_import t.imports ≡ map bare_import u.imports
-    imports = ap (λ (m : Module). m.imports) e
-
     funcs : map bare_func t.funcs ≡ map bare_func u.funcs
     funcs = ap (λ (m : Module). m.funcs) e
-
-    exports : map bare_export t.exports ≡ map bare_export u.exports
-    exports = ap (λ (m : Module). m.exports) e
-
-    segments : map bare_segment t.segments ≡ map bare_segment u.segments
-    segments = ap (λ (m : Module). m.segments) e
 
     bodies : map bare_body t.bodies ≡ map bare_body u.bodies
     bodies = ap (λ (m : Module). m.bodies) e

@@ -1,15 +1,10 @@
 -- Every operator stands in the list of all of them, where opcodes rise, and is found there by its opcode.
-use Rattle.std.proofs.Common.{◌≡◌, ◌≢◌, ℕ, zero, suc, ◌+◌, ◌<◌, ◌≤◌, Bool, true, ◌&&◌, List, [], ◌∷◌, All, length, get_or, slice_get, Option, Some, None, IfNone, Err, Equal, refl, sym, subst, inl, inr, arith}
-use Rattle.std.specs.List.{HoldsAt}
+use Rattle.wasm_tree.proofs.Common.{◌≡◌, ℕ, zero, suc, ◌+◌, ◌<◌, ◌≤◌, Bool, true, ◌&&◌, leb, ◌≢◌, List, [], ◌∷◌, length, get_or, IfNone, slice_get, Some, None, Err, All, Option, HoldsAt, nat_cmp, Equal, sym, refl, subst, inl, inr, arith, leb-true, nat_tests, IsNonDecreasingBy-from_all_adjacent, get_or_from_slice_get, slice_get_within, HasOp, op_opcode}
 use Rattle.std.specs.List.Sorted.{IsBinarySearchResult, IsNonDecreasingBy}
-use Rattle.std.specs.Ordering.{nat_cmp, ordering_index}
-use Rattle.std.proofs.Math.Dec.{leb}
-use Rattle.std.proofs.lemmas.Bool.{cases_lt, leb-true}
-use Rattle.std.proofs.lemmas.Bool.Decides.{nat_tests}
+use Rattle.std.specs.Ordering.{ordering_index}
+use Rattle.std.proofs.lemmas.Bool.{cases_lt}
 use Rattle.std.proofs.lemmas.Cmp.{ranked}
 use Rattle.std.proofs.lemmas.List.Elements.{All-from_get_or, All-get_or}
-use Rattle.std.proofs.lemmas.List.Sorted.{IsNonDecreasingBy-from_all_adjacent}
-use Rattle.std.proofs.lemmas.Option.{get_or_from_slice_get, slice_get_within}
 use Rattle.w2c_base.proofs.Conjunctions.{left_holds, right_holds}
 use Rattle.w2c_base.specs.declared.value.ValType.TheVariants as type
 use Rattle.wasm_tree.specs.declared.operators.UnaryOp.TheVariants as unary
@@ -25,7 +20,6 @@ use Rattle.wasm_tree.specs.declared.operators.Numeric.TheVariants as numeric
 use Rattle.wasm_tree.specs.declared.opcodes.Op.{Op}
 use Rattle.wasm_tree.specs.declared.opcodes.Op.TheVariants as op
 use Rattle.wasm_tree.specs.declared.opcodes.TheConstants.{OPS}
-use Rattle.wasm_tree.specs.Parts.{op_opcode, HasOp}
 
 -- the place of an operator in the list
 pub listed : (o : Op) → (i : ℕ) × (slice_get OPS i ≡ Some o)

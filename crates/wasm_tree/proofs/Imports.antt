@@ -1,9 +1,6 @@
 -- Index spaces behind the imports.
-use Rattle.std.proofs.Common.{◌≡◌, ℕ, ◌+◌, ◌≤◌, List, [], ◌++◌, length, map, drop, slice_get, min, Option, sym, ap, ◌∙◌, arith}
-use Rattle.std.specs.Prelude.{option_map}
-use Rattle.std.specs.List.{flat_map}
+use Rattle.wasm_tree.proofs.Common.{◌≡◌, ℕ, ◌+◌, ◌≤◌, min, List, [], ◌++◌, map, length, drop, slice_get, Option, option_map, flat_map, sym, ap, ◌∙◌, arith, slice_get-map}
 use Rattle.std.proofs.lemmas.List.{at_drop_all}
-use Rattle.std.proofs.lemmas.Option.{slice_get-map}
 use Rattle.wasm_tree.specs.declared.entries.Import.{Import}
 
 -- where all imports are passed, an index is one of what the module defines

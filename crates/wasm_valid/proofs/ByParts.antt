@@ -1,15 +1,10 @@
 -- An instruction is that of its parts.
-use Rattle.std.proofs.Common.{◌≡◌, ℕ, refl, subst}
-use Rattle.wasm_tree.specs.declared.operators.IndexOp.{IndexOp}
+use Rattle.wasm_valid.proofs.Common.{◌≡◌, ℕ, refl, subst, Kind, Unreachable, access_tree, index_tree, numeric_tree, parts_of, simple_tree, IndexOp, needs_of, Nothing}
 use Rattle.wasm_tree.specs.declared.operators.IndexOp.TheVariants.{Br}
 use Rattle.wasm_tree.specs.declared.operators.Numeric.{Numeric}
 use Rattle.wasm_tree.specs.declared.operators.Numeric.TheVariants as numeric
 use Rattle.wasm_tree.specs.declared.operators.Parts.{Parts}
 use Rattle.wasm_tree.specs.declared.operators.Parts.TheVariants as parts
-use Rattle.wasm_tree.specs.Instructions.{Kind, Unreachable}
-use Rattle.wasm_tree.specs.Parts.{access_tree, index_tree, numeric_tree, parts_of, simple_tree}
-use Rattle.wasm_valid.specs.declared.numeric.Needs.TheVariants.{Nothing}
-use Rattle.wasm_valid.specs.Needs.{needs_of}
 
 -- the instruction of these parts, and where they do not say it, this one
 abbrev pub tree_of : Parts → Kind → Kind

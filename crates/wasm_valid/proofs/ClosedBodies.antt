@@ -1,14 +1,6 @@
 -- The closed cases of typing and of first faults.
-use Rattle.std.proofs.Common.{ℕ, zero, suc, ◌≤◌, [], ◌∷◌, Some, None, refl, arith}
-use Rattle.std.specs.Prelude.{pos}
-use Rattle.w2c_base.specs.declared.value.ValType.TheVariants.{I32}
-use Rattle.wasm_tree.specs.Instructions.{Code, no_else, Block, Br, Drop, If, I32Const, Binary, Load}
-use Rattle.wasm_tree.specs.declared.operators.BinaryOp.TheVariants.{Add}
-use Rattle.wasm_tree.specs.declared.operators.LoadOp.TheVariants.{I32Load}
+use Rattle.wasm_valid.proofs.Common.{ℕ, zero, suc, ◌≤◌, [], ◌∷◌, pos, Some, None, refl, arith, I32, Binary, Block, Br, Code, Drop, I32Const, If, Load, no_else, Add, I32Load, FirstBodyFault, closing, completed, BodyHasType, HasType, Stack}
 use Rattle.wasm_valid.specs.declared.fault.ValidCause.TheVariants as cause
-use Rattle.wasm_valid.specs.Typing.{Stack, HasType, BodyHasType}
-use Rattle.wasm_valid.specs.Completion.{closing, completed}
-use Rattle.wasm_valid.specs.BodyFault.{FirstBodyFault}
 use Rattle.wasm_valid.specs.Samples.{code_from, context, body}
 
 -- the code that closes a block has every type, in every context

@@ -1,8 +1,5 @@
 -- Each instruction of a list is smaller than the list.
-use Rattle.std.proofs.Common.{◌≡◌, ℕ, zero, suc, ◌+◌, ◌*◌, ◌<◌, ◌≤◌, List, [], ◌∷◌, length, get_or, arith, ap}
-use Rattle.wasm_tree.specs.declared.code.Instr.{Instr}
-use Rattle.wasm_tree.specs.Size.{code_size, kind_size}
-use Rattle.wasm_tree.specs.Views.{code_tree, kind_tree}
+use Rattle.wasm_valid.proofs.Common.{◌≡◌, ℕ, zero, suc, ◌+◌, ◌*◌, ◌<◌, ◌≤◌, List, [], ◌∷◌, length, get_or, ap, arith, code_size, kind_size, code_tree, kind_tree, Instr}
 
 pub instr_smaller : (items : List Instr) (i : ℕ) (x : Instr) → i < length items → x ≡ get_or items i x
     → kind_size (kind_tree x.kind) + 1 ≤ code_size (code_tree items)

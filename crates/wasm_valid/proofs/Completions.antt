@@ -1,14 +1,5 @@
 -- A run that took k tokens takes their completion, and one that was refused before refuses it.
-use Rattle.std.proofs.Common.{◌≡◌, ℕ, zero, suc, ◌+◌, ◌-◌, ◌<◌, ◌≤◌, [], ◌∷◌, Option, Some, None, refl, sym, subst, ap, ◌∙◌, ⊎_elim, arith}
-use Rattle.std.specs.Prelude.{Ok, Err}
-use Rattle.std.proofs.lemmas.Bool.{cases_lt}
-use Rattle.w2c_base.specs.declared.value.ValType.{ValType}
-use Rattle.w2c_base.specs.declared.value.ValType.TheVariants.{I32}
-use Rattle.wasm_tree.specs.Instructions.{Code, end_code, then_code, Kind, Otherwise, no_else, else_code, Block, Loop, If}
-use Rattle.wasm_valid.specs.Context.{Context, Labels}
-use Rattle.wasm_valid.specs.BodyFault.{plain_token}
-use Rattle.wasm_valid.specs.Completion.{token_count, kind_token_count, else_token_count, completed, completed_kind, completed_else, closing}
-use Rattle.wasm_valid.specs.Checker.{Operands, nothing, anything, pop_type, step, Refusal, refusal, Ran, or_refuse, and_then, later, closes, at_end, no_result, first_end, give, run, run_kind, run_else, check}
+use Rattle.wasm_valid.proofs.Common.{◌≡◌, ℕ, zero, suc, ◌+◌, ◌-◌, ◌<◌, ◌≤◌, [], ◌∷◌, Some, None, Ok, Err, Option, sym, refl, ap, ◌∙◌, subst, ⊎_elim, arith, cases_lt, ValType, I32, Block, Code, If, Kind, Loop, Otherwise, else_code, end_code, no_else, then_code, plain_token, Operands, Ran, Refusal, and_then, anything, at_end, check, closes, first_end, give, later, no_result, nothing, or_refuse, pop_type, refusal, run, run_else, run_kind, step, closing, completed, completed_else, completed_kind, else_token_count, kind_token_count, token_count, Context, Labels}
 use Rattle.wasm_valid.proofs.Exact.{here}
 
 abbrev pub Goes : Ran → Type 0

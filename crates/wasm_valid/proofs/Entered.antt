@@ -1,10 +1,5 @@
 -- Faults that are entered one by one: piece by piece, and in the end the first of all.
-use Rattle.std.proofs.Common.{◌≡◌, ℕ, suc, ◌+◌, ◌<◌, List, [], ◌∷◌, ◌++◌, length, get_or, drop, Option, Some, None, refl, sym, ap, ◌∙◌, arith, add-one, drop-cons}
-use Rattle.std.specs.List.{flat_map}
-use Rattle.std.proofs.lemmas.Bool.Decides.{nat_tests}
-use Rattle.wasm_valid.specs.declared.fault.Fault.{Fault}
-use Rattle.wasm_valid.specs.Verdict.{sooner, first_fault}
-use Rattle.wasm_valid.specs.Entered.{kept, entered}
+use Rattle.wasm_valid.proofs.Common.{◌≡◌, ℕ, suc, ◌+◌, ◌<◌, List, [], ◌∷◌, ◌++◌, length, get_or, drop, Some, None, Option, flat_map, sym, refl, ap, ◌∙◌, add-one, arith, drop-cons, nat_tests, entered, kept, first_fault, sooner, Fault}
 
 pub entered-append : (found : Option Fault) (xs ys : List Fault) → entered found (xs ++ ys) ≡ entered (entered found xs) ys
 entered-append found [] ys = refl

@@ -1,21 +1,7 @@
 -- What is entered of bodies, one by one, is what the bodies of the module have.
-use Rattle.std.proofs.Common.{◌≡◌, List, [], ◌∷◌, ◌++◌, map, Option, Some, None, refl, sym, subst, ap, ◌∙◌, ◌⊎◌, inl, inr, append_assoc}
-use Rattle.std.specs.Prelude.{ℕ, Ok, Err, option_map, slice_get, zip}
-use Rattle.std.proofs.lemmas.List.{append-nil}
-use Rattle.w2c_base.specs.declared.signature.FuncType.{FuncType}
-use Rattle.wasm_tree.specs.declared.tree.Module.{Module}
+use Rattle.wasm_valid.proofs.Common.{◌≡◌, ℕ, ◌⊎◌, List, [], ◌∷◌, ◌++◌, map, slice_get, Some, None, Ok, Err, Option, option_map, zip, sym, refl, ap, ◌∙◌, subst, inl, inr, append_assoc, append-nil, FuncType, declared_locals, func_space, global_space, memory_space, table_space, BodyEntry, Module, Operands, check, refusal, body_context, context_of, entered, EntersBodies, EntersBody, body_context_seen, typed_context_seen, module_faults, AreSpacesOf, type_seen, Bodies, FaultsOfBodies, Verdict, bodies_of, outcome_of, Fault}
 use Rattle.wasm_tree.specs.declared.entries.FuncEntry.{FuncEntry}
-use Rattle.wasm_tree.specs.declared.entries.BodyEntry.{BodyEntry}
-use Rattle.wasm_tree.specs.IndexSpaces.{func_space, table_space, memory_space, global_space, declared_locals}
-use Rattle.wasm_valid.specs.declared.fault.Fault.{Fault}
 use Rattle.wasm_valid.specs.declared.context.Spaces.{Spaces}
-use Rattle.wasm_valid.specs.Context.{context_of, body_context}
-use Rattle.wasm_valid.specs.Checker.{Operands, refusal, check}
-use Rattle.wasm_valid.specs.ModuleFaults.{module_faults}
-use Rattle.wasm_valid.specs.Verdict.{Bodies, bodies_of, FaultsOfBodies, outcome_of, Verdict}
-use Rattle.wasm_valid.specs.Entered.{entered}
-use Rattle.wasm_valid.specs.Seen.{type_seen, AreSpacesOf}
-use Rattle.wasm_valid.specs.EnteredBodies.{typed_context_seen, body_context_seen, EntersBody, EntersBodies}
 use Rattle.wasm_valid.proofs.Entered.{entered-append, entered-first}
 use Rattle.wasm_valid.proofs.FirstFaults.{Tells, check_tells}
 

@@ -1,22 +1,8 @@
 -- The checker's operands show exactly the stacks that the typing reaches.
-use Rattle.std.proofs.Common.{◌≡◌, ℕ, ◌+◌, ◌≤◌, ◌^◌, List, [], ◌∷◌, ◌++◌, Option, Some, None, Bool, true, false, refl, sym, subst, ap, ◌∙◌, rules, tests}
-use Rattle.std.specs.Prelude.{reverse, Ok, Err, nat_le, slice_get, ◌&&◌}
-use Rattle.std.specs.List.{AllByRecursion}
+use Rattle.wasm_valid.proofs.Common.{◌≡◌, ℕ, ◌+◌, ◌^◌, ◌≤◌, Bool, true, false, ◌&&◌, List, [], ◌∷◌, ◌++◌, reverse, nat_le, slice_get, Some, None, Ok, Err, Option, sym, refl, ap, ◌∙◌, subst, rules, tests, AllByRecursion, FuncType, ValType, I32, I64, load_width, store_width, Typing, by_rule, of_types, Block, Br, BrIf, BrTable, Call, CallIndirect, Code, Drop, GlobalGet, GlobalSet, If, Kind, Load, LocalGet, LocalSet, LocalTee, Loop, MemoryCopy, MemoryFill, MemoryGrow, MemorySize, Otherwise, Return, Select, Store, Unreachable, else_code, end_code, no_else, then_code, cause_of, Operands, Ran, Refusal, all_labels, and_then, anything, at_end, check, chosen, closes, common, empties, first_end, give, has_memory, has_table, is_label, jump, later, no_result, nothing, on, on_some, or_refuse, pop_any, pop_type, pop_types, push_types, refusal, run, run_else, run_kind, step, turn, turn_tabled, when, kind_token_count, token_count, Context, Labels, BodyHasType, ElseHasType, HasMemory, HasTable, HasType, KindHasType, Leaves, Stack, Turns, TurnsAsTabled, table_type, values, Operand}
 use Rattle.w2c_base.proofs.Conjunctions.{both_hold}
-use Rattle.w2c_base.specs.declared.value.ValType.{ValType}
-use Rattle.w2c_base.specs.declared.value.ValType.TheVariants.{I32, I64}
-use Rattle.w2c_base.specs.declared.signature.FuncType.{FuncType}
 use Rattle.w2c_base.proofs.Types.{equal_results-eq, results_equal_themselves}
-use Rattle.wasm_tree.specs.Instructions.{Code, end_code, then_code, Kind, Otherwise, no_else, else_code, Unreachable, Return, Drop, Select, MemorySize, MemoryGrow, MemoryCopy, MemoryFill, Block, Loop, If, Br, BrIf, BrTable, Call, CallIndirect, LocalGet, LocalSet, LocalTee, GlobalGet, GlobalSet, Load, Store}
-use Rattle.wasm_tree.specs.InstructionTable.{Typing, of_types, by_rule}
-use Rattle.wasm_tree.specs.Accesses.{load_width, store_width}
-use Rattle.wasm_valid.specs.declared.operand.Operand.{Operand}
 use Rattle.wasm_valid.specs.declared.operand.Operand.TheVariants.{Known, Unknown}
-use Rattle.wasm_valid.specs.Context.{Context, Labels}
-use Rattle.wasm_valid.specs.Typing.{Stack, values, Turns, Leaves, table_type, TurnsAsTabled, HasTable, HasMemory, HasType, KindHasType, ElseHasType, BodyHasType}
-use Rattle.wasm_valid.specs.Completion.{token_count, kind_token_count}
-use Rattle.wasm_valid.specs.BodyFault.{cause_of}
-use Rattle.wasm_valid.specs.Checker.{Operands, nothing, anything, on, pop_type, on_some, pop_types, push_types, turn, jump, pop_any, common, chosen, when, is_label, all_labels, has_memory, has_table, turn_tabled, step, Refusal, refusal, Ran, or_refuse, and_then, later, empties, closes, at_end, no_result, first_end, give, run, run_kind, run_else, check}
 
 abbrev pub Fits : Operand → ValType → Type 0
 Fits (Known u) t = u ≡ t

@@ -1,26 +1,7 @@
 -- Where the checker refuses is the first faulty token, with its place and its cause.
-use Rattle.std.proofs.Common.{◌≡◌, ℕ, zero, suc, ◌+◌, ◌<◌, ◌≤◌, List, [], ◌∷◌, ◌++◌, length, Option, Some, None, refl, sym, subst, ap, ◌∙◌, ⊎_elim, ◌⊎◌, inl, inr, arith}
-use Rattle.std.specs.Prelude.{Ok, Err, slice_get}
-use Rattle.std.proofs.lemmas.Bool.{cases_lt}
-use Rattle.std.proofs.lemmas.List.{length-append}
-use Rattle.w2c_base.specs.declared.value.ValType.{ValType}
-use Rattle.w2c_base.specs.declared.value.ValType.TheVariants.{I32}
-use Rattle.wasm_tree.specs.declared.entries.BodyEntry.{BodyEntry}
-use Rattle.wasm_tree.specs.Instructions.{Code, end_code, then_code, Kind, Otherwise, no_else, else_code, Block, Loop, If}
-use Rattle.wasm_valid.specs.declared.fault.Fault.{Fault}
-use Rattle.wasm_valid.specs.Context.{Context, Labels}
-use Rattle.wasm_valid.specs.Typing.{BodyHasType}
-use Rattle.wasm_valid.specs.Completion.{token_count, kind_token_count, else_token_count, completed}
-use Rattle.wasm_valid.specs.BodyFault.{FirstBodyFault, cause_of, plain_token, tokens, kind_tokens, else_tokens, body_tokens}
-use Rattle.wasm_valid.specs.Checker.{Operands, nothing, pop_type, step, Refusal, refusal, Ran, or_refuse, and_then, later, closes, at_end, no_result, first_end, give, run, run_kind, run_else, check}
+use Rattle.wasm_valid.proofs.Common.{◌≡◌, ℕ, zero, suc, ◌+◌, ◌<◌, ◌≤◌, ◌⊎◌, List, [], ◌∷◌, ◌++◌, length, slice_get, Some, None, Ok, Err, Option, sym, refl, ap, ◌∙◌, subst, inl, inr, ⊎_elim, arith, length-append, cases_lt, get_front, ValType, I32, Block, Code, If, Kind, Loop, Otherwise, else_code, end_code, no_else, then_code, BodyEntry, FirstBodyFault, body_tokens, cause_of, else_tokens, kind_tokens, plain_token, tokens, Operands, Ran, Refusal, and_then, at_end, check, closes, first_end, give, later, no_result, nothing, or_refuse, pop_type, refusal, run, run_else, run_kind, step, completed, else_token_count, kind_token_count, token_count, Context, Labels, BodyHasType, Fault}
 use Rattle.wasm_valid.proofs.Exact.{went, Decided, check_exact, here}
 use Rattle.wasm_valid.proofs.Completions.{Goes, Stops, Below, Follows, check_follows, check_below, body_whole, completed_whole}
-
--- looking up in two lists that are joined
-get_front : {A : Type 0} (xs ys : List A) (k : ℕ) (x : A) → slice_get xs k ≡ Some x → slice_get (xs ++ ys) k ≡ Some x
-get_front [] ys k x e = cc
-get_front (z ∷ xs) ys zero x e = e
-get_front (z ∷ xs) ys (suc k) x e = get_front xs ys k x e
 
 get_behind : {A : Type 0} (xs ys : List A) (k j : ℕ) → k ≡ j + length xs → slice_get (xs ++ ys) k ≡ slice_get ys j
 get_behind [] ys k j e = let same : k ≡ j = omega (arith, e) in ap (slice_get ys) same

@@ -1,3 +1,4 @@
+mod Common
 pub mod ClosedBodies
 pub mod Exact
 pub mod Completions

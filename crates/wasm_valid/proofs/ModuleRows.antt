@@ -1,14 +1,7 @@
 -- The rows of faults outside the bodies, entered one behind another, are all of them.
-use Rattle.std.proofs.Common.{◌≡◌, List, [], ◌++◌, Option, sym, ap, ◌∙◌}
-use Rattle.std.specs.List.{flat_map}
-use Rattle.std.specs.Prelude.{is_none}
-use Rattle.std.proofs.lemmas.Grind.{flat_map-append}
-use Rattle.wasm_tree.specs.declared.tree.Module.{Module}
-use Rattle.wasm_tree.specs.IndexSpaces.{type_in, table_space, memory_space}
-use Rattle.wasm_valid.specs.declared.fault.Fault.{Fault}
+use Rattle.wasm_valid.proofs.Common.{◌≡◌, List, [], ◌++◌, is_none, Option, flat_map, sym, ap, ◌∙◌, flat_map-append, memory_space, table_space, type_in, Module, entered, duplicate_exports, fault_if, is_no_first, min_above_max, too_many_pages, unknown_export, unknown_import_type, Fault}
 use Rattle.wasm_valid.specs.declared.fault.ValidCause.TheVariants as cause
-use Rattle.wasm_valid.specs.Entered.{entered}
-use Rattle.wasm_valid.specs.ModuleFaults.{fault_if, is_no_first, module_faults, unknown_import_type, too_many, min_above_max, too_many_pages, expressions, constant_expected, unknown_global, type_mismatch, unknown_export, duplicate_exports, start_faults, unknown_elements}
+use Rattle.wasm_valid.specs.ModuleFaults.{module_faults, too_many, expressions, constant_expected, unknown_global, type_mismatch, start_faults, unknown_elements}
 use Rattle.wasm_valid.proofs.Entered.{entered-append}
 
 -- from what was kept before to what is kept behind these faults

@@ -1,24 +1,16 @@
 -- Names in an ordered set, and the exports that have a name of an earlier one.
-use Rattle.std.proofs.Common.{◌≡◌, ℕ, suc, ◌+◌, ◌<◌, List, [], ◌∷◌, ◌++◌, length, get_or, take, drop, Bool, true, false, Option, refl, sym, ap, ◌∙◌, add-one, drop-cons, Bor}
-use Rattle.std.specs.Prelude.{◌||◌, not, bytes_eq}
+use Rattle.wasm_valid.proofs.Common.{◌≡◌, ℕ, suc, ◌+◌, ◌<◌, Bool, true, false, not, ◌||◌, List, [], ◌∷◌, ◌++◌, length, get_or, take, drop, Option, bytes_eq, nat_cmp, sym, refl, ap, ◌∙◌, add-one, drop-cons, take-suc, Bor, Decides-like, same_from_decides, list_any_more, list_any, entered, duplicate_exports, fault_if, Fault}
 use Rattle.std.specs.declared.cmp.Ordering.{Ordering}
 use Rattle.std.specs.declared.cmp.Ordering.TheVariants.{Less, Equal, Greater}
-use Rattle.std.specs.Ordering.{nat_cmp, match_ordering}
+use Rattle.std.specs.Ordering.{match_ordering}
 use Rattle.std.specs.Cmp.Lexicographic.{slice_cmp}
-use Rattle.std.specs.List.{list_any}
 use Rattle.std.specs.BTreeMap.{is_at}
 use Rattle.std.specs.BTreeSet.{insert_key}
-use Rattle.std.proofs.Math.Seq.{take-suc}
-use Rattle.std.proofs.lemmas.Bool.Decides.{same_from_decides, Decides-like}
 use Rattle.std.proofs.lemmas.Slice.Eq.{bytes_eq-Decides}
-use Rattle.std.proofs.lemmas.List.Folds.{list_any_more}
 use Rattle.std.proofs.lemmas.Map.Lookups.{exact_bytes}
 use Rattle.std.proofs.lemmas.Map.Text.{is_eq-slice_cmp}
 use Rattle.wasm_tree.specs.declared.entries.Export.{Export}
-use Rattle.wasm_valid.specs.declared.fault.Fault.{Fault}
 use Rattle.wasm_valid.specs.declared.fault.ValidCause.TheVariants as cause
-use Rattle.wasm_valid.specs.Entered.{entered}
-use Rattle.wasm_valid.specs.ModuleFaults.{fault_if, duplicate_exports}
 use Rattle.wasm_valid.proofs.Entered.{entered-append}
 
 bytes_eq-sym : (xs ys : List ℕ) → bytes_eq xs ys ≡ bytes_eq ys xs

@@ -1,18 +1,7 @@
 -- The needs of an instruction, met and unmet; and instructions that go by their row.
-use Rattle.std.proofs.Common.{◌≡◌, ℕ, ◌^◌, ◌<◌, ◌≤◌, Bool, true, false, not, is_some, is_none, nat_le, List, [], ◌∷◌, Option, Some, None, Result, slice_get, refl, sym, ap, ◌∙◌, arith}
-use Rattle.std.proofs.Math.Pow.{pow_mono}
-use Rattle.std.proofs.lemmas.Bool.{lt-leb}
-use Rattle.wasm_tree.specs.declared.code.Kind.{Kind as RustKind}
+use Rattle.wasm_valid.proofs.Common.{◌≡◌, ℕ, ◌^◌, ◌<◌, ◌≤◌, Bool, true, false, not, List, [], ◌∷◌, is_some, is_none, nat_le, slice_get, Some, None, Option, Result, sym, refl, ap, ◌∙◌, arith, pow_mono, lt-leb, kind_tree, RustKind, cause_of, first_cause, misaligned, Operands, has_memory, step, when, Context, Labels, row_cause, row_step, unmet, where_met, Plain, Access, Stop}
 use Rattle.wasm_tree.specs.declared.code.Kind.TheVariants as kind
-use Rattle.wasm_tree.specs.Views.{kind_tree}
 use Rattle.wasm_valid.specs.declared.fault.ValidCause.TheVariants as cause
-use Rattle.wasm_valid.specs.declared.stop.Stop.{Stop}
-use Rattle.wasm_valid.specs.declared.numeric.Needs.TheVariants.{Access}
-use Rattle.wasm_valid.specs.Context.{Context, Labels}
-use Rattle.wasm_valid.specs.Checker.{Operands, when, has_memory, step}
-use Rattle.wasm_valid.specs.BodyFault.{first_cause, cause_of, misaligned}
-use Rattle.wasm_valid.specs.Needs.{where_met, unmet, row_step, row_cause}
-use Rattle.wasm_valid.specs.Plain.{Plain}
 
 -- no width of 32 bits is as large
 pub too_large : (exponent width : ℕ) → 32 ≤ exponent → width < 2 ^ 32 → nat_le (2 ^ exponent) width ≡ false

@@ -1,9 +1,5 @@
 -- Operands in memory, one more and one less.
-use Rattle.std.proofs.Common.{◌≡◌, ℕ, zero, suc, ◌+◌, ◌<◌, ◌≤◌, List, [], ◌∷◌, ◌++◌, length, drop, Some, None, Bool, true, false, refl, ap, ◌∙◌, arith}
-use Rattle.wasm_valid.specs.declared.operand.Operand.{Operand}
-use Rattle.wasm_valid.specs.Checker.{Operands, nothing, on, empties}
-use Rattle.wasm_valid.specs.Shown.{pile, popped, bottom}
-use Rattle.std.proofs.lemmas.List.{at_drop_all}
+use Rattle.wasm_valid.proofs.Common.{◌≡◌, ℕ, zero, suc, ◌+◌, ◌<◌, ◌≤◌, Bool, true, false, List, [], ◌∷◌, ◌++◌, length, drop, Some, None, refl, ap, ◌∙◌, arith, at_drop_all, Operands, empties, nothing, on, bottom, pile, popped, Operand}
 
 pile_push : (xs : List Operand) (x : Operand) (s : Operands) → pile (xs ++ x ∷ []) s ≡ on x (pile xs s)
 pile_push [] x s = refl

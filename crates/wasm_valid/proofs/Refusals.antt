@@ -1,11 +1,6 @@
 -- What a refusal of a module says.
-use Rattle.std.proofs.Common.{◌≡◌, ℕ, Err, refl, ap, subst}
-use Rattle.wasm_tree.specs.declared.tree.Module.{Module}
-use Rattle.wasm_valid.specs.declared.fault.Fault.{Fault}
-use Rattle.wasm_valid.specs.declared.fault.ValidCause.{ValidCause}
-use Rattle.wasm_valid.specs.declared.fault.ValidRefusal.{ValidRefusal}
+use Rattle.wasm_valid.proofs.Common.{◌≡◌, ℕ, Err, refl, ap, subst, Module, Invalid, IsValid, Verdict, Fault, ValidCause, ValidRefusal}
 use Rattle.wasm_valid.specs.declared.fault.ValidRefusal.TheVariants as refused
-use Rattle.wasm_valid.specs.Verdict.{Verdict, Invalid, IsValid}
 use Rattle.wasm_valid.specs.SaysVerdict.{SaysVerdict}
 use Rattle.wasm_valid.proofs.Verdicts.{no_fault, same_fault}
 

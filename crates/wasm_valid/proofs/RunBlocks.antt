@@ -1,26 +1,9 @@
 -- What the checker of a body answers of one instruction, of a block and of both branches of an `if`.
-use Rattle.std.proofs.Common.{◌≡◌, ℕ, ◌+◌, Option, Some, None, Result, Ok, Err, ◌∷◌, OnOk, refl, sym, ap, ◌∙◌}
-use Rattle.w2c_base.specs.declared.value.ValType.{ValType}
-use Rattle.w2c_base.specs.declared.value.ValType.TheVariants.{I32}
-use Rattle.wasm_tree.specs.declared.code.ElsePart.{ElsePart}
-use Rattle.wasm_tree.specs.declared.code.Kind.{Kind as RustKind}
+use Rattle.wasm_valid.proofs.Common.{◌≡◌, ℕ, ◌+◌, ◌∷◌, OnOk, Some, None, Ok, Err, Option, Result, sym, refl, ap, ◌∙◌, ValType, I32, Code, If, Otherwise, no_else, kind_tree, otherwise_tree, ElsePart, RustKind, cause_of, plain_token, Operands, Ran, Refusal, and_then, first_end, give, later, no_result, nothing, or_refuse, pop_type, refusal, run_else, run_kind, step, token_count, Context, Labels, Plain, RanTo, all_placed, run_block, run_nested, Steps, Fault, ValidCause, ValidRefusal, Stop}
 use Rattle.wasm_tree.specs.declared.code.Kind.TheVariants as kind
-use Rattle.wasm_tree.specs.Instructions.{Code, Otherwise, no_else, If}
-use Rattle.wasm_tree.specs.Views.{kind_tree, otherwise_tree}
-use Rattle.wasm_valid.specs.declared.fault.Fault.{Fault}
-use Rattle.wasm_valid.specs.declared.fault.ValidCause.{ValidCause}
 use Rattle.wasm_valid.specs.declared.fault.ValidCause.TheVariants.{TypeMismatch}
-use Rattle.wasm_valid.specs.declared.fault.ValidRefusal.{ValidRefusal}
 use Rattle.wasm_valid.specs.declared.fault.ValidRefusal.TheVariants.{Invalid, Memory}
-use Rattle.wasm_valid.specs.declared.stop.Stop.{Stop}
 use Rattle.wasm_valid.specs.declared.stop.Stop.TheVariants as stop
-use Rattle.wasm_valid.specs.Context.{Context, Labels}
-use Rattle.wasm_valid.specs.Completion.{token_count}
-use Rattle.wasm_valid.specs.BodyFault.{cause_of, plain_token}
-use Rattle.wasm_valid.specs.Checker.{Operands, nothing, Ran, Refusal, refusal, or_refuse, and_then, later, pop_type, no_result, first_end, give, step, run_kind, run_else}
-use Rattle.wasm_valid.specs.Shown.{Steps}
-use Rattle.wasm_valid.specs.Plain.{Plain}
-use Rattle.wasm_valid.specs.RanTo.{RanTo, all_placed, run_block, run_nested}
 
 pub placed_ran : (result : Result Unit Stop) (went : Option Operands) (cause : ValidCause) (place : ℕ) (new : Operands)
     → Plain result went cause new

@@ -1,15 +1,6 @@
 -- Running a list, one instruction after another.
-use Rattle.std.proofs.Common.{◌≡◌, ℕ, ◌+◌, ◌<◌, ◌≤◌, List, ◌∷◌, length, get_or, drop, Ok, Err, refl, sym, ap, ◌∙◌, add_assoc, arith}
-use Rattle.std.proofs.lemmas.List.{drop_more, drop_all}
-use Rattle.wasm_tree.specs.declared.code.Instr.{Instr}
-use Rattle.wasm_tree.specs.Views.{code_tree, kind_tree}
-use Rattle.wasm_valid.specs.declared.fault.Fault.{Fault}
-use Rattle.wasm_valid.specs.declared.fault.ValidRefusal.{ValidRefusal}
+use Rattle.wasm_valid.proofs.Common.{◌≡◌, ℕ, ◌+◌, ◌<◌, ◌≤◌, List, ◌∷◌, length, get_or, drop, Ok, Err, sym, refl, ap, ◌∙◌, add_assoc, arith, drop_all, drop_more, code_tree, kind_tree, Instr, Operands, Ran, and_then, later, refusal, run, run_kind, kind_token_count, Context, Labels, RanTo, Fault, ValidRefusal}
 use Rattle.wasm_valid.specs.declared.fault.ValidRefusal.TheVariants.{Invalid, Memory}
-use Rattle.wasm_valid.specs.Context.{Context, Labels}
-use Rattle.wasm_valid.specs.Completion.{kind_token_count}
-use Rattle.wasm_valid.specs.Checker.{Operands, Ran, refusal, and_then, later, run, run_kind}
-use Rattle.wasm_valid.specs.RanTo.{RanTo}
 
 pub later_none : (r : Ran) → r ≡ later 0 r
 later_none (Ok s) = refl

@@ -1,11 +1,5 @@
 -- The faults of expressions: none of code that is more than one instruction; section by section.
-use Rattle.std.proofs.Common.{◌≡◌, ℕ, ◌≤◌, List, [], ◌∷◌, length, refl, sym, ap, ◌∙◌, arith}
-use Rattle.w2c_base.specs.declared.value.ValType.{ValType}
-use Rattle.std.specs.Prelude.{Bool}
-use Rattle.wasm_tree.specs.declared.code.Instr.{Instr}
-use Rattle.wasm_tree.specs.Instructions.{Code, then_code, Kind, I32Const, I64Const, GlobalGet}
-use Rattle.wasm_tree.specs.Views.{code_tree, kind_tree}
-use Rattle.wasm_valid.specs.ModuleFaults.{shape_of, neither}
+use Rattle.wasm_valid.proofs.Common.{◌≡◌, ℕ, ◌≤◌, Bool, List, [], ◌∷◌, length, sym, refl, ap, ◌∙◌, arith, ValType, Code, GlobalGet, I32Const, I64Const, Kind, then_code, code_tree, kind_tree, Instr, neither, shape_of}
 
 -- two instructions or more are no expression of one
 two_instructions : (globals : List (ValType × Bool)) (p q : ℕ) (k l : Kind) (code : Code)

@@ -1,23 +1,8 @@
 -- Instructions that look something up and then take and put operands: where it is there, only the operands can be faulty.
-use Rattle.std.proofs.Common.{◌≡◌, ℕ, ◌<◌, length, is_some, arith, Bool, true, false, ◌||◌, is_none, List, [], ◌∷◌, ◌++◌, Option, Some, None, Result, Ok, Err, slice_get, refl, sym, ap, ◌∙◌}
-use Rattle.std.specs.List.{list_any}
-use Rattle.std.proofs.lemmas.List.Folds.{list_any-append}
-use Rattle.w2c_base.specs.declared.value.ValType.{ValType}
-use Rattle.w2c_base.specs.declared.value.ValType.TheVariants.{I32}
-use Rattle.w2c_base.specs.declared.signature.FuncType.{FuncType}
+use Rattle.wasm_valid.proofs.Common.{◌≡◌, ℕ, Bool, true, false, ◌||◌, List, [], ◌∷◌, ◌++◌, is_none, slice_get, Some, None, Ok, Err, Option, Result, sym, ap, ◌∙◌, list_any-append, list_any, FuncType, ValType, I32, BrTable, Call, CallIndirect, cause_of, first_cause, Operands, all_labels, anything, has_table, jump, on_some, pop_type, pop_types, step, turn, when, Context, Labels, Plain, any_missing, Steps, values, ValidCause, Stop}
 use Rattle.w2c_base.specs.Lookup.{if_found}
-use Rattle.wasm_tree.specs.Instructions.{BrTable, Call, CallIndirect}
-use Rattle.wasm_valid.specs.declared.fault.ValidCause.{ValidCause}
 use Rattle.wasm_valid.specs.declared.fault.ValidCause.TheVariants as cause
-use Rattle.wasm_valid.specs.declared.stop.Stop.{Stop}
 use Rattle.wasm_valid.specs.declared.stop.Stop.TheVariants as stop
-use Rattle.wasm_valid.specs.Context.{Context, Labels}
-use Rattle.wasm_valid.specs.Typing.{values}
-use Rattle.wasm_valid.specs.BodyFault.{first_cause, cause_of}
-use Rattle.wasm_valid.specs.Checker.{Operands, anything, on_some, when, has_table, all_labels, pop_type, pop_types, turn, jump, step}
-use Rattle.wasm_valid.specs.Shown.{Steps}
-use Rattle.wasm_valid.specs.Plain.{Plain}
-use Rattle.wasm_valid.specs.PlainParts.{any_missing}
 use Rattle.wasm_valid.proofs.Needs.{not_none}
 
 pub by_steps : (result : Result Unit Stop) (went turned : Option Operands) (why : ValidCause) (new : Operands) → went ≡ turned
@@ -25,11 +10,6 @@ pub by_steps : (result : Result Unit Stop) (went turned : Option Operands) (why 
 by_steps (Ok u) went turned why new same mismatch h = same ∙ h
 by_steps (Err (stop.Cause k)) went turned why new same mismatch h = (same ∙ h.1, h.0 ∙ sym mismatch)
 by_steps (Err stop.Memory) went turned why new same mismatch h = tt
-
--- where the list of tables is not empty there is one
-pub first_there : {A : Type 0} (xs : List A) → 0 < length xs → is_some (slice_get xs 0) ≡ true
-first_there [] h = absurd (omega (arith, h))
-first_there (x ∷ xs) h = refl
 
 module _ (c : Context) (labels : Labels) (result : Result Unit Stop) (old new : Operands) where
   pub called : (index : ℕ) (ty : FuncType) (params : List ValType) → slice_get c.funcs index ≡ Some (Some ty) → params ≡ ty.params

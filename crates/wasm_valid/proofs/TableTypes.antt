@@ -1,27 +1,17 @@
 -- The types of instructions with an operator, as the table of instructions has them: one equation for each class.
-use Rattle.std.proofs.Common.{◌≡◌, ℕ, [], ◌∷◌, refl}
-use Rattle.w2c_base.specs.declared.value.ValType.{ValType}
-use Rattle.w2c_base.specs.declared.value.ValType.TheVariants.{I32, I64}
+use Rattle.wasm_valid.proofs.Common.{◌≡◌, ℕ, [], ◌∷◌, refl, ValType, I32, I64, extend_type, load_type, store_type, by_rule, of_types, Binary, Compare, Eqz, Extend, Load, Store, Unary, index_tree, Add, IndexOp, I32Load, table_type}
 use Rattle.wasm_tree.specs.declared.code.MemArg.{MemArg}
 use Rattle.wasm_tree.specs.declared.operators.UnaryOp.{UnaryOp}
 use Rattle.wasm_tree.specs.declared.operators.UnaryOp.TheVariants.{Clz}
 use Rattle.wasm_tree.specs.declared.operators.BinaryOp.{BinaryOp}
-use Rattle.wasm_tree.specs.declared.operators.BinaryOp.TheVariants.{Add}
 use Rattle.wasm_tree.specs.declared.operators.CompareOp.{CompareOp}
 use Rattle.wasm_tree.specs.declared.operators.CompareOp.TheVariants.{Eq}
 use Rattle.wasm_tree.specs.declared.operators.ExtendOp.{ExtendOp}
 use Rattle.wasm_tree.specs.declared.operators.ExtendOp.TheVariants.{I32Extend8S}
 use Rattle.wasm_tree.specs.declared.operators.LoadOp.{LoadOp}
-use Rattle.wasm_tree.specs.declared.operators.LoadOp.TheVariants.{I32Load}
 use Rattle.wasm_tree.specs.declared.operators.StoreOp.{StoreOp}
 use Rattle.wasm_tree.specs.declared.operators.StoreOp.TheVariants.{I32Store}
-use Rattle.wasm_tree.specs.declared.operators.IndexOp.{IndexOp}
 use Rattle.wasm_tree.specs.declared.operators.IndexOp.TheVariants.{Br}
-use Rattle.wasm_tree.specs.Instructions.{Eqz, Compare, Unary, Binary, Extend, Load, Store}
-use Rattle.wasm_tree.specs.InstructionTable.{of_types, by_rule}
-use Rattle.wasm_tree.specs.Accesses.{load_type, store_type, extend_type}
-use Rattle.wasm_tree.specs.Parts.{index_tree}
-use Rattle.wasm_valid.specs.Typing.{table_type}
 
 pub eqz_typing : (t : ValType) → table_type (Eqz t) ≡ of_types (t ∷ []) (I32 ∷ [])
 eqz_typing I32 = refl

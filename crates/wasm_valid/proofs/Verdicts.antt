@@ -1,13 +1,5 @@
 -- Each module has one list of faults, and with it one verdict; it is accepted exactly where it is valid.
-use Rattle.std.proofs.Common.{◌≡◌, List, [], ◌∷◌, ◌++◌, Option, Some, None, refl, sym, ap, ◌∙◌, ◌⊎◌, inl, inr}
-use Rattle.wasm_tree.specs.declared.tree.Module.{Module}
-use Rattle.wasm_tree.specs.declared.entries.BodyEntry.{BodyEntry}
-use Rattle.wasm_valid.specs.declared.fault.Fault.{Fault}
-use Rattle.wasm_valid.specs.Context.{Context, body_context}
-use Rattle.wasm_valid.specs.Typing.{BodyHasType}
-use Rattle.wasm_valid.specs.BodyFault.{FirstBodyFault}
-use Rattle.wasm_valid.specs.ModuleFaults.{module_faults}
-use Rattle.wasm_valid.specs.Verdict.{Bodies, bodies_of, IsTyped, FaultOfBody, FaultsOfBodies, first_fault, Outcome, Accepted, Invalid, outcome_of, Verdict, AreTyped, IsValid}
+use Rattle.wasm_valid.proofs.Common.{◌≡◌, ◌⊎◌, List, [], ◌∷◌, ◌++◌, Some, None, Option, sym, refl, ap, ◌∙◌, inl, inr, BodyEntry, Module, FirstBodyFault, Context, body_context, module_faults, BodyHasType, Accepted, AreTyped, Bodies, FaultOfBody, FaultsOfBodies, Invalid, IsTyped, IsValid, Outcome, Verdict, bodies_of, first_fault, outcome_of, Fault}
 use Rattle.wasm_valid.proofs.FirstFaults.{one_or_other, exclusive, one_fault}
 
 faults_of_body : (o : Option Context) (body : BodyEntry) → (faults : List Fault) × FaultOfBody o body faults

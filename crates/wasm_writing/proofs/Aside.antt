@@ -1,11 +1,6 @@
 -- Spellings with the places aside: of whole modules, and of those without what may be left out.
-use Rattle.std.proofs.Common.{ℕ, ◌+◌, ◌≤◌, List, [], ◌∷◌, ◌++◌, length, length-append, inl, inr, refl, sym, ap, subst, arith}
-use Rattle.std.proofs.lemmas.Bool.{cases_Bool}
-use Rattle.wasm_tree.specs.declared.tree.Module.{Module}
-use Rattle.wasm_spelling.specs.Fields.{Custom, Fields, finished, byte, number, signed, text, here, provided, window, either, for_some, Spelled}
-use Rattle.wasm_spelling.specs.ModuleFields.{Part, content, custom, each, is_empty, module_fields, parts, section, sections}
+use Rattle.wasm_writing.proofs.Common.{ℕ, ◌+◌, ◌≤◌, List, [], ◌∷◌, ◌++◌, length, sym, refl, ap, subst, inl, inr, arith, length-append, cases_Bool, Module, Custom, Fields, Spelled, byte, either, finished, for_some, here, number, provided, signed, text, window, Part, content, custom, each, is_empty, module_fields, parts, section, sections, filled, short_fields}
 use Rattle.wasm_writing.specs.Aside.{SpelledAside, SpelledBy}
-use Rattle.wasm_writing.specs.ShortFile.{filled, short_fields}
 use Rattle.wasm_writing.proofs.PartLemmas.{filled-empty, filled-full}
 
 pub spelled_aside : (fields : Fields) (place : ℕ) (bytes : List ℕ) → Spelled fields place bytes → SpelledAside fields bytes

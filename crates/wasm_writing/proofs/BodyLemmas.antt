@@ -1,18 +1,7 @@
 -- Runs of locals, and bodies.
-use Rattle.std.proofs.Common.{◌≡◌, ℕ, ◌+◌, ◌<◌, ◌≤◌, List, [], ◌∷◌, ◌++◌, length, get_or, take, drop, drop-cons, add-one, zero, suc, Bool, nat_le, le-leb, leb-true, refl, sym, ap, subst, ◌∙◌, arith}
-use Rattle.std.proofs.lemmas.List.{take_more, take-append-drop}
-use Rattle.wasm_tree.specs.declared.entries.Run.{Run}
-use Rattle.wasm_tree.specs.declared.entries.BodyEntry.{BodyEntry}
-use Rattle.wasm_spelling.specs.Fields.{Fields, finished, number, provided, window}
-use Rattle.wasm_spelling.specs.ModuleFields.{runs, locals_of, bodies, value_type}
-use Rattle.wasm_spelling.specs.Limits.{most_locals, most_all_locals}
-use Rattle.wasm_writing.specs.declared.draft.Draft.{Draft}
-use Rattle.wasm_writing.specs.declared.draft.Draft.TheVariants.{Counted, Written, Stopped}
+use Rattle.wasm_writing.proofs.Common.{◌≡◌, ℕ, suc, ◌+◌, ◌<◌, ◌≤◌, Bool, List, [], ◌∷◌, ◌++◌, length, get_or, take, drop, nat_le, sym, ap, ◌∙◌, subst, add-one, arith, take-append-drop, drop-cons, le-leb, leb-true, take_more, BodyEntry, Run, Fields, finished, number, provided, window, most_all_locals, most_locals, bodies, locals_of, runs, value_type, body_content, Fits, HasStopped, Puts, Refuses, Draft, Counted, Stopped, Written, Memory, Unformed}
 use Rattle.wasm_writing.specs.declared.draft.Stop.{Stop}
-use Rattle.wasm_writing.specs.declared.draft.Stop.TheVariants.{Unformed, Memory}
 use Rattle.wasm_writing.specs.Aside.{SpelledAside, SpelledBy}
-use Rattle.wasm_writing.specs.Bodies.{body_content}
-use Rattle.wasm_writing.specs.Drafts.{Fits, HasStopped, Puts, Refuses}
 use Rattle.wasm_writing.proofs.Pieces.{puts_if, puts_none}
 use Rattle.wasm_writing.proofs.Lists.{puts_both, puts_same}
 
@@ -151,9 +140,3 @@ bodies_stopped all xs i x a b c less is sum p q stop =
     (λ rest. sym (ap (λ (l : List BodyEntry). bodies 0 l rest) (split_at xs i x less is) ∙ bodies-append 0 (take i xs) (x ∷ back) rest))
     (puts_both (bodies 0 (take i xs)) (λ rest. window (body_content n x finished) (bodies (n + locals_of x.runs) back rest)) a b c p
     (puts_more (window (body_content n x finished)) (bodies (n + locals_of x.runs) back) b c one stop))
-
--- an item that is there is the same whatever stands for others
-pub any_other : {A : Type 0} (xs : List A) (i : ℕ) (d : A) → i < length xs → get_or xs i d ≡ get_or xs i (get_or xs i d)
-any_other [] i d less = absurd (omega (arith, less))
-any_other (x ∷ xs) zero d less = refl
-any_other (x ∷ xs) (suc i) d less = any_other xs i d (omega (arith, less))

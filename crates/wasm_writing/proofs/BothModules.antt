@@ -1,17 +1,6 @@
 -- Modules, and the same with every place 0: the same bytes spell both with the places aside.
-use Rattle.std.proofs.Common.{◌≡◌, ℕ, List, [], ◌∷◌, length, map, false, nat_eq, ◌≤◌, Option, None, Some, refl, sym, ap, subst, ◌∙◌, inl, inr}
-use Rattle.std.specs.Prelude.{is_none}
-use Rattle.std.proofs.lemmas.Bool.{cases_Bool}
-use Rattle.wasm_tree.specs.declared.entries.Start.{Start}
-use Rattle.wasm_tree.specs.declared.entries.DataCount.{DataCount}
-use Rattle.wasm_tree.specs.declared.tree.Module.{Module}
-use Rattle.wasm_spelling.specs.Fields.{Fields, finished, byte, number, provided, window}
-use Rattle.wasm_spelling.specs.Limits.{most_functions}
-use Rattle.wasm_spelling.specs.ModuleFields.{Part, parts, types, imports, functions, tables, memories, globals, exports, start, elements, data_count, code, segments, bodies, content, data_count_content, each, element_entry, export_entry, func_entry, global_entry, id_of, import_entry, is_empty, memory_entry, module_fields, segment_entry, start_content, table_entry, type_entry, magic, version}
-use Rattle.wasm_spelling.specs.Limits.{most_module_bytes}
+use Rattle.wasm_writing.proofs.Common.{◌≡◌, ℕ, ◌≤◌, false, List, [], ◌∷◌, map, length, is_none, nat_eq, Some, None, Option, sym, refl, ap, ◌∙◌, subst, inl, inr, cases_Bool, DataCount, Start, Module, Fields, byte, finished, number, provided, most_functions, most_module_bytes, Part, bodies, code, content, data_count, data_count_content, each, elements, exports, functions, globals, id_of, imports, is_empty, magic, memories, module_fields, parts, segments, start, start_content, tables, types, version, SpellsAside, bare_body, bare_data_count, bare_element, bare_export, bare_func, bare_global, bare_import, bare_limits_entry, bare_module, bare_segment, bare_start, bare_type, filled, short_fields}
 use Rattle.wasm_writing.specs.Aside.{SpelledAside}
-use Rattle.wasm_spelling.specs.Places.{SpellsAside, bare_body, bare_data_count, bare_element, bare_export, bare_func, bare_global, bare_import, bare_limits_entry, bare_module, bare_segment, bare_start, bare_type}
-use Rattle.wasm_writing.specs.ShortFile.{filled, short_fields}
 use Rattle.wasm_writing.proofs.Aside.{short_aside_of, spelled_aside}
 use Rattle.wasm_writing.proofs.Both.{Both, both_here, both_none, both_self, both_short_vector, both_then, both_vector, both_window, length-bare}
 use Rattle.wasm_writing.proofs.BothEntries.{both_bodies, both_element, both_export, both_func, both_global, both_import, both_memory, both_segment, both_table, both_type}
@@ -20,14 +9,12 @@ use Rattle.wasm_writing.proofs.FillsEntries.{keeps_data_count}
 use Rattle.wasm_writing.proofs.PartLemmas.{filled-empty, filled-full}
 
 both_start : (s : Option Start) → Both (start_content s) (start_content (bare_start s))
-both_start None = both_self (provided false) _ (keeps_provided false)
-both_start (Some s) = both_here s.place 0 (number s.index) (number s.index) (both_self (number s.index) _ (keeps_number s.index))
+both_start None = both_self (keeps_provided false)
+both_start (Some s) = both_here (both_self (keeps_number s.index))
 
 both_data_count : (d : Option DataCount) (found : ℕ) → Both (data_count_content d found) (data_count_content (bare_data_count d) found)
-both_data_count None found = both_self (provided false) _ (keeps_provided false)
-both_data_count (Some d) found =
-    let counted : Fields → Fields = λ x. number d.count (provided (nat_eq d.count found) x) in
-    both_here d.place 0 counted counted (both_self counted _ (keeps_data_count d.count found))
+both_data_count None found = both_self (keeps_provided false)
+both_data_count (Some d) found = both_here (both_self (keeps_data_count d.count found))
 
 both_data_count_part : (t : Module) → Both (content data_count t) (content data_count (bare_module t))
 both_data_count_part t =
@@ -37,22 +24,21 @@ both_data_count_part t =
 both_code_part : (t : Module) → Both (content code t) (content code (bare_module t))
 both_code_part t =
     subst (λ n. Both (content code t) (λ x. number n (bodies 0 (map bare_body t.bodies) x))) (sym (length-bare bare_body t.bodies))
-    (both_then (number (length t.bodies)) (number (length t.bodies)) (bodies 0 t.bodies) (bodies 0 (map bare_body t.bodies))
-    (both_self (number (length t.bodies)) _ (keeps_number (length t.bodies))) (both_bodies 0 t.bodies))
+    (both_then (both_self (keeps_number (length t.bodies))) (both_bodies 0 t.bodies))
 
 both_part : (part : Part) (t : Module) → Both (content part t) (content part (bare_module t))
-both_part types t = both_vector bare_type type_entry both_type t.types
-both_part imports t = both_vector bare_import import_entry both_import t.imports
-both_part functions t = both_short_vector most_functions bare_func func_entry both_func t.funcs
-both_part tables t = both_vector bare_limits_entry table_entry both_table t.tables
-both_part memories t = both_vector bare_limits_entry memory_entry both_memory t.memories
-both_part globals t = both_vector bare_global global_entry both_global t.globals
-both_part exports t = both_vector bare_export export_entry both_export t.exports
+both_part types t = both_vector bare_type both_type t.types
+both_part imports t = both_vector bare_import both_import t.imports
+both_part functions t = both_short_vector most_functions bare_func both_func t.funcs
+both_part tables t = both_vector bare_limits_entry both_table t.tables
+both_part memories t = both_vector bare_limits_entry both_memory t.memories
+both_part globals t = both_vector bare_global both_global t.globals
+both_part exports t = both_vector bare_export both_export t.exports
 both_part start t = both_start t.start
-both_part elements t = both_vector bare_element element_entry both_element t.elements
+both_part elements t = both_vector bare_element both_element t.elements
 both_part data_count t = both_data_count_part t
 both_part code t = both_code_part t
-both_part segments t = both_vector bare_segment segment_entry both_segment t.segments
+both_part segments t = both_vector bare_segment both_segment t.segments
 
 no_count_bare : (d : Option DataCount) → is_none (bare_data_count d) ≡ is_none d
 no_count_bare None = refl
@@ -76,46 +62,37 @@ empty_bare data_count t = no_count_bare t.data_count
 empty_bare code t = ap (λ n. nat_eq n 0) (length-bare bare_body t.bodies)
 empty_bare segments t = ap (λ n. nat_eq n 0) (length-bare bare_segment t.segments)
 
-same_fields : (f g f' g' : Fields → Fields) → ((x : Fields) → f x ≡ f' x) → ((x : Fields) → g x ≡ g' x) → Both f g → Both f' g'
-same_fields f g f' g' e d b = (
-  (λ rest other go bytes s. subst (λ x. SpelledAside x bytes) (d other)
-      (b.0 rest other go bytes (subst (λ x. SpelledAside x bytes) (sym (e rest)) s))),
-  (λ rest other go bytes s. subst (λ x. SpelledAside x bytes) (e other)
-      (b.1 rest other go bytes (subst (λ x. SpelledAside x bytes) (sym (d rest)) s))),
-)
+same_fields : {f g : Fields → Fields} (f' g' : Fields → Fields) → ((x : Fields) → f x ≡ f' x) → ((x : Fields) → g x ≡ g' x) → Both f g
+    → Both f' g'
+same_fields f' g' e d b = record {
+  on = λ rest other go bytes s. subst (λ x. SpelledAside x bytes) (d other)
+      (b.on rest other go bytes (subst (λ x. SpelledAside x bytes) (sym (e rest)) s));
+  back = λ rest other go bytes s. subst (λ x. SpelledAside x bytes) (e other)
+      (b.back rest other go bytes (subst (λ x. SpelledAside x bytes) (sym (d rest)) s));
+}
 
 both_filled : (t : Module) (part : Part) → Both (filled t part) (filled (bare_module t) part)
 both_filled t part = elim (cases_Bool (is_empty part t)) [
-  | inl empty ↦ same_fields (λ x. x) (λ x. x) (filled t part) (filled (bare_module t) part) (λ x. sym (filled-empty t part x empty))
+  | inl empty ↦ same_fields (filled t part) (filled (bare_module t) part) (λ x. sym (filled-empty t part x empty))
       (λ x. sym (filled-empty (bare_module t) part x (empty_bare part t ∙ empty))) both_none
-  | inr full ↦
-      let f : Fields → Fields = λ x. byte (id_of part) (window (content part t finished) x) in
-      let g : Fields → Fields = λ x. byte (id_of part) (window (content part (bare_module t) finished) x) in
-      same_fields f g (filled t part) (filled (bare_module t) part) (λ x. sym (filled-full t part x full))
+  | inr full ↦ same_fields (filled t part) (filled (bare_module t) part) (λ x. sym (filled-full t part x full))
       (λ x. sym (filled-full (bare_module t) part x (empty_bare part t ∙ full)))
-      (both_then (byte (id_of part)) (byte (id_of part)) (window (content part t finished)) (window (content part (bare_module t) finished))
-      (both_self (byte (id_of part)) _ (keeps_byte (id_of part)))
-      (both_window (content part t) (content part (bare_module t)) (both_part part t)))
+      (both_then (both_self (keeps_byte (id_of part))) (both_window (both_part part t)))
 ]
 
 both_parts : (t : Module) (ps : List Part) → Both (each (filled t) ps) (each (filled (bare_module t)) ps)
 both_parts t [] = both_none
-both_parts t (part ∷ ps) =
-    both_then (filled t part) (filled (bare_module t) part) (each (filled t) ps) (each (filled (bare_module t)) ps) (both_filled t part)
-    (both_parts t ps)
+both_parts t (part ∷ ps) = both_then (both_filled t part) (both_parts t ps)
 
 start_of_file : Fields → Fields
 start_of_file rest = magic (version rest)
 
 four : (a b c d : ℕ) → Keeps (λ x. byte a (byte b (byte c (byte d x))))
-four a b c d =
-    keeps_both (byte a) (λ x. byte b (byte c (byte d x))) (keeps_byte a)
-    (keeps_both (byte b) (λ x. byte c (byte d x)) (keeps_byte b) (keeps_both (byte c) (byte d) (keeps_byte c) (keeps_byte d)))
+four a b c d = keeps_both (keeps_byte a) (keeps_both (keeps_byte b) (keeps_both (keeps_byte c) (keeps_byte d)))
 
 both_start_of_file : Both start_of_file start_of_file
 unfolding start_of_file
-both_start_of_file =
-    both_then magic magic version version (both_self magic _ (four 0x00 0x61 0x73 0x6D)) (both_self version _ (four 0x01 0x00 0x00 0x00))
+both_start_of_file = both_then (both_self (four 0x00 0x61 0x73 0x6D)) (both_self (four 0x01 0x00 0x00 0x00))
 
 counts_bare : (t : Module) → nat_eq (length (map bare_func t.funcs)) (length (map bare_body t.bodies))
     ≡ nat_eq (length t.funcs) (length t.bodies)
@@ -128,16 +105,13 @@ unfolding start_of_file
 both_short t =
     let count = nat_eq (length t.funcs) (length t.bodies) in
     subst (λ b. Both (short_fields t) (λ x. start_of_file (provided b (each (filled (bare_module t)) parts x)))) (sym (counts_bare t))
-    (both_then start_of_file start_of_file (λ x. provided count (each (filled t) parts x))
-    (λ x. provided count (each (filled (bare_module t)) parts x)) both_start_of_file
-    (both_then (provided count) (provided count) (each (filled t) parts) (each (filled (bare_module t)) parts)
-    (both_self (provided count) _ (keeps_provided count)) (both_parts t parts)))
+    (both_then both_start_of_file (both_then (both_self (keeps_provided count)) (both_parts t parts)))
 
 -- a file of a module's spells its short fields with the places aside, in no more bytes
 pub short_of_file : (t : Module) (bytes : List ℕ) → SpellsAside t bytes
     → (short : List ℕ) × SpelledAside (short_fields t finished) short × (length short ≤ length bytes) × (length bytes ≤ most_module_bytes)
 short_of_file t bytes (u, same, (s, small)) =
     let r = short_aside_of u bytes (spelled_aside (module_fields u) 0 bytes s) in
-    let of_bare = (both_short u).0 finished finished (λ b h. h) r.0 r.1 in
+    let of_bare = (both_short u).on finished finished (λ b h. h) r.0 r.1 in
     let of_other = subst (λ (m : Module). SpelledAside (short_fields m finished) r.0) (sym same) of_bare in
-    (r.0, (both_short t).1 finished finished (λ b h. h) r.0 of_other, r.2, small)
+    (r.0, (both_short t).back finished finished (λ b h. h) r.0 of_other, r.2, small)

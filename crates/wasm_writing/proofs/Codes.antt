@@ -1,8 +1,5 @@
 -- Blocks, and lists of instructions.
-use Rattle.std.proofs.Common.{◌≡◌, ℕ, zero, suc, ◌+◌, ◌-◌, ◌<◌, ◌≤◌, List, [], ◌∷◌, ◌++◌, length, get_or, take, true, false, Option, refl, sym, ap, subst, ◌∙◌, arith, nat_lt}
-use Rattle.std.proofs.lemmas.Bool.{lt-ltb}
-use Rattle.std.proofs.lemmas.List.{take_more}
-use Rattle.w2c_base.specs.declared.value.ValType.{ValType}
+use Rattle.wasm_writing.proofs.Common.{◌≡◌, ℕ, zero, suc, ◌+◌, ◌-◌, ◌<◌, ◌≤◌, true, false, List, [], ◌∷◌, ◌++◌, length, get_or, take, nat_lt, Option, sym, refl, ap, ◌∙◌, subst, arith, lt-ltb, take_more, ValType, Binary, Br, BrIf, Call, Code, Compare, Drop, Eqz, Extend, GlobalGet, GlobalSet, I32WrapI64, I64ExtendI32S, I64ExtendI32U, Kind, Load, LocalGet, LocalSet, LocalTee, Nop, Return, Select, Store, Unary, Unreachable, code_tree, kind_tree, Fields, byte, here, number, provided, most_module_bytes, block_type_code, code_fields, end_byte, instr_fields, Puts, Refuses, Draft}
 use Rattle.wasm_tree.specs.declared.code.Instr.{Instr}
 use Rattle.wasm_tree.specs.declared.code.MemArg.{MemArg}
 use Rattle.wasm_tree.specs.declared.operators.Simple.{Simple}
@@ -11,16 +8,9 @@ use Rattle.wasm_tree.specs.declared.operators.AccessOp.{AccessOp}
 use Rattle.wasm_tree.specs.declared.operators.Numeric.{Numeric}
 use Rattle.wasm_tree.specs.declared.operators.Parts.{Parts}
 use Rattle.wasm_tree.specs.declared.operators.Parts.TheVariants as parts
-use Rattle.wasm_tree.specs.Instructions.{Code, Kind, Unreachable, Nop, Return, Drop, Select, Br, BrIf, Call, LocalGet, LocalSet, LocalTee, GlobalGet, GlobalSet, Load, Store, Eqz, Compare, Unary, Binary, I32WrapI64, I64ExtendI32S, I64ExtendI32U, Extend}
 use Rattle.wasm_tree.specs.Parts.{parts_of, simple_opcode, index_opcode, access_opcode, numeric_opcode}
-use Rattle.wasm_tree.specs.Views.{code_tree, kind_tree}
-use Rattle.wasm_spelling.specs.Fields.{Fields, byte, number, here, provided}
-use Rattle.wasm_spelling.specs.ModuleFields.{block_type_code, code_fields, end_byte, instr_fields}
-use Rattle.wasm_spelling.specs.Limits.{most_module_bytes}
-use Rattle.wasm_writing.specs.declared.draft.Draft.{Draft}
 use Rattle.wasm_writing.specs.Aside.{SpelledAside, SpelledBy}
 use Rattle.wasm_writing.specs.Codes.{mem_arg, block_fields, if_fields}
-use Rattle.wasm_writing.specs.Drafts.{Puts, Refuses}
 use Rattle.wasm_writing.proofs.Pieces.{fits_here, makes_here, puts_if, puts_none}
 use Rattle.wasm_writing.proofs.Lists.{puts_both, puts_same}
 

@@ -1,34 +1,25 @@
 -- Instructions: with some places they are the same but for places.
-use Rattle.std.proofs.Common.{◌≡◌, ℕ, ◌-◌, Option, refl, sym, ap, ◌∙◌, nat_lt}
-use Rattle.w2c_base.specs.declared.value.ValType.{ValType}
-use Rattle.wasm_tree.specs.Instructions.{Code, end_code, then_code, Kind, no_else, else_code, Block, Loop, If, Br, BrIf, BrTable, Call, CallIndirect, LocalGet, LocalSet, LocalTee, GlobalGet, GlobalSet, Load, Store, MemorySize, MemoryGrow, MemoryCopy, MemoryFill, I32Const, I64Const}
-use Rattle.wasm_tree.specs.InstructionTable.{opcode_of}
-use Rattle.wasm_spelling.specs.Fields.{Fields, byte, number, here, provided}
-use Rattle.wasm_spelling.specs.ModuleFields.{block_type_code, code_fields, end_byte, expression, immediates, vector}
-use Rattle.wasm_spelling.specs.Limits.{most_blocks}
-use Rattle.wasm_spelling.specs.Places.{bare_code}
+use Rattle.wasm_writing.proofs.Common.{◌≡◌, ℕ, ◌-◌, nat_lt, Option, sym, refl, ap, ◌∙◌, ValType, opcode_of, Block, Br, BrIf, BrTable, Call, CallIndirect, Code, GlobalGet, GlobalSet, I32Const, I64Const, If, Kind, Load, LocalGet, LocalSet, LocalTee, Loop, MemoryCopy, MemoryFill, MemoryGrow, MemorySize, Store, else_code, end_code, no_else, then_code, Fields, byte, here, provided, most_blocks, block_type_code, code_fields, end_byte, expression, immediates, bare_code}
 use Rattle.wasm_writing.proofs.Fills.{Fills, Keeps, Like, fills_after, fills_as, fills_before, fills_both, fills_here, fills_none, keeps_both, keeps_byte, keeps_none, keeps_number, keeps_provided, keeps_signed, keeps_vector}
 
 pub keeps_immediates : (k : Kind) → Keeps (immediates k)
 keeps_immediates (Br label) = keeps_number label
 keeps_immediates (BrIf label) = keeps_number label
 keeps_immediates (BrTable labels default) =
-    keeps_both (vector number labels) (number default) (keeps_vector number keeps_number labels) (keeps_number default)
+    keeps_both (keeps_vector keeps_number labels) (keeps_number default)
 keeps_immediates (Call func) = keeps_number func
-keeps_immediates (CallIndirect type_index) = keeps_both (number type_index) (number 0) (keeps_number type_index) (keeps_number 0)
+keeps_immediates (CallIndirect type_index) = keeps_both (keeps_number type_index) (keeps_number 0)
 keeps_immediates (LocalGet index) = keeps_number index
 keeps_immediates (LocalSet index) = keeps_number index
 keeps_immediates (LocalTee index) = keeps_number index
 keeps_immediates (GlobalGet index) = keeps_number index
 keeps_immediates (GlobalSet index) = keeps_number index
-keeps_immediates (Load op arg) = keeps_both (number arg.align) (number arg.offset) (keeps_number arg.align) (keeps_number arg.offset)
-keeps_immediates (Store op arg) = keeps_both (number arg.align) (number arg.offset) (keeps_number arg.align) (keeps_number arg.offset)
+keeps_immediates (Load op arg) = keeps_both (keeps_number arg.align) (keeps_number arg.offset)
+keeps_immediates (Store op arg) = keeps_both (keeps_number arg.align) (keeps_number arg.offset)
 keeps_immediates MemorySize = keeps_byte 0x00
 keeps_immediates MemoryGrow = keeps_byte 0x00
-keeps_immediates MemoryCopy =
-    keeps_both (number 10) (λ x. byte 0x00 (byte 0x00 x)) (keeps_number 10)
-    (keeps_both (byte 0x00) (byte 0x00) (keeps_byte 0x00) (keeps_byte 0x00))
-keeps_immediates MemoryFill = keeps_both (number 11) (byte 0x00) (keeps_number 11) (keeps_byte 0x00)
+keeps_immediates MemoryCopy = keeps_both (keeps_number 10) (keeps_both (keeps_byte 0x00) (keeps_byte 0x00))
+keeps_immediates MemoryFill = keeps_both (keeps_number 11) (keeps_byte 0x00)
 keeps_immediates (I32Const n) = keeps_signed 32 n
 keeps_immediates (I64Const n) = keeps_signed 64 n
 keeps_immediates kind = keeps_none
@@ -40,16 +31,12 @@ head room opcode ty rest = byte opcode (provided (nat_lt 0 room) (byte (block_ty
 pub keeps_head : (room opcode : ℕ) (ty : Option ValType) → Keeps (head room opcode ty)
 unfolding head
 keeps_head room opcode ty =
-    keeps_both (byte opcode) (λ rest. provided (nat_lt 0 room) (byte (block_type_code ty) rest)) (keeps_byte opcode)
-    (keeps_both (provided (nat_lt 0 room)) (byte (block_type_code ty)) (keeps_provided (nat_lt 0 room)) (keeps_byte (block_type_code ty)))
+    keeps_both (keeps_byte opcode) (keeps_both (keeps_provided (nat_lt 0 room)) (keeps_byte (block_type_code ty)))
 
 -- what closes a block, and the code behind it
-fills_closed : (e : ℕ) (after : Fields → Fields) (room : ℕ) (c : Code)
-    → Fills {R = Like bare_code c} (code_fields room c) (λ r. code_fields room r.0)
+fills_closed : (e room : ℕ) (c : Code) → Fills {R = Like bare_code c} (code_fields room c) (λ r. code_fields room r.0)
     → Fills {R = ℕ × Like bare_code c} (λ x. end_byte e (code_fields room c x)) (λ r x. end_byte r.0 (code_fields room r.1.0 x))
-fills_closed e after room c h =
-    fills_here e (λ x. byte 0x0B (code_fields room c x)) (λ r x. byte 0x0B (code_fields room r.0 x))
-    (fills_after (byte 0x0B) (code_fields room c) (λ r. code_fields room r.0) (keeps_byte 0x0B) h)
+fills_closed e room c h = fills_here (fills_after (keeps_byte 0x0B) h)
 
 -- a block of one piece of code, and the code behind it
 abbrev One : Code → Code → Type 0
@@ -61,15 +48,7 @@ fills_one : (place room opcode : ℕ) (ty : Option ValType) (b : Code) (e : ℕ)
     → Fills {R = One b c} (λ x. here place (head room opcode ty (code_fields (room - 1) b (end_byte e (code_fields room c x)))))
     (λ r x. here r.0 (head room opcode ty (code_fields (room - 1) r.1.0.0 (end_byte r.1.1.0 (code_fields room r.1.1.1.0 x)))))
 fills_one place room opcode ty b e c h k =
-    let closed = fills_closed e (λ x. x) room c k in
-    let body =
-    fills_both (code_fields (room - 1) b) (λ r. code_fields (room - 1) r.0) (λ x. end_byte e (code_fields room c x))
-    (λ r x. end_byte r.0 (code_fields room r.1.0 x)) h closed in
-    let headed =
-    fills_after (head room opcode ty) (λ x. code_fields (room - 1) b (end_byte e (code_fields room c x)))
-    (λ r x. code_fields (room - 1) r.0.0 (end_byte r.1.0 (code_fields room r.1.1.0 x))) (keeps_head room opcode ty) body in
-    fills_here place (λ x. head room opcode ty (code_fields (room - 1) b (end_byte e (code_fields room c x))))
-    (λ r x. head room opcode ty (code_fields (room - 1) r.0.0 (end_byte r.1.0 (code_fields room r.1.1.0 x)))) headed
+    fills_here (fills_after (keeps_head room opcode ty) (fills_both h (fills_closed e room c k)))
 
 -- an if with both branches, and the code behind it
 abbrev Two : Code → Code → Code → Type 0
@@ -86,40 +65,13 @@ fills_two : (place room : ℕ) (ty : Option ValType) (b : Code) (q : ℕ) (d : C
     (head room 0x04 ty (code_fields (room - 1) r.1.0.0
     (here r.1.1.0 (byte 0x05 (code_fields (room - 1) r.1.1.1.0.0 (end_byte r.1.1.1.1.0 (code_fields room r.1.1.1.1.1.0 x))))))))
 fills_two place room ty b q d e c h i k =
-    let closed = fills_closed e (λ x. x) room c k in
-    let second =
-    fills_both (code_fields (room - 1) d) (λ r. code_fields (room - 1) r.0) (λ x. end_byte e (code_fields room c x))
-    (λ r x. end_byte r.0 (code_fields room r.1.0 x)) i closed in
-    let middle =
-    fills_here q (λ x. byte 0x05 (code_fields (room - 1) d (end_byte e (code_fields room c x))))
-    (λ r x. byte 0x05 (code_fields (room - 1) r.0.0 (end_byte r.1.0 (code_fields room r.1.1.0 x))))
-    (fills_after (byte 0x05) (λ x. code_fields (room - 1) d (end_byte e (code_fields room c x)))
-    (λ r x. code_fields (room - 1) r.0.0 (end_byte r.1.0 (code_fields room r.1.1.0 x))) (keeps_byte 0x05) second) in
-    let body =
-    fills_both (code_fields (room - 1) b) (λ r. code_fields (room - 1) r.0)
-    (λ x. here q (byte 0x05 (code_fields (room - 1) d (end_byte e (code_fields room c x)))))
-    (λ r x. here r.0 (byte 0x05 (code_fields (room - 1) r.1.0.0 (end_byte r.1.1.0 (code_fields room r.1.1.1.0 x))))) h middle in
-    let headed =
-    fills_after (head room 0x04 ty) (λ x. code_fields (room - 1) b
-    (here q (byte 0x05 (code_fields (room - 1) d (end_byte e (code_fields room c x))))))
-    (λ r x. code_fields (room - 1) r.0.0
-    (here r.1.0 (byte 0x05 (code_fields (room - 1) r.1.1.0.0 (end_byte r.1.1.1.0 (code_fields room r.1.1.1.1.0 x))))))
-    (keeps_head room 0x04 ty) body in
-    fills_here place
-    (λ x. head room 0x04 ty (code_fields (room - 1) b
-    (here q (byte 0x05 (code_fields (room - 1) d (end_byte e (code_fields room c x)))))))
-    (λ r x. head room 0x04 ty (code_fields (room - 1) r.0.0
-    (here r.1.0 (byte 0x05 (code_fields (room - 1) r.1.1.0.0 (end_byte r.1.1.1.0 (code_fields room r.1.1.1.1.0 x))))))) headed
+    fills_here (fills_after (keeps_head room 0x04 ty)
+    (fills_both h (fills_here (fills_after (keeps_byte 0x05) (fills_both i (fills_closed e room c k))))))
 
 plain : (k : Kind) (place : ℕ) (room : ℕ) (c : Code) → Fills {R = Like bare_code c} (code_fields room c) (λ r. code_fields room r.0)
     → Fills {R = ℕ × Like bare_code c} (λ x. here place (byte (opcode_of k) (immediates k (code_fields room c x))))
     (λ r x. here r.0 (byte (opcode_of k) (immediates k (code_fields room r.1.0 x))))
-plain k place room c h =
-    fills_here place (λ x. byte (opcode_of k) (immediates k (code_fields room c x)))
-    (λ r x. byte (opcode_of k) (immediates k (code_fields room r.0 x)))
-    (fills_after (byte (opcode_of k)) (λ x. immediates k (code_fields room c x)) (λ r x. immediates k (code_fields room r.0 x))
-    (keeps_byte (opcode_of k))
-    (fills_after (immediates k) (code_fields room c) (λ r. code_fields room r.0) (keeps_immediates k) h))
+plain k place room c h = fills_here (fills_after (keeps_byte (opcode_of k)) (fills_after (keeps_immediates k) h))
 
 with_block : (make : Code → ℕ → Kind) (kind : Code → Kind)
     → ((b : Code) (e : ℕ) (c : Code) (place : ℕ)
@@ -135,19 +87,16 @@ pub fills_code : (room : ℕ) (c : Code) → Fills {R = Like bare_code c} (code_
 unfolding head with_block
 fills_code room end_code = fills_none (λ r. code_fields room r.0) (end_code, refl) (λ x. refl)
 fills_code room (then_code place (Block ty b e) c) =
-    fills_as (code_fields room (then_code place (Block ty b e) c)) _ (λ r. code_fields room r.0)
-    (with_block (Block ty) (λ d. Block ty d 0) (λ b e c p. refl) place e b c) (λ r x. refl)
+    fills_as (with_block (Block ty) (λ d. Block ty d 0) (λ b e c p. refl) place e b c) (λ r x. refl)
     (fills_one place room 0x02 ty b e c (fills_code (room - 1) b) (fills_code room c))
 fills_code room (then_code place (Loop ty b e) c) =
-    fills_as (code_fields room (then_code place (Loop ty b e) c)) _ (λ r. code_fields room r.0)
-    (with_block (Loop ty) (λ d. Loop ty d 0) (λ b e c p. refl) place e b c) (λ r x. refl)
+    fills_as (with_block (Loop ty) (λ d. Loop ty d 0) (λ b e c p. refl) place e b c) (λ r x. refl)
     (fills_one place room 0x03 ty b e c (fills_code (room - 1) b) (fills_code room c))
 fills_code room (then_code place (If ty b no_else e) c) =
-    fills_as (code_fields room (then_code place (If ty b no_else e) c)) _ (λ r. code_fields room r.0)
-    (with_block (λ b. If ty b no_else) (λ d. If ty d no_else 0) (λ b e c p. refl) place e b c) (λ r x. refl)
+    fills_as (with_block (λ b. If ty b no_else) (λ d. If ty d no_else 0) (λ b e c p. refl) place e b c) (λ r x. refl)
     (fills_one place room 0x04 ty b e c (fills_code (room - 1) b) (fills_code room c))
 fills_code room (then_code place (If ty b (else_code q d) e) c) =
-    fills_as (code_fields room (then_code place (If ty b (else_code q d) e) c)) _ (λ r. code_fields room r.0) two (λ r x. refl)
+    fills_as two (λ r x. refl)
     (fills_two place room ty b q d e c (fills_code (room - 1) b) (fills_code (room - 1) d) (fills_code room c))
   where
     two : Two b d c → Like bare_code (then_code place (If ty b (else_code q d) e) c)
@@ -158,11 +107,9 @@ fills_code room (then_code place (If ty b (else_code q d) e) c) =
           ∙ ap (λ x. then_code 0 (If ty (bare_code b) (else_code 0 (bare_code d)) 0) x) r.1.1.1.1.1.1,
     )
 fills_code room (then_code place k c) =
-    fills_as (code_fields room (then_code place k c)) _ (λ r. code_fields room r.0)
-    (λ r. (then_code r.0 k r.1.0, ap (λ d. then_code 0 k d) r.1.1)) (λ r x. refl)
+    fills_as (λ r. (then_code r.0 k r.1.0, ap (λ d. then_code 0 k d) r.1.1)) (λ r x. refl)
     (plain k place room c (fills_code room c))
 
 -- an expression, whose end is not kept
 pub fills_expression : (c : Code) → Fills {R = Like bare_code c} (expression c) (λ r. expression r.0)
-fills_expression c =
-    fills_before (code_fields most_blocks c) (λ r. code_fields most_blocks r.0) (byte 0x0B) (fills_code most_blocks c) (keeps_byte 0x0B)
+fills_expression c = fills_before (fills_code most_blocks c) (keeps_byte 0x0B)

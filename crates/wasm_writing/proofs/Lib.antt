@@ -1,6 +1,6 @@
+mod Common
 pub mod Pieces
 pub mod Lists
-pub mod Utf8
 pub mod Codes
 pub mod Shorts
 pub mod Windows

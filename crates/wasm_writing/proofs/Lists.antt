@@ -1,10 +1,5 @@
 -- Lists of entries are put one after the other.
-use Rattle.std.proofs.Common.{◌≡◌, ℕ, ◌+◌, ◌<◌, List, [], ◌∷◌, ◌++◌, length, get_or, take, refl, sym, ap, subst, ◌∙◌}
-use Rattle.std.proofs.lemmas.List.{take_more}
-use Rattle.wasm_spelling.specs.Fields.{Fields}
-use Rattle.wasm_spelling.specs.ModuleFields.{each}
-use Rattle.wasm_writing.specs.declared.draft.Draft.{Draft}
-use Rattle.wasm_writing.specs.Drafts.{Fits, Makes, Puts}
+use Rattle.wasm_writing.proofs.Common.{◌≡◌, ℕ, ◌+◌, ◌<◌, List, [], ◌∷◌, ◌++◌, length, get_or, take, sym, refl, ap, ◌∙◌, subst, take_more, Fields, each, Fits, Makes, Puts, Draft}
 
 -- fields, and then others
 pub puts_both : (front back : Fields → Fields) (a b c : Draft) → Puts front a b → Puts back b c → Puts (λ rest. front (back rest)) a c

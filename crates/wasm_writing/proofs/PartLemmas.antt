@@ -1,11 +1,5 @@
 -- Sections, where they have entries.
-use Rattle.std.proofs.Common.{◌≡◌, true, false, cond, ap, sym}
-use Rattle.wasm_tree.specs.declared.tree.Module.{Module}
-use Rattle.wasm_spelling.specs.Fields.{Fields, finished, byte, window}
-use Rattle.wasm_spelling.specs.ModuleFields.{Part, content, id_of, is_empty}
-use Rattle.wasm_writing.specs.declared.draft.Draft.{Draft}
-use Rattle.wasm_writing.specs.declared.draft.Draft.TheVariants.{Counted}
-use Rattle.wasm_writing.specs.Drafts.{Puts, PutsSize}
+use Rattle.wasm_writing.proofs.Common.{◌≡◌, true, false, cond, sym, ap, Module, Fields, byte, finished, window, Part, content, id_of, is_empty, Puts, PutsSize, Draft, Counted}
 use Rattle.wasm_writing.specs.ShortFile.{filled}
 use Rattle.wasm_writing.proofs.Lists.{puts_both, puts_same}
 use Rattle.wasm_writing.proofs.Windows.{puts_window}

@@ -1,16 +1,6 @@
 -- A piece is put behind a draft: which fields it is the shortest spelling of.
-use Rattle.std.proofs.Common.{◌≡◌, ℕ, ℤ, ◌+◌, ◌^◌, ◌<◌, ◌≤◌, List, [], ◌∷◌, ◌++◌, length, length-append, append_assoc, Bool, true, false, refl, sym, ap, subst, ◌∙◌, arith}
-use Rattle.w2c_base.specs.SpelledNumber.{SpellsSigned, SpellsUnsigned}
-use Rattle.leb_bytes.specs.Shortest.{IsShortest}
-use Rattle.wasm_spelling.specs.Bytes.{AreBytes}
-use Rattle.wasm_spelling.proofs.Behind.{all_append}
-use Rattle.wasm_spelling.specs.Fields.{Fields, byte, number, signed, text, here, provided}
-use Rattle.wasm_spelling.specs.Limits.{most_module_bytes}
-use Rattle.wasm_writing.specs.declared.draft.Draft.{Draft}
-use Rattle.wasm_writing.specs.declared.draft.Draft.TheVariants.{Counted, Written, Stopped}
-use Rattle.wasm_writing.specs.declared.draft.Stop.TheVariants.{Unformed, Memory}
+use Rattle.wasm_writing.proofs.Common.{◌≡◌, ℕ, ◌+◌, ◌^◌, ◌<◌, ◌≤◌, Bool, true, false, List, [], ◌∷◌, ◌++◌, length, ℤ, sym, refl, ap, ◌∙◌, subst, append_assoc, arith, length-append, all_append, SpellsSigned, SpellsUnsigned, IsShortest, AreBytes, Fields, byte, here, number, provided, signed, text, most_module_bytes, Completes, Fits, Makes, Puts, Refuses, Takes, size_of, Draft, Counted, Stopped, Written, Memory, Unformed}
 use Rattle.wasm_writing.specs.Aside.{SpelledAside, SpelledBy, SpelledShort}
-use Rattle.wasm_writing.specs.Drafts.{Completes, Fits, Makes, Puts, Refuses, Takes, size_of}
 
 -- the piece is the shortest spelling of a field
 pub record IsField (field : Fields → Fields) (piece : List ℕ) : Type 0 where

@@ -1,6 +1,5 @@
 -- A shortest spelling is a spelling.
-use Rattle.std.proofs.Common.{ℕ, List, inl, inr}
-use Rattle.wasm_spelling.specs.Fields.{Fields, finished, byte, number, signed, text, here, provided, window, either, for_some}
+use Rattle.wasm_writing.proofs.Common.{ℕ, List, inl, inr, Fields, byte, either, finished, for_some, here, number, provided, signed, text, window}
 use Rattle.wasm_writing.specs.Aside.{SpelledAside, SpelledBy, SpelledShort}
 
 pub short_aside : (fields : Fields) (bytes : List ℕ) → SpelledShort fields bytes → SpelledAside fields bytes

@@ -1,15 +1,6 @@
 -- A module has a file exactly where its fields were counted, and what is written is its shortest file.
-use Rattle.std.proofs.Common.{◌≡◌, ℕ, ◌≤◌, List, [], length, true, refl, subst, arith}
-use Rattle.std.proofs.lemmas.List.{append-nil}
-use Rattle.wasm_tree.specs.declared.tree.Module.{Module}
-use Rattle.wasm_spelling.specs.Fields.{finished}
-use Rattle.wasm_spelling.specs.Limits.{most_module_bytes}
-use Rattle.wasm_writing.specs.declared.draft.Draft.{Draft}
-use Rattle.wasm_writing.specs.declared.draft.Draft.TheVariants.{Counted, Written}
+use Rattle.wasm_writing.proofs.Common.{◌≡◌, ℕ, ◌≤◌, true, List, [], length, refl, subst, append-nil, arith, Module, finished, most_module_bytes, IsFormed, SpellsAside, Puts, IsShortFile, short_fields, Draft, Counted, Written}
 use Rattle.wasm_writing.specs.Aside.{SpelledBy, SpelledShort}
-use Rattle.wasm_writing.specs.Drafts.{Puts}
-use Rattle.wasm_spelling.specs.Places.{IsFormed, SpellsAside}
-use Rattle.wasm_writing.specs.ShortFile.{IsShortFile, short_fields}
 use Rattle.wasm_writing.proofs.BothModules.{short_of_file}
 use Rattle.wasm_writing.proofs.PlacedModule.{placed_module}
 use Rattle.wasm_writing.proofs.Shorts.{short_aside}

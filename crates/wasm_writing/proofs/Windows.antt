@@ -1,18 +1,8 @@
 -- A window: its content is counted first, then come the size and the content.
-use Rattle.std.proofs.Common.{◌≡◌, ℕ, ◌+◌, ◌*◌, ◌^◌, ◌<◌, ◌≤◌, List, [], ◌++◌, length, length-append, append_assoc, take, Bool, true, false, replicate, refl, sym, ap, subst, ◌∙◌, ◌⊎◌, inl, inr, arith}
-use Rattle.std.proofs.lemmas.List.{append-nil, length-replicate, length-take-le}
-use Rattle.w2c_base.specs.SpelledNumber.{SpellsUnsigned, seven_bit_sum}
+use Rattle.wasm_writing.proofs.Common.{◌≡◌, ℕ, ◌+◌, ◌*◌, ◌^◌, ◌<◌, ◌≤◌, Bool, true, false, ◌⊎◌, List, [], ◌++◌, length, take, replicate, sym, refl, ap, ◌∙◌, subst, inl, inr, append_assoc, append-nil, arith, length-append, length-take-le, length-replicate, all_append, SpellsUnsigned, seven_bit_sum, AreBytes, Fields, finished, number, text, window, most_module_bytes, Completes, Fits, HasStopped, IsWithin, Makes, Puts, PutsSize, Refuses, size_of, Draft, Counted, Stopped, Written, Memory, Unformed}
 use Rattle.leb_bytes.proofs.Existence.{shortest_unsigned}
 use Rattle.leb_bytes.proofs.Runs.{IsNumberRun-some, seven_bit_sum-below}
-use Rattle.wasm_spelling.specs.Bytes.{AreBytes}
-use Rattle.wasm_spelling.proofs.Behind.{all_append}
-use Rattle.wasm_spelling.specs.Fields.{Fields, finished, number, text, window}
-use Rattle.wasm_spelling.specs.Limits.{most_module_bytes}
-use Rattle.wasm_writing.specs.declared.draft.Draft.{Draft}
-use Rattle.wasm_writing.specs.declared.draft.Draft.TheVariants.{Counted, Written, Stopped}
-use Rattle.wasm_writing.specs.declared.draft.Stop.TheVariants.{Unformed, Memory}
 use Rattle.wasm_writing.specs.Aside.{SpelledAside, SpelledBy, SpelledShort}
-use Rattle.wasm_writing.specs.Drafts.{Completes, Fits, HasStopped, IsWithin, Makes, Puts, PutsSize, Refuses, size_of}
 use Rattle.wasm_writing.proofs.Pieces.{puts_none}
 use Rattle.wasm_writing.proofs.Shorts.{short_aside}
 

@@ -1,21 +1,9 @@
 -- What a run says of an assertion.
-use Rattle.std.proofs.Common.{◌≡◌, ℕ, suc, inl, inr, List, [], ◌∷◌, ◌++◌, length, length-append, Option, Some, sym, ap}
-use Rattle.std.proofs.Common.{◌∙◌, arith}
-use Rattle.w2c_base.specs.declared.value.Value.{Value}
-use Rattle.w2c_base.specs.declared.trap.TrapKind.{TrapKind}
-use Rattle.w2c_base.specs.Run.{Call as InCall}
-use Rattle.wasm_meaning.specs.LinkedSet.{LinkedSet}
+use Rattle.wast_run.proofs.Common.{◌≡◌, ℕ, suc, List, [], ◌∷◌, ◌++◌, length, Some, Option, sym, ap, ◌∙◌, inl, inr, arith, length-append, InCall, TrapKind, Value, LinkedSet, Ended, ListedCall, Stopped, Asserts, EndsWith, IsTimely, Runs, Setting, TrapsIn, calls_with, set_at, HasCome, IsLong, HasRun, IsEndWord, IsTrapWord, setting_of, Came, Stage, Word}
 use Rattle.wasm_meaning.specs.Execution.{Trapped}
-use Rattle.wasm_meaning.specs.Run.{ListedCall, Ended, Stopped}
 use Rattle.wast_script.specs.Commands as script
-use Rattle.wast_run.specs.declared.runs.Came.{Came}
 use Rattle.wast_run.specs.declared.runs.Came.TheVariants as came
-use Rattle.wast_run.specs.declared.stage.Stage.{Stage}
-use Rattle.wast_run.specs.declared.word.Word.{Word}
 use Rattle.wast_run.specs.declared.word.Word.TheVariants as word
-use Rattle.wast_run.specs.Runs.{HasCome, IsLong}
-use Rattle.wast_run.specs.Report.{Asserts, EndsWith, IsTimely, Runs, Setting, TrapsIn, calls_with, set_at}
-use Rattle.wast_run.specs.Stages.{HasRun, IsEndWord, IsTrapWord, setting_of}
 
 not_empty : {A : Type 0} (xs : List A) (x : A) → [] ≡ xs ++ x ∷ [] → ⊥
 not_empty [] x e = absurd cc

@@ -1,37 +1,14 @@
 -- What the units of a set ran is what the modules of the set come to.
-use Rattle.std.proofs.Common.{true, ◌≡◌, ◌≢◌, ℕ, suc, ◌<◌, ◌≤◌, List, [], ◌∷◌, ◌++◌, length, map, Some, None, refl, sym, ap, ◌∙◌, subst, arith}
-use Rattle.std.specs.List.{AllByRecursion}
-use Rattle.std.specs.Borrow.{Bor}
-use Rattle.w2c_base.specs.declared.trap.TrapKind.{TrapKind}
-use Rattle.w2c_base.specs.Run.{Reply}
-use Rattle.wasm_meaning.specs.LinkedSet.{LinkedSet}
+use Rattle.wast_run.proofs.Common.{◌≡◌, ℕ, suc, ◌<◌, ◌≤◌, true, ◌≢◌, List, [], ◌∷◌, ◌++◌, map, length, Some, None, sym, refl, ap, ◌∙◌, subst, arith, Bor, AllByRecursion, Reply, TrapKind, LinkedSet, ListedCall, wasm_run, Program, SymbolCall, fits, CRun, c_run, IsAcceptedSet, IsListing, NeverStops, UnitsDoTheSame, program_of, symbol_call, Call, HasRan, came_in, symbol_of, symbols_of, EnoughStepsEndRuns, HasCome, IsLong, IsOver, RunsAreAlike, listed_call, listed_calls, modules_run, units_run, Came}
 use Rattle.wasm_meaning.specs.Execution as exec
-use Rattle.wasm_meaning.specs.Run.{ListedCall, wasm_run}
 use Rattle.wasm_meaning.specs.Run as wasm
 use Rattle.c_meaning.specs.State as state
-use Rattle.c_meaning.specs.Linking.{Program, SymbolCall, fits}
-use Rattle.c_meaning.specs.Run.{CRun, c_run}
 use Rattle.c_meaning.specs.Run as c
 use Rattle.alike.specs.Alike.{Alike, OutcomesAlike}
-use Rattle.c_unit.specs.Sets.{IsAcceptedSet, IsListing, NeverStops, UnitsDoTheSame, program_of, symbol_call}
 use Rattle.crun.specs.declared.outcome.Outcome.TheVariants as outcome
 use Rattle.crun.specs.Engines.{place_of}
-use Rattle.wast_script.specs.declared.command.Call.{Call}
-use Rattle.wast_run.specs.declared.runs.Came.{Came}
 use Rattle.wast_run.specs.declared.session_runs.Ran.{Ran}
 use Rattle.wast_run.specs.declared.session_runs.Ran.TheVariants as ran
-use Rattle.wast_run.specs.Ran.{came_in, symbol_of, symbols_of, HasRan}
-use Rattle.wast_run.specs.Runs.{
-  listed_call,
-  listed_calls,
-  modules_run,
-  units_run,
-  EnoughStepsEndRuns,
-  HasCome,
-  IsLong,
-  IsOver,
-  RunsAreAlike,
-}
 
 -- ---- outcomes that are alike
 

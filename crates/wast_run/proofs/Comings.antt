@@ -1,38 +1,13 @@
 -- What a command comes to, from what its parts come to.
-use Rattle.std.proofs.Common.{◌≡◌, ℕ, ◌≤◌, inl, inr, List, [], ◌∷◌, ◌++◌, length, Option, Some, None, refl, sym, ap, ◌∙◌, subst}
-use Rattle.std.specs.Borrow.{Bor}
-use Rattle.std.specs.Prelude.{map}
-use Rattle.w2c_io.specs.Contents.{Name, Contents, Told, HasFile, HasNoFile, HasLongFile}
-use Rattle.w2c_io.specs.Telling.{Tells}
-use Rattle.w2c_io.proofs.Telling.{file_told, long_file_told, no_file_told}
-use Rattle.wasm_tree.specs.declared.tree.Module.{Module}
-use Rattle.wasm_spelling.specs.Limits.{most_module_bytes}
+use Rattle.wast_run.proofs.Common.{◌≡◌, ℕ, ◌≤◌, List, [], ◌∷◌, ◌++◌, map, length, Some, None, Option, sym, refl, ap, ◌∙◌, subst, inl, inr, Bor, TrapKind, Value, file_told, long_file_told, no_file_told, Contents, HasFile, HasLongFile, HasNoFile, Name, Told, Tells, Module, most_module_bytes, FileVerdict, Accepted, Invalid, Fits, WasmRun, named_of, ModuleFile, Refused, seen_call, Call, Agrees, says_invalid, says_malformed, tree_of, Asserts, Comes, IsFile, IsTimely, Joins, Keeps, Setting, accepted_tree, holds, is_invalid, is_malformed, listed, set_at, listed_call, listed_calls, HasRun, setting_of, IsUnreadFile, Judged, Stage, Word}
 use Rattle.wasm_spelling.specs.declared.fault.Cause.{Cause}
 use Rattle.wasm_spelling.specs.declared.fault.Which.{Which}
 use Rattle.wasm_spelling.specs.declared.fault.ReadFault.TheVariants as fault
 use Rattle.wasm_valid.specs.declared.fault.ValidCause.{ValidCause}
-use Rattle.wasm_valid.specs.Verdict.{Accepted, Invalid}
-use Rattle.wasm_valid.specs.FileVerdict.{FileVerdict, Read, Unread, IsVerdictOn}
-use Rattle.w2c_base.specs.declared.value.Value.{Value}
-use Rattle.w2c_base.specs.declared.trap.TrapKind.{TrapKind}
-use Rattle.wasm_meaning.specs.Run.{Fits, WasmRun}
-use Rattle.wasm_set.specs.Sets.{named_of}
-use Rattle.wast_script.specs.Lines.{Reason, Usage, Unwritten, WantOfMemory, Refused, Unread}
-use Rattle.wast_script.specs.Seen.{seen_call}
-use Rattle.wast_script.specs.declared.command.Call.{Call}
+use Rattle.wasm_valid.specs.FileVerdict.{Read, Unread, IsVerdictOn}
 use Rattle.wast_script.specs.Commands as script
-use Rattle.wast_script.specs.Commands.{ModuleFile}
-use Rattle.wast_run.specs.declared.judging.Judged.{Judged}
 use Rattle.wast_run.specs.declared.judging.Judged.TheVariants as judged
-use Rattle.wast_run.specs.declared.stage.Stage.{Stage}
-use Rattle.wast_run.specs.declared.word.Word.{Word}
 use Rattle.wast_run.specs.declared.word.Word.TheVariants as word
-use Rattle.wast_run.specs.Runs.{listed_call, listed_calls}
-use Rattle.wast_run.specs.Report.{accepted_tree, Asserts, Comes, IsFile, IsTimely, Joins, Keeps, Setting, holds, is_invalid}
-use Rattle.wast_run.specs.Report.{is_malformed, listed, set_at}
-use Rattle.wast_run.specs.Judging.{Agrees, says_invalid, says_malformed, tree_of}
-use Rattle.wast_run.specs.Stages.{HasRun, setting_of}
-use Rattle.wast_run.specs.Stopping.{IsUnreadFile, StopsCommand, StopsFile}
 use Rattle.wast_run.proofs.StageLaws.{kept_more}
 
 -- ---- files
@@ -91,16 +66,6 @@ pub malformed_word : (told : Told) (name : List ℕ) (j : Judged)
     → Tells told (λ contents. (verdict : Option FileVerdict) × IsFile contents name verdict
     × (holds (says_malformed j) ≡ holds (is_malformed verdict)))
 malformed_word told name j said m tells = let s = said m tells in (s.0, s.1, ap holds (sym s.2.malformed))
-
--- why a command stops whose file is not read
-pub file_stops : (told : Told) (file : Name) (before after : ℕ) (named : Option Name) (why : Reason)
-    → StopsFile told file before after named why → StopsCommand told (Some file) before after named why
-file_stops told file before after named (Unread name) stop =
-    (ap Some (sym stop.0), subst (λ f. IsUnreadFile told f before after named) (sym stop.0) stop.1)
-file_stops told file before after named WantOfMemory stop = tt
-file_stops told file before after named Usage stop = absurd stop
-file_stops told file before after named (Refused why) stop = absurd stop
-file_stops told file before after named Unwritten stop = absurd stop
 
 -- ---- commands on files
 

@@ -1,50 +1,34 @@
 -- The worked script: what its text says, what the files hold, and the word that each command comes to.
-use Rattle.std.proofs.Common.{◌≡◌, ℕ, zero, suc, pos, List, [], ◌∷◌, length, Option, Some, None, MatchOption, codes, inl, inr, refl, ap, ◌∙◌, subst, arith}
-use Rattle.std.specs.List.{AllByRecursion}
-use Rattle.std.proofs.lemmas.Bool.{leb-true}
 use Rattle.std.specs.Char.{encode_utf8}
+use Rattle.std.specs.Str.{chars}
+use Rattle.wast_run.proofs.Common.{◌≡◌, ℕ, zero, suc, List, [], ◌∷◌, length, pos, Some, None, codes, Option, MatchOption, refl, ap, ◌∙◌, subst, inl, inr, arith, leb-true, get, AllByRecursion, I32, Contents, extended, Module, most_module_bytes, Accepted, IsValid, IsLinked, ModuleFunc, NamedModule, Fits, Line, Command, Usage, IsScript, most_script_bytes, IsJob, IsJobBehind, Reported, Reports, Stops, AreWords, AreWordsInTime, Comes, EndsWith, Setting, at_first, listed, report_of, report_status, set_at, modules_run, units_run, Word}
 use Rattle.std.specs.Fmt.{digits}
-use Rattle.std.specs.FinMap.{get}
-use Rattle.std.specs.Str.{chars, is_utf8}
+use Rattle.std.specs.Str.{is_utf8}
 use Rattle.clap.proofs.OnLiterals.{clap_on_literals}
 use Rattle.w2c_base.specs.declared.value.ValType.TheVariants as type
 use Rattle.leb_bytes.specs.Computed.{s32_of, u32_of}
 use Rattle.wasm_tree.specs.Instructions.{end_code, then_code, I32Const, Binary}
 use Rattle.wasm_tree.specs.declared.operators.BinaryOp.TheVariants.{Add}
 use Rattle.wasm_tree.specs.declared.entries.ExportKind.TheVariants.{Func as ExportFunc}
-use Rattle.wasm_tree.specs.declared.tree.Module.{Module}
 use Rattle.wasm_spelling.specs.ModuleFields.{Spells}
 use Rattle.wasm_spelling.specs.Steps.{bytes_at, checked, number_at, reads, signed32_at}
 use Rattle.wasm_spelling.specs.Reading.{bodies_at, body_at, body_content_at, content_at, exactly_at, export_entry_at, file_at, form_at, func_entry_at, func_type_at, item_at, items_at, kind_at, magic_at, module_at, name_at, part_at, sections_at, times_at, type_at, type_entry_at, utf8_at, version_at, window_at}
 use Rattle.wasm_spelling.proofs.Whole.{file_takes}
 use Rattle.wasm_valid.specs.ModuleFaults.{module_faults}
-use Rattle.wasm_valid.specs.Verdict.{IsValid}
 use Rattle.wasm_valid.proofs.Verdicts as verdicts
 use Rattle.serde_json.proofs.OnLiterals.{serde_json_on_literals}
-use Rattle.w2c_base.specs.declared.value.Value.TheVariants.{I32}
-use Rattle.w2c_io.specs.Contents.{Contents, extended}
 use Rattle.wasm_spelling.specs.declared.fault.Cause.TheVariants as cause
 use Rattle.wasm_spelling.specs.declared.fault.ReadFault.TheVariants as fault
-use Rattle.wasm_spelling.specs.Limits.{most_module_bytes}
 use Rattle.wasm_spelling.specs.Table.{Upto, after, row}
 use Rattle.wasm_valid.specs.FileVerdict.{Read, Unread}
-use Rattle.wasm_valid.specs.Verdict.{Accepted}
-use Rattle.wasm_meaning.specs.LinkedSet.{IsLinked, ModuleFunc, NamedModule, Resolves, module_at as numbered}
-use Rattle.wasm_meaning.specs.Run.{Fits}
+use Rattle.wasm_meaning.specs.LinkedSet.{Resolves, module_at as numbered}
 use Rattle.c_meaning.specs.Run as c
 use Rattle.program_words.specs.Command.{rows_read}
-use Rattle.wast_script.specs.CommandLine.{Line, line_of}
+use Rattle.wast_script.specs.CommandLine.{line_of}
 use Rattle.wast_script.specs.Commands as script
-use Rattle.wast_script.specs.Commands.{Command}
-use Rattle.wast_script.specs.Lines.{Usage}
-use Rattle.wast_script.specs.Scripts.{IsScript, most_script_bytes}
 use Rattle.wast_script.proofs.Readings.{one_script}
-use Rattle.wast_run.specs.declared.word.Word.{Word}
 use Rattle.wast_run.specs.declared.word.Word.TheVariants as word
 use Rattle.wast_run.specs.Example.{two_json, two_report, two_wasm, two_words}
-use Rattle.wast_run.specs.Jobs.{IsJob, IsJobBehind, Reported, Reports, Stops}
-use Rattle.wast_run.specs.Report.{AreWords, AreWordsInTime, Comes, EndsWith, Setting, at_first, listed, report_of, report_status, set_at}
-use Rattle.wast_run.specs.Runs.{modules_run, units_run}
 use Rattle.wast_run.proofs.Leads.{lead_plain}
 use Rattle.wast_run.proofs.OneReport.{one_report}
 

@@ -1,17 +1,8 @@
 -- What fits a set of modules fits it with one module more.
-use Rattle.std.proofs.Common.{◌≡◌, ℕ, zero, suc, Bool, true, false, List, [], ◌∷◌, ◌++◌, bytes_eq, find, slice_get, Option, Some, None}
-use Rattle.std.proofs.Common.{option_map, refl, ap, ◌∙◌}
-use Rattle.std.specs.Prelude.{if◌then◌else◌}
-use Rattle.std.proofs.lemmas.Option.{none-some}
+use Rattle.wast_run.proofs.Common.{◌≡◌, ℕ, zero, suc, Bool, true, false, List, [], ◌∷◌, ◌++◌, if◌then◌else◌, slice_get, Some, None, Option, option_map, find, bytes_eq, refl, ap, ◌∙◌, none-some, AllByRecursion, Host, External, FuncAddress, HostFunc, Instance, ModuleFunc, NamedModule, as_func, exported, func_type, instance_of, instances, instances_behind, Fits, ListedCall, set_with}
 use Rattle.wasm_tree.specs.IndexSpaces.{at_defined, type_in}
-use Rattle.std.specs.List.{AllByRecursion}
 use Rattle.w2c_base.specs.Lookup.{if_found, named}
 use Rattle.w2c_base.specs.declared.signature.FuncType.{FuncType}
-use Rattle.w2c_base.specs.Run.{Host}
-use Rattle.wasm_meaning.specs.LinkedSet.{NamedModule, External, FuncAddress, ModuleFunc, HostFunc, Instance, as_func}
-use Rattle.wasm_meaning.specs.LinkedSet.{exported, func_type, instance_of, instances, instances_behind}
-use Rattle.wasm_meaning.specs.Run.{Fits, ListedCall}
-use Rattle.wast_run.specs.Report.{set_with}
 
 instances_more : (hosts : List Host) (earlier : List Instance) (modules : List NamedModule) (m : NamedModule)
     → instances_behind hosts earlier (modules ++ m ∷ [])

@@ -1,39 +1,14 @@
 -- Where the files behave as files, what passes through them says what they hold.
-use Rattle.std.specs.Prelude.{if◌then◌else◌, MatchOption}
-use Rattle.std.proofs.Common.{◌≡◌, ◌≢◌, ◌⊎◌, inl, inr, ℕ, ◌≤◌, ◌==◌, Bool, true, false, List, [], ◌∷◌, ◌++◌, length}
-use Rattle.std.proofs.Common.{Option, Some, None, Ok, Err}
-use Rattle.std.proofs.Common.{append_assoc, refl, sym, ap, ◌∙◌, subst, arith}
-use Rattle.std.proofs.lemmas.Option.{same_Some, none-some}
-use Rattle.std.specs.FinMap.{get}
-use Rattle.std.specs.List.{AllByRecursion}
-use Rattle.w2c_io.specs.Contents.{Name, Contents, Told, IsPrefix}
-use Rattle.w2c_io.specs.Events.{Event, Read}
+use Rattle.wast_run.proofs.Common.{◌≡◌, ℕ, ◌≤◌, Bool, true, false, ◌≢◌, ◌⊎◌, List, [], ◌∷◌, ◌++◌, length, if◌then◌else◌, ◌==◌, Some, None, Ok, Err, Option, MatchOption, sym, refl, ap, ◌∙◌, subst, inl, inr, append_assoc, arith, none-some, same_Some, get, AllByRecursion, Contents, IsPrefix, Name, Told, Event, Read, Says, most_module_bytes, FileVerdict, Line, line_of, Command, Reason, Refused, Unread, Unwritten, Usage, WantOfMemory, error_line, status_of, most_script_bytes, ScriptFault, GainedPart, GainsPrefix, HasReading, IsAnswered, IsJob, IsJobBehind, IsNotThere, Job, Refuses, Reported, ReportedPart, Reports, Stops, GainsLinesBefore, HasItsFile, IsFirstMissing, IsNamed, IsPart, file_of, lines_before, Answer, ComesOver, DoesJob, DoesLine, Ending, EndsSo, IsGiven, IsJobBy, IsNoFile, IsReadAs, IsStatusOf, LastLines, LastReads, LeadOver, PassesFor, ReadsNext, ReportsOver, StopsIn, WantsMemory, module_read, script_read, Comes, IsFile, LeadInTime, Setting, at_first, ok_count, report_of, Word}
 use Rattle.w2c_io.specs.Honest.{AreHonest, Does}
-use Rattle.w2c_io.specs.Telling.{Says}
 use Rattle.w2c_io.specs.declared.answers.ReadAnswer.TheVariants as reading
 use Rattle.w2c_files.specs.Passing.{FailsLast}
 use Rattle.w2c_files.proofs.Honest.{honest_both, read_keeps}
-use Rattle.wasm_spelling.specs.Limits.{most_module_bytes}
-use Rattle.wasm_valid.specs.FileVerdict.{FileVerdict}
-use Rattle.wast_script.specs.declared.fault.ScriptFault.{ScriptFault}
 use Rattle.wast_script.specs.declared.fault.ScriptFault.TheVariants as fault
-use Rattle.wast_script.specs.CommandLine.{Line, line_of}
 use Rattle.wast_script.specs.Commands as script
-use Rattle.wast_script.specs.Commands.{Command}
-use Rattle.wast_script.specs.Lines.{Reason, Usage, Unwritten, WantOfMemory, Refused, Unread, error_line, status_of}
-use Rattle.wast_script.specs.Scripts.{most_script_bytes}
-use Rattle.wast_run.specs.declared.word.Word.{Word}
-use Rattle.wast_run.specs.Report.{Comes, IsFile, LeadInTime, Setting, at_first, ok_count, report_of}
-use Rattle.wast_run.specs.Parts.{file_of, lines_before, GainsLinesBefore, HasItsFile, IsFirstMissing, IsNamed, IsPart}
-use Rattle.wast_run.specs.Jobs.{GainedPart, HasReading, IsAnswered, IsNotThere, IsJob, IsJobBehind, Job, Refuses, Reported}
-use Rattle.wast_run.specs.Jobs.{GainsPrefix, ReportedPart, Reports, Stops}
-use Rattle.wast_run.specs.Passing.{Answer, ComesOver, DoesJob, DoesLine, Ending, EndsSo, IsGiven, IsJobBy, IsNoFile, IsReadAs}
-use Rattle.wast_run.specs.Passing.{IsStatusOf, LastLines, LastReads, LeadOver, PassesFor, ReadsNext, ReportsOver, StopsIn, WantsMemory}
-use Rattle.wast_run.specs.Passing.{module_read, script_read}
 use Rattle.wast_run.proofs.Leads.{lead_plain, lead_there}
 use Rattle.wast_run.proofs.JobLaws.{AreApart, IsOneScript, job_apart, one_status}
-use Rattle.wast_run.proofs.TopLaws.{fault_not_3, fault_not_4, gained_before, missing_always, no_report, nothing_gained, part_gains}
-use Rattle.wast_run.proofs.TopLaws.{reported_always, whole_part}
+use Rattle.wast_run.proofs.TopLaws.{fault_not_3, fault_not_4, gained_before, missing_always, no_report, nothing_gained, part_gains, reported_always, whole_part}
 use Rattle.wast_run.proofs.WordLines.{lines_in_front}
 use Rattle.wast_run.proofs.WorkLaws.{job_by_line, job_of_text}
 

@@ -1,15 +1,6 @@
 -- What words ask for is one thing: a report on one list of commands, or reasons of one status.
-use Rattle.std.proofs.Common.{◌≡◌, ◌≢◌, ℕ, List, Option, Some, None, refl, sym, ap, ◌∙◌}
-use Rattle.std.specs.FinMap.{get}
-use Rattle.std.specs.Prelude.{MatchOption}
-use Rattle.w2c_io.specs.Contents.{Name, Contents}
-use Rattle.wast_script.specs.declared.fault.ScriptFault.{ScriptFault}
+use Rattle.wast_run.proofs.Common.{◌≡◌, ℕ, ◌≢◌, List, Some, None, Option, MatchOption, sym, refl, ap, ◌∙◌, get, Contents, Name, Line, line_of, Command, Reason, Refused, Unread, Unwritten, Usage, WantOfMemory, fault_status, status_of, IsFault, IsScript, ScriptFault, IsJob, IsJobBehind, Job, Reports, Stops}
 use Rattle.wast_script.specs.declared.fault.ScriptFault.TheVariants as fault
-use Rattle.wast_script.specs.CommandLine.{Line, line_of}
-use Rattle.wast_script.specs.Commands.{Command}
-use Rattle.wast_script.specs.Lines.{Reason, Usage, Unwritten, WantOfMemory, Refused, Unread, fault_status, status_of}
-use Rattle.wast_script.specs.Scripts.{IsScript, IsFault}
-use Rattle.wast_run.specs.Jobs.{IsJob, IsJobBehind, Job, Reports, Stops}
 
 -- that a text is one script, and none where it has a fault
 abbrev pub IsOneScript : Type 0
@@ -58,7 +49,7 @@ one_status words m a b = by_line words m (Stops a) (Stops b) (status_of a ≡ st
     behind line None first second = ap (λ j. status_of (reason_of_job j)) (first ∙ sym second)
     behind line (Some text) first second = refused_status line text a first ∙ sym (refused_status line text b second)
 
-no_report_stops : (steps : ℕ) (commands : List Command) (why : Reason) → Reports steps commands ≡ Stops why → ⊥
+pub no_report_stops : (steps : ℕ) (commands : List Command) (why : Reason) → Reports steps commands ≡ Stops why → ⊥
 no_report_stops steps commands why e = absurd cc
 
 pub job_apart : AreApart → (words : List Name) (m : Contents) (steps : ℕ) (commands : List Command) (why : Reason)

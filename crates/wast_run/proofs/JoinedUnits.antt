@@ -1,19 +1,7 @@
 -- The units of the modules that joined, with one module more.
-use Rattle.std.proofs.Common.{◌≡◌, List, [], ◌∷◌, ◌++◌, map, Option, None, sym, ap, ◌∙◌, subst}
-use Rattle.std.specs.List.{AllByRecursion}
-use Rattle.std.proofs.lemmas.List.{map-append}
+use Rattle.wast_run.proofs.Common.{◌≡◌, List, [], ◌∷◌, ◌++◌, map, None, Option, sym, ap, ◌∙◌, subst, map-append, AllByRecursion, all_push, IsLinked, Fits, ListedCall, named_of, set_of, SetModule, link_refusal, items, IsAccepted, IsAcceptedSet, UnitsLink, program_of, units_in, alone}
 use Rattle.c_tree.specs.Tree as tree
-use Rattle.c_meaning.specs.Linking.{link_refusal}
-use Rattle.wasm_meaning.specs.LinkedSet.{IsLinked}
-use Rattle.wasm_meaning.specs.Run.{Fits, ListedCall}
-use Rattle.c_unit.specs.Items.{items}
-use Rattle.c_unit.specs.Sets.{IsAccepted, IsAcceptedSet, UnitsLink, program_of}
-use Rattle.wasm_set.specs.declared.set_module.SetModule.{SetModule}
-use Rattle.wasm_set.specs.Sets.{named_of, set_of}
 use Rattle.crun.specs.Sessions.{State}
-use Rattle.wast_run.specs.Joined.{units_in}
-use Rattle.wast_run.specs.Ran.{alone}
-use Rattle.wast_run.proofs.Lists.{all_more}
 
 module _ (modules : List SetModule) (m : SetModule) where
   pub set_more : IsAcceptedSet (set_of modules) → IsAccepted (named_of m) → IsLinked (set_of (modules ++ m ∷ []))
@@ -21,7 +9,7 @@ module _ (modules : List SetModule) (m : SetModule) where
   set_more before one linked = record {
     linked = linked;
     accepted = subst (AllByRecursion IsAccepted) (sym (map-append named_of modules (m ∷ [])))
-        (all_more IsAccepted (map named_of modules) (named_of m) before.accepted one);
+        (all_push IsAccepted (map named_of modules) (named_of m) before.accepted one);
     host_bytes = tt;
   }
 

@@ -1,8 +1,5 @@
 -- The calls that were kept, one by one.
-use Rattle.std.proofs.Common.{◌≡◌, ℕ, zero, suc, ◌+◌, ◌<◌, List, [], ◌∷◌, ◌++◌, length, map, take, drop, get_or, take-append-drop, drop-cons, add-one, sym, ap, ◌∙◌, arith}
-use Rattle.std.specs.List.{AllByRecursion}
-use Rattle.std.proofs.Math.Seq.{take-suc}
-use Rattle.std.proofs.lemmas.List.{length-map, length-take-le, map-append}
+use Rattle.wast_run.proofs.Common.{◌≡◌, ℕ, zero, suc, ◌+◌, ◌<◌, List, [], ◌∷◌, ◌++◌, map, length, get_or, take, drop, sym, ap, ◌∙◌, add-one, arith, take-append-drop, length-take-le, drop-cons, take-suc, length-map, map-append, AllByRecursion}
 
 module _ {A B : Type 0} (f : A → B) where
   module _ (xs : List A) (k : ℕ) (d x : A) (less : k < length xs) (at : x ≡ get_or xs k d) where

@@ -1,15 +1,6 @@
 -- The words of commands, one command more.
-use Rattle.std.proofs.Common.{◌≡◌, ◌≢◌, ℕ, suc, List, [], ◌∷◌, ◌++◌, length, Option, Some, None, refl, ap, ◌∙◌, subst}
-use Rattle.std.specs.List.{AllByRecursion}
-use Rattle.std.specs.FinMap.{get}
-use Rattle.std.proofs.lemmas.Option.{same_Some}
-use Rattle.w2c_io.specs.Contents.{Name, Contents}
-use Rattle.wasm_valid.specs.FileVerdict.{FileVerdict}
+use Rattle.wast_run.proofs.Common.{◌≡◌, ℕ, suc, ◌≢◌, List, [], ◌∷◌, ◌++◌, length, Some, None, Option, refl, ap, ◌∙◌, subst, same_Some, get, AllByRecursion, Contents, Name, FileVerdict, Command, HasItsFile, Comes, IsFile, IsTimely, Lead, LeadInTime, Setting, Word}
 use Rattle.wast_script.specs.Commands as script
-use Rattle.wast_script.specs.Commands.{Command}
-use Rattle.wast_run.specs.declared.word.Word.{Word}
-use Rattle.wast_run.specs.Report.{Comes, IsFile, IsTimely, Lead, LeadInTime, Setting}
-use Rattle.wast_run.specs.Parts.{HasItsFile}
 
 module _ (contents : Contents) (steps : ℕ) where
   pub lead_more : (at : Setting) (front : List Command) (words : List Word) (between after : Setting) (command : Command) (w : Word)

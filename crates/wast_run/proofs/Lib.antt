@@ -1,3 +1,5 @@
+-- What the proofs of this crate cite from elsewhere
+mod Common
 -- Lists, and what was written: pieces behind one another, and parts of them
 pub mod Lists
 -- Words, and their lines

@@ -1,24 +1,9 @@
 -- A script has one report at most: each command comes to one word, with one list of modules and of calls behind it. A part is a
 -- prefix of it.
-use Rattle.std.proofs.Common.{◌≡◌, ℕ, suc, ◌+◌, inl, inr, List, [], ◌∷◌, ◌++◌, length, Option, Some, None, append_assoc, refl, sym}
-use Rattle.std.proofs.Common.{ap, ◌∙◌, subst, arith}
-use Rattle.std.proofs.lemmas.List.{append-nil}
-use Rattle.std.proofs.lemmas.Option.{same_Some}
-use Rattle.w2c_io.specs.Contents.{Name, Contents, IsPrefix}
-use Rattle.wasm_tree.specs.declared.tree.Module.{Module}
-use Rattle.wasm_valid.specs.FileVerdict.{FileVerdict}
+use Rattle.wast_run.proofs.Common.{◌≡◌, ℕ, suc, ◌+◌, List, [], ◌∷◌, ◌++◌, length, Some, None, Option, sym, refl, ap, ◌∙◌, subst, inl, inr, append_assoc, append-nil, arith, same_Some, Contents, IsPrefix, Name, Module, FileVerdict, LinkedSet, ListedCall, WasmRun, prefix_in_front, Command, IsPart, lines_before, AreWords, Asserts, Comes, EndsWith, IsFile, IsJudged, Joins, Keeps, Lead, Runs, Setting, TrapsIn, Where, accepted_tree, at_first, calls_with, command_line, holds, is_invalid, is_malformed, lines_from, lines_of, ok_count, report_of, set_at, total_line, Word}
 use Rattle.wasm_valid.proofs.Files.{one_file_verdict}
-use Rattle.wasm_meaning.specs.LinkedSet.{LinkedSet}
-use Rattle.wasm_meaning.specs.Run.{ListedCall, WasmRun}
 use Rattle.wast_script.specs.Commands as script
-use Rattle.wast_script.specs.Commands.{Command}
-use Rattle.wast_run.specs.declared.word.Word.{Word}
-use Rattle.wast_run.specs.Report.{accepted_tree, command_line, holds, is_invalid, is_malformed, lines_from, lines_of, ok_count, report_of, total_line}
-use Rattle.wast_run.specs.Report.{AreWords, Asserts, Comes, EndsWith, IsFile, IsJudged, Joins, Keeps, Lead, Runs, Setting, TrapsIn}
-use Rattle.wast_run.specs.Report.{Where, at_first, calls_with, set_at}
-use Rattle.wast_run.specs.Parts.{lines_before, IsPart}
 use Rattle.wast_run.proofs.Leads.{lead_plain}
-use Rattle.program_words.proofs.Written.{prefix_in_front}
 
 -- two things that are said by one choice are said in the same case of it
 same_case : (P A B C D G : Type 0) → (A → C → G) → (B → D → G) → Where P A B → Where P C D → G

@@ -1,33 +1,9 @@
 -- Through the files pass reads alone: of the script, and of files that its commands name.
-use Rattle.std.specs.Prelude.{MatchOption}
-use Rattle.std.proofs.Common.{◌≡◌, ◌⊎◌, inl, inr, ℕ, List, [], ◌∷◌, ◌++◌, Option, Some, None, Ok, Err}
-use Rattle.std.proofs.Common.{append_assoc, refl, sym, ◌∙◌, subst}
-use Rattle.std.proofs.lemmas.List.{append-nil}
-use Rattle.std.specs.List.{AllByRecursion}
-use Rattle.w2c_io.specs.Contents.{Name}
-use Rattle.w2c_io.specs.Events.{Event}
-use Rattle.w2c_io.specs.Passed.{Passes}
+use Rattle.wast_run.proofs.Common.{◌≡◌, ℕ, ◌⊎◌, List, [], ◌∷◌, ◌++◌, Some, None, Ok, Err, Option, MatchOption, sym, refl, ◌∙◌, subst, inl, inr, append_assoc, append-nil, AllByRecursion, all_append, passed_so, Name, Event, Passes, FileVerdict, Line, line_of, Command, Reason, Refused, Unread, Unwritten, Usage, WantOfMemory, Job, Reports, Stops, IsNamed, file_of, Answer, AreReadsFor, ComesOver, DoesJob, DoesLine, Ending, EndsSo, IsJobBy, IsReadAs, IsReadOf, LastReads, LeadOver, OnlyReads, ReadsNext, ReportsOver, WantsMemory, module_read, Setting, at_first, Word}
 use Rattle.w2c_io.specs.declared.answers.ReadAnswer.TheVariants as reading
-use Rattle.w2c_io.proofs.Passed.{passed_so}
-use Rattle.wasm_valid.specs.FileVerdict.{FileVerdict}
 use Rattle.wast_script.specs.declared.fault.ScriptFault.TheVariants as fault
-use Rattle.wast_script.specs.CommandLine.{Line, line_of}
 use Rattle.wast_script.specs.Commands as script
-use Rattle.wast_script.specs.Commands.{Command}
-use Rattle.wast_script.specs.Lines.{Reason, Usage, Unwritten, WantOfMemory, Refused, Unread}
-use Rattle.wast_run.specs.declared.word.Word.{Word}
-use Rattle.wast_run.specs.Report.{Setting, at_first}
-use Rattle.wast_run.specs.Parts.{file_of, IsNamed}
-use Rattle.wast_run.specs.Jobs.{Job, Reports, Stops}
-use Rattle.wast_run.specs.Passing.{Answer, AreReadsFor, ComesOver, DoesJob, DoesLine, Ending, EndsSo, IsJobBy, IsReadAs, IsReadOf}
-use Rattle.wast_run.specs.Passing.{LastReads, LeadOver, OnlyReads, ReadsNext, ReportsOver, WantsMemory, module_read}
-
-all_both : {A : Type 0} (P : A → Type 0) (xs ys : List A) → AllByRecursion P xs → AllByRecursion P ys → AllByRecursion P (xs ++ ys)
-all_both P [] ys all others = others
-all_both P (x ∷ xs) ys all others = (all.0, all_both P xs ys all.1 others)
-
-reports_stops : (steps : ℕ) (commands : List Command) (why : Reason) → Reports steps commands ≡ Stops why → ⊥
-reports_stops steps commands why e = absurd cc
+use Rattle.wast_run.proofs.JobLaws.{no_report_stops}
 
 module _ (all : List Command) where
   abbrev AreReads : List Event → Type 0
@@ -60,7 +36,7 @@ module _ (all : List Command) where
       (events : List Event) → all ≡ before ++ (commands ++ behind) → LeadOver steps at commands words after events → AreReads events
   lead_reads steps at before [] behind words after events split lead = none_read events lead.2
   lead_reads steps at before (c ∷ commands) behind words after events split (w, others, between, first, rest, comes, lead, is, calls) =
-      subst AreReads (sym calls) (all_both (IsReadOf all) first rest
+      subst AreReads (sym calls) (all_append (IsReadOf all) first rest
       (command_reads steps at c w between first
       (λ file names. record { front = before; command = c; rest = commands ++ behind; split = split; names = names }) comes.0)
       (lead_reads steps between (before ++ c ∷ []) commands behind others after rest
@@ -86,7 +62,7 @@ module _ (all : List Command) where
   report_reads steps old new (Ok status) events (words, after, lead, gained, is) =
       lead_reads steps at_first [] all [] words after events (sym (append-nil all)) lead
   report_reads steps old new (Err why) events stops =
-      subst AreReads (sym stops.calls) (all_both (IsReadOf all) stops.first stops.last
+      subst AreReads (sym stops.calls) (all_append (IsReadOf all) stops.first stops.last
       (lead_reads steps at_first [] stops.front stops.rest stops.words stops.after stops.first stops.split stops.lead)
       (last_reads stops.front stops.rest why stops.last stops.split stops.stop))
 
@@ -97,11 +73,11 @@ job_reads line (Ok text) (Reports steps commands) old new ending events by does 
     inr (commands, by.0, report_reads commands steps old new ending events does)
 job_reads line (Err why) (Stops reason) old new ending events by (ends, same, none) = none
 job_reads line (Err reading.Absent) (Reports steps commands) old new ending events by does =
-    absurd (reports_stops steps commands (Unread line.script) by)
+    absurd (no_report_stops steps commands (Unread line.script) by)
 job_reads line (Err reading.Failed) (Reports steps commands) old new ending events by does =
-    absurd (reports_stops steps commands (Unread line.script) by)
+    absurd (no_report_stops steps commands (Unread line.script) by)
 job_reads line (Err reading.TooLong) (Reports steps commands) old new ending events by does =
-    absurd (reports_stops steps commands (Refused fault.TooLong) by)
+    absurd (no_report_stops steps commands (Refused fault.TooLong) by)
 job_reads line (Err reading.Memory) (Reports steps commands) old new ending events by does = absurd by
 
 no_reads : (answer : Answer) → AreReadsFor answer []

@@ -1,19 +1,5 @@
 -- Parts of a report: what a stream has gained in the midst of the commands.
-use Rattle.std.specs.Prelude.{if◌then◌else◌}
-use Rattle.std.proofs.Common.{◌≡◌, ℕ, suc, ◌+◌, inl, inr, ◌==◌, List, [], ◌∷◌, ◌++◌, length, Option, Some, None, append_assoc}
-use Rattle.std.proofs.Common.{refl, sym, ap, ◌∙◌, subst}
-use Rattle.std.specs.List.{AllByRecursion}
-use Rattle.std.specs.FinMap.{get}
-use Rattle.std.proofs.lemmas.List.{append-nil}
-use Rattle.w2c_io.specs.Contents.{Name, Contents, Told, IsPrefix, extended}
-use Rattle.w2c_io.specs.Telling.{Tells, SaysPart}
-use Rattle.wast_script.specs.Commands.{Command}
-use Rattle.wast_run.specs.declared.word.Word.{Word}
-use Rattle.wast_run.specs.Report.{LeadInTime, Setting, at_first, command_line, is_ok, lines_of, ok_count, total_line}
-use Rattle.wast_run.specs.Parts.{file_of, lines_before, HasItsFile, IsPart, IsPartOfLines}
-use Rattle.wast_run.specs.Stopping.{HasGained}
-use Rattle.wast_run.specs.Telling.{HasReported, IsBehind, TellsCommand, TellsPart}
-use Rattle.program_words.proofs.Written.{none_written, extended_twice, prefix_behind, prefix_in_front, prefix_of_itself, whole_behind}
+use Rattle.wast_run.proofs.Common.{◌≡◌, ℕ, suc, ◌+◌, List, [], ◌∷◌, ◌++◌, length, if◌then◌else◌, ◌==◌, Some, None, Option, sym, refl, ap, ◌∙◌, subst, inl, inr, append_assoc, append-nil, get, AllByRecursion, Contents, IsPrefix, Name, Told, extended, SaysPart, Tells, extended_twice, none_written, prefix_behind, prefix_in_front, prefix_of_itself, whole_behind, Command, HasItsFile, IsPart, IsPartOfLines, file_of, lines_before, LeadInTime, Setting, at_first, command_line, is_ok, lines_of, ok_count, total_line, HasGained, HasReported, IsBehind, TellsCommand, TellsPart, Word}
 use Rattle.wast_run.proofs.WordLines.{count_more, line_more, lines_in_front}
 use Rattle.wast_run.proofs.Leads.{lead_length, lead_more, lead_plain, lead_there}
 

@@ -1,40 +1,11 @@
 -- What passes through the files, part by part.
-use Rattle.std.specs.Prelude.{if◌then◌else◌, MatchOption}
-use Rattle.std.proofs.Common.{◌≡◌, ◌⊎◌, inl, inr, ℕ, suc, ◌+◌, ◌≤◌, ◌==◌, Bool, List, [], ◌∷◌, ◌++◌, length, Option, Some, None, Ok, Err}
-use Rattle.std.proofs.Common.{append_assoc, refl, sym, ap, ◌∙◌, subst}
-use Rattle.std.proofs.lemmas.List.{append-nil}
-use Rattle.w2c_io.specs.Contents.{Name, Told, HasFile, IsPrefix, extended}
-use Rattle.w2c_io.specs.Events.{Event, Read}
-use Rattle.w2c_io.specs.Passed.{Passes}
-use Rattle.w2c_io.specs.Telling.{SaysPart}
+use Rattle.wast_run.proofs.Common.{◌≡◌, ℕ, suc, ◌+◌, ◌≤◌, Bool, ◌⊎◌, List, [], ◌∷◌, ◌++◌, length, if◌then◌else◌, ◌==◌, Some, None, Ok, Err, Option, MatchOption, sym, refl, ap, ◌∙◌, subst, inl, inr, append_assoc, append-nil, both_passed, none_passed, passed_so, HasFile, IsPrefix, Name, Told, extended, Event, Read, Passes, SaysPart, Module, most_module_bytes, extended_twice, none_written, prefix_behind, prefix_in_front, prefix_of_itself, whole_behind, Line, line_of, Command, ModuleFile, Reason, Refused, Unread, Unwritten, Usage, WantOfMemory, error_line, status_of, IsScript, most_script_bytes, ScriptFault, GivesFirst, Reports, Stops, says_invalid, says_malformed, tree_of, file_of, lines_before, Answer, ComesOver, DoesLine, Ending, EndsSo, IsJobBy, IsNoFile, IsReadAs, LastLines, LastReads, LeadOver, PassesFor, ReportsOver, StopsIn, WantsMemory, module_read, script_read, HasReportedOver, IsBehindOver, IsFaultBy, IsOfLine, IsStopBy, JudgesFile, JudgesSo, ReadsScript, StopsOver, StopsRead, StopsScriptOver, StopsTellingOver, TellsOver, Asserts, ComesBy, EndsWith, IsTimely, Joins, Keeps, Setting, TrapsIn, accepted_tree, at_first, command_line, holds, is_invalid, is_malformed, is_ok, lines_of, ok_count, total_line, StopsLine, StopsWords, Judged, Word}
 use Rattle.w2c_io.specs.declared.answers.ReadAnswer.{ReadAnswer}
 use Rattle.w2c_io.specs.declared.answers.ReadAnswer.TheVariants as reading
-use Rattle.w2c_io.proofs.Passed.{both_passed, none_passed, passed_so}
-use Rattle.wasm_tree.specs.declared.tree.Module.{Module}
-use Rattle.wasm_spelling.specs.Limits.{most_module_bytes}
-use Rattle.wast_script.specs.declared.fault.ScriptFault.{ScriptFault}
-use Rattle.wast_script.specs.CommandLine.{Line, line_of}
 use Rattle.wast_script.specs.Commands as script
-use Rattle.wast_script.specs.Commands.{Command, ModuleFile}
-use Rattle.wast_script.specs.Lines.{Reason, Usage, Unwritten, WantOfMemory, Refused, Unread, error_line, status_of}
-use Rattle.wast_script.specs.Scripts.{IsScript, most_script_bytes}
-use Rattle.wast_run.specs.declared.judging.Judged.{Judged}
 use Rattle.wast_run.specs.declared.judging.Judged.TheVariants as judged
-use Rattle.wast_run.specs.declared.word.Word.{Word}
 use Rattle.wast_run.specs.declared.word.Word.TheVariants as word
-use Rattle.wast_run.specs.Report.{accepted_tree, command_line, holds, is_invalid, is_malformed, is_ok, lines_of, ok_count}
-use Rattle.wast_run.specs.Report.{total_line, ComesBy, IsTimely, Joins, Keeps, Asserts, EndsWith, TrapsIn, Setting}
-use Rattle.wast_run.specs.Report.{at_first}
-use Rattle.wast_run.specs.Parts.{file_of, lines_before}
-use Rattle.wast_run.specs.Judging.{says_invalid, says_malformed, tree_of}
-use Rattle.wast_run.specs.Jobs.{GivesFirst, Reports, Stops}
-use Rattle.wast_run.specs.Stopping.{StopsLine, StopsWords}
-use Rattle.wast_run.specs.Passing.{Answer, ComesOver, DoesLine, Ending, EndsSo, IsJobBy, IsNoFile, IsReadAs}
-use Rattle.wast_run.specs.Passing.{LastLines, LastReads, LeadOver, PassesFor, ReportsOver, StopsIn, WantsMemory, module_read, script_read}
-use Rattle.wast_run.specs.Reading.{HasReportedOver, IsBehindOver, IsFaultBy, IsOfLine, IsStopBy, JudgesFile, JudgesSo}
-use Rattle.wast_run.specs.Reading.{ReadsScript, StopsOver, StopsRead, StopsScriptOver, StopsTellingOver, TellsOver}
 use Rattle.wast_run.proofs.Comings.{IsSaid}
-use Rattle.program_words.proofs.Written.{none_written, extended_twice, prefix_behind, prefix_in_front, prefix_of_itself, whole_behind}
 use Rattle.wast_run.proofs.WordLines.{count_more, line_more, lines_in_front}
 
 -- ---- the file of a module

@@ -1,17 +1,6 @@
 -- Why a command's line is not written, as why the report stops.
-use Rattle.std.proofs.Common.{◌≡◌, ℕ, ◌+◌, ◌≤◌, inl, inr, List, ◌∷◌, ◌++◌, length, Option, sym, ◌∙◌, subst}
-use Rattle.w2c_io.specs.Contents.{Name, Told}
-use Rattle.w2c_io.specs.Telling.{Tells, SaysPart}
-use Rattle.w2c_io.proofs.Telling.{rose_from}
-use Rattle.std.proofs.lemmas.List.{length-map}
+use Rattle.wast_run.proofs.Common.{◌≡◌, ℕ, ◌+◌, ◌≤◌, List, ◌∷◌, ◌++◌, length, Option, sym, ◌∙◌, subst, inl, inr, length-map, rose_from, Name, Told, SaysPart, Tells, Command, Reason, Refused, Unread, Unwritten, Usage, WantOfMemory, seen_command, seen_commands, Comes, IsTimely, Setting, at_first, command_line, total_line, HasGained, StopsLine, StopsReport, IsBehind, StopsTelling, Word}
 use Rattle.wast_script.specs.declared.command.Command.{Command as CodeCommand}
-use Rattle.wast_script.specs.Commands.{Command}
-use Rattle.wast_script.specs.Seen.{seen_command, seen_commands}
-use Rattle.wast_script.specs.Lines.{Reason, Usage, Unwritten, WantOfMemory, Refused, Unread}
-use Rattle.wast_run.specs.declared.word.Word.{Word}
-use Rattle.wast_run.specs.Report.{Comes, IsTimely, Setting, at_first, command_line, total_line}
-use Rattle.wast_run.specs.Stopping.{HasGained, StopsLine, StopsReport}
-use Rattle.wast_run.specs.Telling.{IsBehind, StopsTelling}
 use Rattle.wast_run.proofs.Leads.{lead_plain, lead_there}
 use Rattle.wast_run.proofs.PartLaws.{gained_lines, gained_part, gained_total}
 

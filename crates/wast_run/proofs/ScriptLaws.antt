@@ -1,22 +1,13 @@
 -- The names that a script gives to modules have 1 to 1,024 bytes.
-use Rattle.std.proofs.Common.{◌≡◌, ℕ, ◌≤◌, Bool, true, false, List, [], ◌∷◌, length, Option, Some, None, option_map, refl, subst}
-use Rattle.std.proofs.Common.{arith}
-use Rattle.std.specs.Prelude.{◌&&◌, if◌then◌else◌, bytes_eq, codes, find, nat_le, option_and_then}
-use Rattle.std.specs.List.{AllByRecursion}
+use Rattle.wast_run.proofs.Common.{◌≡◌, ℕ, ◌≤◌, Bool, true, false, ◌&&◌, List, [], ◌∷◌, length, if◌then◌else◌, nat_le, Some, None, codes, Option, option_map, find, option_and_then, bytes_eq, refl, subst, arith, none-some, same_Some, AllByRecursion, TrapKind, Value, Command, IsScript, HasModuleName}
 use Rattle.std.proofs.lemmas.Bool.Decides.{nat_tests}
-use Rattle.std.proofs.lemmas.Option.{none-some, same_Some}
-use Rattle.w2c_base.specs.declared.value.Value.{Value}
-use Rattle.w2c_base.specs.declared.trap.TrapKind.{TrapKind}
 use Rattle.serde_json.specs.Data.{Data}
 use Rattle.program_words.specs.Tests.{is_module_name}
 use Rattle.wast_script.specs.Commands as script
-use Rattle.wast_script.specs.Commands.{Call, Command}
-use Rattle.wast_script.specs.Forms.{call_in, cause_in, command_by, command_of, expected_in, kind_named, kind_text, kinds}
-use Rattle.wast_script.specs.Forms.{module_with, return_with, trap_with}
+use Rattle.wast_script.specs.Commands.{Call}
+use Rattle.wast_script.specs.Forms.{call_in, cause_in, command_by, command_of, expected_in, kind_named, kind_text, kinds, module_with, return_with, trap_with}
 use Rattle.wast_script.specs.Values.{text_in}
 use Rattle.wast_script.specs.Lists.{all_given}
-use Rattle.wast_script.specs.Scripts.{IsScript}
-use Rattle.wast_run.specs.Stages.{HasModuleName}
 
 -- something that is made of what was found
 of_found : {A : Type 0} (make : A → Command) → ((a : A) → HasModuleName (make a)) → (o : Option A) (c : Command)

@@ -1,14 +1,7 @@
 -- What the outcome of an init function or a call makes of where a session without hosts stands.
-use Rattle.std.proofs.Common.{◌≡◌, ℕ, ◌<◌, ◌≤◌, List, [], ◌∷◌, ◌++◌, append_assoc, length, map, take, drop, get_or, ◌+◌, Option, Some, None, IfSome, refl, sym, ap, ◌∙◌, subst, arith}
-use Rattle.std.specs.Prelude.{slice_get}
-use Rattle.std.specs.Borrow.{Bor}
-use Rattle.std.proofs.lemmas.List.{length-map}
-use Rattle.w2c_base.specs.Run.{Event, Init, Call as InCall, CallEnded, values_in}
+use Rattle.wast_run.proofs.Common.{◌≡◌, ℕ, ◌+◌, ◌<◌, ◌≤◌, List, [], ◌∷◌, ◌++◌, map, length, get_or, take, drop, IfSome, slice_get, Some, None, Option, sym, refl, ap, ◌∙◌, subst, append_assoc, arith, Bor, length-map, InCall, values_in, unit_of, Item, SymbolCall, CRun, c_run, Call, StopsAt, alone, run_of, symbol_of, symbols_in, symbols_of}
+use Rattle.w2c_base.specs.Run.{Event, Init, CallEnded}
 use Rattle.w2c_base.proofs.Events.{values_behind}
-use Rattle.c_tree.specs.declared.tree.Item.{Item}
-use Rattle.c_tree.specs.View.{unit_of}
-use Rattle.c_meaning.specs.Linking.{SymbolCall}
-use Rattle.c_meaning.specs.Run.{CRun, c_run}
 use Rattle.c_link.specs.declared.host_symbol.HostSymbol.{HostSymbol}
 use Rattle.c_hosts.specs.declared.host.HostModule.{Ghosts as HostModule}
 use Rattle.c_hosts.specs.Asking.{hosts_of}
@@ -19,21 +12,8 @@ use Rattle.crun.specs.declared.outcome.Outcome.{Outcome}
 use Rattle.crun.specs.declared.outcome.Outcome.TheVariants as outcome
 use Rattle.crun.specs.declared.outcome.Standing.TheVariants as standing
 use Rattle.crun.specs.Sessions.{objects_of, program_of, standing_of, told_by, IsEnd, IsLast, IsOutcome, Stands, State}
-use Rattle.wast_script.specs.declared.command.Call.{Call}
 use Rattle.wast_run.proofs.Kept.{front_count, front_split}
-use Rattle.wast_run.specs.Ran.{
-  alone,
-  run_of,
-  stop_in,
-  symbol_of,
-  symbols_in,
-  symbols_of,
-  CameTo,
-  IsBehind,
-  IsOutcomeOf,
-  RunsTheSame,
-  StopsAt,
-}
+use Rattle.wast_run.specs.Ran.{stop_in, CameTo, IsBehind, IsOutcomeOf, RunsTheSame}
 
 abbrev pub seen : Bor Call → SymbolCall
 seen call = symbol_of call.now

@@ -1,19 +1,6 @@
 -- A module that joins, and a call that is kept.
-use Rattle.std.proofs.Common.{◌≡◌, ℕ, inl, inr, List, [], ◌∷◌, ◌++◌, map, Some, refl, sym, ap, ◌∙◌, subst}
-use Rattle.std.specs.Borrow.{Bor}
-use Rattle.std.proofs.lemmas.List.{map-append}
-use Rattle.wasm_tree.specs.declared.tree.Module.{Module}
-use Rattle.wasm_meaning.specs.LinkedSet.{NamedModule, IsLinked}
-use Rattle.wasm_meaning.specs.Run.{Fits, ListedCall}
-use Rattle.wasm_set.specs.declared.set_module.SetModule.{SetModule}
-use Rattle.wasm_set.specs.Sets.{named_of, set_of}
-use Rattle.wast_script.specs.declared.command.Call.{Call}
+use Rattle.wast_run.proofs.Common.{◌≡◌, ℕ, List, [], ◌∷◌, ◌++◌, map, Some, sym, refl, ap, ◌∙◌, subst, inl, inr, Bor, map-append, all_push, Module, IsLinked, NamedModule, Fits, ListedCall, named_of, set_of, SetModule, Call, Joins, Setting, joined, set_at, set_with, listed_call, listed_calls, IsReady, IsSound, setting_of, Stage}
 use Rattle.wast_run.specs.declared.word.Word.TheVariants as word
-use Rattle.wast_run.specs.Runs.{listed_call, listed_calls}
-use Rattle.wast_run.specs.Report.{Joins, Setting, joined, set_at, set_with}
-use Rattle.wast_run.specs.declared.stage.Stage.{Stage}
-use Rattle.wast_run.specs.Stages.{IsReady, IsSound, setting_of}
-use Rattle.wast_run.proofs.Lists.{all_more}
 use Rattle.wast_run.proofs.Growing.{all_fit_more}
 
 abbrev pub at_with : List SetModule → List ListedCall → Setting
@@ -64,7 +51,7 @@ module _ (modules : List NamedModule) (kept new : List (Bor Call)) (call : Bor C
   ready_kept fits ready =
       subst (λ calls. IsReady (record { modules = modules; kept = calls })) (sym kept_more) (record {
         linked = ready.linked;
-        fit = all_more (Fits (set_with modules)) (listed_calls kept) (listed_call call.now) ready.fit fits;
+        fit = all_push (Fits (set_with modules)) (listed_calls kept) (listed_call call.now) ready.fit fits;
       })
 
 -- the stage is sound behind a call that is kept, and behind a run

@@ -1,32 +1,10 @@
 -- What the work's stop means for the status, and for what stands.
-use Rattle.std.specs.Prelude.{if◌then◌else◌}
-use Rattle.std.proofs.lemmas.List.{append-nil}
-use Rattle.std.proofs.Common.{◌==◌, Bool, true, false, length}
-use Rattle.std.proofs.Common.{◌≡◌, ◌≢◌, ◌⊎◌, inl, inr, ℕ, ◌<◌, ◌≤◌, List, [], ◌∷◌, ◌++◌, Option, Some, None, refl, sym, ◌∙◌, subst, arith}
-use Rattle.std.specs.Prelude.{MatchOption}
-use Rattle.std.specs.FinMap.{get}
-use Rattle.std.specs.List.{AllByRecursion}
-use Rattle.std.proofs.lemmas.Option.{same_Some}
-use Rattle.w2c_io.specs.Contents.{Name, Contents, Told}
-use Rattle.w2c_io.specs.Causes.{Rose}
-use Rattle.w2c_io.specs.Telling.{Tells}
-use Rattle.wast_script.specs.declared.fault.ScriptFault.{ScriptFault}
+use Rattle.wast_run.proofs.Common.{◌≡◌, ℕ, ◌<◌, ◌≤◌, Bool, true, false, ◌≢◌, ◌⊎◌, List, [], ◌∷◌, ◌++◌, length, if◌then◌else◌, ◌==◌, Some, None, Option, MatchOption, sym, refl, ◌∙◌, subst, inl, inr, append-nil, arith, same_Some, get, AllByRecursion, Rose, Contents, Name, Told, Tells, none_written, prefix_of_itself, line_of, Command, Reason, Refused, Unread, Unwritten, Usage, WantOfMemory, fault_status, status_of, IsScript, ScriptFault, Answers, GainedPart, GainsPrefix, IsAnswered, IsJob, IsJobBehind, IsUnread, Refuses, Reported, ReportedPart, Reports, Stops, GainsLinesBefore, HasItsFile, IsFirstMissing, IsNamed, IsPart, file_of, LeadInTime, Setting, at_first, ok_count, report_of, StopsWork, Word}
 use Rattle.wast_script.specs.declared.fault.ScriptFault.TheVariants as fault
-use Rattle.wast_script.specs.CommandLine.{line_of}
-use Rattle.wast_script.specs.Commands.{Command}
-use Rattle.wast_script.specs.Lines.{Reason, Usage, Unwritten, WantOfMemory, Refused, Unread, fault_status, status_of}
-use Rattle.wast_run.specs.declared.word.Word.{Word}
-use Rattle.wast_run.specs.Report.{at_first, ok_count, report_of, LeadInTime, Setting}
-use Rattle.wast_run.specs.Parts.{file_of, GainsLinesBefore, HasItsFile, IsFirstMissing, IsNamed, IsPart}
-use Rattle.wast_script.specs.Scripts.{IsScript}
-use Rattle.wast_run.specs.Jobs.{Answers, GainedPart, GainsPrefix, IsAnswered, IsJob, IsJobBehind, IsUnread, Refuses}
-use Rattle.wast_run.specs.Jobs.{Reported, ReportedPart, Reports, Stops}
-use Rattle.wast_run.specs.Stopping.{StopsWork}
 use Rattle.wast_run.proofs.JobLaws.{AreApart, IsOneScript, job_apart, one_list, one_status}
 use Rattle.wast_run.proofs.Leads.{lead_plain, lead_there, there_at}
 use Rattle.wast_run.proofs.OneReport.{part_is_prefix}
 use Rattle.wast_run.proofs.PartLaws.{part_before}
-use Rattle.program_words.proofs.Written.{none_written, prefix_of_itself}
 
 -- the whole report is a part of it
 pub whole_part : (m : Contents) (steps : ℕ) (commands : List Command) (all : List Word) (after : Setting)

@@ -1,15 +1,12 @@
 -- The units of linked modules keep the rules and link.
-use Rattle.std.proofs.Common.{◌≡◌, ℕ, List, [], ◌∷◌, ◌++◌, None, refl, ◌∙◌, subst}
-use Rattle.c_tree.specs.declared.tree.Item.{Item}
+use Rattle.wast_run.proofs.Common.{◌≡◌, ℕ, List, [], ◌∷◌, ◌++◌, None, refl, ◌∙◌, subst, Item, Program, link_refusal, alone}
 use Rattle.c_tree.specs.Tree as tree
-use Rattle.c_meaning.specs.Linking.{Program, link_refusal}
 use Rattle.c_meaning.specs.Linking as linking
 use Rattle.c_sound.proofs.Choices.{not_both}
 use Rattle.c_link.specs.Programs.{IsProgramOf}
 use Rattle.c_link.specs.Refusals.{IsRefusal}
 use Rattle.c_link.specs.declared.refusal.LinkRefusal.{LinkRefusal}
 use Rattle.c_link.specs.declared.refusal.LinkRefusal.TheVariants as refusal
-use Rattle.wast_run.specs.Ran.{alone}
 
 -- units that link are not refused
 module _ (units : List (List tree.Item)) (none : link_refusal (alone units) ≡ None) (r : LinkRefusal)

@@ -1,12 +1,5 @@
 -- The lines of words, with one word more, and how many of the words are ok.
-use Rattle.std.proofs.Common.{◌≡◌, ℕ, suc, ◌+◌, ◌≤◌, Bool, true, false, List, [], ◌∷◌, ◌++◌, length, append_assoc, refl, sym, ap}
-use Rattle.std.proofs.Common.{◌∙◌, arith}
-use Rattle.std.specs.Prelude.{if◌then◌else◌}
-use Rattle.std.proofs.lemmas.List.{append-nil}
-use Rattle.wast_script.specs.Commands.{Command}
-use Rattle.wast_run.specs.declared.word.Word.{Word}
-use Rattle.wast_run.specs.Report.{command_line, is_ok, lines_from, lines_of, ok_count, total_line}
-use Rattle.wast_run.specs.Parts.{lines_before}
+use Rattle.wast_run.proofs.Common.{◌≡◌, ℕ, suc, ◌+◌, ◌≤◌, Bool, true, false, List, [], ◌∷◌, ◌++◌, length, if◌then◌else◌, sym, refl, ap, ◌∙◌, append_assoc, append-nil, arith, Command, lines_before, command_line, is_ok, lines_from, lines_of, ok_count, total_line, Word}
 
 pub lines_more : (number : ℕ) (words : List Word) (w : Word)
     → lines_from number (words ++ w ∷ []) ≡ lines_from number words ++ command_line (number + length words) w

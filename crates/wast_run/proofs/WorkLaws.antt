@@ -1,21 +1,5 @@
 -- Why the commands stop, and why a script is refused, as why the work stops.
-use Rattle.std.specs.Prelude.{if◌then◌else◌}
-use Rattle.std.proofs.Common.{◌≡◌, ◌⊎◌, inl, inr, ℕ, ◌≤◌, Bool, List, Option, Some, None, refl, sym, ap, ◌∙◌, subst}
-use Rattle.std.specs.FinMap.{get}
-use Rattle.std.specs.Prelude.{MatchOption}
-use Rattle.std.proofs.lemmas.Option.{none-some}
-use Rattle.w2c_io.specs.Contents.{Name, Contents, Told}
-use Rattle.w2c_io.specs.Causes.{Faulted}
-use Rattle.w2c_io.specs.Telling.{Tells}
-use Rattle.w2c_io.proofs.Telling.{rose_from}
-use Rattle.wast_script.specs.CommandLine.{Line, line_of}
-use Rattle.wast_script.specs.Commands.{Command}
-use Rattle.wast_script.specs.Lines.{Reason, Usage, Unwritten, WantOfMemory, Refused, Unread}
-use Rattle.wast_script.specs.Scripts.{IsScript}
-use Rattle.wast_run.specs.Jobs.{HasReading, IsJob, IsJobBehind, IsToRead, Job, Reported, ReportedPart, Reports, Stops}
-use Rattle.wast_run.specs.Telling.{HasReported}
-use Rattle.wast_run.specs.Parts.{IsNamed}
-use Rattle.wast_run.specs.Stopping.{HasGained, IsUnreadFile, StopsCommand, StopsFile, StopsReport, StopsScript, StopsWords, StopsWork}
+use Rattle.wast_run.proofs.Common.{◌≡◌, ℕ, ◌≤◌, Bool, ◌⊎◌, List, if◌then◌else◌, Some, None, Option, MatchOption, sym, refl, ap, ◌∙◌, subst, inl, inr, none-some, get, rose_from, Faulted, Contents, Name, Told, Tells, Line, line_of, Command, Reason, Refused, Unread, Unwritten, Usage, WantOfMemory, IsScript, HasReading, IsJob, IsJobBehind, IsToRead, Job, Reported, ReportedPart, Reports, Stops, IsNamed, HasGained, IsUnreadFile, StopsCommand, StopsFile, StopsReport, StopsScript, StopsWords, StopsWork, HasReported}
 
 pub file_stops : (told : Told) (file : Name) (before after : ℕ) (named : Option Name) (why : Reason)
     → StopsFile told file before after named why → StopsCommand told (Some file) before after named why

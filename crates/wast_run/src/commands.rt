@@ -20,7 +20,7 @@ use w2c_io::Files;
 use wast_script::{Command, Stop};
 
 /// Does what a command says, and gives its word. An assertion runs at most so many statements.
-#[tactic(auto, using(crate::proofs::Comings::invalid_comes, crate::proofs::Comings::malformed_comes, crate::proofs::Comings::file_stops, crate::proofs::Passing::module_over, crate::proofs::Passing::call_over, crate::proofs::Passing::return_over, crate::proofs::Passing::trap_over, crate::proofs::Passing::invalid_comes_over, crate::proofs::Passing::malformed_comes_over, crate::proofs::Passing::none_without_memory))]
+#[tactic(auto, using(crate::proofs::Comings::invalid_comes, crate::proofs::Comings::malformed_comes, crate::proofs::WorkLaws::file_stops, crate::proofs::Passing::module_over, crate::proofs::Passing::call_over, crate::proofs::Passing::return_over, crate::proofs::Passing::trap_over, crate::proofs::Passing::invalid_comes_over, crate::proofs::Passing::malformed_comes_over, crate::proofs::Passing::none_without_memory))]
 pub(crate) fn run_command<'a, F: Files>(
     alloc: Global,
     stage: &mut Stage<'a>,

@@ -13,7 +13,7 @@ pub(crate) struct NoHost {
 
 impl HostModule for NoHost {
     ghost use Rattle.std.specs.Prelude.{◌≡◌, []};
-    ghost use Rattle.c_hosts.specs.declared.host.HostReply.TheVariants.{Trap};
+    ghost use Rattle.c_meaning.specs.declared.reply.HostReply.TheVariants.{Trap};
 
     ghost name_of = { λ h. h.name };
 

@@ -148,7 +148,7 @@ impl<'a> Stage<'a> {
     }
 
     // What the run of the calls that are kept and of this one comes to; none where it does not fit.
-    #[tactic(auto, using(crate::proofs::Lists::all_more))]
+    #[tactic(auto, using(w2c_base::proofs::OfEach::all_push))]
     fn run(&mut self, alloc: Global, call: &Call, steps: u64) -> Result<Option<Came>, Memory>
         requires sound { IsSound self.old }
         ensures came { IfOk result (HasRun self.old (seen_call call.now) steps) }

@@ -1,11 +1,6 @@
 -- A loop that gathers what each item gives: what was gathered, and what the rest gives, is what the whole gives.
-use Rattle.std.proofs.Common.{◌≡◌, ℕ, ◌+◌, ◌<◌, List, [], ◌∷◌, ◌++◌, length, map, drop, get_or, cond}
-use Rattle.std.proofs.Common.{Option, Some, None, refl, sym, ap, ◌∙◌}
-use Rattle.std.specs.Prelude.{is_some, not, option_map, option_and_then}
-use Rattle.std.specs.List.{position_from}
+use Rattle.wast_script.proofs.Common.{◌≡◌, ℕ, ◌+◌, ◌<◌, cond, not, List, [], ◌∷◌, ◌++◌, map, length, get_or, drop, is_some, Some, None, Option, option_map, option_and_then, sym, refl, ap, ◌∙◌, append_assoc, drop_more, length-map, position_from, all_given, gives_nothing}
 use Rattle.std.proofs.Math.ListN.{get_or-map}
-use Rattle.std.proofs.lemmas.List.{append_assoc, drop_more, length-map}
-use Rattle.wast_script.specs.Lists.{all_given, gives_nothing}
 
 module _ {A B : Type 0} (f : A → Option B) where
   abbrev pub gathered : List B → List A → Option (List B)

@@ -1,18 +1,8 @@
 -- The items of an array as JSON values.
-use Rattle.std.proofs.Common.{◌≡◌, ◌≤◌, ◌&&◌, Bool, true, length, List, [], ◌∷◌, map, Option, Some, Vec, Global, refl, sym, ap, ◌∙◌}
-use Rattle.std.specs.Prelude.{is_some, option_map}
-use Rattle.std.specs.List.{list_all}
+use Rattle.wast_script.proofs.Common.{◌≡◌, ◌≤◌, Bool, true, ◌&&◌, leb, List, [], ◌∷◌, map, length, is_some, Some, Option, Vec, option_map, Global, sym, refl, ap, ◌∙◌, Bor, le-leb, Data, Items, items_of, items_view, view, length-map, list_all, are_objects, most_commands, items_in, list_of}
 use Rattle.std.proofs.lemmas.List.Folds.{list_all-map}
-use Rattle.std.specs.Borrow.{Bor}
-use Rattle.serde_json.specs.Data.{Data, Items}
 use Rattle.serde_json.specs.Find.{as_array, as_object}
-use Rattle.serde_json.specs.View.{items_of, items_view, view}
 use Rattle.serde_json.specs.declared.value.Value.{Value}
-use Rattle.std.proofs.Math.Dec.{leb}
-use Rattle.std.proofs.lemmas.Bool.{le-leb}
-use Rattle.std.proofs.lemmas.List.{length-map}
-use Rattle.wast_script.specs.Scripts.{are_objects, most_commands}
-use Rattle.wast_script.specs.Values.{items_in, list_of}
 
 same_items : (ds : List Data) → list_of (items_of ds) ≡ ds
 same_items [] = refl

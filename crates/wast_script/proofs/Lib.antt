@@ -1,3 +1,4 @@
+mod Common
 pub mod Gathered
 pub mod Items
 pub mod Readings

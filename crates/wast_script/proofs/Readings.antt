@@ -1,14 +1,8 @@
 -- A text comes to one thing at most.
-use Rattle.std.proofs.Common.{◌≡◌, ◌≢◌, ◌≤◌, ◌<◌, ℕ, ◌+◌, List, [], ◌∷◌, length, Option, Some, None, refl, sym, ap, ◌∙◌, arith}
-use Rattle.std.specs.Prelude.{option_map, option_and_then}
-use Rattle.std.specs.List.{position_from}
-use Rattle.serde_json.specs.Data.{Data}
+use Rattle.wast_script.proofs.Common.{◌≡◌, ℕ, ◌+◌, ◌<◌, ◌≤◌, ◌≢◌, List, [], ◌∷◌, length, Some, None, Option, option_map, option_and_then, sym, refl, ap, ◌∙◌, arith, Data, position_from, command_of, all_given, gives_nothing, HasFault, IsFault, IsJson, IsScript, is_formless, most_script_bytes, objects_in}
 use Rattle.wast_script.specs.declared.fault.ScriptFault.{ScriptFault}
 use Rattle.wast_script.specs.declared.fault.ScriptFault.TheVariants as fault
 use Rattle.wast_script.specs.Commands.{Command}
-use Rattle.wast_script.specs.Forms.{command_of}
-use Rattle.wast_script.specs.Lists.{all_given, gives_nothing}
-use Rattle.wast_script.specs.Scripts.{most_script_bytes, objects_in, is_formless, HasFault, IsFault, IsJson, IsScript}
 
 one_some : {A : Type 0} (a b : A) (o : Option A) → o ≡ Some a → o ≡ Some b → a ≡ b
 one_some {A = A} a b o is other = let both : ◌≡◌ {A = Option A} (Some a) (Some b) = sym is ∙ other in cc

@@ -1,5 +1,4 @@
-use Rattle.std.proofs.Common.{replicate}
-use Rattle.c_symbols.proofs.Grown.{flat_map_next, read_again}
+use Rattle.c_body.proofs.Common.{replicate, flat_map_next, read_again}
 use Rattle.c_body.proofs.func.declared_types.Goals as goal
 
 pub loop-run-preserved : goal.loop-run-preserved

@@ -1,12 +1,5 @@
-use Rattle.std.proofs.Common.{◌≡◌, ◌+◌, ◌≤◌, OnOk, ap, sym, subst, arith, ◌∙◌}
-use Rattle.std.proofs.lemmas.Result.{on_ok_weaker}
-use Rattle.wasm_tree.specs.Size.{code_size, kind_size, otherwise_size}
-use Rattle.wasm_tree.specs.Views.{code_tree, kind_tree, otherwise_tree}
-use Rattle.wasm_valid.proofs.CodeSizes.{instr_smaller}
+use Rattle.c_body.proofs.Common.{◌≡◌, ◌+◌, ◌≤◌, OnOk, sym, ap, ◌∙◌, subst, arith, on_ok_weaker, code_size, kind_size, otherwise_size, code_tree, kind_tree, otherwise_tree, instr_smaller, HasMore, any_inside, calls}
 use Rattle.wasm_tree.specs.declared.code.Kind.{Kind}
-use Rattle.c_body.specs.Called.{HasMore}
-use Rattle.c_body.specs.Labels.{any_inside}
-use Rattle.c_body.specs.Needs.{calls}
 use Rattle.c_body.proofs.CalledHelpers.{code_next, code_stops, code_through, more_behind}
 use Rattle.c_body.proofs.needs.+needs.Goals as goal
 

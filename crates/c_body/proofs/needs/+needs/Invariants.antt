@@ -1,6 +1,4 @@
-use Rattle.std.proofs.Common.{◌+◌, ◌*◌, drop}
-use Rattle.wasm_tree.specs.Size.{code_size, kind_size, otherwise_size}
-use Rattle.wasm_tree.specs.Views.{code_tree, kind_tree, otherwise_tree}
+use Rattle.c_body.proofs.Common.{◌+◌, ◌*◌, drop, code_size, kind_size, otherwise_size, code_tree, kind_tree, otherwise_tree}
 use Rattle.c_body.proofs.CalledHelpers.{EntersCode}
 use Rattle.c_body.proofs.needs.+needs.Given as goal
 

@@ -1,8 +1,4 @@
-use Rattle.std.proofs.Common.{OnOk, Option, sym, subst, ◌∙◌}
-use Rattle.std.proofs.lemmas.Result.{on_ok_weaker}
-use Rattle.c_prelude.specs.declared.operation.Helper.{Helper}
-use Rattle.c_body.specs.Called.{HasMore}
-use Rattle.c_body.specs.Needs.{named_by}
+use Rattle.c_body.proofs.Common.{OnOk, Option, sym, ◌∙◌, subst, on_ok_weaker, Helper, HasMore, named_by}
 use Rattle.c_body.proofs.CalledHelpers.{one_more}
 use Rattle.c_body.proofs.needs.enter.Goals as goal
 

@@ -1,6 +1,4 @@
-use Rattle.std.proofs.Common.{ap, ◌∙◌, is_some}
-use Rattle.w2c_base.specs.Lookup.{named}
-use Rattle.c_body.specs.Called.{is_known}
+use Rattle.c_body.proofs.Common.{is_some, ap, ◌∙◌, named, is_known}
 use Rattle.c_body.proofs.CalledHelpers.{filter_at}
 use Rattle.c_body.proofs.needs.known.Goals as goal
 

@@ -1,5 +1,4 @@
-use Rattle.std.proofs.Common.{◌≡◌, ◌++◌, drop, filter}
-use Rattle.c_body.specs.Called.{is_known}
+use Rattle.c_body.proofs.Common.{◌≡◌, ◌++◌, drop, filter, is_known}
 use Rattle.c_body.proofs.needs.known.Given as goal
 
 abbrev pub invariant-loop-which : goal.invariant-loop-which

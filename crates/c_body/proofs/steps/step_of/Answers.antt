@@ -1,5 +1,4 @@
-use Rattle.std.proofs.Common.{◌∙◌, ap}
-use Rattle.c_body.specs.Steps.{operator_step}
+use Rattle.c_body.proofs.Common.{ap, ◌∙◌, operator_step}
 use Rattle.c_body.proofs.OneKind.{by_operator}
 use Rattle.c_body.proofs.steps.step_of.Goals as goal
 

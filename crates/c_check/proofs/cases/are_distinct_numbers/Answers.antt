@@ -1,8 +1,4 @@
-use Rattle.std.proofs.Common.{◌≡◌, ◌+◌, ◌-◌, ◌≤◌, ◌==◌, map, nat_cmp, length, sym, ap, ◌∙◌, arith}
-use Rattle.std.specs.BTreeMap.{is_at}
-use Rattle.std.specs.List.{list_any}
-use Rattle.std.proofs.lemmas.List.{drop_all, length-map}
-use Rattle.c_tree.specs.Rules.{are_distinct_numbers, case_value}
+use Rattle.c_check.proofs.Common.{◌≡◌, ◌+◌, ◌-◌, ◌≤◌, map, length, ◌==◌, nat_cmp, sym, ap, ◌∙◌, arith, drop_all, length-map, is_at, list_any, are_distinct_numbers, case_value}
 use Rattle.c_check.proofs.DistinctNumbers.{distinct_more, distinct_stops, knows_before}
 use Rattle.c_check.proofs.cases.are_distinct_numbers.Goals as goal
 

@@ -1,7 +1,4 @@
-use Rattle.std.proofs.Common.{◌≡◌, ◌≤◌, ◌==◌, ℕ, true, nat_cmp, length, drop, map}
-use Rattle.std.specs.BTreeSet.{contains}
-use Rattle.std.specs.List.{list_any}
-use Rattle.c_tree.specs.Rules.{are_distinct_numbers, case_value}
+use Rattle.c_check.proofs.Common.{◌≡◌, ℕ, ◌≤◌, true, map, length, drop, ◌==◌, nat_cmp, contains, list_any, are_distinct_numbers, case_value}
 use Rattle.c_check.proofs.cases.are_distinct_numbers.Given as goal
 
 abbrev pub invariant-loop-i : goal.invariant-loop-i

@@ -1,15 +1,4 @@
-use Rattle.std.proofs.Common.{◌≡◌, ◌&&◌, Some, bytes_eq, sym, ap, ◌∙◌}
-use Rattle.std.specs.Prelude.{option_map, not}
-use Rattle.std.specs.List.{list_any}
-use Rattle.std.specs.Borrow.{Bor}
-use Rattle.w2c_base.specs.Lookup.{named}
-use Rattle.c_tree.specs.declared.tree.Item.{Item}
-use Rattle.c_tree.specs.View.{item_of}
-use Rattle.c_tree.specs.Scope.{name_of}
-use Rattle.c_tree.specs.Rules.{are_alike, has_body}
-use Rattle.c_scope.specs.FileItems.{declared}
-use Rattle.c_rules.specs.UnitNames.{by_names, defined_of}
-use Rattle.c_rules.proofs.Clashes.{none_named, first_named}
+use Rattle.c_check.proofs.Common.{◌≡◌, not, ◌&&◌, Some, option_map, bytes_eq, sym, ap, ◌∙◌, Bor, list_any, named, are_alike, has_body, name_of, item_of, Item, first_named, none_named, by_names, defined_of, declared}
 use Rattle.c_check.proofs.declarations.is_declared_once.Goals as goal
 
 pub returns-in-Some : goal.returns-in-Some

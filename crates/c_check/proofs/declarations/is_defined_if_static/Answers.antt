@@ -1,9 +1,4 @@
-use Rattle.std.proofs.Common.{◌||◌, map, ap, is_some, sym, ◌∙◌}
-use Rattle.std.specs.Prelude.{not}
-use Rattle.std.specs.List.{list_any}
-use Rattle.w2c_base.specs.Lookup.{named}
-use Rattle.c_tree.specs.View.{item_of}
-use Rattle.c_tree.specs.Rules.{defines, is_defined_if_static}
+use Rattle.c_check.proofs.Common.{not, ◌||◌, map, is_some, sym, ap, ◌∙◌, list_any, named, defines, is_defined_if_static, item_of}
 use Rattle.c_check.specs.Places.{item_place}
 use Rattle.c_rules.proofs.Defined.{defines_among}
 use Rattle.c_check.proofs.declarations.is_defined_if_static.Goals as goal

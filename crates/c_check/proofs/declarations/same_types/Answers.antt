@@ -1,6 +1,5 @@
-use Rattle.std.proofs.Common.{◌<◌, length, sym, ap, ◌∙◌, arith}
+use Rattle.c_check.proofs.Common.{◌<◌, length, sym, ap, ◌∙◌, arith, same_type}
 use Rattle.c_tree.specs.Tree as tree
-use Rattle.c_tree.specs.Runtime.{same_type}
 use Rattle.c_rules.proofs.SameTypes.{same_never, same_end, same_more, same_stops}
 use Rattle.c_check.proofs.declarations.same_types.Goals as goal
 

@@ -1,5 +1,4 @@
-use Rattle.std.proofs.Common.{◌≡◌, drop, map}
-use Rattle.c_tree.specs.Runtime.{same_types}
+use Rattle.c_check.proofs.Common.{◌≡◌, map, drop, same_types}
 use Rattle.c_check.proofs.declarations.same_types.Given as goal
 
 abbrev pub invariant-loop-i : goal.invariant-loop-i

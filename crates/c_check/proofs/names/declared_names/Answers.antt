@@ -1,6 +1,4 @@
-use Rattle.std.proofs.Common.{Some, ap}
-use Rattle.c_tree.specs.View.{item_of}
-use Rattle.c_rules.specs.UnitNames.{some_name}
+use Rattle.c_check.proofs.Common.{Some, ap, item_of, some_name}
 use Rattle.c_check.proofs.Sets.{knows_put, knows_all}
 use Rattle.c_check.proofs.names.declared_names.Goals as goal
 

@@ -1,7 +1,4 @@
-use Rattle.std.proofs.Common.{map, take}
-use Rattle.c_tree.specs.View.{item_of}
-use Rattle.c_rules.specs.UnitNames.{names_of}
-use Rattle.c_scope.specs.Tables.{Knows}
+use Rattle.c_check.proofs.Common.{map, take, item_of, names_of, Knows}
 use Rattle.c_check.proofs.names.declared_names.Given as goal
 
 abbrev pub invariant-loop-item : goal.invariant-loop-item

@@ -1,5 +1,4 @@
-use Rattle.c_tree.specs.View.{item_of}
-use Rattle.c_rules.specs.UnitNames.{defined_name}
+use Rattle.c_check.proofs.Common.{item_of, defined_name}
 use Rattle.c_check.proofs.Sets.{knows_put, knows_all}
 use Rattle.c_check.proofs.names.defined_names.Goals as goal
 

@@ -1,5 +1,4 @@
-use Rattle.c_tree.specs.View.{stmt_of}
-use Rattle.c_tree.specs.Rules.{label_of}
+use Rattle.c_check.proofs.Common.{label_of, stmt_of}
 use Rattle.c_check.proofs.Sets.{knows_put, knows_all}
 use Rattle.c_check.proofs.names.label_names.Goals as goal
 

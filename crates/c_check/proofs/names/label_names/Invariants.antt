@@ -1,7 +1,4 @@
-use Rattle.std.proofs.Common.{map, take}
-use Rattle.c_tree.specs.View.{stmt_of}
-use Rattle.c_tree.specs.Rules.{labels_of}
-use Rattle.c_scope.specs.Tables.{Knows}
+use Rattle.c_check.proofs.Common.{map, take, labels_of, stmt_of, Knows}
 use Rattle.c_check.proofs.names.label_names.Given as goal
 
 abbrev pub invariant-loop-stmt : goal.invariant-loop-stmt

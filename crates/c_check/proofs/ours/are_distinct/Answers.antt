@@ -1,10 +1,4 @@
-use Rattle.std.proofs.Common.{◌≡◌, ◌+◌, ◌-◌, ◌≤◌, map, length, sym, ap, ◌∙◌, arith}
-use Rattle.std.specs.List.{list_any}
-use Rattle.std.specs.Prelude.{bytes_eq, is_some}
-use Rattle.w2c_base.specs.Lookup.{named}
-use Rattle.std.proofs.lemmas.List.{drop_all, length-map}
-use Rattle.c_scope.specs.declared.own.Variable.{Variable}
-use Rattle.c_tree.specs.Rules.{are_distinct}
+use Rattle.c_check.proofs.Common.{◌≡◌, ◌+◌, ◌-◌, ◌≤◌, map, length, is_some, bytes_eq, sym, ap, ◌∙◌, arith, drop_all, length-map, list_any, named, are_distinct, Variable}
 use Rattle.c_rules.proofs.Distinct.{distinct_more, distinct_stops, knows_before}
 use Rattle.c_check.proofs.ours.are_distinct.Goals as goal
 

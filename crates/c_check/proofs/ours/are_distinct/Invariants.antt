@@ -1,6 +1,4 @@
-use Rattle.std.proofs.Common.{◌≡◌, ◌≤◌, true, length, drop, map}
-use Rattle.c_tree.specs.Rules.{are_distinct}
-use Rattle.c_scope.specs.Tables.{Knows}
+use Rattle.c_check.proofs.Common.{◌≡◌, ◌≤◌, true, map, length, drop, are_distinct, Knows}
 use Rattle.c_check.proofs.ours.are_distinct.Given as goal
 
 abbrev pub invariant-loop-i : goal.invariant-loop-i

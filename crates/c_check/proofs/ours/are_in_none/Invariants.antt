@@ -1,7 +1,4 @@
-use Rattle.std.proofs.Common.{◌≡◌, drop}
-use Rattle.std.specs.List.{list_all}
-use Rattle.std.specs.Prelude.{is_some, not}
-use Rattle.w2c_base.specs.Lookup.{named}
+use Rattle.c_check.proofs.Common.{◌≡◌, not, drop, is_some, list_all, named}
 use Rattle.c_check.proofs.ours.are_in_none.Given as goal
 
 abbrev pub invariant-loop-variable : goal.invariant-loop-variable

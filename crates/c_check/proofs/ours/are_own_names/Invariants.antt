@@ -1,6 +1,4 @@
-use Rattle.std.proofs.Common.{◌≡◌, drop}
-use Rattle.std.specs.List.{list_all}
-use Rattle.c_tree.specs.Rules.{is_own_name}
+use Rattle.c_check.proofs.Common.{◌≡◌, drop, list_all, is_own_name}
 use Rattle.c_check.proofs.ours.are_own_names.Given as goal
 
 abbrev pub invariant-loop-variable : goal.invariant-loop-variable

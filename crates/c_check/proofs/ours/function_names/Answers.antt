@@ -1,5 +1,4 @@
-use Rattle.std.proofs.Common.{ap, ◌∙◌, map, List, ℕ}
-use Rattle.c_tree.specs.declared.tree.CType.{CType}
+use Rattle.c_check.proofs.Common.{ℕ, List, map, ap, ◌∙◌, CType}
 use Rattle.c_check.proofs.Sets.{names_of_pairs}
 use Rattle.c_check.proofs.ours.function_names.Goals as goal
 

@@ -1,6 +1,4 @@
-use Rattle.std.proofs.Common.{◌≡◌, drop}
-use Rattle.std.specs.List.{list_all}
-use Rattle.std.specs.Prelude.{is_some}
+use Rattle.c_check.proofs.Common.{◌≡◌, drop, is_some, list_all}
 use Rattle.c_check.proofs.ours.have_names.Given as goal
 
 abbrev pub invariant-loop-param : goal.invariant-loop-param

@@ -1,5 +1,4 @@
-use Rattle.std.proofs.Common.{map, refl, ◌∙◌}
-use Rattle.c_tree.specs.View.{item_of}
+use Rattle.c_check.proofs.Common.{map, refl, ◌∙◌, item_of}
 use Rattle.c_check.proofs.Sets.{hides}
 use Rattle.c_check.proofs.ours.hide_none.Goals as goal
 

@@ -1,7 +1,5 @@
-use Rattle.std.proofs.Common.{ap, ◌∙◌}
-use Rattle.std.specs.Prelude.{option_map}
+use Rattle.c_check.proofs.Common.{option_map, ap, ◌∙◌, Variable}
 use Rattle.std.proofs.lemmas.Option.{slice_get-map, slice_get-get_or}
-use Rattle.c_scope.specs.declared.own.Variable.{Variable}
 use Rattle.c_check.proofs.ours.name_at.Goals as goal
 
 pub returns : goal.returns

@@ -1,11 +1,5 @@
-use Rattle.std.proofs.Common.{map, take, Option, ap, ◌∙◌}
-use Rattle.w2c_base.specs.Lookup.{named}
+use Rattle.c_check.proofs.Common.{map, take, Option, ap, ◌∙◌, named, body_variables, body_of, func_of, item_of, maybe_body_of, body_some, first_in_stmts, variable_pair}
 use Rattle.c_tree.specs.declared.tree.Body.{Body}
-use Rattle.c_tree.specs.View.{item_of, func_of, body_of, maybe_body_of}
-use Rattle.c_tree.specs.Rules.{body_variables}
-use Rattle.c_scope.specs.Own.{variable_pair}
-use Rattle.c_rules.specs.FirstRule.{first_in_stmts}
-use Rattle.c_rules.proofs.Onward.{body_some}
 use Rattle.c_check.proofs.pass.broken_in_definition.Goals as goal
 
 pub new-scope-requires : goal.new-scope-requires

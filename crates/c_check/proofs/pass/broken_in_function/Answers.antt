@@ -1,6 +1,4 @@
-use Rattle.std.proofs.Common.{map, ap}
-use Rattle.c_tree.specs.View.{item_of, func_of, maybe_body_of}
-use Rattle.c_rules.proofs.Onward.{body_none}
+use Rattle.c_check.proofs.Common.{map, ap, func_of, item_of, maybe_body_of, body_none}
 use Rattle.c_check.proofs.pass.broken_in_function.Goals as goal
 
 pub returns-in-None : goal.returns-in-None

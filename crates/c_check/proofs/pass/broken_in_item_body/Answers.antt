@@ -1,10 +1,5 @@
-use Rattle.std.proofs.Common.{◌≡◌, map, IfOk, sym, subst}
-use Rattle.std.specs.Prelude.{option_map}
+use Rattle.c_check.proofs.Common.{◌≡◌, map, IfOk, option_map, sym, subst, func_of, item_of, is_function, no_body, first_in_body, broken_at}
 use Rattle.c_tree.specs.Tree as tree
-use Rattle.c_tree.specs.View.{item_of, func_of}
-use Rattle.c_check.specs.Broken.{broken_at}
-use Rattle.c_rules.specs.FirstRule.{first_in_body}
-use Rattle.c_rules.proofs.Onward.{no_body, is_function}
 use Rattle.c_check.proofs.pass.broken_in_item_body.Goals as goal
 
 pub broken_in_function-requires : goal.broken_in_function-requires

@@ -1,12 +1,6 @@
-use Rattle.std.proofs.Common.{◌≡◌, ◌+◌, ◌-◌, List, map, take, length, bytes_eq, sym, ap, ◌∙◌, arith}
-use Rattle.std.specs.List.{list_any}
-use Rattle.std.proofs.lemmas.List.{length-map}
+use Rattle.c_check.proofs.Common.{◌≡◌, ◌+◌, ◌-◌, List, map, length, take, bytes_eq, sym, ap, ◌∙◌, arith, length-map, list_any, label_of, labels_of, stmt_of, stmts_end, stmts_more, stmts_stop, scope_of}
 use Rattle.c_tree.specs.declared.tree.Stmt.{Stmt}
-use Rattle.c_tree.specs.View.{stmt_of}
-use Rattle.c_tree.specs.Rules.{label_of, labels_of}
-use Rattle.c_scope.specs.ScopeOf.{scope_of}
 use Rattle.c_check.proofs.Sets.{knows_put}
-use Rattle.c_rules.proofs.Onward.{stmts_end, stmts_more, stmts_stop}
 use Rattle.c_check.proofs.pass.broken_in_statements.Goals as goal
 
 pub stmt_rule-requires-clause-labels : goal.stmt_rule-requires-clause-labels

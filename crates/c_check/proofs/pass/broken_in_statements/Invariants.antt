@@ -1,9 +1,4 @@
-use Rattle.std.proofs.Common.{◌≡◌, map, take}
-use Rattle.c_tree.specs.View.{stmt_of}
-use Rattle.c_tree.specs.Rules.{labels_of}
-use Rattle.c_scope.specs.ScopeOf.{scope_of}
-use Rattle.c_scope.specs.Tables.{Knows}
-use Rattle.c_rules.specs.FirstRule.{first_in_stmts}
+use Rattle.c_check.proofs.Common.{◌≡◌, map, take, labels_of, stmt_of, first_in_stmts, scope_of, Knows}
 use Rattle.c_check.proofs.pass.broken_in_statements.Given as goal
 
 abbrev pub invariant-loop-i : goal.invariant-loop-i

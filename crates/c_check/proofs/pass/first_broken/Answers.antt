@@ -1,12 +1,5 @@
-use Rattle.std.proofs.Common.{◌≡◌, ◌+◌, List, map, length, sym, ap, ◌∙◌, arith}
-use Rattle.std.specs.Prelude.{option_map}
-use Rattle.std.proofs.lemmas.List.{length-map}
-use Rattle.c_tree.specs.declared.tree.Item.{Item}
-use Rattle.c_tree.specs.View.{item_of}
-use Rattle.c_check.specs.Broken.{broken_at}
-use Rattle.c_rules.specs.FirstRule.{first_in_body}
+use Rattle.c_check.proofs.Common.{◌≡◌, ◌+◌, List, map, length, option_map, sym, ap, ◌∙◌, arith, length-map, item_of, Item, items_end, items_more, items_stop, items_stop_inside, first_in_body, broken_at}
 use Rattle.c_check.proofs.Behind.{breaks_there}
-use Rattle.c_rules.proofs.Onward.{items_end, items_more, items_stop, items_stop_inside}
 use Rattle.c_check.proofs.pass.first_broken.Goals as goal
 
 pub returns : goal.returns

@@ -1,8 +1,4 @@
-use Rattle.std.proofs.Common.{◌≡◌, map}
-use Rattle.c_tree.specs.View.{item_of}
-use Rattle.c_scope.specs.FileItems.{declared}
-use Rattle.c_rules.specs.FirstRule.{first_in_items}
-use Rattle.c_rules.specs.UnitNames.{FindsFirst}
+use Rattle.c_check.proofs.Common.{◌≡◌, map, item_of, first_in_items, FindsFirst, declared}
 use Rattle.c_check.proofs.pass.first_broken.Given as goal
 
 abbrev pub invariant-loop-i : goal.invariant-loop-i

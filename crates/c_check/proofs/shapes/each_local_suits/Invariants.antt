@@ -1,6 +1,4 @@
-use Rattle.std.proofs.Common.{◌≡◌, drop}
-use Rattle.std.specs.List.{list_all}
-use Rattle.c_tree.specs.Rules.{number_suits}
+use Rattle.c_check.proofs.Common.{◌≡◌, drop, list_all, number_suits}
 use Rattle.c_check.proofs.shapes.each_local_suits.Given as goal
 
 abbrev pub invariant-loop-local : goal.invariant-loop-local

@@ -1,6 +1,4 @@
-use Rattle.std.proofs.Common.{◌≡◌, drop}
-use Rattle.std.specs.List.{list_all}
-use Rattle.c_tree.specs.Rules.{is_value_type}
+use Rattle.c_check.proofs.Common.{◌≡◌, drop, list_all, is_value_type}
 use Rattle.c_check.proofs.shapes.have_local_values.Given as goal
 
 abbrev pub invariant-loop-local : goal.invariant-loop-local

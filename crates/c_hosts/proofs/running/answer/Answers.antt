@@ -1,12 +1,5 @@
-use Rattle.std.proofs.Common.{◌≡◌, ◌∷◌, ◌++◌, [], List, Some, sym, ap, ◌∙◌, subst}
-use Rattle.std.proofs.lemmas.List.{append-nil}
-use Rattle.w2c_base.specs.Run.{Gave, Reply}
-use Rattle.c_meaning.specs.State.{Stuck}
-use Rattle.c_meaning.specs.Step.{Stops}
-use Rattle.c_thread.specs.Linked.{below_in, machine_in, waiting_in}
-use Rattle.c_hosts.specs.declared.host.HostReply.TheVariants as reply
-use Rattle.c_hosts.specs.Journals.{ask_of, asked}
-use Rattle.c_hosts.specs.Running.{trail_before, trail_behind}
+use Rattle.c_hosts.proofs.Common.{◌≡◌, List, [], ◌∷◌, ◌++◌, Some, sym, ap, ◌∙◌, subst, append-nil, Gave, Reply, Stuck, Stops, below_in, machine_in, waiting_in, ask_of, asked, trail_before, trail_behind}
+use Rattle.c_meaning.specs.declared.reply.HostReply.TheVariants as reply
 use Rattle.c_hosts.proofs.Called.{when_none, when_some}
 use Rattle.c_hosts.proofs.Offers.{answered_once}
 use Rattle.c_hosts.proofs.Replies.{is_offered, not_offered, settles, value_goes_on, GoesOn}

@@ -1,6 +1,4 @@
-use Rattle.std.proofs.Common.{◌++◌, ◌-◌, sym, ap, ◌∙◌, subst, arith}
-use Rattle.c_hosts.specs.Asking.{Answered}
-use Rattle.c_hosts.specs.Running.{Runs}
+use Rattle.c_hosts.proofs.Common.{◌-◌, ◌++◌, sym, ap, ◌∙◌, subst, arith, Answered, Runs}
 use Rattle.c_hosts.proofs.Offers.{answered_keep, asks_on}
 use Rattle.c_hosts.proofs.Runs.{runs_more, runs_part}
 use Rattle.c_hosts.proofs.running.run.Goals as goal

@@ -1,8 +1,4 @@
-use Rattle.std.proofs.Common.{◌-◌, ◌≤◌, List, None}
-use Rattle.c_objects.specs.Stores.{AreStored}
-use Rattle.c_objects.specs.Views.{Naming}
-use Rattle.c_hosts.specs.declared.journal.Asked.{Asked}
-use Rattle.c_hosts.specs.Running.{Asks, Runs}
+use Rattle.c_hosts.proofs.Common.{◌-◌, ◌≤◌, List, None, AreStored, Naming, Asks, Runs, Asked}
 use Rattle.c_hosts.proofs.running.run.Given as goal
 
 abbrev pub invariant-loop-steps : goal.invariant-loop-steps

@@ -1,7 +1,4 @@
-use Rattle.std.proofs.Common.{◌≡◌, [], sym, refl, ap, ◌∙◌}
-use Rattle.std.proofs.lemmas.List.{append-nil}
-use Rattle.c_thread.specs.Linked.{step_in}
-use Rattle.c_hosts.specs.Running.{step_at, trail_before}
+use Rattle.c_hosts.proofs.Common.{◌≡◌, [], sym, refl, ap, ◌∙◌, append-nil, step_in, step_at, trail_before}
 use Rattle.c_hosts.proofs.Replies.{asks_nothing}
 use Rattle.c_hosts.proofs.Runs.{behind_none}
 use Rattle.c_hosts.proofs.running.statement.Goals as goal

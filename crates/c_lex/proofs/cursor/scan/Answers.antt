@@ -1,5 +1,4 @@
-use Rattle.std.proofs.Common.{◌≡◌, ◌+◌, sym, ◌∙◌, ap, arith}
-use Rattle.c_tree.specs.Text.{lexemes}
+use Rattle.c_lex.proofs.Common.{◌≡◌, ◌+◌, sym, ap, ◌∙◌, arith, lexemes}
 use Rattle.c_lex.proofs.Scanned.{behind_gap}
 use Rattle.c_lex.proofs.cursor.scan.Goals as goal
 

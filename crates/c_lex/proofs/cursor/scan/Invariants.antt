@@ -1,5 +1,4 @@
-use Rattle.std.proofs.Common.{◌≡◌, ◌+◌, ◌≤◌, length}
-use Rattle.c_tree.specs.Text.{lexemes}
+use Rattle.c_lex.proofs.Common.{◌≡◌, ◌+◌, ◌≤◌, length, lexemes}
 use Rattle.c_lex.proofs.cursor.scan.Given as goal
 
 abbrev pub invariant-gaps : goal.invariant-gaps

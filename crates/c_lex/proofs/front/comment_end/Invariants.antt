@@ -1,5 +1,4 @@
-use Rattle.std.proofs.Common.{◌≡◌, ◌-◌, ◌≤◌, length, drop}
-use Rattle.c_tree.specs.Text.{comment_end}
+use Rattle.c_lex.proofs.Common.{◌≡◌, ◌-◌, ◌≤◌, length, drop, comment_end}
 use Rattle.c_lex.proofs.Runs.{shifted}
 use Rattle.c_lex.proofs.front.comment_end.Given as goal
 

@@ -1,7 +1,4 @@
-use Rattle.std.proofs.Common.{rules, ◌≡◌, true, false}
-use Rattle.std.specs.Prelude.{slice_index}
-use Rattle.c_tree.specs.Text.{is_blank, is_letter, is_digit}
-use Rattle.c_lex.specs.Front.{token_of}
+use Rattle.c_lex.proofs.Common.{◌≡◌, true, false, slice_index, rules, is_blank, is_digit, is_letter, token_of}
 use Rattle.c_lex.proofs.Runs.{word_front, number_front}
 use Rattle.c_lex.proofs.front.read_front.Goals as goal
 

@@ -1,5 +1,4 @@
-use Rattle.std.proofs.Common.{ap, sym, ◌∙◌}
-use Rattle.c_tree.specs.Text.{number_token, is_digit, run}
+use Rattle.c_lex.proofs.Common.{sym, ap, ◌∙◌, is_digit, number_token, run}
 use Rattle.c_lex.proofs.Runs.{past_is}
 use Rattle.c_lex.proofs.front.run_token.Goals as goal
 

@@ -1,6 +1,4 @@
-use Rattle.std.proofs.Common.{[], ◌∷◌, ap, ◌∙◌}
-use Rattle.c_tree.specs.Text.{long_signs}
-use Rattle.c_lex.specs.Fixed.{sign_of}
+use Rattle.c_lex.proofs.Common.{[], ◌∷◌, ap, ◌∙◌, long_signs, sign_of}
 use Rattle.c_lex.proofs.Words.{sign_is}
 use Rattle.c_lex.proofs.front.two_sign.Goals as goal
 

@@ -1,5 +1,4 @@
-use Rattle.std.proofs.Common.{◌≡◌, drop}
-use Rattle.c_tree.specs.Grammar.{value_of}
+use Rattle.c_lex.proofs.Common.{◌≡◌, drop, value_of}
 use Rattle.c_lex.proofs.number.value.Given as goal
 
 abbrev pub invariant-loop-digit : goal.invariant-loop-digit

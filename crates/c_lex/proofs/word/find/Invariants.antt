@@ -1,5 +1,4 @@
-use Rattle.std.proofs.Common.{◌≡◌, drop}
-use Rattle.c_lex.specs.Fixed.{among}
+use Rattle.c_lex.proofs.Common.{◌≡◌, drop, among}
 use Rattle.c_lex.proofs.word.find.Given as goal
 
 abbrev pub invariant-loop-tok : goal.invariant-loop-tok

@@ -1,6 +1,4 @@
-use Rattle.std.proofs.Common.{sym, ap, ◌∙◌, arith}
-use Rattle.std.proofs.lemmas.Bool.Decides.{nat_tests}
-use Rattle.c_tree.specs.Runtime.{same_types}
+use Rattle.c_link.proofs.Common.{sym, ap, ◌∙◌, arith, nat_tests, same_types}
 use Rattle.c_link.proofs.Arguments.{arguments_typed, no_arguments}
 use Rattle.c_link.proofs.calls.are_params.Goals as goal
 

@@ -1,6 +1,4 @@
-use Rattle.std.proofs.Common.{◌≡◌, drop, length}
-use Rattle.std.specs.List.{list_all}
-use Rattle.w2c_base.specs.Values.{is_number}
+use Rattle.c_link.proofs.Common.{◌≡◌, length, drop, list_all, is_number}
 use Rattle.c_link.proofs.Arguments.{Agree}
 use Rattle.c_link.proofs.calls.are_types.Given as goal
 

@@ -1,12 +1,13 @@
-use Rattle.std.proofs.Common.{subst, sym, map, ◌≡◌, None}
-use Rattle.c_tree.specs.View.{unit_of}
-use Rattle.c_link.specs.Offers.{Holds, c_symbols, offers}
-use Rattle.c_link.specs.Own.{HaveOwn}
-use Rattle.c_link.specs.Refusals.{first_refusal}
-use Rattle.c_link.proofs.Linking.{early_refused, late_first, late_refused, resolved, links, holds_there, keep_there}
+use Rattle.c_link.proofs.Common.{◌≡◌, map, None, sym, subst, unit_of, first_refusal, Holds, c_symbols, offers, HaveOwn}
+use Rattle.c_link.proofs.Linking.{early_first, early_refused, late_first, late_refused, resolved, links, holds_there, keep_there}
 use Rattle.c_link.proofs.Apart.{both_none}
 use Rattle.c_link.proofs.Once.{all_resolved, defined_once}
 use Rattle.c_link.proofs.linked.link.Goals as goal
+
+pub returns-in-Err-clause-first : goal.returns-in-Err-clause-first
+returns-in-Err-clause-first c =
+    early_first c.as_slice.result.now c.args.units.items c.as_slice.ensures.value c.args.hosts.now c.in-Err.refusal
+    c.in-Err.ensures.first
 
 pub returns-in-Err-clause-refused : goal.returns-in-Err-clause-refused
 returns-in-Err-clause-refused c =

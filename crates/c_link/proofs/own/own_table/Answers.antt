@@ -1,7 +1,4 @@
-use Rattle.std.proofs.Common.{map}
-use Rattle.std.proofs.lemmas.List.{length-map}
-use Rattle.c_tree.specs.View.{item_of}
-use Rattle.c_link.proofs.Walks.{mapped_at}
+use Rattle.c_link.proofs.Common.{map, length-map, mapped_at, item_of}
 use Rattle.c_link.proofs.OwnNames.{knows_next, knows_all}
 use Rattle.c_link.proofs.own.own_table.Goals as goal
 

@@ -1,8 +1,4 @@
-use Rattle.std.proofs.Common.{◌+◌, map, take, sym, ◌∙◌, subst}
-use Rattle.std.proofs.lemmas.List.{length-map, take_all}
-use Rattle.c_tree.specs.View.{unit_of}
-use Rattle.c_link.specs.Own.{HaveOwn, Knows}
-use Rattle.c_link.proofs.Walks.{mapped_at}
+use Rattle.c_link.proofs.Common.{◌+◌, map, take, sym, ◌∙◌, subst, take_all, length-map, mapped_at, unit_of, HaveOwn, Knows}
 use Rattle.c_link.proofs.OwnNames.{none_own, own_push}
 use Rattle.c_link.proofs.own.own_tables.Goals as goal
 

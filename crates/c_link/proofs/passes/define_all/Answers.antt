@@ -1,14 +1,7 @@
-use Rattle.std.proofs.Common.{◌≡◌, ◌<◌, map, length, Some, sym, ap, ◌∙◌, subst}
-use Rattle.std.proofs.lemmas.List.{length-map, take_all}
-use Rattle.std.specs.Prelude.{slice_get}
-use Rattle.std.specs.Option.{option_or}
-use Rattle.w2c_base.specs.Lookup.{named, numbered}
-use Rattle.c_tree.specs.View.{unit_of}
-use Rattle.c_link.specs.Offers.{c_symbols, told, unit_offers}
-use Rattle.c_link.specs.Refusals.{IsRefusal, first_of, twice_by, twice_in}
-use Rattle.c_link.proofs.Walks.{mapped_at, numbered_at, left_first, left_more, refused, units_end}
+use Rattle.c_link.proofs.Common.{◌≡◌, ◌<◌, map, length, slice_get, Some, flat_map, sym, ap, ◌∙◌, subst, take_all, length-map, option_or, numbered_at, mapped_at, named, numbered, unit_of, external_functions, first, twice, c_symbols, told, unit_offers, AllChecked, IsRefusal, types_in}
+use Rattle.c_link.proofs.FirstRefusal.{twice_in, twice_units}
+use Rattle.c_link.proofs.Walks.{left_first, left_more, refused, units_end}
 use Rattle.c_link.proofs.Tables.{all_taken, holds_as, holds_more, unit_added}
-use Rattle.c_link.specs.Programs.{AllChecked}
 use Rattle.c_link.proofs.Rules.{keep_next}
 use Rattle.c_link.proofs.Finders.{twice_found}
 use Rattle.c_link.proofs.passes.define_all.Goals as goal
@@ -21,11 +14,12 @@ returns-in-Err-clause-first c =
     let unit = c.index-units-u.result in
     let same = c.as_slice-items.ensures ∙ c.unit.ensures.unit in
     let at : slice_get units u ≡ Some (unit_of unit) = mapped_at unit_of c.args.units.now u unit c.loop-u-test.true c.index-units-u.is in
-    refused c.in-Err.refusal _ _ _ (left_first (twice_in units symbols) (numbered units) u (u, unit_of unit) (numbered_at units u
+    subst (IsRefusal c.in-Err.refusal) (sym (twice_units units symbols))
+    (refused c.in-Err.refusal _ _ _ (left_first (twice_in units symbols) (numbered units) u (u, unit_of unit) (numbered_at units u
     (unit_of unit) at) c.loop-u.invariant.1)
     (subst (IsRefusal c.in-Err.refusal) (twice_found c.loop-u.table units symbols u (unit_of unit) c.loop-u.invariant.0)
     (subst (λ items. IsRefusal c.in-Err.refusal
-    (first_of (twice_by (λ q. told (named q c.loop-u.table)) u) (unit_of items))) same c.in-Err.ensures.first))
+    (first (flat_map (twice (types_in c.loop-u.table) u) (external_functions (unit_of items))))) same c.in-Err.ensures.first)))
 
 pub loop-u-preserved : goal.loop-u-preserved
 loop-u-preserved c =
@@ -42,7 +36,7 @@ loop-u-preserved c =
           (u, unit_of items)))) same)),
       left_more (twice_in units symbols) (numbered units) u (u, unit_of unit) (numbered_at units u (unit_of unit) at)
           (sym (twice_found c.loop-u.table units symbols u (unit_of unit) c.loop-u.invariant.0)
-          ∙ ap (λ items. first_of (twice_by (λ q. told (named q c.loop-u.table)) u) (unit_of items)) (sym same)
+          ∙ ap (λ items. first (flat_map (twice (types_in c.loop-u.table) u) (external_functions (unit_of items)))) (sym same)
           ∙ c.in-Ok.ensures.once) c.loop-u.invariant.1,
       keep_next units u (unit_of unit) at c.loop-u.invariant.2 (c.unit.ensures.formed, c.unit.ensures.kept),
     )
@@ -53,8 +47,10 @@ returns-clause-table c =
     (rw length-map c.loop-u-test.false))) c.loop-u.invariant.0
 
 pub returns-clause-once : goal.returns-clause-once
-returns-clause-once c = units_end unit_of (twice_in (map unit_of c.args.units.now)
-    (c_symbols c.args.hosts.now)) c.args.units.now c.loop-u.u c.loop-u-test.false c.loop-u.invariant.1
+returns-clause-once c =
+    twice_units (map unit_of c.args.units.now) (c_symbols c.args.hosts.now)
+    ∙ units_end unit_of (twice_in (map unit_of c.args.units.now) (c_symbols c.args.hosts.now)) c.args.units.now c.loop-u.u
+    c.loop-u-test.false c.loop-u.invariant.1
 
 pub returns-clause-kept : goal.returns-clause-kept
 returns-clause-kept c =

@@ -1,9 +1,5 @@
-use Rattle.std.proofs.Common.{map, take}
-use Rattle.w2c_base.specs.Lookup.{numbered}
-use Rattle.c_tree.specs.View.{unit_of}
-use Rattle.c_link.specs.Offers.{Holds, c_symbols, offers}
-use Rattle.c_link.specs.Refusals.{twice_in}
-use Rattle.c_link.specs.Programs.{AllChecked}
+use Rattle.c_link.proofs.Common.{map, take, numbered, unit_of, Holds, c_symbols, offers, AllChecked}
+use Rattle.c_link.proofs.FirstRefusal.{twice_in}
 use Rattle.c_link.proofs.Walks.{Left}
 use Rattle.c_link.proofs.passes.define_all.Given as goal
 

@@ -1,20 +1,24 @@
-use Rattle.std.proofs.Common.{map}
-use Rattle.w2c_base.specs.Lookup.{named}
-use Rattle.c_tree.specs.View.{item_of}
-use Rattle.c_link.specs.Offers.{told}
-use Rattle.c_link.specs.Refusals.{twice_by}
-use Rattle.c_link.proofs.Walks.{mapped_at, left_first, left_more, refused}
+use Rattle.c_link.proofs.Common.{map, sym, ◌∙◌, subst, mapped_at, item_of, unit_of, twice, IsRefusal, in_item, types_in}
+use Rattle.c_link.proofs.FirstRefusal.{in_items}
+use Rattle.c_link.proofs.Walks.{items_end, left_first, left_more, refused}
 use Rattle.c_link.proofs.passes.define_once.Goals as goal
 
 pub returns-in-Err-clause-first : goal.returns-in-Err-clause-first
 returns-in-Err-clause-first c =
+    let refusals = twice (types_in c.args.table.now) c.args.u in
     let at = mapped_at item_of c.args.items.now c.loop-item.item-index c.item-item.result c.loop-item-test.true c.item-item.is in
-    refused c.in-Err.refusal _ _ _ (left_first (twice_by (λ q. told (named q c.args.table.now)) c.args.u)
-    (map item_of c.args.items.now) c.loop-item.item-index
-    (item_of c.item-item.result) at c.loop-item.invariant) c.in-Err.ensures.first
+    subst (IsRefusal c.in-Err.refusal) (sym (in_items refusals (unit_of c.args.items.now)))
+    (refused c.in-Err.refusal _ _ _ (left_first (in_item refusals) (map item_of c.args.items.now) c.loop-item.item-index
+    (item_of c.item-item.result) at c.loop-item.invariant) c.in-Err.ensures.first)
 
 pub loop-item-preserved : goal.loop-item-preserved
 loop-item-preserved c =
     let at = mapped_at item_of c.args.items.now c.loop-item.item-index c.item-item.result c.loop-item-test.true c.item-item.is in
-    left_more (twice_by (λ q. told (named q c.args.table.now)) c.args.u) (map item_of c.args.items.now) c.loop-item.item-index
+    left_more (in_item (twice (types_in c.args.table.now) c.args.u)) (map item_of c.args.items.now) c.loop-item.item-index
     (item_of c.item-item.result) at c.in-Ok.ensures.once c.loop-item.invariant
+
+pub returns-clause-once : goal.returns-clause-once
+returns-clause-once c =
+    let refusals = twice (types_in c.args.table.now) c.args.u in
+    in_items refusals (unit_of c.args.items.now)
+    ∙ items_end item_of (in_item refusals) c.args.items.now c.loop-item.item-index c.loop-item-test.false c.loop-item.invariant

@@ -1,7 +1,4 @@
-use Rattle.std.proofs.Common.{◌∷◌, [], ◌-◌, map, sym, subst, arith}
-use Rattle.std.proofs.lemmas.List.{length-map}
-use Rattle.c_tree.specs.View.{stmt_of}
-use Rattle.c_machine.proofs.NameTables.{mapped_at}
+use Rattle.c_machine.proofs.Common.{◌-◌, [], ◌∷◌, map, sym, subst, arith, length-map, mapped_at, stmt_of}
 use Rattle.c_machine.proofs.Labels.{IsAhead, ahead_first, ahead_label, ahead_other}
 use Rattle.c_machine.proofs.ahead.from_end.Goals as goal
 use Rattle.c_machine.proofs.ahead.from_end.Goals.{then-not-is_label, else-not-is_label}

@@ -1,5 +1,4 @@
-use Rattle.std.proofs.Common.{map}
-use Rattle.c_tree.specs.View.{stmt_of}
+use Rattle.c_machine.proofs.Common.{map, stmt_of}
 use Rattle.c_machine.proofs.Labels.{IsAhead}
 use Rattle.c_machine.proofs.ahead.from_end.Given as goal
 

@@ -1,7 +1,4 @@
-use Rattle.std.proofs.Common.{◌≡◌, drop}
-use Rattle.std.specs.List.{list_any}
-use Rattle.c_tree.specs.View.{stmt_of}
-use Rattle.c_machine.specs.Names.{is_label}
+use Rattle.c_machine.proofs.Common.{◌≡◌, drop, list_any, stmt_of, is_label}
 use Rattle.c_machine.proofs.ahead.has_label.Given as goal
 
 abbrev pub invariant-loop-stmt : goal.invariant-loop-stmt

@@ -1,6 +1,4 @@
-use Rattle.std.proofs.Common.{◌≡◌, drop, map}
-use Rattle.w2c_base.specs.Lookup.{named}
-use Rattle.c_machine.specs.NumberedNames.{entry_of}
+use Rattle.c_machine.proofs.Common.{◌≡◌, map, drop, named, entry_of}
 use Rattle.c_machine.proofs.numbered_names.number_among.Given as goal
 
 abbrev pub invariant-loop-one : goal.invariant-loop-one

@@ -1,6 +1,5 @@
-use Rattle.std.proofs.Common.{◌≡◌, map, take}
+use Rattle.c_merge.proofs.Common.{◌≡◌, map, take, new_names}
 use Rattle.c_renaming.specs.Renamed as renamed
-use Rattle.c_merge.specs.Merge.{new_names}
 use Rattle.c_merge.proofs.items.new_locals.Given as goal
 
 abbrev pub invariant-loop-local : goal.invariant-loop-local

@@ -1,6 +1,5 @@
-use Rattle.c_tree.specs.View.{item_of}
+use Rattle.c_merge.proofs.Common.{item_of, new_names}
 use Rattle.c_renaming.specs.Renamed as renamed
-use Rattle.c_merge.specs.Merge.{new_names}
 use Rattle.c_merge.proofs.Joined.{pushed}
 use Rattle.c_merge.proofs.items.put_items.Goals as goal
 

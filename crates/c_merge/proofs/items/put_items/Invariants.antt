@@ -1,7 +1,5 @@
-use Rattle.std.proofs.Common.{◌≡◌, ◌++◌, map, take}
-use Rattle.c_tree.specs.View.{item_of, unit_of}
+use Rattle.c_merge.proofs.Common.{◌≡◌, ◌++◌, map, take, item_of, unit_of, new_names}
 use Rattle.c_renaming.specs.Renamed as renamed
-use Rattle.c_merge.specs.Merge.{new_names}
 use Rattle.c_merge.proofs.items.put_items.Given as goal
 
 abbrev pub invariant-loop-item : goal.invariant-loop-item

@@ -1,6 +1,4 @@
-use Rattle.c_renaming.proofs.Runs.{runs_same}
-use Rattle.c_renaming.proofs.Types.{calls_fit}
-use Rattle.c_merge.specs.Merge.{as_one, merge_names}
+use Rattle.c_merge.proofs.Common.{runs_same, calls_fit, as_one, merge_names}
 use Rattle.c_merge.proofs.OneLinks.{one_renames}
 use Rattle.c_merge.proofs.laws.merged_units_run_the_same.Goals as goal
 

@@ -1,5 +1,4 @@
-use Rattle.std.proofs.Common.{map, ap, ◌∙◌}
-use Rattle.c_tree.specs.View.{unit_of}
+use Rattle.c_merge.proofs.Common.{map, ap, ◌∙◌, unit_of}
 use Rattle.c_merge.proofs.AsUnits.{runs_as_units}
 use Rattle.c_merge.proofs.Result.{is_formed, is_kept, is_merged}
 use Rattle.c_merge.proofs.merging.merge.Goals as goal

@@ -1,7 +1,6 @@
-use Rattle.std.proofs.Common.{Some, map, sym, ap, ◌∙◌}
-use Rattle.c_tree.specs.View.{unit_of}
-use Rattle.c_merge.specs.Merge.{new_names}
-use Rattle.c_merge.proofs.Joined.{seen_at, units_next}
+use Rattle.c_merge.proofs.Common.{map, Some, sym, ap, ◌∙◌, unit_of, new_names}
+use Rattle.w2c_base.proofs.Places.{seen_at}
+use Rattle.c_merge.proofs.Joined.{units_next}
 use Rattle.c_merge.proofs.merging.merged_items.Goals as goal
 
 pub loop-unit-preserved : goal.loop-unit-preserved

@@ -1,7 +1,4 @@
-use Rattle.std.proofs.Common.{◌≡◌, map, take}
-use Rattle.c_tree.specs.View.{unit_of}
-use Rattle.c_renaming.specs.Merging.{joined}
-use Rattle.c_merge.specs.Merge.{new_names}
+use Rattle.c_merge.proofs.Common.{◌≡◌, map, take, unit_of, joined, new_names}
 use Rattle.c_merge.proofs.merging.merged_items.Given as goal
 
 abbrev pub invariant-loop-unit : goal.invariant-loop-unit

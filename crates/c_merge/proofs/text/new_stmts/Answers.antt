@@ -1,7 +1,5 @@
-use Rattle.std.proofs.Common.{[]}
-use Rattle.c_tree.specs.View.{stmt_of}
+use Rattle.c_merge.proofs.Common.{[], stmt_of, new_names}
 use Rattle.c_renaming.specs.Renamed as renamed
-use Rattle.c_merge.specs.Merge.{new_names}
 use Rattle.c_merge.proofs.Joined.{pushed}
 use Rattle.c_merge.proofs.text.new_stmts.Goals as goal
 

@@ -1,7 +1,5 @@
-use Rattle.std.proofs.Common.{◌≡◌, map, take}
-use Rattle.c_tree.specs.View.{stmt_of}
+use Rattle.c_merge.proofs.Common.{◌≡◌, map, take, stmt_of, new_names}
 use Rattle.c_renaming.specs.Renamed as renamed
-use Rattle.c_merge.specs.Merge.{new_names}
 use Rattle.c_merge.proofs.text.new_stmts.Given as goal
 
 abbrev pub invariant-loop-stmt : goal.invariant-loop-stmt

@@ -1,6 +1,5 @@
-use Rattle.std.proofs.Common.{◌≡◌, ◌∙◌}
+use Rattle.c_prelude.proofs.Common.{◌≡◌, ◌∙◌, helper_of}
 use Rattle.c_tree.specs.View.{func_of}
-use Rattle.c_prelude.specs.Helpers.{helper_of}
 use Rattle.c_prelude.proofs.EachHelper.{made_right}
 use Rattle.c_prelude.proofs.Functions.{made_static}
 use Rattle.c_prelude.proofs.Whole.{is_whole}

@@ -1,5 +1,4 @@
-use Rattle.std.proofs.Common.{◌≡◌, ◌++◌, drop, map}
-use Rattle.c_prelude.specs.Helpers.{param}
+use Rattle.c_prelude.proofs.Common.{◌≡◌, ◌++◌, map, drop, param}
 use Rattle.c_prelude.proofs.make.params_of.Given as goal
 
 -- what is made, and what the variables to come make, is the whole

@@ -1,5 +1,4 @@
-use Rattle.std.proofs.Common.{rules}
-use Rattle.c_print.specs.Header.{line_text}
+use Rattle.c_print.proofs.Common.{rules, line_text}
 use Rattle.c_print.proofs.Onto.{each_text_more}
 use Rattle.c_print.proofs.header.put_lines.Goals as goal
 

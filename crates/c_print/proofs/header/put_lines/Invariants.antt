@@ -1,6 +1,4 @@
-use Rattle.std.proofs.Common.{◌≡◌, ◌++◌, drop}
-use Rattle.c_tree.specs.Trees.{each}
-use Rattle.c_print.specs.Header.{line_text}
+use Rattle.c_print.proofs.Common.{◌≡◌, ◌++◌, drop, each, line_text}
 use Rattle.c_print.proofs.header.put_lines.Given as goal
 
 abbrev pub invariant-loop-line : goal.invariant-loop-line

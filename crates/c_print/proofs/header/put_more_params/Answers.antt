@@ -1,6 +1,5 @@
-use Rattle.std.proofs.Common.{rules, append_assoc}
+use Rattle.c_print.proofs.Common.{append_assoc, rules, next_type_text}
 use Rattle.c_tree.specs.declared.tree.CType.TheVariants as type
-use Rattle.c_print.specs.Header.{next_type_text}
 use Rattle.c_print.proofs.Onto.{each_text_more}
 use Rattle.c_print.proofs.header.put_more_params.Goals as goal
 

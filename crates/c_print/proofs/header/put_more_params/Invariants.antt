@@ -1,6 +1,4 @@
-use Rattle.std.proofs.Common.{◌≡◌, ◌++◌, drop}
-use Rattle.c_tree.specs.Trees.{each}
-use Rattle.c_print.specs.Header.{next_type_text}
+use Rattle.c_print.proofs.Common.{◌≡◌, ◌++◌, drop, each, next_type_text}
 use Rattle.c_print.proofs.header.put_more_params.Given as goal
 
 abbrev pub invariant-loop-param : goal.invariant-loop-param

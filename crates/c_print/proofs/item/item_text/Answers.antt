@@ -1,10 +1,6 @@
-use Rattle.std.proofs.Common.{rules, ◌≡◌, [], ap, ◌∙◌}
+use Rattle.c_print.proofs.Common.{◌≡◌, [], ap, ◌∙◌, rules, item_tokens, item_of, ended, printed_onto, Page}
 use Rattle.c_tree.specs.declared.token.Kind.TheVariants as kind
 use Rattle.c_tree.specs.declared.token.Tok.TheVariants as tok
-use Rattle.c_tree.specs.Trees.{item_tokens}
-use Rattle.c_tree.specs.View.{item_of}
-use Rattle.c_print.specs.declared.page.Page.{Page}
-use Rattle.c_print.specs.Page.{printed_onto, ended}
 use Rattle.c_print.proofs.PageText as page
 use Rattle.c_print.proofs.item.item_text.Goals as goal
 

@@ -1,8 +1,5 @@
-use Rattle.std.proofs.Common.{◌≡◌, ◌∙◌}
+use Rattle.c_print.proofs.Common.{◌≡◌, ◌∙◌, memory_wanted, vain_passed, whole_passed, item_of, print_item_of}
 use Rattle.std.proofs.lemmas.Result.{err_from_is_err_and}
-use Rattle.w2c_io.proofs.Passed.{memory_wanted, whole_passed, vain_passed}
-use Rattle.c_tree.specs.View.{item_of}
-use Rattle.c_print.specs.Print.{print_item_of}
 use Rattle.c_print.proofs.Spells.{spells_item}
 use Rattle.c_print.proofs.item.print_item_to.Goals as goal
 

@@ -1,6 +1,4 @@
-use Rattle.std.proofs.Common.{◌≡◌, drop}
-use Rattle.c_tree.specs.Trees.{each}
-use Rattle.c_print.specs.Page.{printed_onto}
+use Rattle.c_print.proofs.Common.{◌≡◌, drop, each, printed_onto}
 use Rattle.c_print.proofs.pieces.put_each.Given as goal
 
 abbrev pub invariant-loop-piece : goal.invariant-loop-piece

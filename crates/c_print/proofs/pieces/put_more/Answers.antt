@@ -1,6 +1,5 @@
-use Rattle.std.proofs.Common.{rules, ◌∷◌}
+use Rattle.c_print.proofs.Common.{◌∷◌, rules, Fixed}
 use Rattle.c_tree.specs.declared.token.Tok.TheVariants as tok
-use Rattle.c_tree.specs.Tokens.{Fixed}
 use Rattle.c_print.proofs.Onto.{each_more}
 use Rattle.c_print.proofs.pieces.put_more.Goals as goal
 

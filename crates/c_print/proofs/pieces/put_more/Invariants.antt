@@ -1,8 +1,5 @@
-use Rattle.std.proofs.Common.{◌≡◌, ◌∷◌, drop}
+use Rattle.c_print.proofs.Common.{◌≡◌, ◌∷◌, drop, Fixed, each, printed_onto}
 use Rattle.c_tree.specs.declared.token.Tok.TheVariants as tok
-use Rattle.c_tree.specs.Tokens.{Fixed}
-use Rattle.c_tree.specs.Trees.{each}
-use Rattle.c_print.specs.Page.{printed_onto}
 use Rattle.c_print.proofs.pieces.put_more.Given as goal
 
 abbrev pub invariant-loop-piece : goal.invariant-loop-piece

@@ -1,12 +1,6 @@
-use Rattle.std.proofs.Common.{rules, ◌≡◌, [], subst, sym, ap, refl, ◌∙◌}
+use Rattle.c_print.proofs.Common.{◌≡◌, [], sym, refl, ap, ◌∙◌, subst, rules, CSpells, Fixed, fixed_text, unit_of, items_onto, printed, print_of, Page}
 use Rattle.c_tree.specs.declared.token.Kind.TheVariants as kind
 use Rattle.c_tree.specs.declared.token.Tok.TheVariants as tok
-use Rattle.c_tree.specs.Spelled.{CSpells}
-use Rattle.c_tree.specs.Tokens.{Fixed, fixed_text}
-use Rattle.c_tree.specs.View.{unit_of}
-use Rattle.c_print.specs.Page.{printed, items_onto}
-use Rattle.c_print.specs.Print.{print_of}
-use Rattle.c_print.specs.declared.page.Page.{Page}
 use Rattle.c_print.proofs.PageText.{include_put, items_text}
 use Rattle.c_print.proofs.Spells.{spells}
 use Rattle.c_print.proofs.unit.print_unit.Goals as goal

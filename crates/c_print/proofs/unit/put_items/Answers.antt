@@ -1,5 +1,4 @@
-use Rattle.std.proofs.Common.{rules}
-use Rattle.c_tree.specs.View.{item_of}
+use Rattle.c_print.proofs.Common.{rules, item_of}
 use Rattle.c_print.proofs.Onto.{items_more}
 use Rattle.c_print.proofs.unit.put_items.Goals as goal
 

@@ -1,6 +1,4 @@
-use Rattle.std.proofs.Common.{◌≡◌, drop, map}
-use Rattle.c_tree.specs.View.{item_of}
-use Rattle.c_print.specs.Page.{items_onto}
+use Rattle.c_print.proofs.Common.{◌≡◌, map, drop, item_of, items_onto}
 use Rattle.c_print.proofs.unit.put_items.Given as goal
 
 abbrev pub invariant-loop-item : goal.invariant-loop-item

@@ -1,6 +1,4 @@
-use Rattle.std.proofs.Common.{◌≤◌, length, map}
-use Rattle.c_tree.specs.View.{arg_of}
-use Rattle.c_read.specs.Lists.{is_comma}
+use Rattle.c_read.proofs.Common.{◌≤◌, map, length, arg_of, is_comma}
 use Rattle.c_read.specs.Arguments.{next_argument, more_arguments}
 use Rattle.c_read.proofs.Loops.{Left}
 use Rattle.c_read.proofs.argument.more_arguments.Given as goal

@@ -1,7 +1,4 @@
-use Rattle.std.proofs.Common.{rules, ◌≡◌, ◌++◌, ◌∷◌, [], true, false, arith}
-use Rattle.std.proofs.lemmas.Result.{err_from_is_err_and}
-use Rattle.c_lex.specs.Reading.{next_kind}
-use Rattle.c_read.specs.Lists.{is_comma}
+use Rattle.c_read.proofs.Common.{◌≡◌, true, false, [], ◌∷◌, ◌++◌, arith, rules, err_from_is_err_and, next_kind, is_comma}
 use Rattle.c_read.specs.Types.{next_type, more_types}
 use Rattle.c_read.proofs.Loops.{left_more, left_ends, left_fails, left_behind}
 use Rattle.c_read.proofs.ctype.more_types.Goals as goal

@@ -1,5 +1,4 @@
-use Rattle.std.proofs.Common.{◌≤◌, length}
-use Rattle.c_read.specs.Lists.{is_comma}
+use Rattle.c_read.proofs.Common.{◌≤◌, length, is_comma}
 use Rattle.c_read.specs.Types.{next_type, more_types}
 use Rattle.c_read.proofs.Loops.{Left}
 use Rattle.c_read.proofs.ctype.more_types.Given as goal

@@ -1,8 +1,5 @@
-use Rattle.std.proofs.Common.{rules, ◌≡◌, ◌++◌, ◌∷◌, [], true, false, arith}
-use Rattle.std.proofs.lemmas.Result.{err_from_is_err_and}
-use Rattle.c_lex.specs.Reading.{next_kind}
-use Rattle.c_tree.specs.Grammar.{begins_type}
-use Rattle.c_read.specs.Items.{declaration, declarations}
+use Rattle.c_read.proofs.Common.{◌≡◌, true, false, [], ◌∷◌, ◌++◌, arith, rules, err_from_is_err_and, begins_type, next_kind, declaration}
+use Rattle.c_read.specs.Items.{declarations}
 use Rattle.c_read.proofs.Loops.{left_more, left_ends, left_fails, left_whole}
 use Rattle.c_read.proofs.function.declarations.Goals as goal
 

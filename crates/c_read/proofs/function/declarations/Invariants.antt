@@ -1,6 +1,4 @@
-use Rattle.std.proofs.Common.{◌≤◌, length}
-use Rattle.c_tree.specs.Grammar.{begins_type}
-use Rattle.c_read.specs.Items.{declaration, declarations}
+use Rattle.c_read.proofs.Common.{◌≤◌, length, begins_type, declaration, declarations}
 use Rattle.c_read.proofs.Loops.{Left}
 use Rattle.c_read.proofs.function.declarations.Given as goal
 

@@ -1,6 +1,4 @@
-use Rattle.std.proofs.Common.{◌≤◌, length}
-use Rattle.c_read.specs.Lists.{is_comma}
-use Rattle.c_read.specs.Items.{next_param, more_params}
+use Rattle.c_read.proofs.Common.{◌≤◌, length, more_params, next_param, is_comma}
 use Rattle.c_read.proofs.Loops.{Left}
 use Rattle.c_read.proofs.function.more_params.Given as goal
 

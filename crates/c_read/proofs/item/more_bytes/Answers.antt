@@ -1,8 +1,5 @@
-use Rattle.std.proofs.Common.{rules, ◌≡◌, ◌++◌, ◌∷◌, [], true, false, arith}
-use Rattle.std.proofs.lemmas.Result.{err_from_is_err_and}
-use Rattle.c_lex.specs.Reading.{next_kind}
-use Rattle.c_read.specs.Lists.{is_comma}
-use Rattle.c_read.specs.Items.{next_byte, more_bytes}
+use Rattle.c_read.proofs.Common.{◌≡◌, true, false, [], ◌∷◌, ◌++◌, arith, rules, err_from_is_err_and, next_kind, next_byte, is_comma}
+use Rattle.c_read.specs.Items.{more_bytes}
 use Rattle.c_read.proofs.Loops.{left_more, left_ends, left_fails, left_behind}
 use Rattle.c_read.proofs.item.more_bytes.Goals as goal
 

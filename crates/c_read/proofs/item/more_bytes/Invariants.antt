@@ -1,6 +1,4 @@
-use Rattle.std.proofs.Common.{◌≤◌, length}
-use Rattle.c_read.specs.Lists.{is_comma}
-use Rattle.c_read.specs.Items.{next_byte, more_bytes}
+use Rattle.c_read.proofs.Common.{◌≤◌, length, more_bytes, next_byte, is_comma}
 use Rattle.c_read.proofs.Loops.{Left}
 use Rattle.c_read.proofs.item.more_bytes.Given as goal
 

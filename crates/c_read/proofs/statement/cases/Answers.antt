@@ -1,7 +1,5 @@
-use Rattle.std.proofs.Common.{rules, ◌≡◌, ◌++◌, ◌∷◌, [], true, false, arith}
-use Rattle.std.proofs.lemmas.Result.{err_from_is_err_and}
-use Rattle.c_lex.specs.Reading.{next_kind}
-use Rattle.c_read.specs.Statements.{is_case, one_case, cases}
+use Rattle.c_read.proofs.Common.{◌≡◌, true, false, [], ◌∷◌, ◌++◌, arith, rules, err_from_is_err_and, next_kind, is_case, one_case}
+use Rattle.c_read.specs.Statements.{cases}
 use Rattle.c_read.proofs.Loops.{left_more, left_ends, left_fails, left_whole}
 use Rattle.c_read.proofs.statement.cases.Goals as goal
 

@@ -1,5 +1,4 @@
-use Rattle.std.proofs.Common.{◌≤◌, length}
-use Rattle.c_read.specs.Statements.{is_case, one_case, cases}
+use Rattle.c_read.proofs.Common.{◌≤◌, length, cases, is_case, one_case}
 use Rattle.c_read.proofs.Loops.{Left}
 use Rattle.c_read.proofs.statement.cases.Given as goal
 

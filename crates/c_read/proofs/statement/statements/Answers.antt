@@ -1,9 +1,5 @@
-use Rattle.std.proofs.Common.{rules, ◌≡◌, ◌++◌, ◌∷◌, [], true, false, map, ap, ◌∙◌, arith}
-use Rattle.std.proofs.lemmas.Result.{err_from_is_err_and}
-use Rattle.std.proofs.lemmas.List.{map_push}
-use Rattle.c_lex.specs.Reading.{next_kind}
-use Rattle.c_tree.specs.View.{stmt_of}
-use Rattle.c_read.specs.Statements.{not_brace, statement, statements}
+use Rattle.c_read.proofs.Common.{◌≡◌, true, false, [], ◌∷◌, ◌++◌, map, ap, ◌∙◌, arith, rules, map_push, err_from_is_err_and, stmt_of, next_kind, not_brace, statement}
+use Rattle.c_read.specs.Statements.{statements}
 use Rattle.c_read.proofs.Loops.{left_more, left_ends, left_fails, left_whole}
 use Rattle.c_read.proofs.statement.statements.Goals as goal
 

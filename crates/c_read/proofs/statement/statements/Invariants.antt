@@ -1,6 +1,4 @@
-use Rattle.std.proofs.Common.{◌≤◌, length, map}
-use Rattle.c_tree.specs.View.{stmt_of}
-use Rattle.c_read.specs.Statements.{not_brace, statement, statements}
+use Rattle.c_read.proofs.Common.{◌≤◌, map, length, stmt_of, not_brace, statement, statements}
 use Rattle.c_read.proofs.Loops.{Left}
 use Rattle.c_read.proofs.statement.statements.Given as goal
 

@@ -1,6 +1,4 @@
-use Rattle.std.proofs.Common.{◌≤◌, length, map}
-use Rattle.c_tree.specs.View.{item_of}
-use Rattle.c_read.specs.Items.{not_end, item, items}
+use Rattle.c_read.proofs.Common.{◌≤◌, map, length, item_of, item, items, not_end}
 use Rattle.c_read.proofs.Loops.{Left}
 use Rattle.c_read.proofs.unit.items.Given as goal
 

@@ -1,5 +1,4 @@
-use Rattle.std.proofs.Common.{map, drop}
-use Rattle.c_scope.specs.Own.{variable_pair}
+use Rattle.c_scope.proofs.Common.{map, drop, variable_pair}
 use Rattle.c_scope.proofs.Steps.{Enters}
 use Rattle.c_scope.proofs.own.own_table.Given as goal
 

@@ -1,5 +1,4 @@
-use Rattle.std.proofs.Common.{◌≡◌, ◌++◌, map, drop}
-use Rattle.c_scope.specs.Own.{variable_pair, locals_of}
+use Rattle.c_scope.proofs.Common.{◌≡◌, ◌++◌, map, drop, locals_of, variable_pair}
 use Rattle.c_scope.proofs.own.put_locals.Given as goal
 
 abbrev pub invariant-loop-local : goal.invariant-loop-local

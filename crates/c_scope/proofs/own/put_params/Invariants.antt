@@ -1,5 +1,4 @@
-use Rattle.std.proofs.Common.{◌≡◌, ◌++◌, map, drop}
-use Rattle.c_scope.specs.Own.{variable_pair, params_of}
+use Rattle.c_scope.proofs.Common.{◌≡◌, ◌++◌, map, drop, params_of, variable_pair}
 use Rattle.c_scope.proofs.own.put_params.Given as goal
 
 abbrev pub invariant-loop-param : goal.invariant-loop-param

@@ -1,5 +1,4 @@
-use Rattle.std.proofs.Common.{◌≡◌, map, drop}
-use Rattle.w2c_base.specs.Lookup.{named}
+use Rattle.c_scope.proofs.Common.{◌≡◌, map, drop, named}
 use Rattle.c_scope.specs.Primitives.{primitive_pair}
 use Rattle.c_scope.proofs.runtime.primitive_in.Given as goal
 

@@ -1,6 +1,4 @@
-use Rattle.std.proofs.Common.{◌≡◌, ◌++◌, drop, map}
-use Rattle.std.specs.List.{flat_map}
-use Rattle.wasm_tree.specs.IndexSpaces.{func_of_import, func_space}
+use Rattle.c_symbols.proofs.Common.{◌≡◌, ◌++◌, map, drop, flat_map, func_of_import, func_space}
 use Rattle.c_symbols.proofs.indexes.func_indexes.Given as goal
 
 abbrev pub invariant-loop-import : goal.invariant-loop-import

@@ -1,6 +1,4 @@
-use Rattle.std.proofs.Common.{[], ◌∷◌, ◌++◌, map, refl, ap, ◌∙◌}
-use Rattle.std.specs.List.{flat_map}
-use Rattle.wasm_tree.specs.IndexSpaces.{global_of_import}
+use Rattle.c_symbols.proofs.Common.{[], ◌∷◌, ◌++◌, map, flat_map, refl, ap, ◌∙◌, global_of_import}
 use Rattle.c_symbols.proofs.Grown.{flat_map_next, map_next, read_again}
 use Rattle.c_symbols.proofs.ByKind.{nothing_left, global_brought, no_global_brought}
 use Rattle.c_symbols.proofs.indexes.global_types.Goals as goal

@@ -1,6 +1,4 @@
-use Rattle.std.proofs.Common.{◌≡◌, ◌++◌, drop, map}
-use Rattle.std.specs.List.{flat_map}
-use Rattle.wasm_tree.specs.IndexSpaces.{global_of_import, global_space}
+use Rattle.c_symbols.proofs.Common.{◌≡◌, ◌++◌, map, drop, flat_map, global_of_import, global_space}
 use Rattle.c_symbols.proofs.indexes.global_types.Given as goal
 
 abbrev pub invariant-loop-import : goal.invariant-loop-import

@@ -1,5 +1,4 @@
-use Rattle.c_symbols.specs.Symbols.{export_symbol, export_type}
-use Rattle.c_symbols.specs.Named.{named_of, pair_of}
+use Rattle.c_symbols.proofs.Common.{named_of, pair_of, export_symbol, export_type}
 use Rattle.c_symbols.proofs.Founds.{enters_next, enters_end}
 use Rattle.c_symbols.proofs.symbols.enter_exports.Goals as goal
 

@@ -1,5 +1,4 @@
-use Rattle.c_symbols.specs.Symbols.{import_symbol, import_type}
-use Rattle.c_symbols.specs.Named.{pair_of}
+use Rattle.c_symbols.proofs.Common.{pair_of, import_symbol, import_type}
 use Rattle.c_symbols.proofs.Founds.{enters_next, enters_end}
 use Rattle.c_symbols.proofs.symbols.enter_imports.Goals as goal
 

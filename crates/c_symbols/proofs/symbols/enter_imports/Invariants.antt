@@ -1,6 +1,4 @@
-use Rattle.std.proofs.Common.{map, drop}
-use Rattle.c_symbols.specs.Symbols.{import_symbol, import_type, imported_symbols}
-use Rattle.c_symbols.specs.Named.{named_of}
+use Rattle.c_symbols.proofs.Common.{map, drop, named_of, import_symbol, import_type, imported_symbols}
 use Rattle.c_symbols.proofs.Founds.{Enters}
 use Rattle.c_symbols.proofs.symbols.enter_imports.Given as goal
 

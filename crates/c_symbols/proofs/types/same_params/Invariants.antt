@@ -1,7 +1,4 @@
-use Rattle.std.proofs.Common.{◌≡◌, drop}
-use Rattle.c_tree.specs.Runtime.{same_types}
-use Rattle.std.proofs.Common.{map}
-use Rattle.c_meaning.specs.Linking.{c_type_of}
+use Rattle.c_symbols.proofs.Common.{◌≡◌, map, drop, same_types, c_type_of}
 use Rattle.c_symbols.proofs.types.same_params.Given as goal
 
 -- what is left decides

@@ -1,5 +1,4 @@
-use Rattle.std.proofs.Common.{◌≡◌, ◌++◌, drop, map}
-use Rattle.c_meaning.specs.Linking.{c_type_of}
+use Rattle.c_symbols.proofs.Common.{◌≡◌, ◌++◌, map, drop, c_type_of}
 use Rattle.c_symbols.proofs.types_in_c.c_types.Given as goal
 
 abbrev pub invariant-loop-ty : goal.invariant-loop-ty

@@ -1,7 +1,4 @@
-use Rattle.std.proofs.Common.{Some, sym, ◌∙◌, ap, arith}
-use Rattle.std.proofs.lemmas.Option.{slice_get-get_or}
-use Rattle.c_objects.specs.Views.{value_of}
-use Rattle.c_machine.proofs.Locals.{grows_all, grows_next, grows_none}
+use Rattle.c_thread.proofs.Common.{Some, sym, ap, ◌∙◌, arith, slice_get-get_or, value_of, grows_all, grows_next, grows_none}
 use Rattle.c_thread.proofs.begin.with_first_values.Goals as goal
 
 pub loop-local-preserved : goal.loop-local-preserved

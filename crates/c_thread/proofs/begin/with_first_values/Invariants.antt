@@ -1,7 +1,4 @@
-use Rattle.std.proofs.Common.{◌≡◌, List, length}
-use Rattle.c_meaning.specs.State.{Name}
-use Rattle.c_objects.specs.Views.{Naming, value_of}
-use Rattle.c_machine.proofs.Locals.{Grows}
+use Rattle.c_thread.proofs.Common.{◌≡◌, List, length, Name, Naming, value_of, Grows}
 use Rattle.c_thread.proofs.begin.with_first_values.Given as goal
 
 abbrev pub invariant-loop-local : goal.invariant-loop-local

@@ -1,7 +1,4 @@
-use Rattle.std.proofs.Common.{◌∷◌, map, ap, ◌∙◌}
-use Rattle.std.specs.Prelude.{option_map}
-use Rattle.c_objects.specs.Views.{value_of}
-use Rattle.c_thread.specs.Linked.{below_in, machine_in, waiting_in}
+use Rattle.c_thread.proofs.Common.{◌∷◌, map, option_map, ap, ◌∙◌, value_of, below_in, machine_in, waiting_in}
 use Rattle.c_thread.proofs.Asks.{asks, asks_not}
 use Rattle.c_thread.proofs.calling.ask.Goals as goal
 

@@ -1,5 +1,4 @@
-use Rattle.std.proofs.Common.{Some, refl, ap, ◌∙◌, arith}
-use Rattle.std.proofs.lemmas.Option.{slice_get-get_or}
+use Rattle.c_thread.proofs.Common.{Some, refl, ap, ◌∙◌, arith, slice_get-get_or}
 use Rattle.c_thread.proofs.Asks.{counts_all, counts_next, counts_none}
 use Rattle.c_thread.proofs.calling.numbers.Goals as goal
 

@@ -1,7 +1,4 @@
-use Rattle.std.proofs.Common.{◌-◌, [], Option, Some, None, sym, ap, ◌∙◌}
-use Rattle.std.specs.Prelude.{slice_get}
-use Rattle.c_machine.specs.Threads.{names_at, stmts_of, stmts_at, target_of}
-use Rattle.c_machine.specs.Names.{number_in}
+use Rattle.c_thread.proofs.Common.{◌-◌, [], slice_get, Some, None, Option, sym, ap, ◌∙◌, number_in, names_at, stmts_at, stmts_of, target_of}
 use Rattle.c_thread.proofs.Units.{items_so, no_items}
 use Rattle.c_thread.proofs.control.waiting_name.Goals as goal
 

@@ -1,5 +1,6 @@
 use Rattle.std.proofs.Common.{◌<◌, length, sym, ◌∙◌, arith}
-use Rattle.c_thread.proofs.SameTypes.{same_many, same_end, same_more, same_stops}
+use Rattle.c_rules.proofs.SameTypes.{same_many}
+use Rattle.c_thread.proofs.SameTypes.{same_end, same_more, same_stops}
 use Rattle.c_thread.proofs.signatures.are_types.Goals as goal
 
 pub returns-then-types-others : goal.returns-then-types-others

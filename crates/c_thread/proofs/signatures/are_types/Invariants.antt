@@ -1,5 +1,4 @@
-use Rattle.std.proofs.Common.{◌≡◌, drop}
-use Rattle.c_tree.specs.Runtime.{same_types}
+use Rattle.c_thread.proofs.Common.{◌≡◌, drop, same_types}
 use Rattle.c_thread.proofs.signatures.are_types.Given as goal
 
 abbrev pub invariant-loop-i : goal.invariant-loop-i

@@ -1,6 +1,4 @@
-use Rattle.std.proofs.Common.{◌≡◌, ◌+◌, [], Some, sym, ◌∙◌, ap, arith}
-use Rattle.std.proofs.lemmas.Option.{slice_get-get_or}
-use Rattle.c_objects.specs.Views.{value_of}
+use Rattle.c_thread.proofs.Common.{◌≡◌, ◌+◌, [], Some, sym, ap, ◌∙◌, arith, slice_get-get_or, value_of}
 use Rattle.c_thread.proofs.Params.{left, at_end, differs, none_left, no_length, passed_over, taken, wanting}
 use Rattle.c_thread.proofs.types.fit_params.Goals as goal
 use Rattle.c_thread.proofs.types.fit_params.Goals.{then-is_some+in-Some+else-not-is_of_type, else-is_some}

@@ -1,6 +1,4 @@
-use Rattle.std.proofs.Common.{◌≡◌, drop, map}
-use Rattle.c_meaning.specs.Step.{are_of_types, param_types}
-use Rattle.c_objects.specs.Views.{Naming, value_of}
+use Rattle.c_thread.proofs.Common.{◌≡◌, map, drop, are_of_types, param_types, Naming, value_of}
 use Rattle.c_thread.proofs.types.fit_params.Given as goal
 
 abbrev pub invariant-loop-param : goal.invariant-loop-param

@@ -1,8 +1,4 @@
-use Rattle.std.proofs.Common.{map}
-use Rattle.c_tree.specs.View.{arg_of}
-use Rattle.c_objects.specs.Views.{value_of}
-use Rattle.c_machine.proofs.NameTables.{mapped_at}
-use Rattle.c_machine.proofs.Arguments.{evaluates_next, evaluates_fault}
+use Rattle.c_thread.proofs.Common.{map, mapped_at, arg_of, value_of, evaluates_fault, evaluates_next}
 use Rattle.c_thread.proofs.values.held_by_all.Goals as goal
 
 pub loop-arg-preserved : goal.loop-arg-preserved

@@ -1,5 +1,4 @@
-use Rattle.std.proofs.Common.{sym, ap, ◌∙◌}
-use Rattle.std.specs.Prelude.{option_map}
+use Rattle.std.proofs.Common.{sym, ap, ◌∙◌, option_map}
 use Rattle.c_meaning.specs.Step.{number_in}
 use Rattle.c_objects.specs.Views.{value_of as held_of}
 use Rattle.c_thread.proofs.values.number_named.Goals as goal

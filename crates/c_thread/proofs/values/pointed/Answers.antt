@@ -1,10 +1,7 @@
-use Rattle.std.proofs.Common.{sym, ap, ◌∙◌}
-use Rattle.std.specs.Prelude.{option_map}
-use Rattle.std.proofs.Common.{Some}
+use Rattle.c_thread.proofs.Common.{Some, option_map, sym, ap, ◌∙◌, sight_of}
 use Rattle.c_objects.specs.declared.held.Held.TheVariants.{Pointer}
 use Rattle.c_meaning.specs.Step.{number_in}
 use Rattle.c_objects.specs.Views.{value_of as held_of}
-use Rattle.c_thread.specs.Sights.{sight_of}
 use Rattle.c_thread.proofs.Stars.{star_sees}
 use Rattle.c_thread.proofs.values.pointed.Goals as goal
 

@@ -1,5 +1,4 @@
-use Rattle.std.proofs.Common.{◌≡◌, sym}
-use Rattle.c_tree.specs.View.{expr_of}
+use Rattle.c_tree.proofs.Common.{◌≡◌, sym, expr_of}
 use Rattle.c_tree.proofs.Tested.{no_room}
 use Rattle.c_tree.proofs.formed.+is_expression_formed.Goals as goal
 

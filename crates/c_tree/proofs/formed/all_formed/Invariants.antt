@@ -1,5 +1,4 @@
-use Rattle.std.proofs.Common.{◌≡◌, drop}
-use Rattle.std.specs.List.{list_all}
+use Rattle.c_tree.proofs.Common.{◌≡◌, drop, list_all}
 use Rattle.c_tree.proofs.formed.all_formed.Given as goal
 
 abbrev pub invariant-loop-piece : goal.invariant-loop-piece

@@ -1,7 +1,4 @@
-use Rattle.std.proofs.Common.{◌≡◌, ◌^◌, true, length}
-use Rattle.std.specs.Prelude.{nat_lt}
-use Rattle.std.specs.List.{list_all}
-use Rattle.c_tree.specs.Tests.{is_byte}
+use Rattle.c_tree.proofs.Common.{◌≡◌, ◌^◌, true, length, nat_lt, list_all, is_byte}
 use Rattle.c_tree.proofs.TestsTell.{bytes_are, less_passes, and_true_right}
 use Rattle.c_tree.proofs.formed.is_array_formed.Goals as goal
 

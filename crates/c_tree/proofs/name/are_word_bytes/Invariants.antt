@@ -1,6 +1,4 @@
-use Rattle.std.proofs.Common.{◌≡◌, drop}
-use Rattle.std.specs.List.{list_all}
-use Rattle.c_tree.specs.Text.{is_word_byte}
+use Rattle.c_tree.proofs.Common.{◌≡◌, drop, list_all, is_word_byte}
 use Rattle.c_tree.proofs.name.are_word_bytes.Given as goal
 
 abbrev pub invariant-loop-byte : goal.invariant-loop-byte

@@ -1,6 +1,4 @@
-use Rattle.std.proofs.Common.{◌≡◌, drop}
-use Rattle.std.specs.List.{list_any}
-use Rattle.std.specs.Str.{bytes_eq}
+use Rattle.c_tree.proofs.Common.{◌≡◌, drop, bytes_eq, list_any}
 use Rattle.c_tree.proofs.name.is_among.Given as goal
 
 abbrev pub invariant-loop-other : goal.invariant-loop-other

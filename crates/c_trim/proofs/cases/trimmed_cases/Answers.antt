@@ -1,12 +1,7 @@
-use Rattle.std.proofs.Common.{◌≡◌, ◌&&◌, ◌||◌, not, bytes_eq, Bool, true, false, List, [], ◌∷◌, refl, ap, ◌∙◌}
-use Rattle.std.specs.Prelude.{codes}
-use Rattle.std.specs.List.{list_all}
-use Rattle.w2c_base.proofs.Conjunctions.{both_hold}
+use Rattle.c_trim.proofs.Common.{◌≡◌, Bool, true, false, not, ◌&&◌, ◌||◌, List, [], ◌∷◌, codes, bytes_eq, refl, ap, ◌∙◌, list_all, both_hold, by_test, Name, is_among, name_of, IsNeeded, TellsNeeded, external_names, item_functions, leads, names}
 use Rattle.c_tree.specs.Tree as tree
-use Rattle.c_tree.specs.Scope.{Name, name_of, is_among}
-use Rattle.c_trim.specs.Trim.{TellsNeeded, IsNeeded, external_names, item_functions, leads, names}
 use Rattle.c_trim.specs.Samples as sample
-use Rattle.c_trim.proofs.Lists.{and_false, not_true, by_test}
+use Rattle.c_trim.proofs.Lists.{and_false, not_true}
 use Rattle.c_trim.proofs.cases.trimmed_cases.Goals as goal
 
 module _ (unit : List tree.Item) (needed : Name → Bool) (tells : TellsNeeded unit needed) where

@@ -1,5 +1,4 @@
-use Rattle.std.proofs.Common.{◌≡◌, map, take}
-use Rattle.c_tree.specs.View.{arg_of}
+use Rattle.c_trim.proofs.Common.{◌≡◌, map, take, arg_of}
 use Rattle.c_trim.proofs.copies.copy_arguments.Given as goal
 
 abbrev pub invariant-loop-argument : goal.invariant-loop-argument

@@ -1,5 +1,4 @@
-use Rattle.std.proofs.Common.{◌≡◌, map, take}
-use Rattle.c_tree.specs.View.{stmt_of}
+use Rattle.c_trim.proofs.Common.{◌≡◌, map, take, stmt_of}
 use Rattle.c_trim.proofs.copies.copy_statements.Given as goal
 
 abbrev pub invariant-loop-statement : goal.invariant-loop-statement

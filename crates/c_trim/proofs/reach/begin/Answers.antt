@@ -1,7 +1,4 @@
-use Rattle.std.proofs.Common.{◌≡◌, ◌<◌, length, map, refl, arith}
-use Rattle.std.proofs.lemmas.List.{length-map}
-use Rattle.c_tree.specs.View.{item_of}
-use Rattle.c_trim.specs.Marks.{reached_by}
+use Rattle.c_trim.proofs.Common.{◌≡◌, ◌<◌, map, length, refl, arith, length-map, item_of, reached_by}
 use Rattle.c_trim.proofs.Steps.{mapped_at}
 use Rattle.c_trim.proofs.Spread.{begin_next}
 use Rattle.c_trim.proofs.reach.begin.Goals as goal

@@ -1,6 +1,4 @@
-use Rattle.std.proofs.Common.{map}
-use Rattle.c_tree.specs.View.{item_of}
-use Rattle.c_trim.specs.Marks.{AreReached, BegunTo, reached_by}
+use Rattle.c_trim.proofs.Common.{map, item_of, AreReached, BegunTo, reached_by}
 use Rattle.c_trim.proofs.reach.begin.Given as goal
 
 abbrev pub invariant-loop-i : goal.invariant-loop-i

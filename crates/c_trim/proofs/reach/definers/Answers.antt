@@ -1,9 +1,4 @@
-use Rattle.std.proofs.Common.{◌≡◌, ◌+◌, ◌≤◌, length, map, take, if◌then◌else◌, Some, None, sym, ap, ◌∙◌, arith}
-use Rattle.std.specs.Option.{option_or}
-use Rattle.std.proofs.lemmas.List.{length-map}
-use Rattle.c_tree.specs.Rules.{defines}
-use Rattle.c_tree.specs.View.{item_of}
-use Rattle.c_trim.specs.Marks.{definer}
+use Rattle.c_trim.proofs.Common.{◌≡◌, ◌+◌, ◌≤◌, map, length, take, if◌then◌else◌, Some, None, sym, ap, ◌∙◌, arith, length-map, option_or, defines, item_of, definer}
 use Rattle.c_trim.proofs.Steps.{take_one}
 use Rattle.c_trim.proofs.Marking.{length_take, position_push}
 use Rattle.c_trim.proofs.reach.definers.Goals as goal

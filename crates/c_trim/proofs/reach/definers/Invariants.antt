@@ -1,7 +1,4 @@
-use Rattle.std.proofs.Common.{◌≡◌, ℕ, List, map, take}
-use Rattle.w2c_base.specs.Lookup.{named}
-use Rattle.c_tree.specs.View.{item_of}
-use Rattle.c_trim.specs.Marks.{definer}
+use Rattle.c_trim.proofs.Common.{◌≡◌, ℕ, List, map, take, named, item_of, definer}
 use Rattle.c_trim.proofs.reach.definers.Given as goal
 
 abbrev pub invariant-loop-i : goal.invariant-loop-i

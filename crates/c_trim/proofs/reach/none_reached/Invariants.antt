@@ -1,5 +1,4 @@
-use Rattle.std.proofs.Common.{◌≡◌, ℕ, ◌-◌, ◌≤◌, false, length}
-use Rattle.std.specs.Prelude.{slice_index_or}
+use Rattle.std.proofs.Common.{◌≡◌, ℕ, ◌-◌, ◌≤◌, false, length, slice_index_or}
 use Rattle.c_trim.proofs.reach.none_reached.Given as goal
 
 abbrev pub invariant-loop-flags : goal.invariant-loop-flags

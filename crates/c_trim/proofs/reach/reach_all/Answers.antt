@@ -1,7 +1,4 @@
-use Rattle.std.proofs.Common.{ℕ, ◌<◌, ◌≤◌, length, map, arith}
-use Rattle.std.specs.Prelude.{slice_get}
-use Rattle.c_tree.specs.View.{item_of}
-use Rattle.c_trim.specs.Marks.{functions_at, reached_by}
+use Rattle.c_trim.proofs.Common.{ℕ, ◌<◌, ◌≤◌, map, length, slice_get, arith, item_of, functions_at, reached_by}
 use Rattle.c_trim.proofs.Spread.{follow, longer, smaller, still_begun}
 use Rattle.c_trim.proofs.reach.reach_all.Goals as goal
 

@@ -1,6 +1,4 @@
-use Rattle.std.proofs.Common.{◌-◌, ◌≤◌, length, map}
-use Rattle.c_tree.specs.View.{item_of}
-use Rattle.c_trim.specs.Marks.{AreReached, BegunTo, FollowedTo, reached_by}
+use Rattle.c_trim.proofs.Common.{◌-◌, ◌≤◌, map, length, item_of, AreReached, BegunTo, FollowedTo, reached_by}
 use Rattle.c_trim.proofs.Spread.{cost}
 use Rattle.c_trim.proofs.reach.reach_all.Given as goal
 

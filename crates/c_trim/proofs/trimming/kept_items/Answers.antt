@@ -1,8 +1,4 @@
-use Rattle.std.proofs.Common.{◌∷◌, ◌++◌, [], if◌then◌else◌, map, take, sym, ap, ◌∙◌}
-use Rattle.std.proofs.lemmas.List.Elements.{filter-append}
-use Rattle.c_tree.specs.View.{item_of}
-use Rattle.c_trim.specs.Marks.{is_reached}
-use Rattle.c_trim.specs.Trim.{kept, stays}
+use Rattle.c_trim.proofs.Common.{[], ◌∷◌, ◌++◌, map, take, if◌then◌else◌, sym, ap, ◌∙◌, filter-append, item_of, is_reached, kept, stays}
 use Rattle.c_trim.proofs.Steps.{take_one}
 use Rattle.c_trim.proofs.trimming.kept_items.Goals as goal
 

@@ -1,7 +1,4 @@
-use Rattle.std.proofs.Common.{◌≡◌, map, take}
-use Rattle.c_tree.specs.View.{item_of, unit_of}
-use Rattle.c_trim.specs.Marks.{is_reached}
-use Rattle.c_trim.specs.Trim.{kept}
+use Rattle.c_trim.proofs.Common.{◌≡◌, map, take, item_of, unit_of, is_reached, kept}
 use Rattle.c_trim.proofs.trimming.kept_items.Given as goal
 
 abbrev pub invariant-loop-item : goal.invariant-loop-item

@@ -1,7 +1,4 @@
-use Rattle.std.proofs.Common.{◌≡◌, ap}
-use Rattle.c_tree.specs.View.{unit_of}
-use Rattle.c_trim.specs.Trim.{IsTrimmed, kept}
-use Rattle.c_trim.specs.Marks.{is_reached, reached_by}
+use Rattle.c_trim.proofs.Common.{◌≡◌, ap, unit_of, is_reached, reached_by, IsTrimmed, kept}
 use Rattle.c_trim.proofs.Exact.{needed_kept}
 use Rattle.c_trim.proofs.Carried.{carried}
 use Rattle.c_trim.proofs.trimming.needed_items.Goals as goal

@@ -1,6 +1,4 @@
-use Rattle.std.proofs.Common.{sym, subst}
-use Rattle.c_tree.specs.View.{unit_of}
-use Rattle.c_trim.specs.Trim.{IsTrimmed}
+use Rattle.c_trim.proofs.Common.{sym, subst, unit_of, IsTrimmed}
 use Rattle.c_trim.proofs.InPlace.{in_place}
 use Rattle.c_trim.proofs.Needed.{trimmed_formed, trimmed_keeps}
 use Rattle.c_trim.proofs.trimming.trim.Goals as goal

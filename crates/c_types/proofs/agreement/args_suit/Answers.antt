@@ -1,7 +1,4 @@
-use Rattle.std.proofs.Common.{◌≡◌, ◌<◌, length, sym, ap, ◌∙◌, arith, true, false}
-use Rattle.c_tree.specs.View.{arg_of}
-use Rattle.c_tree.specs.Rules.{arg_suits}
-use Rattle.c_scope.specs.ScopeOf.{scope_of}
+use Rattle.c_types.proofs.Common.{◌≡◌, ◌<◌, true, false, length, sym, ap, ◌∙◌, arith, arg_suits, arg_of, scope_of}
 use Rattle.c_types.proofs.Suits.{suit_never, suit_end, suit_more, suit_stops}
 use Rattle.c_types.proofs.agreement.args_suit.Goals as goal
 

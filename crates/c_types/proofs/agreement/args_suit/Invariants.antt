@@ -1,7 +1,4 @@
-use Rattle.std.proofs.Common.{◌≡◌, drop, map}
-use Rattle.c_tree.specs.View.{arg_of}
-use Rattle.c_tree.specs.Rules.{args_suit}
-use Rattle.c_scope.specs.ScopeOf.{scope_of}
+use Rattle.c_types.proofs.Common.{◌≡◌, map, drop, args_suit, arg_of, scope_of}
 use Rattle.c_types.proofs.agreement.args_suit.Given as goal
 
 abbrev pub invariant-loop-i : goal.invariant-loop-i

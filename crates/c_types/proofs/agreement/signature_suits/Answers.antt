@@ -1,8 +1,5 @@
-use Rattle.std.proofs.Common.{List, map, ap, sym, ◌∙◌}
+use Rattle.c_types.proofs.Common.{List, map, sym, ap, ◌∙◌, args_suit, proper_types, arg_of, scope_of}
 use Rattle.c_tree.specs.Tree as tree
-use Rattle.c_tree.specs.View.{arg_of}
-use Rattle.c_tree.specs.Rules.{args_suit, proper_types}
-use Rattle.c_scope.specs.ScopeOf.{scope_of}
 use Rattle.c_scope.specs.Signatures.{signature_type}
 use Rattle.c_types.proofs.agreement.signature_suits.Goals as goal
 

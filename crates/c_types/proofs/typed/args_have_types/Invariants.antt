@@ -1,8 +1,4 @@
-use Rattle.std.proofs.Common.{◌≡◌, drop}
-use Rattle.std.specs.List.{list_all}
-use Rattle.c_tree.specs.View.{arg_of}
-use Rattle.c_tree.specs.Rules.{arg_has_type}
-use Rattle.c_scope.specs.ScopeOf.{scope_of}
+use Rattle.c_types.proofs.Common.{◌≡◌, drop, list_all, arg_has_type, arg_of, scope_of}
 use Rattle.c_types.proofs.typed.args_have_types.Given as goal
 
 abbrev pub invariant-loop-arg : goal.invariant-loop-arg

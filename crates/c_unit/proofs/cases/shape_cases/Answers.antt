@@ -1,13 +1,7 @@
-use Rattle.std.proofs.Common.{◌≡◌, ◌∙◌, ℕ, true, false, List, [], ◌∷◌, Option, Some, None, inr, codes, refl, sym, ap, arith}
+use Rattle.c_unit.proofs.Common.{◌≡◌, ℕ, true, false, List, [], ◌∷◌, Some, None, codes, Contains, Option, sym, refl, ap, ◌∙◌, inr, arith, AllByRecursion, of_contained, Name, is_among, CType, Definition, declared_names, defined_names, module_objects, own_symbols, unit_objects}
 use Rattle.std.specs.Fmt.{digits}
-use Rattle.std.specs.List.{AllByRecursion, Contains}
-use Rattle.std.proofs.lemmas.List.Elements.{All-from_recursion, All-contains}
-use Rattle.c_tree.specs.declared.tree.CType.{CType}
 use Rattle.c_tree.specs.declared.tree.CType.TheVariants as c_type
 use Rattle.c_tree.specs.Tree as tree
-use Rattle.c_tree.specs.Scope.{Name, is_among}
-use Rattle.c_meaning.specs.Linking.{Definition}
-use Rattle.c_unit.specs.Shape.{declared_names, defined_names, module_objects, own_symbols, unit_objects}
 use Rattle.c_unit.specs.Misshapen as misshapen
 use Rattle.c_unit.proofs.InitPasses.{self_among}
 use Rattle.c_unit.proofs.cases.shape_cases.Goals as goal
@@ -17,18 +11,15 @@ use Rattle.c_unit.proofs.cases.shape_cases.Goals as goal
 false_is_true : false ≡ true → ⊥
 false_is_true e = absurd cc
 
-holds_of : {A : Type 0} (P : A → Type 0) (xs : List A) (x : A) → AllByRecursion P xs → Contains xs x → P x
-holds_of P xs x all there = All-contains P xs x (All-from_recursion P xs all) there
-
 absent : (name : Name) (names : List Name) → is_among name names ≡ false → Contains names name → ⊥
 absent name names none there =
-    false_is_true (sym none ∙ holds_of (λ (n : Name). is_among n names ≡ true) names name (self_among names) there)
+    false_is_true (sym none ∙ of_contained (λ (n : Name). is_among n names ≡ true) names name (self_among names) there)
 
 -- an object whose name is none of those that objects have
 no_object : (names : List Name) (x : CType × Name) (xs : List (CType × Name)) → is_among x.1 names ≡ false
     → AllByRecursion (λ (o : CType × Name). is_among o.1 names ≡ true) xs → Contains xs x → ⊥
 no_object names x xs none all there =
-    false_is_true (sym none ∙ holds_of (λ (o : CType × Name). is_among o.1 names ≡ true) xs x all there)
+    false_is_true (sym none ∙ of_contained (λ (o : CType × Name). is_among o.1 names ≡ true) xs x all there)
 
 none_is_some : {A : Type 0} (a : A) → None ≡ Some a → ⊥
 none_is_some a e = absurd cc

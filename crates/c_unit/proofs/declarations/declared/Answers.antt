@@ -1,8 +1,5 @@
-use Rattle.std.proofs.Common.{map, ap, ◌∙◌}
-use Rattle.wasm_tree.specs.declared.tree.Module.{Module}
+use Rattle.c_unit.proofs.Common.{map, ap, ◌∙◌, Module, named_of, pair_of, Typed}
 use Rattle.c_symbols.specs.declared.indexes.Indexes.{Indexes}
-use Rattle.c_symbols.specs.Symbols.{Typed}
-use Rattle.c_symbols.specs.Named.{named_of, pair_of}
 use Rattle.c_unit.proofs.SeenNames.{declares_next, declares_all}
 use Rattle.c_unit.proofs.declarations.declared.Goals as goal
 

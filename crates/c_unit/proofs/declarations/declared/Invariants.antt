@@ -1,5 +1,4 @@
-use Rattle.std.proofs.Common.{drop, map}
-use Rattle.c_symbols.specs.Named.{named_of, pair_of}
+use Rattle.c_unit.proofs.Common.{map, drop, named_of, pair_of}
 use Rattle.c_unit.proofs.SeenNames.{DeclaresSoFar}
 use Rattle.c_unit.proofs.declarations.declared.Given as goal
 

@@ -1,12 +1,4 @@
-use Rattle.std.proofs.Common.{◌≡◌, Bool, refl, ap, ◌∙◌}
-use Rattle.w2c_base.specs.declared.value.ValType.{ValType}
-use Rattle.wasm_tree.specs.declared.tree.Module.{Module}
-use Rattle.wasm_tree.specs.declared.entries.Import.{Import}
-use Rattle.wasm_tree.specs.declared.entries.ImportKind.TheVariants.{Global as ImportGlobal}
-use Rattle.wasm_tree.specs.IndexSpaces.{is_global_import}
-use Rattle.c_symbols.specs.Symbols.{pointer_type}
-use Rattle.c_unit.specs.Pointers.{pointed}
-use Rattle.c_symbols.proofs.ByKind.{kind_next, global_drawn, no_global_drawn}
+use Rattle.c_unit.proofs.Common.{◌≡◌, Bool, refl, ap, ◌∙◌, ValType, is_global_import, Import, ImportGlobal, Module, global_drawn, kind_next, no_global_drawn, pointer_type, pointed}
 use Rattle.c_unit.proofs.global_pointers.global_pointers.Goals as goal
 use Rattle.c_unit.proofs.global_pointers.global_pointers.Goals.{in-Global+in_ok-push, in_default}
 

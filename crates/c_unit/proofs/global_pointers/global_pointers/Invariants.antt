@@ -1,7 +1,4 @@
-use Rattle.std.proofs.Common.{◌≡◌, ◌++◌, drop, map, filter}
-use Rattle.wasm_tree.specs.IndexSpaces.{is_global_import}
-use Rattle.c_symbols.specs.Symbols.{global_imports}
-use Rattle.c_unit.specs.Pointers.{pointed}
+use Rattle.c_unit.proofs.Common.{◌≡◌, ◌++◌, map, drop, filter, is_global_import, global_imports, pointed}
 use Rattle.c_unit.proofs.global_pointers.global_pointers.Given as goal
 
 abbrev pub invariant-loop-import : goal.invariant-loop-import

@@ -1,7 +1,5 @@
-use Rattle.std.proofs.Common.{◌≡◌, ◌++◌, drop, map}
-use Rattle.c_unit.specs.Items.{header_of}
+use Rattle.c_unit.proofs.Common.{◌≡◌, ◌++◌, map, drop, named_of, header_of}
 use Rattle.c_unit.specs.Lines.{line_of}
-use Rattle.c_symbols.specs.Named.{named_of}
 use Rattle.c_unit.proofs.heading.header_lines.Given as goal
 
 abbrev pub invariant-loop-export : goal.invariant-loop-export

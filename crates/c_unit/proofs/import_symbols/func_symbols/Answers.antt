@@ -1,7 +1,4 @@
-use Rattle.std.proofs.Common.{refl}
-use Rattle.wasm_tree.specs.IndexSpaces.{is_func_import}
-use Rattle.c_symbols.specs.Symbols.{import_symbol}
-use Rattle.c_symbols.proofs.ByKind.{kind_next}
+use Rattle.c_unit.proofs.Common.{refl, is_func_import, kind_next, import_symbol}
 use Rattle.c_unit.proofs.import_symbols.func_symbols.Goals as goal
 
 pub loop-import-preserved : goal.loop-import-preserved

@@ -1,6 +1,4 @@
-use Rattle.std.proofs.Common.{◌≡◌, ◌++◌, drop, map, filter}
-use Rattle.wasm_tree.specs.IndexSpaces.{is_func_import}
-use Rattle.c_symbols.specs.Symbols.{func_imports, import_symbol}
+use Rattle.c_unit.proofs.Common.{◌≡◌, ◌++◌, map, drop, filter, is_func_import, func_imports, import_symbol}
 use Rattle.c_unit.proofs.import_symbols.func_symbols.Given as goal
 
 abbrev pub invariant-loop-import : goal.invariant-loop-import

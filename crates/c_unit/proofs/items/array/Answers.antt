@@ -1,6 +1,4 @@
-use Rattle.std.proofs.Common.{◌≡◌, ℕ, List, length, ap, ◌∙◌}
-use Rattle.c_tree.specs.Tree.{Array}
-use Rattle.c_tree.specs.Scope.{Name}
+use Rattle.c_unit.proofs.Common.{◌≡◌, ℕ, List, length, ap, ◌∙◌, Name, Array}
 use Rattle.c_unit.proofs.items.array.Goals as goal
 
 same : (name own : Name) (len : ℕ) (bytes all : List ℕ) → name ≡ own → len ≡ length bytes → bytes ≡ all

@@ -1,5 +1,4 @@
-use Rattle.std.proofs.Common.{◌≡◌, IfOk, subst}
-use Rattle.c_tree.specs.View.{unit_of}
+use Rattle.c_unit.proofs.Common.{◌≡◌, IfOk, subst, unit_of}
 use Rattle.c_unit.proofs.whole_unit.all_items.Goals as goal
 
 pub returns : goal.returns

@@ -1,6 +1,4 @@
-use Rattle.std.proofs.Common.{◌≡◌, ◌++◌, length}
-use Rattle.c_tree.specs.View.{unit_of}
-use Rattle.c_unit.specs.Tails.{left_of}
+use Rattle.c_unit.proofs.Common.{◌≡◌, ◌++◌, length, unit_of, left_of}
 use Rattle.c_unit.proofs.whole_unit.unit_of_rest.Given as goal
 
 abbrev pub invariant-more : goal.invariant-more

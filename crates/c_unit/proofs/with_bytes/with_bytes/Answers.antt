@@ -1,5 +1,4 @@
-use Rattle.std.proofs.Common.{map, ap, ◌+◌}
-use Rattle.c_unit.specs.Arrays.{bytes_if, bytes_of}
+use Rattle.c_unit.proofs.Common.{◌+◌, map, ap, bytes_if, bytes_of}
 use Rattle.c_unit.proofs.Numberings.{put_numbered, put_all}
 use Rattle.c_unit.proofs.with_bytes.with_bytes.Goals as goal
 

@@ -1,6 +1,5 @@
-use Rattle.std.proofs.Common.{◌≡◌, Err, ap}
+use Rattle.crun.proofs.Common.{◌≡◌, Err, ap, host_of, hosts_of}
 use Rattle.crun.specs.declared.hosts.HostsRefusal.TheVariants as refusal
-use Rattle.c_hosts.specs.Asking.{host_of}
 use Rattle.crun.proofs.HostSymbols.{all_hosts, host_more, host_twice, symbols_mean}
 use Rattle.crun.proofs.hosts.host_symbols.Goals as goal
 
@@ -21,7 +20,7 @@ loop-k-preserved g c =
     )
 
 pub returns-clause-meaning : goal.returns-clause-meaning
-returns-clause-meaning g c p same =
+returns-clause-meaning g c =
     let m = g.H.HostModule in
-    symbols_mean p _ _ (all_hosts (host_of m) c.args.hosts.now c.loop-k.list.symbols.items c.loop-k.k
-    c.loop-k-test.false c.loop-k.invariant.1) same
+    symbols_mean _ (hosts_of m c.args.hosts.now) (all_hosts (host_of m) c.args.hosts.now c.loop-k.list.symbols.items c.loop-k.k
+    c.loop-k-test.false c.loop-k.invariant.1)

@@ -1,6 +1,4 @@
-use Rattle.std.proofs.Common.{◌≡◌, take}
-use Rattle.crun.specs.HostSymbols.{AreKnown, symbols_of_hosts}
-use Rattle.c_hosts.specs.Asking.{hosts_of}
+use Rattle.crun.proofs.Common.{◌≡◌, take, hosts_of, AreKnown, symbols_of_hosts}
 use Rattle.crun.proofs.hosts.host_symbols.Given as goal
 
 abbrev pub invariant-loop-k : goal.invariant-loop-k

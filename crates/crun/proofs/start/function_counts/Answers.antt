@@ -1,5 +1,4 @@
-use Rattle.std.proofs.Common.{length, map, ap, ◌∙◌}
-use Rattle.std.proofs.lemmas.List.{take_all}
+use Rattle.std.proofs.Common.{length, map, ap, ◌∙◌, take_all}
 use Rattle.crun.proofs.Beginnings.{counts_are}
 use Rattle.crun.proofs.start.function_counts.Goals as goal
 

@@ -1,22 +1,8 @@
-use Rattle.std.proofs.Common.{◌≡◌, ℕ, zero, suc, false, List, [], ◌∷◌, Option, Some, None, codes, slice_get, refl, sym, ap, subst}
+use Rattle.crun_cli.proofs.Common.{◌≡◌, ℕ, zero, suc, false, List, [], ◌∷◌, slice_get, Some, None, codes, Option, sym, refl, ap, subst, Host, Value, I32, I64, extended, SymbolCall, CRun, c_run, call_with, env, host_call, lines_of, Answered, Keeps, host_of, replies_in, HostModule, Asked, asked_events, run_with, HasRun, HasStatus}
 use Rattle.std.specs.Fmt.{digits}
-use Rattle.w2c_base.specs.declared.value.Value.{Value}
-use Rattle.w2c_base.specs.declared.value.Value.TheVariants.{I32, I64}
-use Rattle.w2c_base.specs.Run.{Host}
-use Rattle.w2c_io.specs.Contents.{extended}
 use Rattle.c_tree.specs.declared.tree.CType.TheVariants.{U64}
-use Rattle.c_meaning.specs.Linking.{SymbolCall}
-use Rattle.c_meaning.specs.Run.{CRun, c_run}
-use Rattle.c_meaning.specs.Samples.{call_with, env, host_call}
-use Rattle.c_hosts.specs.declared.host.HostModule.{Ghosts as HostModule}
-use Rattle.c_hosts.specs.declared.host.HostReply.{HostReply}
-use Rattle.c_hosts.specs.declared.host.HostReply.TheVariants as reply
-use Rattle.c_hosts.specs.declared.journal.Asked.{Asked}
-use Rattle.c_hosts.specs.Asking.{Answered, Keeps, host_of}
-use Rattle.c_hosts.specs.Journals.{replies_in}
-use Rattle.crun_lines.specs.RunLines.{lines_of}
-use Rattle.host_replay.specs.Runs.{asked_events, run_with}
-use Rattle.crun_cli.specs.Runs.{HasRun, HasStatus}
+use Rattle.c_meaning.specs.declared.reply.HostReply.{HostReply}
+use Rattle.c_meaning.specs.declared.reply.HostReply.TheVariants as reply
 use Rattle.crun_cli.proofs.cases.runs_with_a_host.Goals as goal
 
 abbrev calls : List SymbolCall

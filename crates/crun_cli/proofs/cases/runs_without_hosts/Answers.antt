@@ -1,14 +1,5 @@
-use Rattle.std.proofs.Common.{◌≡◌, ℕ, false, List, [], ◌∷◌, Option, Some, None, refl, subst, ap, arith}
+use Rattle.crun_cli.proofs.Common.{◌≡◌, ℕ, false, List, [], ◌∷◌, Some, None, Option, refl, ap, subst, arith, I32, extended, call_with, division, lines_of, Answered, hosts_of, HostModule, Asked, run_with, HasRun, HasStatus}
 use Rattle.std.specs.Fmt.{digits}
-use Rattle.w2c_base.specs.declared.value.Value.TheVariants.{I32}
-use Rattle.c_meaning.specs.Samples.{call_with, division}
-use Rattle.c_hosts.specs.declared.host.HostModule.{Ghosts as HostModule}
-use Rattle.c_hosts.specs.declared.journal.Asked.{Asked}
-use Rattle.c_hosts.specs.Asking.{Answered, hosts_of}
-use Rattle.crun_lines.specs.RunLines.{lines_of}
-use Rattle.host_replay.specs.Runs.{run_with}
-use Rattle.crun_cli.specs.Runs.{HasRun, HasStatus}
-use Rattle.w2c_io.specs.Contents.{extended}
 use Rattle.crun_cli.proofs.cases.runs_without_hosts.Goals as goal
 
 none_is_some : {A : Type 0} (a : A) → None ≡ Some a → ⊥

@@ -1,5 +1,4 @@
-use Rattle.std.proofs.Common.{refl}
-use Rattle.w2c_io.specs.Telling.{Says}
+use Rattle.crun_cli.proofs.Common.{refl, Says}
 use Rattle.crun_cli.proofs.HonestFiles.{
   honest_answered,
   honest_decided,

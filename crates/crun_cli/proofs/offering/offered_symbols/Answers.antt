@@ -1,6 +1,4 @@
-use Rattle.std.proofs.Common.{ap}
-use Rattle.std.specs.Prelude.{Err}
-use Rattle.c_hosts.specs.Asking.{hosts_of}
+use Rattle.crun_cli.proofs.Common.{Err, ap, hosts_of}
 use Rattle.crun_cli.proofs.Offered.{none_twice}
 use Rattle.crun_cli.proofs.offering.offered_symbols.Goals as goal
 

@@ -1,10 +1,4 @@
-use Rattle.std.proofs.Common.{◌∙◌, sym, ap, subst, map}
-use Rattle.std.specs.List.{list_all}
-use Rattle.c_tree.specs.View.{unit_of}
-use Rattle.c_hosts.specs.Asking.{hosts_of}
-use Rattle.host_replay.specs.Fitting.{fits}
-use Rattle.crun_job.specs.Seen.{calls_seen}
-use Rattle.crun_cli.specs.Recording.{IsFilled}
+use Rattle.crun_cli.proofs.Common.{map, sym, ap, ◌∙◌, subst, list_all, unit_of, hosts_of, fits, calls_seen, IsFilled}
 use Rattle.crun_cli.proofs.Recorded.{asks_fit, is_filled, part_leaving, to_fill}
 use Rattle.crun_cli.proofs.play.play.Goals as goal
 

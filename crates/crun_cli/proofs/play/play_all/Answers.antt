@@ -1,6 +1,4 @@
-use Rattle.std.proofs.Common.{List, IfSome, subst}
-use Rattle.c_meaning.specs.Linking.{SymbolCall}
-use Rattle.crun_job.specs.Seen.{calls_seen}
+use Rattle.crun_cli.proofs.Common.{List, IfSome, subst, SymbolCall, calls_seen}
 use Rattle.crun_cli.specs.Playing.{HasPlayed}
 use Rattle.crun_cli.proofs.play.play_all.Goals as goal
 

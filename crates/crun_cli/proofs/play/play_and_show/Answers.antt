@@ -1,7 +1,4 @@
-use Rattle.std.proofs.Common.{◌≡◌, true, false, subst, map, rules}
-use Rattle.c_tree.specs.View.{unit_of}
-use Rattle.crun_job.specs.Seen.{calls_seen}
-use Rattle.crun_cli.specs.Recording.{HasAsked, HasPartLeaving}
+use Rattle.crun_cli.proofs.Common.{◌≡◌, true, false, map, subst, rules, unit_of, calls_seen, HasAsked, HasPartLeaving}
 use Rattle.crun_cli.proofs.Behind.{left_part, ran_alone, ran_shown, shown_part}
 use Rattle.crun_cli.proofs.play.play_and_show.Goals as goal
 

@@ -1,7 +1,5 @@
-use Rattle.std.proofs.Common.{◌≡◌, ◌∙◌, true, refl, sym, ap, subst, length}
-use Rattle.c_meaning.specs.Linking.{fits, Program}
-use Rattle.crun.specs.Sessions.{program_of}
-use Rattle.crun_job.specs.Seen.{call_seen}
+use Rattle.crun_cli.proofs.Common.{◌≡◌, true, length, sym, refl, ap, ◌∙◌, subst, Program, program_of, call_seen}
+use Rattle.c_meaning.specs.Linking.{fits}
 use Rattle.crun_cli.proofs.Steps.{call_goes_on, call_is_left, call_stops, call_wants, played_if_some}
 use Rattle.crun_cli.proofs.play.play_call.Goals as goal
 

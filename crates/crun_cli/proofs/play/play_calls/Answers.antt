@@ -1,9 +1,5 @@
-use Rattle.std.proofs.Common.{◌≡◌, ◌∙◌, ◌+◌, ◌<◌, ◌≤◌, ◌∷◌, ◌++◌, ℕ, List, Option, IfSome, subst, arith, take, drop, length}
-use Rattle.c_meaning.specs.Linking.{SymbolCall}
-use Rattle.crun.specs.Sessions.{State}
-use Rattle.crun_job.specs.Seen.{call_seen, calls_seen}
+use Rattle.crun_cli.proofs.Common.{◌≡◌, ℕ, ◌+◌, ◌<◌, ◌≤◌, List, ◌∷◌, ◌++◌, length, take, drop, IfSome, Option, ◌∙◌, subst, arith, take_all, length-map, SymbolCall, State, call_seen, calls_seen}
 use Rattle.crun_cli.specs.Playing.{HasPlayed, IsBehind, IsLeft}
-use Rattle.std.proofs.lemmas.List.{length-map, take_all}
 use Rattle.crun_cli.proofs.Behind.{all_played}
 use Rattle.crun_cli.proofs.CallLists.{calls_before, calls_next, calls_split}
 use Rattle.crun_cli.proofs.play.play_calls.Goals as goal

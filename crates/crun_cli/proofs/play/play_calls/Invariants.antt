@@ -1,8 +1,6 @@
-use Rattle.std.proofs.Common.{◌≡◌, [], List, ℕ, Option, take}
+use Rattle.crun_cli.proofs.Common.{◌≡◌, ℕ, List, [], take, Option, State, calls_seen}
 use Rattle.crun.specs.declared.outcome.Standing.TheVariants as standing
-use Rattle.crun.specs.Sessions.{State}
 use Rattle.crun_cli.specs.Playing.{IsBehind}
-use Rattle.crun_job.specs.Seen.{calls_seen}
 use Rattle.crun_cli.proofs.play.play_calls.Given as goal
 
 -- so many calls ended

@@ -1,21 +1,7 @@
-use Rattle.std.proofs.Common.{ℕ, inl, inr, map, ap, refl, sym, subst}
-use Rattle.std.specs.Prelude.{Err, Ok}
-use Rattle.w2c_io.proofs.Passed.{none_passed, passed_so}
-use Rattle.c_tree.specs.View.{unit_of}
-use Rattle.c_hosts.specs.Asking.{hosts_of}
-use Rattle.crun_words.specs.Seen.{seen_run}
+use Rattle.crun_cli.proofs.Common.{ℕ, map, Ok, Err, sym, refl, ap, subst, inl, inr, none_passed, passed_so, unit_of, hosts_of, seen_run, IsTextsJob, calls_seen, reason_of, StopsTexts, job_of, reason_for, stopped_by, symbols_of, outside, IsBlankFor, PutsJournal, PutsJournalPart, WritesOfTexts, ended_by}
 use Rattle.crun_job.specs.declared.stop.Stop.TheVariants as stop
-use Rattle.crun_job.specs.Job.{IsTextsJob}
-use Rattle.crun_job.specs.Seen.{calls_seen, reason_of}
-use Rattle.crun_job.specs.Stopping.{job_of, StopsTexts}
-use Rattle.crun_units.specs.Passing.{reason_for}
-use Rattle.crun_units.specs.Trying.{stopped_by}
-use Rattle.crun_cli.specs.Jobs.{symbols_of}
-use Rattle.crun_cli.specs.Outside.{outside}
-use Rattle.crun_cli.specs.Recording.{IsBlankFor}
-use Rattle.crun_cli.specs.Trying.{ended_by, PutsJournal, PutsJournalPart, WritesOfTexts}
 use Rattle.crun_cli.proofs.Passing.{run_broken, run_left, run_written, texts_stopped}
-use Rattle.crun_cli.proofs.RecordLaws.{journal_part, kept_part, kept_whole, offered_distinct, whole_run}
+use Rattle.crun_cli.proofs.RecordLaws.{journal_part, kept_part, kept_whole, lines_part, offered_distinct, texts_stop, whole_run}
 use Rattle.crun_cli.proofs.recording.run_and_record.Goals as goal
 
 pub returns-in-Ok-write_journal-clause-ran : goal.returns-in-Ok-write_journal-clause-ran
@@ -34,6 +20,48 @@ returns-in-Ok-write_journal-clause-ran g c =
     (outside g.F.Files g.O.Sink c.write_journal.new.files c.run_task.new.out) (map unit_of task.linked.0) (calls_seen task.calls.items)
     task.steps task.shows_state job c.in-Ok-run_task.played.status c.in-Ok-blank_journal.journal c.in-Ok-run_task.played.journal
     c.in-Ok-run_task.ensures.ran blank (offered_distinct m hosts c.requires.offered) c.in-Ok-write_journal.ensures.written
+
+pub returns-in-Err-clause-stop : goal.returns-in-Err-clause-stop
+returns-in-Err-clause-stop g c =
+    let m = g.H.HostModule in
+    let hosts = c.args.hosts.items in
+    let line = seen_run c.args.line.now in
+    let texts = c.args.inputs.units.items in
+    let text = c.args.inputs.calls in
+    let seen = outside g.F.Files g.O.Sink c.args.files.now c.args.out.now in
+    texts_stop m hosts line texts text seen seen (record { files = record { told = refl; current = refl }; lines = refl })
+    (reason_of c.in-Err.stop)
+    (subst (λ hs. StopsTexts line (symbols_of (hosts_of m hs)) texts text (reason_of c.in-Err.stop)) c.as_slice.ensures.value
+    c.in-Err.ensures.stop)
+
+pub returns-in-Err-Failed-clause-stop : goal.returns-in-Err-Failed-clause-stop
+returns-in-Err-Failed-clause-stop g c =
+    let m = g.H.HostModule in
+    let hosts = c.args.hosts.items in
+    let line = seen_run c.args.line.now in
+    let texts = c.args.inputs.units.items in
+    let text = c.args.inputs.calls in
+    let task = c.in-Ok.task in
+    let job =
+    subst (λ hs. IsTextsJob line (symbols_of (hosts_of m hs)) texts text (job_of task)) c.as_slice.ensures.value c.in-Ok.ensures.task in
+    let part = lines_part m hosts line texts text (outside g.F.Files g.O.Sink c.args.files.now c.args.out.now)
+    (outside g.F.Files g.O.Sink c.args.files.now c.run_task.new.out) (map unit_of task.linked.0) (calls_seen task.calls.items)
+    task.steps task.shows_state job c.in-Err-Failed.ensures.part refl in
+    (inl (c.in-Err-Failed.ensures.cause.failed (ap Err c.in-Err-Failed.field-0-is)), part)
+
+pub returns-in-Err-Memory-clause-stop : goal.returns-in-Err-Memory-clause-stop
+returns-in-Err-Memory-clause-stop g c =
+    let m = g.H.HostModule in
+    let hosts = c.args.hosts.items in
+    let line = seen_run c.args.line.now in
+    let texts = c.args.inputs.units.items in
+    let text = c.args.inputs.calls in
+    let task = c.in-Ok.task in
+    let job =
+    subst (λ hs. IsTextsJob line (symbols_of (hosts_of m hs)) texts text (job_of task)) c.as_slice.ensures.value c.in-Ok.ensures.task in
+    inr (lines_part m hosts line texts text (outside g.F.Files g.O.Sink c.args.files.now c.args.out.now)
+    (outside g.F.Files g.O.Sink c.args.files.now c.run_task.new.out) (map unit_of task.linked.0) (calls_seen task.calls.items)
+    task.steps task.shows_state job c.in-Err-Memory.ensures.part refl)
 
 pub returns-in-Err-Failed-write_journal-clause-stop : goal.returns-in-Err-Failed-write_journal-clause-stop
 returns-in-Err-Failed-write_journal-clause-stop g c =

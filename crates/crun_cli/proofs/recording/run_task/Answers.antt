@@ -1,5 +1,4 @@
-use Rattle.std.proofs.Common.{[], refl}
-use Rattle.program_words.proofs.Written.{says_nothing}
+use Rattle.crun_cli.proofs.Common.{[], refl, says_nothing}
 use Rattle.crun_cli.proofs.recording.run_task.Goals as goal
 
 pub returns-in-Err-clause-part : goal.returns-in-Err-clause-part

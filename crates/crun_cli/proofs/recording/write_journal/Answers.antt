@@ -1,13 +1,5 @@
-use Rattle.std.proofs.Common.{◌∙◌, inl, inr, refl, None, Some, sym, subst}
-use Rattle.std.specs.Prelude.{option_map}
-use Rattle.w2c_io.specs.Passed.{BreaksOff, Passes, WritesFile}
+use Rattle.crun_cli.proofs.Common.{Some, None, option_map, sym, refl, ◌∙◌, subst, inl, inr, none_passed, passed_so, BreaksOff, Passes, WritesFile, IsBegun, recorded, journal_text, IsWrittenPart, PutsJournal, PutsJournalPart}
 use Rattle.w2c_io.specs.declared.answers.WriteAnswer.TheVariants as answer
-use Rattle.w2c_io.proofs.Passed.{none_passed, passed_so}
-use Rattle.w2c_files.specs.Standing.{IsBegun}
-use Rattle.host_replay.specs.Recording.{recorded}
-use Rattle.host_replay.specs.Texts.{journal_text}
-use Rattle.crun_cli.specs.Recording.{IsWrittenPart}
-use Rattle.crun_cli.specs.Trying.{PutsJournal, PutsJournalPart}
 use Rattle.crun_cli.proofs.recording.write_journal.Goals as goal
 
 pub returns-clause-part : goal.returns-clause-part

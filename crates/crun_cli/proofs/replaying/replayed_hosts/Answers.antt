@@ -1,14 +1,4 @@
-use Rattle.std.proofs.Common.{Err, sym, ap, subst}
-use Rattle.w2c_io.specs.Passed.{Passes}
-use Rattle.w2c_io.proofs.Passed.{passed_so}
-use Rattle.host_replay.specs.Reading.{IsJournal, IsRefusedAt}
-use Rattle.host_replay.specs.Recording.{recorded}
-use Rattle.crun_words.specs.Inputs.{Held}
-use Rattle.crun_words.specs.Passing.{GivesJournal, TriesJournal}
-use Rattle.crun_words.proofs.Passing.{journal_read}
-use Rattle.crun_job.specs.Lines.{JournalLine, WantOfMemory}
-use Rattle.crun_job.specs.Seen.{reason_of, stop_for}
-use Rattle.crun_cli.specs.Trying.{GivesReplays, TriesReplay}
+use Rattle.crun_cli.proofs.Common.{Err, sym, ap, subst, passed_so, Passes, IsJournal, IsRefusedAt, recorded, journal_read, Held, GivesJournal, TriesJournal, JournalLine, WantOfMemory, reason_of, stop_for, GivesReplays, TriesReplay}
 use Rattle.crun_cli.proofs.Passing.{replay_tried}
 use Rattle.crun_cli.proofs.ReplaysOffered.{replays_offered}
 use Rattle.crun_cli.proofs.replaying.replayed_hosts.Goals as goal

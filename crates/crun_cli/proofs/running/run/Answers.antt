@@ -1,24 +1,5 @@
-use Rattle.std.proofs.Common.{◌∙◌, ℕ, List, refl, sym, ap, subst}
-use Rattle.std.specs.Prelude.{option_map, Ok, Err}
+use Rattle.crun_cli.proofs.Common.{ℕ, List, Ok, Err, option_map, sym, refl, ap, ◌∙◌, subst, both_passed, passed_so, Passes, Tells, names_of, AreReplays, replaying, Recorded, RunLine, AllRead, AreInputs, StopsInputs, GivesInputs, TriesInputs, seen_run, reason_of, stop_for, FilesSeen, files_seen, stopped_by, HoldsJournal, Outside, SinkSeen, outside, sink_seen, PassesRun, StopsWork, GivesReplays, TriesReplay, WritesOfTexts, ended_by}
 use Rattle.w2c_io.specs.Events.{Event}
-use Rattle.w2c_io.specs.Passed.{Passes}
-use Rattle.w2c_io.proofs.Passed.{both_passed, passed_so}
-use Rattle.w2c_files.specs.Words.{names_of}
-use Rattle.w2c_io.specs.Telling.{Tells}
-use Rattle.host_replay.specs.Replayed.{replaying, AreReplays}
-use Rattle.host_replay.specs.Texts.{Recorded}
-use Rattle.crun_words.specs.CommandLine.{RunLine}
-use Rattle.crun_words.specs.Inputs.{AllRead, AreInputs, StopsInputs}
-use Rattle.crun_words.specs.Passing.{GivesInputs, TriesInputs}
-use Rattle.crun_words.specs.Seen.{seen_run}
-use Rattle.crun_job.specs.Seen.{reason_of, stop_for}
-use Rattle.crun_units.specs.Files.{files_seen, FilesSeen}
-use Rattle.crun_units.specs.Trying.{stopped_by}
-use Rattle.crun_cli.specs.Jobs.{HoldsJournal}
-use Rattle.crun_cli.specs.Outside.{outside, sink_seen, Outside, SinkSeen}
-use Rattle.crun_cli.specs.Passing.{PassesRun}
-use Rattle.crun_cli.specs.Stopping.{StopsWork}
-use Rattle.crun_cli.specs.Trying.{ended_by, GivesReplays, TriesReplay, WritesOfTexts}
 use Rattle.crun_cli.proofs.Passing.{handed_passed, inputs_stopped, replay_stopped, replayed_both, ReadsBoth}
 use Rattle.crun_cli.proofs.RunForm.{
   handed_ran,

@@ -1,9 +1,4 @@
-use Rattle.std.proofs.Common.{drop}
-use Rattle.std.specs.Prelude.{Err}
-use Rattle.c_hosts.specs.Asking.{hosts_of}
-use Rattle.crun_lines.specs.Views.{phase_of}
-use Rattle.crun_cli.specs.Views.{asks_lines, outcome_line}
-use Rattle.program_words.proofs.Written.{then_writes}
+use Rattle.crun_cli.proofs.Common.{drop, Err, phase_of, hosts_of, then_writes, asks_lines, outcome_line}
 use Rattle.crun_cli.proofs.telling.tell.Goals as goal
 
 pub returns-in-Err-tell_outcome : goal.returns-in-Err-tell_outcome

@@ -1,7 +1,4 @@
-use Rattle.std.proofs.Common.{◌+◌, sym, subst, take, drop}
-use Rattle.c_hosts.specs.Asking.{hosts_of}
-use Rattle.crun_cli.specs.Views.{asked_line}
-use Rattle.program_words.proofs.Loops.{front_next, front_split, one_more, stopped_at, AreWritten}
+use Rattle.crun_cli.proofs.Common.{◌+◌, take, drop, sym, subst, hosts_of, AreWritten, front_next, front_split, one_more, stopped_at, asked_line}
 use Rattle.crun_cli.proofs.telling.tell_asks.Goals as goal
 
 pub returns-in-Err : goal.returns-in-Err

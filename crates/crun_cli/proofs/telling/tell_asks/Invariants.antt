@@ -1,7 +1,4 @@
-use Rattle.std.proofs.Common.{take}
-use Rattle.c_hosts.specs.Asking.{hosts_of}
-use Rattle.crun_cli.specs.Views.{asked_line}
-use Rattle.program_words.proofs.Loops.{AreWritten}
+use Rattle.crun_cli.proofs.Common.{take, hosts_of, AreWritten, asked_line}
 use Rattle.crun_cli.proofs.telling.tell_asks.Given as goal
 
 abbrev pub invariant-loop-ask : goal.invariant-loop-ask

@@ -1,7 +1,4 @@
-use Rattle.std.proofs.Common.{sym, ap}
-use Rattle.crun_lines.specs.Views.{phase_of}
-use Rattle.crun_cli.specs.Views.{end_line}
-use Rattle.program_words.proofs.Written.{line_as}
+use Rattle.crun_cli.proofs.Common.{sym, ap, phase_of, line_as, end_line}
 use Rattle.crun_cli.proofs.telling.tell_end.Goals as goal
 
 pub returns-in-Call : goal.returns-in-Call

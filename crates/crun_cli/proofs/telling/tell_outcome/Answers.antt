@@ -1,9 +1,4 @@
-use Rattle.std.proofs.Common.{sym, ap, ◌∙◌}
-use Rattle.crun_lines.specs.CallLines.{last_line}
-use Rattle.crun_lines.specs.Views.{phase_of, outcome_of}
-use Rattle.crun_lines.specs.declared.calls.Stop.TheVariants as stop
-use Rattle.crun_cli.specs.Views.{outcome_line}
-use Rattle.program_words.proofs.Written.{line_as}
+use Rattle.crun_cli.proofs.Common.{sym, ap, phase_of, line_as, outcome_line}
 use Rattle.crun_cli.proofs.telling.tell_outcome.Goals as goal
 
 pub returns-in-Trapped : goal.returns-in-Trapped
@@ -14,9 +9,8 @@ returns-in-Trapped g c =
 pub returns-in-Undefined : goal.returns-in-Undefined
 returns-in-Undefined g c =
     c.put_line-in-Undefined.ensures (outcome_line (phase_of c.args.phase) c.args.outcome)
-    (line_as c.last_line-in-Undefined.result _ _
-    (ap (λ at. last_line (phase_of c.args.phase) (outcome_of (stop.Undefined at))) c.at_place.ensures
-    ∙ ap (outcome_line (phase_of c.args.phase)) (sym c.in-Undefined.is)) c.last_line-in-Undefined.ensures)
+    (line_as c.last_line-in-Undefined.result _ _ (ap (outcome_line (phase_of c.args.phase)) (sym c.in-Undefined.is))
+    c.last_line-in-Undefined.ensures)
 
 pub returns-in-OutOfSteps : goal.returns-in-OutOfSteps
 returns-in-OutOfSteps g c =

@@ -1,13 +1,4 @@
-use Rattle.std.proofs.Common.{◌≡◌, ℕ, List, Ok, Err, subst}
-use Rattle.w2c_io.proofs.Passed.{passed_so}
-use Rattle.w2c_files.specs.Words.{texts}
-use Rattle.w2c_io.specs.Telling.{Says}
-use Rattle.crun_job.specs.Lines.{error_line}
-use Rattle.crun_job.specs.Seen.{reason_of}
-use Rattle.crun_units.specs.Trying.{stopped_by}
-use Rattle.crun_cli.specs.Outside.{outside}
-use Rattle.crun_cli.specs.Passing.{PassesFor, PassesWords, StopsFor}
-use Rattle.crun_cli.specs.Trying.{ended_by}
+use Rattle.crun_cli.proofs.Common.{◌≡◌, ℕ, List, Ok, Err, subst, passed_so, Says, texts, error_line, reason_of, stopped_by, outside, PassesFor, PassesWords, StopsFor, ended_by}
 use Rattle.crun_cli.proofs.Passing.{stopped_for, words_so}
 use Rattle.crun_cli.proofs.TopLaws.{
   done_again,

@@ -1,20 +1,5 @@
-use Rattle.std.proofs.Common.{◌∙◌, ℕ, [], ◌∷◌, inl, ap, refl, subst, Ok, Err, Some}
-use Rattle.w2c_io.specs.Passed.{Passes}
-use Rattle.w2c_io.proofs.Passed.{none_passed, passed_so}
-use Rattle.w2c_files.specs.Words.{texts}
-use Rattle.c_hosts.specs.Asking.{hosts_of}
-use Rattle.crun_words.specs.CommandLine.{merges, runs, trims}
-use Rattle.crun_words.specs.Seen.{seen_line, seen_merge, seen_run, seen_trim}
+use Rattle.crun_cli.proofs.Common.{ℕ, [], ◌∷◌, Some, Ok, Err, refl, ap, ◌∙◌, subst, inl, none_passed, passed_so, Passes, texts, hosts_of, merges, runs, trims, seen_line, seen_merge, seen_run, seen_trim, reason_of, files_seen, IsMerged, IsTrimmedText, PassesUnits, done_by, stopped_by, symbols_of, sink_seen, PassesRun, PassesWords, ended_by}
 use Rattle.crun_job.specs.declared.stop.Stop.TheVariants as stop
-use Rattle.crun_job.specs.Seen.{reason_of}
-use Rattle.crun_units.specs.Jobs.{IsMerged, IsTrimmedText}
-use Rattle.crun_units.specs.Files.{files_seen}
-use Rattle.crun_units.specs.Passing.{PassesUnits}
-use Rattle.crun_units.specs.Trying.{done_by, stopped_by}
-use Rattle.crun_cli.specs.Jobs.{symbols_of}
-use Rattle.crun_cli.specs.Outside.{sink_seen}
-use Rattle.crun_cli.specs.Passing.{PassesRun, PassesWords}
-use Rattle.crun_cli.specs.Trying.{ended_by}
 use Rattle.crun_cli.proofs.Passing.{line_passed, line_so, usage_passed, words_wanting}
 use Rattle.crun_cli.proofs.WriteForms.{merge_done, merge_stop, trim_stop}
 use Rattle.crun_cli.proofs.work.work.Goals as goal

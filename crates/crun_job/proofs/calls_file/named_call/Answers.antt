@@ -1,15 +1,5 @@
-use Rattle.std.proofs.Common.{◌≡◌, List, Some, None, IfNone, IfSome, true, map, refl, sym, ap, ◌∙◌, subst, rules}
-use Rattle.std.specs.Prelude.{option_copied, option_map}
-use Rattle.w2c_base.specs.declared.value.Value.{Value}
-use Rattle.w2c_base.specs.Values.{number_of}
+use Rattle.crun_job.proofs.Common.{◌≡◌, true, List, map, IfSome, IfNone, Some, None, option_map, option_copied, sym, refl, ap, ◌∙◌, subst, rules, number_of, Value, func_type_of, unit_of, fits, signature_of, AreArguments, Call, SaysCall, seen_call, program_of}
 use Rattle.c_tree.specs.Tree as tree
-use Rattle.c_tree.specs.View.{func_type_of, unit_of}
-use Rattle.c_meaning.specs.Linking.{fits}
-use Rattle.c_link.specs.Calls.{signature_of}
-use Rattle.crun_words.specs.Arguments.{AreArguments}
-use Rattle.crun_words.specs.CallLine.{Call, SaysCall}
-use Rattle.crun_words.specs.Seen.{seen_call}
-use Rattle.crun_job.specs.Calls.{program_of}
 use Rattle.crun_job.proofs.Calls.{has_arguments, has_fit, has_signature, named}
 use Rattle.crun_job.proofs.calls_file.named_call.Goals as goal
 

@@ -1,9 +1,4 @@
-use Rattle.std.proofs.Common.{map, ap, ◌∙◌, subst}
-use Rattle.std.proofs.lemmas.List.{length-map, take_all}
-use Rattle.c_tree.specs.View.{unit_of}
-use Rattle.crun_words.specs.Seen.{seen_lines}
-use Rattle.crun_job.specs.Calls.{AreCalls}
-use Rattle.crun_job.specs.Seen.{calls_seen}
+use Rattle.crun_job.proofs.Common.{map, ap, ◌∙◌, subst, take_all, length-map, unit_of, seen_lines, AreCalls, calls_seen}
 use Rattle.crun_job.proofs.Calls.{all_fit}
 use Rattle.crun_job.proofs.Lines.{one_more, refused_here}
 use Rattle.crun_job.proofs.calls_file.read_calls.Goals as goal

@@ -1,8 +1,4 @@
-use Rattle.std.proofs.Common.{map, take}
-use Rattle.c_tree.specs.View.{unit_of}
-use Rattle.crun_words.specs.Seen.{seen_lines}
-use Rattle.crun_job.specs.Calls.{AreCalls}
-use Rattle.crun_job.specs.Seen.{calls_seen}
+use Rattle.crun_job.proofs.Common.{map, take, unit_of, seen_lines, AreCalls, calls_seen}
 use Rattle.crun_job.proofs.calls_file.read_calls.Given as goal
 
 abbrev pub invariant-loop-line : goal.invariant-loop-line

@@ -1,8 +1,4 @@
-use Rattle.std.proofs.Common.{◌≤◌, ◌∷◌, ◌++◌, [], ◌+◌, length, map, take, sym, subst}
-use Rattle.std.proofs.lemmas.List.{take_all}
-use Rattle.c_tree.specs.View.{unit_of}
-use Rattle.crun_job.specs.Texts.{most_unit_bytes, AreUnitTexts, IsUnitText}
-use Rattle.crun_job.specs.Refusals.{RefusesText}
+use Rattle.crun_job.proofs.Common.{◌+◌, ◌≤◌, [], ◌∷◌, ◌++◌, map, length, take, sym, subst, take_all, unit_of, RefusesText, AreUnitTexts, IsUnitText, most_unit_bytes}
 use Rattle.crun_job.proofs.Each.{each_pushed}
 use Rattle.crun_job.proofs.Taken.{take_next}
 use Rattle.crun_job.proofs.Texts.{first_text, short_at}

@@ -1,6 +1,4 @@
-use Rattle.std.proofs.Common.{map, take}
-use Rattle.c_tree.specs.View.{unit_of}
-use Rattle.crun_job.specs.Texts.{AreUnitTexts}
+use Rattle.crun_job.proofs.Common.{map, take, unit_of, AreUnitTexts}
 use Rattle.crun_job.proofs.checking.check_units.Given as goal
 
 abbrev pub invariant-loop-number : goal.invariant-loop-number

@@ -1,6 +1,4 @@
-use Rattle.std.proofs.Common.{◌++◌, codes, ap, ◌∙◌, sym}
-use Rattle.std.proofs.lemmas.Result.{on_ok_weaker}
-use Rattle.crun_job.specs.Lines.{cause_text}
+use Rattle.crun_job.proofs.Common.{◌++◌, codes, sym, ap, ◌∙◌, on_ok_weaker, cause_text}
 use Rattle.crun_job.proofs.line.put_cause.Goals as goal
 
 pub returns-in-TypeDiffers : goal.returns-in-TypeDiffers

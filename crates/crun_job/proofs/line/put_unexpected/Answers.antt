@@ -1,7 +1,4 @@
-use Rattle.std.proofs.Common.{◌≡◌, List, ℕ, ◌++◌, codes, append_assoc, ap, ◌∙◌}
-use Rattle.std.specs.Fmt.{decimal}
-use Rattle.std.proofs.lemmas.Result.{on_ok_weaker}
-use Rattle.crun_job.specs.Lines.{wanted_text}
+use Rattle.crun_job.proofs.Common.{◌≡◌, ℕ, List, ◌++◌, codes, decimal, ap, ◌∙◌, append_assoc, on_ok_weaker, wanted_text}
 use Rattle.crun_job.proofs.line.put_unexpected.Goals as goal
 
 -- a text behind another one

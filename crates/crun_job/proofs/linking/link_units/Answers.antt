@@ -1,9 +1,4 @@
-use Rattle.std.proofs.Common.{◌≡◌, None, map, sym, subst}
-use Rattle.c_tree.specs.View.{unit_of}
-use Rattle.c_link.specs.Offers.{c_symbols}
-use Rattle.c_link.specs.Refusals.{first_refusal}
-use Rattle.crun_job.specs.Texts.{AreUnitTexts}
-use Rattle.crun_job.specs.Refusals.{RefusesUnits}
+use Rattle.crun_job.proofs.Common.{◌≡◌, map, None, sym, subst, unit_of, first_refusal, c_symbols, RefusesUnits, AreUnitTexts}
 use Rattle.crun_job.proofs.Links.{refused_within, text_refused, unlinked}
 use Rattle.crun_job.proofs.linking.link_units.Goals as goal
 

@@ -1,7 +1,4 @@
-use Rattle.std.proofs.Common.{◌≡◌, ◌++◌, map, drop, All}
-use Rattle.std.specs.Map.{keys_of}
-use Rattle.crun_lines.specs.NameOrder.{in_order, numbered_from, put_in_order}
-use Rattle.crun_lines.specs.Views.{entry_of, texts}
+use Rattle.crun_lines.proofs.Common.{◌≡◌, ◌++◌, map, drop, All, keys_of, in_order, numbered_from, put_in_order, entry_of, texts}
 use Rattle.crun_lines.proofs.Placing.{TellsLength, shown}
 use Rattle.crun_lines.proofs.names.names_in_order.Given as goal
 

@@ -1,5 +1,4 @@
-use Rattle.std.proofs.Common.{◌≡◌, length, refl, arith, ◌∙◌}
-use Rattle.std.proofs.Math.ListN.{length-set}
+use Rattle.std.proofs.Common.{◌≡◌, length, refl, arith, ◌∙◌, length-set}
 use Rattle.crun_lines.proofs.RowBytes.{one_more, whole_row}
 use Rattle.crun_lines.proofs.rows.row_at.Goals as goal
 

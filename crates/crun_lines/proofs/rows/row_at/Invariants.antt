@@ -1,5 +1,4 @@
-use Rattle.std.proofs.Common.{◌≡◌, length, take}
-use Rattle.w2c_base.specs.LittleEndian.{bytes_at}
+use Rattle.crun_lines.proofs.Common.{◌≡◌, length, take, bytes_at}
 use Rattle.crun_lines.proofs.rows.row_at.Given as goal
 
 abbrev pub invariant-loop-i : goal.invariant-loop-i

@@ -1,6 +1,4 @@
-use Rattle.std.proofs.Common.{ap, ◌∙◌}
-use Rattle.std.specs.Prelude.{option_map}
-use Rattle.crun_startup.specs.Inits.{address_in}
+use Rattle.crun_startup.proofs.Common.{option_map, ap, ◌∙◌, address_in}
 use Rattle.crun_startup.proofs.CalledFound.{called_is, fits_some, some_seen}
 use Rattle.crun_startup.proofs.called.called_function.Goals as goal
 

@@ -1,6 +1,4 @@
-use Rattle.std.proofs.Common.{nat_eq}
-use Rattle.std.proofs.lemmas.Bool.Decides.{Decides-eqb}
-use Rattle.std.proofs.lemmas.Slice.Eq.{strip_prefix_is}
+use Rattle.crun_startup.proofs.Common.{nat_eq, Decides-eqb, strip_prefix_is}
 use Rattle.crun_startup.proofs.init_symbol.behind.Goals as goal
 
 pub returns : goal.returns

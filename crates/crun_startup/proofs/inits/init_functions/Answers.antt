@@ -1,11 +1,5 @@
-use Rattle.std.proofs.Common.{◌++◌, [], map, sym, ap, ◌∙◌}
-use Rattle.std.specs.Prelude.{flat_map}
-use Rattle.std.proofs.lemmas.List.{append-nil}
-use Rattle.w2c_base.specs.Lookup.{numbered}
-use Rattle.c_tree.specs.View.{unit_of}
-use Rattle.c_link.proofs.Walks.{numbered_at}
-use Rattle.crun_startup.specs.Inits.{unit_inits}
-use Rattle.crun_startup.proofs.Collected.{flats, gathered_next, seen_at}
+use Rattle.crun_startup.proofs.Common.{[], ◌++◌, map, flat_map, sym, ap, ◌∙◌, append-nil, numbered_at, seen_at, numbered, unit_of, unit_inits}
+use Rattle.crun_startup.proofs.Collected.{flats, gathered_next}
 use Rattle.crun_startup.proofs.InitsFound.{found_all, found_defined, found_mean}
 use Rattle.crun_startup.proofs.inits.init_functions.Goals as goal
 

@@ -1,8 +1,4 @@
-use Rattle.std.proofs.Common.{[], map}
-use Rattle.std.specs.Prelude.{flat_map}
-use Rattle.w2c_base.specs.Lookup.{numbered}
-use Rattle.c_tree.specs.View.{unit_of}
-use Rattle.crun_startup.specs.Inits.{unit_inits}
+use Rattle.crun_startup.proofs.Common.{[], map, flat_map, numbered, unit_of, unit_inits}
 use Rattle.crun_startup.proofs.Collected.{Gathered, flats}
 use Rattle.crun_startup.proofs.inits.init_functions.Given as goal
 

@@ -1,9 +1,6 @@
-use Rattle.std.proofs.Common.{sym, ◌∙◌}
-use Rattle.c_tree.specs.Runtime.{same_func_type}
+use Rattle.crun_startup.proofs.Common.{sym, ◌∙◌, same_func_type, is_init_symbol, void_type}
 use Rattle.c_tree.specs.Scope.{func_type_of}
 use Rattle.c_tree.specs.View.{func_of}
-use Rattle.c_meaning.specs.Linking.{is_init_symbol}
-use Rattle.crun_startup.specs.Inits.{void_type}
 use Rattle.crun_startup.proofs.InitsFound.{and_no}
 use Rattle.crun_startup.proofs.inits.is_init_function.Goals as goal
 

@@ -1,6 +1,4 @@
-use Rattle.std.specs.Prelude.{filter_map}
-use Rattle.c_tree.specs.View.{item_of}
-use Rattle.crun_startup.specs.Inits.{init_entry}
+use Rattle.crun_startup.proofs.Common.{filter_map, item_of, init_entry}
 use Rattle.crun_startup.proofs.Collected.{filters, numbered_end, numbered_more}
 use Rattle.crun_startup.proofs.inits.put_unit.Goals as goal
 

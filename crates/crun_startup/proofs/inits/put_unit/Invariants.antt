@@ -1,8 +1,4 @@
-use Rattle.std.proofs.Common.{map}
-use Rattle.std.specs.Prelude.{filter_map}
-use Rattle.w2c_base.specs.Lookup.{numbered}
-use Rattle.c_tree.specs.View.{item_of}
-use Rattle.crun_startup.specs.Inits.{init_entry}
+use Rattle.crun_startup.proofs.Common.{map, filter_map, numbered, item_of, init_entry}
 use Rattle.crun_startup.proofs.Collected.{Gathered, filters}
 use Rattle.crun_startup.proofs.inits.put_unit.Given as goal
 

@@ -1,5 +1,4 @@
-use Rattle.std.proofs.Common.{◌≡◌, false, length, nat_eq, arith, ◌∙◌}
-use Rattle.std.proofs.lemmas.Bool.Decides.{nat_tests}
+use Rattle.crun_startup.proofs.Common.{◌≡◌, false, length, nat_eq, ◌∙◌, arith, nat_tests}
 use Rattle.crun_startup.proofs.InitsFound.{no_single}
 use Rattle.crun_startup.proofs.inits.takes_nothing.Goals as goal
 

@@ -1,7 +1,4 @@
-use Rattle.std.proofs.Common.{Some, sym, ◌∙◌, ap}
-use Rattle.c_tree.specs.View.{item_of}
-use Rattle.c_machine.proofs.NameTables.{enters_next, mapped_twice}
-use Rattle.crun_startup.specs.Names.{array_name}
+use Rattle.crun_startup.proofs.Common.{Some, sym, ap, ◌∙◌, item_of, enters_next, mapped_twice, array_name}
 use Rattle.crun_startup.proofs.names.array_numbers.Goals as goal
 
 pub loop-i-preserved : goal.loop-i-preserved

@@ -1,8 +1,4 @@
-use Rattle.std.proofs.Common.{[], map}
-use Rattle.std.specs.Prelude.{filter_map}
-use Rattle.c_tree.specs.View.{item_of}
-use Rattle.c_machine.specs.Names.{texts}
-use Rattle.crun_startup.specs.Names.{object_name}
+use Rattle.crun_startup.proofs.Common.{[], map, filter_map, item_of, texts, object_name}
 use Rattle.crun_startup.proofs.Collected.{Gathered, filters}
 use Rattle.crun_startup.proofs.names.object_names.Given as goal
 

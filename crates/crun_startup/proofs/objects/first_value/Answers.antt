@@ -1,6 +1,4 @@
-use Rattle.std.proofs.Common.{sym, ap, ◌∙◌}
-use Rattle.c_tree.specs.View.{item_of}
-use Rattle.crun_startup.specs.Objects.{var_value}
+use Rattle.crun_startup.proofs.Common.{sym, ap, ◌∙◌, item_of, var_value}
 use Rattle.crun_startup.proofs.objects.first_value.Goals as goal
 
 pub returns-in-Var : goal.returns-in-Var

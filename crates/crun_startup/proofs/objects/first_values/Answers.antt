@@ -1,7 +1,4 @@
-use Rattle.std.proofs.Common.{[]}
-use Rattle.std.specs.Prelude.{filter_map}
-use Rattle.c_tree.specs.View.{item_of}
-use Rattle.crun_startup.specs.Objects.{var_value}
+use Rattle.crun_startup.proofs.Common.{[], filter_map, item_of, var_value}
 use Rattle.crun_startup.proofs.Collected.{filters, gathered_end, gathered_more}
 use Rattle.crun_startup.proofs.objects.first_values.Goals as goal
 

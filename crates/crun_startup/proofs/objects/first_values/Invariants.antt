@@ -1,8 +1,4 @@
-use Rattle.std.proofs.Common.{[], map}
-use Rattle.std.specs.Prelude.{filter_map}
-use Rattle.c_tree.specs.View.{item_of}
-use Rattle.c_objects.specs.Views.{Naming, value_of}
-use Rattle.crun_startup.specs.Objects.{var_value}
+use Rattle.crun_startup.proofs.Common.{[], map, filter_map, item_of, Naming, value_of, var_value}
 use Rattle.crun_startup.proofs.Collected.{Gathered, filters}
 use Rattle.crun_startup.proofs.objects.first_values.Given as goal
 

@@ -1,8 +1,4 @@
-use Rattle.std.proofs.Common.{[], map}
-use Rattle.std.specs.Prelude.{filter_map}
-use Rattle.c_tree.specs.View.{item_of}
-use Rattle.c_objects.specs.Objects.{memory_of}
-use Rattle.crun_startup.specs.Objects.{memory_value}
+use Rattle.crun_startup.proofs.Common.{[], map, filter_map, item_of, memory_of, memory_value}
 use Rattle.crun_startup.proofs.Collected.{Gathered, filters}
 use Rattle.crun_startup.proofs.objects.memories.Given as goal
 

@@ -1,8 +1,4 @@
-use Rattle.std.proofs.Common.{sym, ap, ◌∙◌}
-use Rattle.std.specs.Prelude.{option_map}
-use Rattle.c_tree.specs.View.{item_of}
-use Rattle.c_objects.specs.Views.{value_of}
-use Rattle.crun_startup.specs.Objects.{var_value}
+use Rattle.crun_startup.proofs.Common.{option_map, sym, ap, ◌∙◌, item_of, value_of, var_value}
 use Rattle.crun_startup.proofs.Collected.{put_none}
 use Rattle.crun_startup.proofs.objects.put_first_value.Goals as goal
 

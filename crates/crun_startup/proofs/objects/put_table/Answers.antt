@@ -1,8 +1,4 @@
-use Rattle.std.proofs.Common.{Some, None, if◌then◌else◌, sym, ap, ◌∙◌}
-use Rattle.c_tree.specs.View.{item_of}
-use Rattle.c_meaning.specs.Machine.{no_table}
-use Rattle.c_objects.specs.Objects.{table_of}
-use Rattle.crun_startup.specs.Objects.{table_value}
+use Rattle.crun_startup.proofs.Common.{if◌then◌else◌, Some, None, sym, ap, ◌∙◌, item_of, no_table, table_of, table_value}
 use Rattle.crun_startup.proofs.Collected.{put_some}
 use Rattle.crun_startup.proofs.objects.put_table.Goals as goal
 

@@ -1,9 +1,4 @@
-use Rattle.std.proofs.Common.{[], map}
-use Rattle.std.specs.Prelude.{filter_map}
-use Rattle.c_tree.specs.View.{item_of}
-use Rattle.c_objects.specs.Objects.{table_of}
-use Rattle.c_objects.specs.Views.{Naming}
-use Rattle.crun_startup.specs.Objects.{table_value}
+use Rattle.crun_startup.proofs.Common.{[], map, filter_map, item_of, table_of, Naming, table_value}
 use Rattle.crun_startup.proofs.Collected.{Gathered, filters}
 use Rattle.crun_startup.proofs.objects.tables.Given as goal
 

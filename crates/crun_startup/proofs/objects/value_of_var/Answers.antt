@@ -1,5 +1,4 @@
-use Rattle.std.proofs.Common.{sym, ap, ◌∙◌}
-use Rattle.crun_startup.specs.Objects.{first_of}
+use Rattle.crun_startup.proofs.Common.{sym, ap, ◌∙◌, first_of}
 use Rattle.crun_startup.proofs.objects.value_of_var.Goals as goal
 
 pub returns-in-None : goal.returns-in-None

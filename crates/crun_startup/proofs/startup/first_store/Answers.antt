@@ -1,9 +1,4 @@
-use Rattle.std.proofs.Common.{[], ◌∷◌, ◌++◌, map, take, sym, ◌∙◌, subst}
-use Rattle.c_tree.specs.View.{unit_of}
-use Rattle.c_link.proofs.Walks.{take_next}
-use Rattle.crun_startup.specs.Objects.{AreFirst}
-use Rattle.crun_startup.specs.Units.{AreAllFirst}
-use Rattle.crun_startup.proofs.Collected.{seen_at}
+use Rattle.crun_startup.proofs.Common.{[], ◌∷◌, ◌++◌, map, take, sym, ◌∙◌, subst, seen_at, take_next, unit_of, AreFirst, AreAllFirst}
 use Rattle.crun_startup.proofs.First.{first_push}
 use Rattle.crun_startup.proofs.startup.first_store.Goals as goal
 

@@ -1,6 +1,4 @@
-use Rattle.std.proofs.Common.{map, take}
-use Rattle.c_tree.specs.View.{unit_of}
-use Rattle.crun_startup.specs.Units.{AreAllFirst}
+use Rattle.crun_startup.proofs.Common.{map, take, unit_of, AreAllFirst}
 use Rattle.crun_startup.proofs.startup.first_store.Given as goal
 
 abbrev pub invariant-loop-k : goal.invariant-loop-k

@@ -1,9 +1,4 @@
-use Rattle.std.proofs.Common.{◌+◌, [], ◌∷◌, ◌++◌, map, refl, take, sym, subst, arith}
-use Rattle.std.proofs.lemmas.List.{length-append}
-use Rattle.c_tree.specs.View.{unit_of}
-use Rattle.c_link.proofs.Walks.{take_next}
-use Rattle.crun_startup.specs.Units.{AreUnits, IsUnit}
-use Rattle.crun_startup.proofs.Collected.{seen_at}
+use Rattle.crun_startup.proofs.Common.{◌+◌, [], ◌∷◌, ◌++◌, map, take, sym, refl, subst, arith, length-append, seen_at, take_next, unit_of, AreUnits, IsUnit}
 use Rattle.crun_startup.proofs.UnitsPush.{units_push}
 use Rattle.crun_startup.proofs.startup.linked_units.Goals as goal
 

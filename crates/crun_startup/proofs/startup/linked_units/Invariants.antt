@@ -1,6 +1,4 @@
-use Rattle.std.proofs.Common.{◌≡◌, length, map, take}
-use Rattle.c_tree.specs.View.{unit_of}
-use Rattle.crun_startup.specs.Units.{AreUnits}
+use Rattle.crun_startup.proofs.Common.{◌≡◌, map, length, take, unit_of, AreUnits}
 use Rattle.crun_startup.proofs.startup.linked_units.Given as goal
 
 abbrev pub invariant-loop-k : goal.invariant-loop-k

@@ -1,9 +1,4 @@
-use Rattle.std.proofs.Common.{map, subst, sym}
-use Rattle.c_tree.specs.View.{unit_of}
-use Rattle.c_thread.specs.declared.scope.Symbols.{Symbols}
-use Rattle.crun_startup.specs.Called.{AreSymbols}
-use Rattle.crun_startup.specs.Names.{naming_of}
-use Rattle.crun_startup.specs.Units.{AreUnits}
+use Rattle.crun_startup.proofs.Common.{map, sym, subst, unit_of, Symbols, AreSymbols, naming_of, AreUnits}
 use Rattle.crun_startup.proofs.CalledFound.{symbols_are}
 use Rattle.crun_startup.proofs.TablesFound.{linked, unit_tables}
 use Rattle.crun_startup.proofs.TypesFound.{types_are}

@@ -1,10 +1,4 @@
-use Rattle.std.proofs.Common.{◌++◌, [], sym, ap, ◌∙◌}
-use Rattle.std.specs.Prelude.{flat_map}
-use Rattle.std.proofs.lemmas.List.{append-nil}
-use Rattle.std.proofs.lemmas.Option.{slice_get-get_or}
-use Rattle.w2c_base.specs.Lookup.{numbered}
-use Rattle.c_link.proofs.Walks.{numbered_at, numbered_past}
-use Rattle.crun_startup.specs.Entries.{ids_of}
+use Rattle.crun_startup.proofs.Common.{[], ◌++◌, flat_map, sym, ap, ◌∙◌, append-nil, slice_get-get_or, numbered_at, numbered_past, numbered, ids_of}
 use Rattle.crun_startup.proofs.Collected.{flats, gathered_all, gathered_next}
 use Rattle.crun_startup.proofs.symbols.host_ids.Goals as goal
 

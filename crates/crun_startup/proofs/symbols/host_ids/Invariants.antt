@@ -1,7 +1,4 @@
-use Rattle.std.proofs.Common.{[]}
-use Rattle.std.specs.Prelude.{flat_map}
-use Rattle.w2c_base.specs.Lookup.{numbered}
-use Rattle.crun_startup.specs.Entries.{ids_of}
+use Rattle.crun_startup.proofs.Common.{[], flat_map, numbered, ids_of}
 use Rattle.crun_startup.proofs.Collected.{Gathered, flats}
 use Rattle.crun_startup.proofs.symbols.host_ids.Given as goal
 

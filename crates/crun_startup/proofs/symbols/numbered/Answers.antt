@@ -1,13 +1,6 @@
-use Rattle.std.proofs.Common.{Some, map, sym, ap, ◌∙◌}
-use Rattle.std.specs.Prelude.{slice_get}
-use Rattle.std.proofs.lemmas.List.{length-map, take_all}
-use Rattle.std.proofs.lemmas.Option.{slice_get-get_or}
-use Rattle.w2c_base.specs.Lookup.{if_found, named}
-use Rattle.c_machine.specs.Names.{number_in}
-use Rattle.c_machine.proofs.NameTables.{enters_all, enters_next}
+use Rattle.crun_startup.proofs.Common.{map, slice_get, Some, sym, ap, ◌∙◌, take_all, length-map, slice_get-get_or, seen_at, if_found, named, enters_all, enters_next, number_in, func_in, name_in}
 use Rattle.c_machine.proofs.Variables.{named-zip}
-use Rattle.crun_startup.specs.Entries.{func_in, name_in}
-use Rattle.crun_startup.proofs.Collected.{seen_at, taken_next}
+use Rattle.crun_startup.proofs.Collected.{taken_next}
 use Rattle.crun_startup.proofs.SymbolsFound.{zipped}
 use Rattle.crun_startup.proofs.symbols.numbered.Goals as goal
 

@@ -1,6 +1,4 @@
-use Rattle.std.proofs.Common.{◌≡◌, Some, map, take}
-use Rattle.c_machine.proofs.NameTables.{Enters}
-use Rattle.crun_startup.specs.Entries.{func_in, name_in}
+use Rattle.crun_startup.proofs.Common.{◌≡◌, map, take, Some, Enters, func_in, name_in}
 use Rattle.crun_startup.proofs.symbols.numbered.Given as goal
 
 abbrev pub invariant-loop-i : goal.invariant-loop-i

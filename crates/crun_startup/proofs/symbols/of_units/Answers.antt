@@ -1,11 +1,5 @@
-use Rattle.std.proofs.Common.{◌≡◌, ℕ, ◌≤◌, [], ◌++◌, map, sym, ap, ◌∙◌, arith}
-use Rattle.std.specs.Prelude.{flat_map}
-use Rattle.std.proofs.lemmas.List.{append-nil}
-use Rattle.w2c_base.specs.Lookup.{numbered}
-use Rattle.c_tree.specs.View.{unit_of}
-use Rattle.c_link.proofs.Walks.{numbered_at}
-use Rattle.crun_startup.specs.Entries.{entry_of, unit_entries}
-use Rattle.crun_startup.proofs.Collected.{flats, gathered_next, numbered_end, seen_at}
+use Rattle.crun_startup.proofs.Common.{◌≡◌, ℕ, ◌≤◌, [], ◌++◌, map, flat_map, sym, ap, ◌∙◌, append-nil, arith, numbered_at, seen_at, numbered, unit_of, entry_of, unit_entries}
+use Rattle.crun_startup.proofs.Collected.{flats, gathered_next, numbered_end}
 use Rattle.crun_startup.proofs.symbols.of_units.Goals as goal
 
 pub loop-unit-preserved : goal.loop-unit-preserved

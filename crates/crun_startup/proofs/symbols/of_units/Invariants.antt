@@ -1,8 +1,4 @@
-use Rattle.std.proofs.Common.{[], map}
-use Rattle.std.specs.Prelude.{flat_map}
-use Rattle.w2c_base.specs.Lookup.{numbered}
-use Rattle.c_tree.specs.View.{unit_of}
-use Rattle.crun_startup.specs.Entries.{entry_of, unit_entries}
+use Rattle.crun_startup.proofs.Common.{[], map, flat_map, numbered, unit_of, entry_of, unit_entries}
 use Rattle.crun_startup.proofs.Collected.{Gathered, flats}
 use Rattle.crun_startup.proofs.symbols.of_units.Given as goal
 

@@ -1,6 +1,4 @@
-use Rattle.std.proofs.Common.{◌≡◌, ◌++◌, drop, map}
-use Rattle.std.specs.Prelude.{zip}
-use Rattle.crun_startup.specs.Entries.{entry_of, symbol_of}
+use Rattle.crun_startup.proofs.Common.{◌≡◌, ◌++◌, map, drop, zip, entry_of, symbol_of}
 use Rattle.crun_startup.proofs.symbols.put_hosts.Given as goal
 
 abbrev pub invariant-loop-i : goal.invariant-loop-i

@@ -1,6 +1,4 @@
-use Rattle.std.proofs.Common.{◌≡◌, ◌+◌, ◌++◌, ◌∷◌, [], append_assoc, map, sym, ap, ◌∙◌, arith}
-use Rattle.std.specs.List.{range_with_len}
-use Rattle.std.proofs.lemmas.List.{map-append}
+use Rattle.crun_startup.proofs.Common.{◌≡◌, ◌+◌, [], ◌∷◌, ◌++◌, map, sym, ap, ◌∙◌, append_assoc, arith, map-append, range_with_len}
 use Rattle.c_objects.specs.declared.held.FuncId.TheVariants as func
 use Rattle.crun_startup.proofs.Collected.{range_push}
 use Rattle.crun_startup.proofs.symbols.put_ids.Goals as goal

@@ -1,5 +1,4 @@
-use Rattle.std.proofs.Common.{◌≡◌, ◌++◌, map}
-use Rattle.std.specs.List.{range_with_len}
+use Rattle.crun_startup.proofs.Common.{◌≡◌, ◌++◌, map, range_with_len}
 use Rattle.c_objects.specs.declared.held.FuncId.TheVariants as func
 use Rattle.crun_startup.proofs.symbols.put_ids.Given as goal
 

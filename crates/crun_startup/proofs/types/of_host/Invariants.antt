@@ -1,7 +1,4 @@
-use Rattle.std.proofs.Common.{[], Some, map}
-use Rattle.std.specs.Prelude.{option_map}
-use Rattle.c_tree.specs.View.{func_type_of}
-use Rattle.crun_startup.specs.Entries.{host_type}
+use Rattle.crun_startup.proofs.Common.{[], map, Some, option_map, func_type_of, host_type}
 use Rattle.crun_startup.proofs.Collected.{Gathered, maps}
 use Rattle.crun_startup.proofs.types.of_host.Given as goal
 

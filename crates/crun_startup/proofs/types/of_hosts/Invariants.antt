@@ -1,5 +1,4 @@
-use Rattle.std.proofs.Common.{◌≡◌, ◌++◌, Some, drop, map}
-use Rattle.crun_startup.specs.Entries.{host_type, parts, types_in}
+use Rattle.crun_startup.proofs.Common.{◌≡◌, ◌++◌, map, drop, Some, host_type, parts, types_in}
 use Rattle.crun_startup.proofs.types.of_hosts.Given as goal
 
 abbrev pub invariant-loop-count : goal.invariant-loop-count

@@ -1,7 +1,5 @@
-use Rattle.std.proofs.Common.{[], map, ap, ◌∙◌}
-use Rattle.c_tree.specs.View.{unit_of}
-use Rattle.crun_startup.specs.Entries.{item_type, types_in}
-use Rattle.crun_startup.proofs.Collected.{gathered_next, maps, put_one, seen_at}
+use Rattle.crun_startup.proofs.Common.{[], map, ap, ◌∙◌, seen_at, unit_of, item_type, types_in}
+use Rattle.crun_startup.proofs.Collected.{gathered_next, maps, put_one}
 use Rattle.crun_startup.proofs.types.of_units.Goals as goal
 
 pub loop-unit-preserved : goal.loop-unit-preserved

@@ -1,6 +1,4 @@
-use Rattle.std.proofs.Common.{[], map}
-use Rattle.c_tree.specs.View.{unit_of}
-use Rattle.crun_startup.specs.Entries.{item_type, types_in}
+use Rattle.crun_startup.proofs.Common.{[], map, unit_of, item_type, types_in}
 use Rattle.crun_startup.proofs.Collected.{Gathered, maps}
 use Rattle.crun_startup.proofs.types.of_units.Given as goal
 

@@ -1,8 +1,4 @@
-use Rattle.std.proofs.Common.{◌+◌, ◌<◌, sym, subst, arith, take, drop, map, length}
-use Rattle.std.proofs.lemmas.List.{length-map}
-use Rattle.crun_lines.specs.Views.{entry_of}
-use Rattle.crun_state.specs.Showing.{cell_lines, entry_at, lines_at}
-use Rattle.program_words.proofs.Loops.{front_next, front_split, one_more, same_at, stopped_at, AreWritten}
+use Rattle.crun_state.proofs.Common.{◌+◌, ◌<◌, map, length, take, drop, sym, subst, arith, length-map, entry_of, AreWritten, front_next, front_split, one_more, same_at, stopped_at, cell_lines, entry_at, lines_at}
 use Rattle.crun_state.proofs.memories.show_in_order.Goals as goal
 
 pub returns-in-Err : goal.returns-in-Err

@@ -1,8 +1,5 @@
-use Rattle.std.proofs.Common.{sym, ap, ◌∙◌}
-use Rattle.std.specs.Prelude.{Ok, option_copied}
-use Rattle.crun_state.specs.Showing.{cell_lines}
+use Rattle.crun_state.proofs.Common.{Ok, option_copied, sym, ap, ◌∙◌, writes_text, wrote_nothing, cell_lines}
 use Rattle.crun_state.proofs.Numbers.{found_named}
-use Rattle.program_words.proofs.Written.{writes_text, wrote_nothing}
 use Rattle.crun_state.proofs.memories.show_named.Goals as goal
 
 pub returns-in-Some : goal.returns-in-Some

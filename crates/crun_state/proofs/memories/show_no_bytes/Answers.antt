@@ -1,7 +1,5 @@
-use Rattle.std.proofs.Common.{ap}
+use Rattle.crun_state.proofs.Common.{ap, writes_text, pages_and_rows}
 use Rattle.lin_mem.specs.Linear.{Linear}
-use Rattle.crun_state.specs.Showing.{pages_and_rows}
-use Rattle.program_words.proofs.Written.{writes_text}
 use Rattle.crun_state.proofs.memories.show_no_bytes.Goals as goal
 
 pub returns-in-Ok : goal.returns-in-Ok

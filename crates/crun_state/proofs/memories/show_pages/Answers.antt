@@ -1,6 +1,4 @@
-use Rattle.std.specs.Prelude.{Ok, Err}
-use Rattle.crun_lines.specs.StateLines.{pages_line, row_lines}
-use Rattle.program_words.proofs.Written.{stops_writing, then_writes}
+use Rattle.crun_state.proofs.Common.{Ok, Err, pages_line, row_lines, stops_writing, then_writes}
 use Rattle.crun_state.proofs.memories.show_pages.Goals as goal
 
 pub returns-in-Ok-show_rows : goal.returns-in-Ok-show_rows

@@ -1,8 +1,4 @@
-use Rattle.std.proofs.Common.{◌+◌, ◌-◌, sym, subst, arith, length}
-use Rattle.std.specs.List.{range_with_len}
-use Rattle.std.specs.Prelude.{◌/◌}
-use Rattle.crun_lines.specs.StateLines.{row_line}
-use Rattle.program_words.proofs.Loops.{one_more, range_next, range_split, stopped_at, AreWritten}
+use Rattle.crun_state.proofs.Common.{◌+◌, ◌-◌, ◌/◌, length, sym, subst, arith, range_with_len, row_line, AreWritten, one_more, range_next, range_split, stopped_at}
 use Rattle.crun_state.proofs.memories.show_rows.Goals as goal
 
 pub returns-in-Err : goal.returns-in-Err

@@ -1,6 +1,4 @@
-use Rattle.std.specs.List.{range_with_len}
-use Rattle.crun_lines.specs.StateLines.{row_line}
-use Rattle.program_words.proofs.Loops.{AreWritten}
+use Rattle.crun_state.proofs.Common.{range_with_len, row_line, AreWritten}
 use Rattle.crun_state.proofs.memories.show_rows.Given as goal
 
 abbrev pub invariant-loop-row : goal.invariant-loop-row

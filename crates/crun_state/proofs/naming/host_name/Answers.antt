@@ -1,5 +1,4 @@
-use Rattle.std.proofs.Common.{Some, None, sym, ap, ◌∙◌}
-use Rattle.std.specs.Prelude.{option_copied}
+use Rattle.std.proofs.Common.{Some, None, sym, ap, ◌∙◌, option_copied}
 use Rattle.crun_state.proofs.Named.{host_named}
 use Rattle.crun_state.proofs.naming.host_name.Goals as goal
 

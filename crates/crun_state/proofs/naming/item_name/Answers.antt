@@ -1,6 +1,4 @@
-use Rattle.std.proofs.Common.{Some, None, [], get_or, map, sym, ap, ◌∙◌}
-use Rattle.std.specs.Prelude.{option_copied}
-use Rattle.c_tree.specs.View.{item_of}
+use Rattle.crun_state.proofs.Common.{[], map, get_or, Some, None, option_copied, sym, ap, ◌∙◌, item_of}
 use Rattle.crun_startup.specs.Names.{function_name}
 use Rattle.crun_state.proofs.Named.{item_named}
 use Rattle.crun_state.proofs.naming.item_name.Goals as goal

@@ -1,11 +1,5 @@
-use Rattle.std.proofs.Common.{map, ◌++◌}
-use Rattle.std.specs.Prelude.{Ok, Err}
-use Rattle.c_hosts.specs.Asking.{hosts_of}
-use Rattle.c_tree.specs.View.{unit_of}
+use Rattle.crun_state.proofs.Common.{◌++◌, map, Ok, Err, unit_of, hosts_of, names_in, naming_of, then_writes, cell_lines, held_lines, lines_in_order, table_cell_lines}
 use Rattle.crun_startup.specs.declared.names.ObjectKind.TheVariants as kind
-use Rattle.crun_startup.specs.Names.{names_in, naming_of}
-use Rattle.crun_state.specs.Showing.{cell_lines, held_lines, lines_in_order, table_cell_lines}
-use Rattle.program_words.proofs.Written.{then_writes}
 use Rattle.crun_state.proofs.state.show_items.Goals as goal
 
 pub returns-in-Err-show_tables : goal.returns-in-Err-show_tables

@@ -1,10 +1,5 @@
-use Rattle.std.proofs.Common.{Some, None, map, sym, ap, ◌∙◌}
-use Rattle.std.specs.Prelude.{Ok, option_copied}
-use Rattle.c_hosts.specs.Asking.{hosts_of}
-use Rattle.c_tree.specs.View.{unit_of}
-use Rattle.crun_state.specs.Showing.{lines_of_objects}
+use Rattle.crun_state.proofs.Common.{map, Some, None, Ok, option_copied, sym, ap, ◌∙◌, unit_of, hosts_of, writes_text, wrote_nothing, lines_of_objects}
 use Rattle.crun_state.proofs.Shown.{items_found}
-use Rattle.program_words.proofs.Written.{writes_text, wrote_nothing}
 use Rattle.crun_state.proofs.state.show_objects.Goals as goal
 
 pub returns-in-Some : goal.returns-in-Some

@@ -1,12 +1,5 @@
-use Rattle.std.proofs.Common.{◌+◌, ◌-◌, sym, ap, subst, rules, arith, length, map}
-use Rattle.std.specs.Prelude.{Ok, Err}
-use Rattle.std.specs.List.{range_with_len}
-use Rattle.c_hosts.specs.Asking.{hosts_of}
-use Rattle.c_tree.specs.View.{unit_of}
-use Rattle.crun_state.specs.Showing.{lines_of_unit}
+use Rattle.crun_state.proofs.Common.{◌+◌, ◌-◌, map, length, Ok, Err, sym, ap, subst, arith, rules, range_with_len, unit_of, hosts_of, AreWritten, all_written, one_more, range_next, range_split, stopped_at, writes_text, lines_of_unit}
 use Rattle.crun_state.proofs.Shown.{state_shown}
-use Rattle.program_words.proofs.Loops.{all_written, one_more, range_next, range_split, stopped_at, AreWritten}
-use Rattle.program_words.proofs.Written.{writes_text}
 use Rattle.crun_state.proofs.state.show_state.Goals as goal
 
 pub returns-in-Err : goal.returns-in-Err

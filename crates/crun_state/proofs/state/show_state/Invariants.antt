@@ -1,9 +1,4 @@
-use Rattle.std.proofs.Common.{map}
-use Rattle.std.specs.List.{range_with_len}
-use Rattle.c_hosts.specs.Asking.{hosts_of}
-use Rattle.c_tree.specs.View.{unit_of}
-use Rattle.crun_state.specs.Showing.{lines_of_unit}
-use Rattle.program_words.proofs.Loops.{AreWritten}
+use Rattle.crun_state.proofs.Common.{map, range_with_len, unit_of, hosts_of, AreWritten, lines_of_unit}
 use Rattle.crun_state.proofs.state.show_state.Given as goal
 
 abbrev pub invariant-loop-unit : goal.invariant-loop-unit

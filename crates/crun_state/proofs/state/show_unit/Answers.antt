@@ -1,9 +1,4 @@
-use Rattle.std.proofs.Common.{map, sym, ap, ◌∙◌}
-use Rattle.std.specs.Prelude.{Ok, option_copied}
-use Rattle.c_hosts.specs.Asking.{hosts_of}
-use Rattle.c_tree.specs.View.{unit_of}
-use Rattle.crun_state.specs.Showing.{lines_if_made}
-use Rattle.program_words.proofs.Written.{writes_text, wrote_nothing}
+use Rattle.crun_state.proofs.Common.{map, Ok, option_copied, sym, ap, ◌∙◌, unit_of, hosts_of, writes_text, wrote_nothing, lines_if_made}
 use Rattle.crun_state.proofs.state.show_unit.Goals as goal
 
 pub returns-in-Some : goal.returns-in-Some

@@ -1,10 +1,4 @@
-use Rattle.std.proofs.Common.{map, sym, ap, ◌∙◌}
-use Rattle.c_hosts.specs.Asking.{hosts_of}
-use Rattle.c_tree.specs.View.{unit_of}
-use Rattle.crun_startup.specs.Names.{naming_of}
-use Rattle.crun_lines.specs.StateLines.{element_line}
-use Rattle.crun_state.specs.Showing.{entry_lines}
-use Rattle.program_words.proofs.Written.{line_as}
+use Rattle.crun_state.proofs.Common.{map, sym, ap, ◌∙◌, unit_of, element_line, hosts_of, naming_of, line_as, entry_lines}
 use Rattle.crun_state.proofs.tables.line_at_place.Goals as goal
 
 pub returns-in-Some : goal.returns-in-Some

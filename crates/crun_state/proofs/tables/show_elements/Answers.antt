@@ -1,10 +1,4 @@
-use Rattle.std.proofs.Common.{◌+◌, ◌-◌, sym, subst, arith, length, map}
-use Rattle.std.specs.List.{range_with_len}
-use Rattle.c_hosts.specs.Asking.{hosts_of}
-use Rattle.c_tree.specs.View.{unit_of}
-use Rattle.crun_startup.specs.Names.{naming_of}
-use Rattle.crun_state.specs.Showing.{lines_at_place}
-use Rattle.program_words.proofs.Loops.{one_more, range_next, range_split, stopped_at, AreWritten}
+use Rattle.crun_state.proofs.Common.{◌+◌, ◌-◌, map, length, sym, subst, arith, range_with_len, unit_of, hosts_of, naming_of, AreWritten, one_more, range_next, range_split, stopped_at, lines_at_place}
 use Rattle.crun_state.proofs.tables.show_elements.Goals as goal
 
 pub returns-in-Err : goal.returns-in-Err

@@ -1,11 +1,4 @@
-use Rattle.std.proofs.Common.{◌+◌, ◌<◌, sym, subst, arith, take, drop, map, length}
-use Rattle.std.proofs.lemmas.List.{length-map}
-use Rattle.c_hosts.specs.Asking.{hosts_of}
-use Rattle.c_tree.specs.View.{unit_of}
-use Rattle.crun_startup.specs.Names.{naming_of}
-use Rattle.crun_lines.specs.Views.{entry_of}
-use Rattle.crun_state.specs.Showing.{entry_at, lines_at, table_cell_lines}
-use Rattle.program_words.proofs.Loops.{front_next, front_split, one_more, same_at, stopped_at, AreWritten}
+use Rattle.crun_state.proofs.Common.{◌+◌, ◌<◌, map, length, take, drop, sym, subst, arith, length-map, unit_of, entry_of, hosts_of, naming_of, AreWritten, front_next, front_split, one_more, same_at, stopped_at, entry_at, lines_at, table_cell_lines}
 use Rattle.crun_state.proofs.tables.show_in_order.Goals as goal
 
 pub returns-in-Err : goal.returns-in-Err

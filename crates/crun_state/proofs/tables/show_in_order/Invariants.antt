@@ -1,10 +1,4 @@
-use Rattle.std.proofs.Common.{map, take}
-use Rattle.c_hosts.specs.Asking.{hosts_of}
-use Rattle.c_tree.specs.View.{unit_of}
-use Rattle.crun_startup.specs.Names.{naming_of}
-use Rattle.crun_lines.specs.Views.{entry_of}
-use Rattle.crun_state.specs.Showing.{lines_at, table_cell_lines}
-use Rattle.program_words.proofs.Loops.{AreWritten}
+use Rattle.crun_state.proofs.Common.{map, take, unit_of, entry_of, hosts_of, naming_of, AreWritten, lines_at, table_cell_lines}
 use Rattle.crun_state.proofs.tables.show_in_order.Given as goal
 
 abbrev pub invariant-loop-k : goal.invariant-loop-k

@@ -1,12 +1,4 @@
-use Rattle.std.proofs.Common.{length, map}
-use Rattle.std.specs.Prelude.{Ok, Err, flat_map}
-use Rattle.std.specs.List.{range_with_len}
-use Rattle.c_hosts.specs.Asking.{hosts_of}
-use Rattle.c_tree.specs.View.{unit_of}
-use Rattle.crun_startup.specs.Names.{naming_of}
-use Rattle.crun_lines.specs.StateLines.{length_line}
-use Rattle.crun_state.specs.Showing.{lines_at_place}
-use Rattle.program_words.proofs.Written.{stops_writing, then_writes}
+use Rattle.crun_state.proofs.Common.{map, length, Ok, Err, flat_map, range_with_len, unit_of, length_line, hosts_of, naming_of, stops_writing, then_writes, lines_at_place}
 use Rattle.crun_state.proofs.tables.show_length.Goals as goal
 
 pub returns-in-Ok-show_elements : goal.returns-in-Ok-show_elements

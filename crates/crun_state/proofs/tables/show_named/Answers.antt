@@ -1,11 +1,5 @@
-use Rattle.std.proofs.Common.{map, sym, ap, ◌∙◌}
-use Rattle.std.specs.Prelude.{Ok, option_copied}
-use Rattle.c_hosts.specs.Asking.{hosts_of}
-use Rattle.c_tree.specs.View.{unit_of}
-use Rattle.crun_startup.specs.Names.{naming_of}
-use Rattle.crun_state.specs.Showing.{length_and_elements, table_cell_lines}
+use Rattle.crun_state.proofs.Common.{map, Ok, option_copied, sym, ap, ◌∙◌, unit_of, hosts_of, naming_of, writes_text, wrote_nothing, length_and_elements, table_cell_lines}
 use Rattle.crun_state.proofs.Numbers.{found_named, table_by_place}
-use Rattle.program_words.proofs.Written.{writes_text, wrote_nothing}
 use Rattle.crun_state.proofs.tables.show_named.Goals as goal
 
 pub returns-in-Some : goal.returns-in-Some

@@ -1,8 +1,5 @@
-use Rattle.std.proofs.Common.{sym, ap, ◌∙◌}
-use Rattle.std.specs.Prelude.{option_copied}
-use Rattle.crun_state.specs.Showing.{held_lines}
+use Rattle.crun_state.proofs.Common.{option_copied, sym, ap, ◌∙◌, line_as, held_lines}
 use Rattle.crun_state.proofs.Numbers.{found_named}
-use Rattle.program_words.proofs.Written.{line_as}
 use Rattle.crun_state.proofs.variables.line_named.Goals as goal
 
 pub returns-in-Some : goal.returns-in-Some

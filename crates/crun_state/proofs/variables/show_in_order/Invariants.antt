@@ -1,7 +1,4 @@
-use Rattle.std.proofs.Common.{map, take}
-use Rattle.crun_lines.specs.Views.{entry_of}
-use Rattle.crun_state.specs.Showing.{held_lines, lines_at}
-use Rattle.program_words.proofs.Loops.{AreWritten}
+use Rattle.crun_state.proofs.Common.{map, take, entry_of, AreWritten, held_lines, lines_at}
 use Rattle.crun_state.proofs.variables.show_in_order.Given as goal
 
 abbrev pub invariant-loop-k : goal.invariant-loop-k

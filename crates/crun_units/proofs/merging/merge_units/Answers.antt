@@ -1,14 +1,4 @@
-use Rattle.std.proofs.Common.{Ok, Err, refl}
-use Rattle.w2c_io.proofs.Passed.{both_passed, passed_so}
-use Rattle.c_tree.specs.View.{unit_of}
-use Rattle.c_link.specs.Offers.{c_symbols}
-use Rattle.crun_words.specs.Seen.{seen_merge}
-use Rattle.crun_job.specs.Job.{Write}
-use Rattle.crun_job.specs.Seen.{reason_of}
-use Rattle.crun_units.specs.Jobs.{IsMerged, IsMergeJob}
-use Rattle.crun_units.specs.Files.{files_seen}
-use Rattle.crun_units.specs.Passing.{IsUnitsJobOver, PassesUnits, WritesUnit}
-use Rattle.crun_units.specs.Trying.{done_by, stopped_by, TriesUnit}
+use Rattle.crun_units.proofs.Common.{Ok, Err, refl, both_passed, passed_so, unit_of, c_symbols, seen_merge, Write, reason_of, files_seen, IsMergeJob, IsMerged, IsUnitsJobOver, PassesUnits, WritesUnit, TriesUnit, done_by, stopped_by}
 use Rattle.crun_units.proofs.Passing.{unit_refused, unit_written}
 use Rattle.crun_units.proofs.WriteStops.{output_stops}
 use Rattle.crun_units.proofs.merging.merge_units.Goals as goal

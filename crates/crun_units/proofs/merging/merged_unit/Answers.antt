@@ -1,24 +1,5 @@
-use Rattle.std.proofs.Common.{inl, map, sym, ap, subst}
+use Rattle.crun_units.proofs.Common.{map, sym, ap, subst, inl, passed_so, Passes, Tells, unit_of, c_symbols, AreUnits, StopsUnits, UnitsRead, GivesUnits, TriesUnits, seen_merge, Write, WantOfMemory, AreLinked, RefusesUnits, reason_of, stop_for, StopsUnit, AreUntouched, files_seen, IsMergeJob, IsMerged, IsUnitsJobOver, StopsWrite, TriesUnit}
 use Rattle.w2c_files.specs.Words.{names_of}
-use Rattle.w2c_io.specs.Passed.{Passes}
-use Rattle.w2c_io.specs.Telling.{Tells}
-use Rattle.w2c_io.proofs.Passed.{passed_so}
-use Rattle.c_tree.specs.View.{unit_of}
-use Rattle.c_link.specs.Offers.{c_symbols}
-use Rattle.crun_words.specs.Inputs.{AreUnits, StopsUnits, UnitsRead}
-use Rattle.crun_words.specs.Passing.{GivesUnits, TriesUnits}
-use Rattle.crun_words.specs.Seen.{seen_merge}
-use Rattle.crun_job.specs.Job.{Write}
-use Rattle.crun_job.specs.Lines.{WantOfMemory}
-use Rattle.crun_job.specs.Links.{AreLinked}
-use Rattle.crun_job.specs.Refusals.{RefusesUnits}
-use Rattle.crun_job.specs.Seen.{reason_of, stop_for}
-use Rattle.crun_job.specs.Stopping.{StopsUnit}
-use Rattle.crun_units.specs.Jobs.{IsMerged, IsMergeJob}
-use Rattle.crun_units.specs.Files.{files_seen, AreUntouched}
-use Rattle.crun_units.specs.Passing.{IsUnitsJobOver}
-use Rattle.crun_units.specs.Stopping.{StopsWrite}
-use Rattle.crun_units.specs.Trying.{TriesUnit}
 use Rattle.crun_units.proofs.Passing.{reading_tried, refusal_tried, unit_asked, wanting_tried}
 use Rattle.crun_units.proofs.WriteStops.{asked, merge_refused, reading_stops, refusal_stops}
 use Rattle.crun_units.proofs.merging.merged_unit.Goals as goal

@@ -1,11 +1,5 @@
-use Rattle.std.proofs.Common.{Ok, Err, inl, inr, refl, sym, ap}
-use Rattle.w2c_io.specs.Passed.{WritesFile, BreaksOff}
-use Rattle.w2c_io.proofs.Passed.{passed_so}
-use Rattle.c_tree.specs.View.{unit_of}
-use Rattle.c_print.specs.Print.{print_of}
+use Rattle.crun_units.proofs.Common.{Ok, Err, sym, refl, ap, inl, inr, passed_so, BreaksOff, WritesFile, unit_of, print_of, WritesUnit, reason_for, done_by, stopped_by}
 use Rattle.crun_job.specs.declared.stop.Stop.TheVariants as stop
-use Rattle.crun_units.specs.Passing.{reason_for, WritesUnit}
-use Rattle.crun_units.specs.Trying.{done_by, stopped_by}
 use Rattle.crun_units.proofs.output.write_output.Goals as goal
 
 pub returns-in-Ok-clause-passed : goal.returns-in-Ok-clause-passed

@@ -1,20 +1,4 @@
-use Rattle.std.proofs.Common.{◌≡◌, ◌<◌, [], ◌∷◌, length, get_or, map, sym, subst, arith}
-use Rattle.w2c_io.specs.Passed.{Passes}
-use Rattle.w2c_io.proofs.Passed.{passed_so}
-use Rattle.c_tree.specs.View.{unit_of}
-use Rattle.crun_words.specs.Inputs.{UnitsRead}
-use Rattle.crun_words.specs.Passing.{GivesUnits, TriesUnits}
-use Rattle.crun_words.specs.Seen.{seen_trim}
-use Rattle.crun_job.specs.Job.{Write}
-use Rattle.crun_job.specs.Lines.{WantOfMemory}
-use Rattle.crun_job.specs.Refusals.{RefusesTexts}
-use Rattle.crun_job.specs.Seen.{reason_of, stop_for}
-use Rattle.crun_job.specs.Texts.{AreUnitTexts}
-use Rattle.crun_units.specs.Jobs.{IsTrimmedText, IsTrimJob}
-use Rattle.crun_units.specs.Files.{files_seen, AreUntouched}
-use Rattle.crun_units.specs.Passing.{IsUnitsJobOver}
-use Rattle.crun_units.specs.Stopping.{StopsWrite}
-use Rattle.crun_units.specs.Trying.{TriesUnit}
+use Rattle.crun_units.proofs.Common.{◌≡◌, ◌<◌, [], ◌∷◌, map, length, get_or, sym, subst, arith, passed_so, Passes, unit_of, UnitsRead, GivesUnits, TriesUnits, seen_trim, Write, WantOfMemory, RefusesTexts, reason_of, stop_for, AreUnitTexts, AreUntouched, files_seen, IsTrimJob, IsTrimmedText, IsUnitsJobOver, StopsWrite, TriesUnit}
 use Rattle.crun_units.proofs.Passing.{reading_tried, refusal_tried, unit_asked, wanting_tried}
 use Rattle.crun_units.proofs.WriteStops.{asked, one_unit, reading_stops, refusal_stops, trim_refused, trimmed_text}
 use Rattle.crun_units.proofs.trimming.trimmed_unit.Goals as goal

@@ -1,8 +1,4 @@
-use Rattle.std.proofs.Common.{◌<◌, subst, length, Option, IfNone, rules, arith, slice_index_or}
-use Rattle.std.proofs.lemmas.Option.{slice_get-get_or}
-use Rattle.w2c_base.specs.declared.value.Value.{Value}
-use Rattle.c_tree.specs.declared.tree.CType.TheVariants.{Void}
-use Rattle.crun_words.specs.Arguments.{IsArgument}
+use Rattle.crun_words.proofs.Common.{◌<◌, length, IfNone, slice_index_or, Option, subst, arith, rules, slice_get-get_or, Value, Void, IsArgument}
 use Rattle.crun_words.proofs.ArgumentValues.{no_argument, not_each, one_more}
 use Rattle.crun_words.proofs.argument.arguments.Goals as goal
 

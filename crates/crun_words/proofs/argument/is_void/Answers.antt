@@ -1,4 +1,4 @@
-use Rattle.crun_words.proofs.ArgumentValues.{not_one}
+use Rattle.c_tree.proofs.OnlyVoid.{not_one}
 use Rattle.crun_words.proofs.argument.is_void.Goals as goal
 
 pub returns-then-params-ne1 : goal.returns-then-params-ne1

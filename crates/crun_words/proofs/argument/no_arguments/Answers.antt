@@ -1,9 +1,4 @@
-use Rattle.std.proofs.Common.{◌≡◌, [], ◌∷◌, true, false, sym, ap, ◌∙◌, subst, List}
-use Rattle.w2c_base.specs.declared.value.Value.{Value}
-use Rattle.c_tree.specs.declared.tree.CType.{CType}
-use Rattle.c_tree.specs.declared.tree.CType.TheVariants.{Void}
-use Rattle.c_tree.specs.Runtime.{same_types}
-use Rattle.crun_words.specs.Arguments.{AreArguments}
+use Rattle.crun_words.proofs.Common.{◌≡◌, true, false, List, [], ◌∷◌, sym, ap, ◌∙◌, subst, Value, same_types, CType, Void, AreArguments}
 use Rattle.crun_words.proofs.ArgumentValues.{no_number, no_number_void, void_is}
 use Rattle.crun_words.proofs.argument.no_arguments.Goals as goal
 

@@ -1,6 +1,4 @@
-use Rattle.std.proofs.Common.{◌∙◌, ap, subst, ℕ, List, IfOk, IfNone}
-use Rattle.w2c_files.specs.Words.{names_of}
-use Rattle.crun_words.specs.CallLine.{Call, SayCall}
+use Rattle.crun_words.proofs.Common.{ℕ, List, IfNone, IfOk, ap, ◌∙◌, subst, names_of, Call, SayCall}
 use Rattle.crun_words.proofs.call.call_line.Goals as goal
 
 pub returns-clause-none : goal.returns-clause-none

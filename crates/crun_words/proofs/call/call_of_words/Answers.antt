@@ -1,7 +1,4 @@
-use Rattle.std.proofs.Common.{◌≡◌, ◌∙◌, ◌∷◌, ap, subst, ℕ, List, Option, IfNone}
-use Rattle.std.specs.Borrow.{Bor}
-use Rattle.w2c_files.specs.Words.{names_of}
-use Rattle.crun_words.specs.CallLine.{IsSymbolOf}
+use Rattle.crun_words.proofs.Common.{◌≡◌, ℕ, List, ◌∷◌, IfNone, Option, ap, ◌∙◌, subst, Bor, names_of, IsSymbolOf}
 use Rattle.crun_words.proofs.Said.{said_by}
 use Rattle.crun_words.proofs.call.call_of_words.Goals as goal
 

@@ -1,5 +1,4 @@
-use Rattle.std.proofs.Common.{◌≡◌, false, codes, rules}
-use Rattle.std.specs.Str.{bytes_eq}
+use Rattle.std.proofs.Common.{◌≡◌, false, codes, rules, bytes_eq}
 use Rattle.crun_words.proofs.Names.{none_escapes}
 use Rattle.crun_words.proofs.call.export_name_of.Goals as goal
 

@@ -1,5 +1,4 @@
-use Rattle.std.proofs.Common.{◌^◌, ◌∙◌, sym}
-use Rattle.w2c_files.specs.Words.{names_of}
+use Rattle.crun_words.proofs.Common.{◌^◌, sym, ◌∙◌, names_of}
 use Rattle.crun_words.specs.Numbers.{number_below}
 use Rattle.crun_words.proofs.Lists.{not_given, one_more}
 use Rattle.crun_words.proofs.call.numbers_of.Goals as goal

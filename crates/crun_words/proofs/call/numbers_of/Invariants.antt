@@ -1,6 +1,4 @@
-use Rattle.std.proofs.Common.{take}
-use Rattle.w2c_files.specs.Words.{names_of}
-use Rattle.crun_words.specs.CallLine.{AreNumbers}
+use Rattle.crun_words.proofs.Common.{take, names_of, AreNumbers}
 use Rattle.crun_words.proofs.call.numbers_of.Given as goal
 
 -- the numbers of so many words

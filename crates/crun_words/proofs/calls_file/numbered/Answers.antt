@@ -1,6 +1,4 @@
-use Rattle.std.proofs.Common.{◌∷◌, [], ◌+◌, ◌++◌, ◌∙◌, sym}
-use Rattle.w2c_files.specs.Words.{names_of}
-use Rattle.crun_words.specs.CallsFile.{numbered}
+use Rattle.crun_words.proofs.Common.{◌+◌, [], ◌∷◌, ◌++◌, sym, ◌∙◌, names_of, numbered}
 use Rattle.crun_words.proofs.NumberedLines.{next}
 use Rattle.crun_words.proofs.calls_file.numbered.Goals as goal
 

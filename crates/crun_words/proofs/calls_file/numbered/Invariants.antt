@@ -1,7 +1,4 @@
-use Rattle.std.proofs.Common.{◌≡◌, take}
-use Rattle.w2c_files.specs.Words.{names_of}
-use Rattle.crun_words.specs.CallsFile.{numbered}
-use Rattle.crun_words.specs.Seen.{seen_lines}
+use Rattle.crun_words.proofs.Common.{◌≡◌, take, names_of, numbered, seen_lines}
 use Rattle.crun_words.proofs.calls_file.numbered.Given as goal
 
 -- the lines of so many parts

@@ -1,5 +1,4 @@
-use Rattle.std.proofs.Common.{◌≡◌, ◌<◌, length, refl, rules}
-use Rattle.crun_words.specs.declared.calls_file.NumberedLine.{NumberedLine}
+use Rattle.crun_words.proofs.Common.{◌≡◌, ◌<◌, length, refl, rules, NumberedLine}
 use Rattle.crun_words.proofs.NumberedLines.{pushed, skipped}
 use Rattle.crun_words.proofs.calls_file.put_line.Goals as goal
 

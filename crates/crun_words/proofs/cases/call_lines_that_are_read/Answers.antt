@@ -1,6 +1,4 @@
-use Rattle.std.proofs.Common.{◌<◌, codes, [], ◌∷◌, arith, refl}
-use Rattle.std.proofs.lemmas.List.Elements.{All-from_recursion}
-use Rattle.crun_words.specs.CallLine.{IsBytes, SaysCall}
+use Rattle.crun_words.proofs.Common.{◌<◌, [], ◌∷◌, codes, refl, arith, All-from_recursion, IsBytes, SaysCall}
 use Rattle.crun_words.proofs.cases.call_lines_that_are_read.Goals as goal
 
 add_bytes : IsBytes (codes "add")

@@ -1,8 +1,7 @@
-use Rattle.std.proofs.Common.{refl, codes, [], ◌∷◌, ◌≡◌, None, Some, true, false}
+use Rattle.crun_words.proofs.Common.{◌≡◌, true, false, [], ◌∷◌, Some, None, codes, refl, line_of, merges, runs, trims}
 use Rattle.clap.proofs.OnLiterals.{clap_on_literals}
 use Rattle.program_words.specs.Command.{rows_read}
 use Rattle.crun_words.specs.Command.{values_of}
-use Rattle.crun_words.specs.CommandLine.{line_of, merges, runs, trims}
 use Rattle.crun_words.proofs.cases.lines_that_are_read.Goals as goal
 
 in_order_is : line_of (codes "--steps" ∷ codes "100" ∷ codes "--calls" ∷ codes "c" ∷ codes "u.c" ∷ [])

@@ -1,6 +1,4 @@
-use Rattle.std.proofs.Common.{◌≡◌, ◌∙◌, ap, codes, Result, Ok, Err, IfOk}
-use Rattle.clap.specs.Words.{App, app_of, with_rule}
-use Rattle.program_words.specs.Command.{word_option, words_left}
+use Rattle.crun_words.proofs.Common.{◌≡◌, IfOk, Ok, Err, codes, Result, ap, ◌∙◌, App, app_of, with_rule, word_option, words_left}
 use Rattle.crun_words.specs.Command.{word_flag}
 use Rattle.crun_words.proofs.command.command.Goals as goal
 

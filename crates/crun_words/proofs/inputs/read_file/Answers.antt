@@ -1,6 +1,4 @@
-use Rattle.std.proofs.Common.{◌≡◌, rules, string_bytes, inr}
-use Rattle.w2c_io.specs.Contents.{HasNoFile}
-use Rattle.w2c_io.proofs.Telling.{no_file_told}
+use Rattle.crun_words.proofs.Common.{◌≡◌, string_bytes, inr, rules, no_file_told, HasNoFile}
 use Rattle.crun_words.proofs.inputs.read_file.Goals as goal
 
 pub returns-in_ok-from_str-in-Err-Absent-clause-stop : goal.returns-in_ok-from_str-in-Err-Absent-clause-stop

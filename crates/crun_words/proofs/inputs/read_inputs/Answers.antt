@@ -1,9 +1,4 @@
-use Rattle.std.proofs.Common.{◌∙◌, subst}
-use Rattle.w2c_io.specs.Contents.{Told}
-use Rattle.w2c_io.proofs.Passed.{both_passed, passed_so}
-use Rattle.w2c_files.specs.Words.{names_of}
-use Rattle.crun_words.specs.Inputs.{StopsCalls, UnitsRead}
-use Rattle.crun_words.specs.Passing.{GivesUnits, TriesCalls, TriesInputs, TriesUnits}
+use Rattle.crun_words.proofs.Common.{◌∙◌, subst, both_passed, passed_so, Told, names_of, StopsCalls, UnitsRead, GivesUnits, TriesCalls, TriesInputs, TriesUnits}
 use Rattle.crun_words.proofs.InputStops.{stops_at_calls, stops_at_unit}
 use Rattle.crun_words.proofs.Passing.{calls_tried, units_tried}
 use Rattle.crun_words.proofs.inputs.read_inputs.Goals as goal

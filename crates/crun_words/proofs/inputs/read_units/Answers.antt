@@ -1,14 +1,9 @@
-use Rattle.std.proofs.Common.{◌≡◌, ◌≤◌, rules, arith, length, slice_get, Some, string_bytes}
+use Rattle.crun_words.proofs.Common.{◌≡◌, ◌≤◌, length, slice_get, Some, string_bytes, arith, rules, passed_so, some_in_order, ReadsInOrder, ReadsSome, limited, names_of, NoUnit, UnitTooLong, most_unit_bytes, most_units_bytes, GivesUnits}
 use Rattle.std.proofs.lemmas.Result.{err_from_is_err_and}
-use Rattle.w2c_io.proofs.Passed.{passed_so}
 use Rattle.w2c_files.proofs.Loops.{length-names}
-use Rattle.w2c_files.specs.Words.{names_of}
-use Rattle.w2c_files.specs.Passing.{limited, ReadsInOrder, ReadsSome}
 use Rattle.w2c_files.specs.declared.reading.ReadStop.TheVariants as read
-use Rattle.crun_words.specs.Inputs.{most_unit_bytes, most_units_bytes, NoUnit, UnitTooLong}
-use Rattle.crun_words.specs.Passing.{GivesUnits}
-use Rattle.crun_words.proofs.InputStops.{long_within, one_at, past, past_within, too_long, unread}
-use Rattle.w2c_files.proofs.InOrder.{some_in_order}
+use Rattle.crun_words.proofs.InputStops.{long_within, past, past_within, too_long, unread}
+use Rattle.w2c_files.proofs.Standing.{one_at}
 use Rattle.crun_words.proofs.Passing.{long_tried, past_tried, unread_tried}
 use Rattle.crun_words.proofs.inputs.read_units.Goals as goal
 

@@ -1,14 +1,8 @@
-use Rattle.std.proofs.Common.{rules, ◌≡◌, ◌∙◌, sym, ap, ℕ, List, Option, Some, None, Err}
-use Rattle.std.specs.Prelude.{option_and_then, option_map}
-use Rattle.clap.specs.Words.{Row, app_of, found_of, is_simple_and_free, rows_of}
-use Rattle.w2c_files.specs.Words.{texts}
+use Rattle.crun_words.proofs.Common.{◌≡◌, ℕ, List, Some, None, Err, Option, option_map, option_and_then, sym, ap, ◌∙◌, rules, Row, app_of, found_of, is_simple_and_free, rows_of, texts, rows_read, line_of, line_of_values, seen_line}
 use Rattle.program_words.specs.declared.no_line.NoLine.TheVariants as no_line
-use Rattle.program_words.specs.Command.{rows_read}
 use Rattle.program_words.proofs.Parses.{same_error, told_of_equal}
 use Rattle.crun_words.specs.Command.{crun, values_in, values_of}
-use Rattle.crun_words.specs.CommandLine.{line_of, line_of_values}
 use Rattle.crun_words.specs.declared.line.Line.{Line}
-use Rattle.crun_words.specs.Seen.{seen_line}
 use Rattle.crun_words.proofs.read.read_words.Goals as goal
 
 -- the line of words that clap reads as these rows, or reads not

@@ -1,5 +1,4 @@
-use Rattle.std.proofs.Common.{◌≡◌, take}
-use Rattle.host_replay.specs.Replaying.{calls_of}
+use Rattle.host_replay.proofs.Common.{◌≡◌, take, calls_of}
 use Rattle.host_replay.proofs.calls.calls_of.Given as goal
 
 abbrev pub invariant-loop-entry : goal.invariant-loop-entry

@@ -1,6 +1,5 @@
-use Rattle.std.proofs.Common.{refl}
+use Rattle.host_replay.proofs.Common.{refl, ticks}
 use Rattle.std.specs.Fmt.{digits}
-use Rattle.host_replay.specs.Samples.{ticks}
 use Rattle.host_replay.proofs.Sampled.{behind, writable}
 use Rattle.host_replay.proofs.Spelled.{spelled}
 use Rattle.host_replay.proofs.cases.reading_cases.Goals as goal

@@ -1,6 +1,4 @@
-use Rattle.std.proofs.Common.{◌≡◌, ◌∙◌, ◌∷◌, [], Some, None, inl, inr, refl, sym, ap, slice_get, arith}
-use Rattle.c_hosts.specs.declared.journal.Asked.{Asked}
-use Rattle.host_replay.specs.Samples.{tick, ticks}
+use Rattle.host_replay.proofs.Common.{◌≡◌, [], ◌∷◌, slice_get, Some, None, sym, refl, ap, ◌∙◌, inl, inr, arith, Asked, tick, ticks}
 use Rattle.host_replay.proofs.cases.replay_cases.Goals as goal
 
 pub returns-clause-first : goal.returns-clause-first

@@ -1,4 +1,4 @@
-use Rattle.host_replay.proofs.Arguments.{unequal}
+use Rattle.c_hosts.proofs.Arguments.{unequal}
 use Rattle.host_replay.proofs.fitting.are_of_types.Goals as goal
 
 pub returns-then-types-values : goal.returns-then-types-values

@@ -1,7 +1,4 @@
-use Rattle.std.proofs.Common.{◌<◌, ◌∙◌, ◌∷◌, [], length, Some, refl, sym, ap, subst, rules}
-use Rattle.std.proofs.lemmas.Option.{slice_get-get_or}
-use Rattle.c_hosts.specs.declared.journal.Asked.{Asked}
-use Rattle.host_replay.specs.Giving.{HasMore}
+use Rattle.host_replay.proofs.Common.{◌<◌, [], ◌∷◌, length, Some, sym, refl, ap, ◌∙◌, subst, rules, slice_get-get_or, Asked, HasMore}
 use Rattle.host_replay.proofs.Given.{given_at, none_given}
 use Rattle.host_replay.proofs.journal_hosts.give.Goals as goal
 

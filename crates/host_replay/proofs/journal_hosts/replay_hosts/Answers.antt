@@ -1,11 +1,4 @@
-use Rattle.std.proofs.Common.{◌∙◌, ◌∷◌, ◌++◌, [], List, take, sym, ap, subst}
-use Rattle.std.proofs.lemmas.List.{map-append}
-use Rattle.w2c_base.specs.Run.{Host}
-use Rattle.c_hosts.specs.declared.journal.Asked.{Asked}
-use Rattle.host_replay.specs.declared.replay.ReplayHost.{ReplayHost}
-use Rattle.host_replay.specs.Fitting.{fits}
-use Rattle.host_replay.specs.Modules.{module_of, modules_of}
-use Rattle.host_replay.specs.Replayed.{AreReplays}
+use Rattle.host_replay.proofs.Common.{List, [], ◌∷◌, ◌++◌, take, sym, ap, ◌∙◌, subst, map-append, Host, Asked, fits, module_of, modules_of, AreReplays, ReplayHost}
 use Rattle.host_replay.proofs.Given.{call_more, fits_its_host, module_more, next_item, test_passed}
 use Rattle.host_replay.proofs.journal_hosts.replay_hosts.Goals as goal
 

@@ -1,6 +1,4 @@
-use Rattle.std.proofs.Common.{[], take}
-use Rattle.host_replay.specs.Modules.{modules_of}
-use Rattle.host_replay.specs.Replayed.{AreReplays}
+use Rattle.host_replay.proofs.Common.{[], take, modules_of, AreReplays}
 use Rattle.host_replay.proofs.journal_hosts.replay_hosts.Given as goal
 
 -- so many modules, without calls

@@ -1,9 +1,4 @@
-use Rattle.std.proofs.Common.{◌≡◌, ◌∙◌, ◌∷◌, ◌++◌, [], map, length, ap, rules}
-use Rattle.w2c_base.specs.Run.{Host}
-use Rattle.c_hosts.specs.Asking.{function_of}
-use Rattle.host_replay.specs.Modules.{module_of}
-use Rattle.host_replay.specs.Reading.{named_function, with_function}
-use Rattle.std.proofs.lemmas.List.{map_push}
+use Rattle.host_replay.proofs.Common.{◌≡◌, [], ◌∷◌, ◌++◌, map, length, ap, ◌∙◌, rules, map_push, Host, function_of, module_of, named_function, with_function}
 use Rattle.host_replay.proofs.Lasts.{last_is, last_set}
 use Rattle.host_replay.proofs.module.push_function.Goals as goal
 

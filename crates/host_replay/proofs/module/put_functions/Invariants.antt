@@ -1,8 +1,4 @@
-use Rattle.std.proofs.Common.{◌≡◌, ◌++◌, map, take}
-use Rattle.std.specs.List.{AllByRecursion}
-use Rattle.c_hosts.specs.Asking.{function_of}
-use Rattle.host_replay.specs.Texts.{function_texts}
-use Rattle.host_replay.specs.Writable.{HasName}
+use Rattle.host_replay.proofs.Common.{◌≡◌, ◌++◌, map, take, AllByRecursion, function_of, function_texts, HasName}
 use Rattle.host_replay.proofs.module.put_functions.Given as goal
 
 abbrev pub invariant-loop-function : goal.invariant-loop-function

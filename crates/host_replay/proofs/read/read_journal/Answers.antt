@@ -1,8 +1,4 @@
-use Rattle.std.proofs.Common.{◌≡◌, ◌∙◌, ◌∷◌, ◌++◌, [], ℕ, List, true, ap, sym, subst, length, arith}
-use Rattle.std.specs.Borrow.{Bor}
-use Rattle.std.proofs.lemmas.List.{length-map, map_push}
-use Rattle.crun_lines.specs.Views.{texts}
-use Rattle.journal_lines.proofs.Cutting.{cut, lacks, AllLack}
+use Rattle.host_replay.proofs.Common.{◌≡◌, ℕ, true, List, [], ◌∷◌, ◌++◌, length, sym, ap, ◌∙◌, subst, arith, Bor, length-map, map_push, texts, AllLack, cut, lacks}
 use Rattle.host_replay.proofs.Lines.{few_parts, last_of, parts_lack}
 use Rattle.host_replay.proofs.read.read_journal.Goals as goal
 

@@ -1,8 +1,4 @@
-use Rattle.std.proofs.Common.{◌≡◌, ◌∙◌, ◌+◌, ◌∷◌, ◌++◌, [], ap, sym, subst, length, rules}
-use Rattle.std.proofs.lemmas.List.{length-map}
-use Rattle.crun_lines.specs.Views.{texts}
-use Rattle.host_replay.specs.Reading.{empty, ended, IsRefused, Read}
-use Rattle.host_replay.specs.Recording.{recorded}
+use Rattle.host_replay.proofs.Common.{◌≡◌, ◌+◌, [], ◌∷◌, ◌++◌, length, sym, ap, ◌∙◌, subst, rules, length-map, texts, IsRefused, Read, empty, ended, recorded}
 use Rattle.host_replay.proofs.Lines.{ended_any, part_read, refused_part, rest_read, rest_refused, take_all, with_newlines}
 use Rattle.host_replay.proofs.read.read_lines.Goals as goal
 

@@ -1,8 +1,4 @@
-use Rattle.std.proofs.Common.{take}
-use Rattle.crun_lines.specs.Views.{texts}
-use Rattle.host_replay.specs.Knowing.{Knows}
-use Rattle.host_replay.specs.Reading.{empty, Read}
-use Rattle.host_replay.specs.Recording.{recorded}
+use Rattle.host_replay.proofs.Common.{take, texts, Knows, Read, empty, recorded}
 use Rattle.host_replay.proofs.Lines.{with_newlines}
 use Rattle.host_replay.proofs.read.read_lines.Given as goal
 

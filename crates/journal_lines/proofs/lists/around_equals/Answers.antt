@@ -1,5 +1,4 @@
-use Rattle.std.proofs.Common.{◌≡◌, codes, false, rules}
-use Rattle.std.specs.Str.{bytes_eq}
+use Rattle.std.proofs.Common.{◌≡◌, codes, false, rules, bytes_eq}
 use Rattle.journal_lines.proofs.Equals.{around, not_around}
 use Rattle.journal_lines.proofs.lists.around_equals.Goals as goal
 

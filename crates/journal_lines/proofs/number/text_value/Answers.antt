@@ -1,5 +1,4 @@
-use Rattle.std.proofs.Common.{sym, ◌∙◌}
-use Rattle.std.proofs.lemmas.Fmt.{parse-decimal}
+use Rattle.journal_lines.proofs.Common.{sym, ◌∙◌, parse-decimal}
 use Rattle.journal_lines.proofs.number.text_value.Goals as goal
 
 pub returns-in-Ok-clause-some : goal.returns-in-Ok-clause-some

@@ -1,7 +1,4 @@
-use Rattle.std.proofs.Common.{◌∙◌, sym, map}
-use Rattle.crun_lines.specs.HostLines.{reply_text}
-use Rattle.crun_lines.specs.Views.{reply_of, texts}
-use Rattle.crun_lines.specs.Words.{number_text}
+use Rattle.journal_lines.proofs.Common.{map, sym, ◌∙◌, reply_of, reply_text, texts, number_text}
 use Rattle.journal_lines.proofs.Equals.{equals_same}
 use Rattle.journal_lines.proofs.Items.{at_none}
 use Rattle.journal_lines.proofs.read.call_of.Goals as goal

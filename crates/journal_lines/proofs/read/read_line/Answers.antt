@@ -1,5 +1,4 @@
-use Rattle.std.proofs.Common.{◌∙◌, ap}
-use Rattle.crun_lines.specs.Views.{texts}
+use Rattle.journal_lines.proofs.Common.{ap, ◌∙◌, texts}
 use Rattle.journal_lines.proofs.Texts.{said, unsaid}
 use Rattle.journal_lines.proofs.read.read_line.Goals as goal
 

@@ -1,6 +1,4 @@
-use Rattle.std.proofs.Common.{◌∙◌, sym, map}
-use Rattle.crun_lines.specs.Views.{texts}
-use Rattle.journal_lines.specs.Lines.{result_text, type_text}
+use Rattle.journal_lines.proofs.Common.{map, sym, ◌∙◌, texts, result_text, type_text}
 use Rattle.journal_lines.proofs.Equals.{equals_same}
 use Rattle.journal_lines.proofs.Items.{at_none}
 use Rattle.journal_lines.proofs.read.type_of.Goals as goal

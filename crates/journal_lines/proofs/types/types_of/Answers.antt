@@ -1,5 +1,4 @@
-use Rattle.crun_lines.specs.Views.{texts}
-use Rattle.journal_lines.specs.Lines.{type_text}
+use Rattle.journal_lines.proofs.Common.{texts, type_text}
 use Rattle.journal_lines.proofs.Items.{at_none, not_written, one_more}
 use Rattle.journal_lines.proofs.Joins.{every_type, IsAny}
 use Rattle.journal_lines.proofs.types.types_of.Goals as goal

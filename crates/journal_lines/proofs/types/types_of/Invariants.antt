@@ -1,6 +1,4 @@
-use Rattle.std.proofs.Common.{◌≡◌, map, take}
-use Rattle.crun_lines.specs.Views.{texts}
-use Rattle.journal_lines.specs.Lines.{type_text}
+use Rattle.journal_lines.proofs.Common.{◌≡◌, map, take, texts, type_text}
 use Rattle.journal_lines.proofs.types.types_of.Given as goal
 
 abbrev pub invariant-loop-k : goal.invariant-loop-k

@@ -1,5 +1,4 @@
-use Rattle.std.proofs.Common.{◌≡◌, ◌∙◌, sym, arith, rules}
-use Rattle.std.proofs.lemmas.Fmt.{decimal_injective}
+use Rattle.journal_lines.proofs.Common.{◌≡◌, sym, ◌∙◌, arith, rules, decimal_injective}
 use Rattle.journal_lines.proofs.values.i32_of.Goals as goal
 
 pub returns-in-Err-clause-none : goal.returns-in-Err-clause-none

@@ -1,6 +1,4 @@
-use Rattle.w2c_base.specs.Values.{IsNumber}
-use Rattle.crun_lines.specs.Views.{texts}
-use Rattle.crun_lines.specs.Words.{number_text}
+use Rattle.journal_lines.proofs.Common.{IsNumber, texts, number_text}
 use Rattle.journal_lines.proofs.Items.{all_more, at_none, not_written, one_more}
 use Rattle.journal_lines.proofs.values.values_of.Goals as goal
 

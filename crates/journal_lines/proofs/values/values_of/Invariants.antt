@@ -1,8 +1,4 @@
-use Rattle.std.proofs.Common.{◌≡◌, map, take}
-use Rattle.std.specs.List.{AllByRecursion}
-use Rattle.w2c_base.specs.Values.{IsNumber}
-use Rattle.crun_lines.specs.Views.{texts}
-use Rattle.crun_lines.specs.Words.{number_text}
+use Rattle.journal_lines.proofs.Common.{◌≡◌, map, take, AllByRecursion, IsNumber, texts, number_text}
 use Rattle.journal_lines.proofs.values.values_of.Given as goal
 
 abbrev pub invariant-loop-k : goal.invariant-loop-k

@@ -1,5 +1,4 @@
-use Rattle.std.proofs.Common.{◌≡◌, ◌++◌, take}
-use Rattle.journal_lines.specs.Lines.{spaced_types}
+use Rattle.journal_lines.proofs.Common.{◌≡◌, ◌++◌, take, spaced_types}
 use Rattle.journal_lines.proofs.write.put_types.Given as goal
 
 abbrev pub invariant-loop-ty : goal.invariant-loop-ty

@@ -1,5 +1,4 @@
-use Rattle.std.proofs.Common.{◌≡◌, ℤ, ◌-ℤ◌, pos, ◌≤ℤ◌, ◌<ℤ◌, ◌^◌, Ok, Err, of_z, to_z, w32, w64, sym, ap, ◌∙◌, arith}
-use Rattle.std.proofs.lemmas.Int.{ints}
+use Rattle.leb_bytes.proofs.Common.{◌≡◌, ◌^◌, ℤ, pos, ◌-ℤ◌, ◌≤ℤ◌, ◌<ℤ◌, Ok, Err, sym, ap, ◌∙◌, arith, w32, w64, to_z, of_z, ints}
 use Rattle.leb_bytes.proofs.Numbers.{s32_of-complete}
 use Rattle.leb_bytes.proofs.window.front_s32.Goals as goal
 

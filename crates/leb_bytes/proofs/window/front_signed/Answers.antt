@@ -1,11 +1,4 @@
-use Rattle.std.proofs.Common.{◌≡◌, ℕ, ◌*◌, ◌-◌, ◌%◌, ◌^◌, ◌<◌, ◌≤◌, ℤ, ◌-ℤ◌, pos, ◌≤ℤ◌, ◌<ℤ◌, Bool, true, false, of_z, to_z, w64, sym, subst, arith}
-use Rattle.std.specs.Int.{w128}
-use Rattle.std.specs.Prelude.{FitsSigned, int_le, int_lt}
-use Rattle.std.proofs.lemmas.Int.{ints}
-use Rattle.std.proofs.lemmas.Nat.{one_shl}
-use Rattle.std.proofs.Math.Pow.{pow_mono}
-use Rattle.w2c_base.specs.SpelledNumber.{SpellsSigned}
-use Rattle.leb_bytes.specs.Run.{InRange}
+use Rattle.leb_bytes.proofs.Common.{◌≡◌, ℕ, ◌-◌, ◌*◌, ◌%◌, ◌^◌, ◌<◌, ◌≤◌, Bool, true, false, ℤ, pos, ◌-ℤ◌, ◌≤ℤ◌, ◌<ℤ◌, int_lt, int_le, FitsSigned, sym, subst, arith, pow_mono, w64, to_z, of_z, ints, one_shl, w128, SpellsSigned, InRange}
 use Rattle.leb_bytes.proofs.Windows.{signed-fits, signed-wrong, sum-below}
 use Rattle.leb_bytes.proofs.window.front_signed.Goals as goal
 use Rattle.leb_bytes.proofs.window.front_signed.Goals.{then-number-half-via-then-number-half, then-number-half-via-else-number-half+then-number-half-2}

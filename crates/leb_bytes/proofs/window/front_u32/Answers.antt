@@ -1,8 +1,4 @@
-use Rattle.std.proofs.Common.{Ok, Err, sym, arith}
-use Rattle.w2c_base.specs.SpelledNumber.{SpellsUnsigned}
-use Rattle.leb_bytes.specs.declared.fault.LebFault.TheVariants.{Unused}
-use Rattle.leb_bytes.specs.Reading.{HasBitsPast}
-use Rattle.leb_bytes.specs.Run.{IsRunOf}
+use Rattle.leb_bytes.proofs.Common.{Ok, Err, sym, arith, SpellsUnsigned, HasBitsPast, IsRunOf, Unused}
 use Rattle.leb_bytes.proofs.Numbers.{u32_of-complete}
 use Rattle.leb_bytes.proofs.Windows.{same_fault, unsigned-fits, unsigned-wrong}
 use Rattle.leb_bytes.proofs.window.front_u32.Goals as goal

@@ -1,9 +1,4 @@
-use Rattle.std.proofs.Common.{◌≡◌, suc, ◌+◌, ◌<◌, ◌≤◌, get_or, length, take, subst, arith}
-use Rattle.std.proofs.Math.Seq.{take-length}
-use Rattle.std.proofs.lemmas.List.{length-take-le}
-use Rattle.std.proofs.lemmas.List.Elements.{All-more}
-use Rattle.w2c_base.specs.SpelledNumber.{IsNumberRun}
-use Rattle.leb_bytes.specs.Reading.{GoOn}
+use Rattle.leb_bytes.proofs.Common.{◌≡◌, suc, ◌+◌, ◌<◌, ◌≤◌, length, get_or, take, subst, arith, length-take-le, take-length, All-more, IsNumberRun, GoOn}
 use Rattle.leb_bytes.proofs.Runs.{IsNumberRun-from_go_on}
 use Rattle.leb_bytes.proofs.Shifts.{sum-more, top_bit}
 use Rattle.leb_bytes.proofs.window.run.Goals as goal

@@ -1,6 +1,4 @@
-use Rattle.std.proofs.Common.{◌≡◌, ◌≤◌, length, take}
-use Rattle.w2c_base.specs.SpelledNumber.{seven_bit_sum}
-use Rattle.leb_bytes.specs.Reading.{GoOn}
+use Rattle.leb_bytes.proofs.Common.{◌≡◌, ◌≤◌, length, take, seven_bit_sum, GoOn}
 use Rattle.leb_bytes.proofs.window.run.Given as goal
 
 abbrev pub invariant-loop-i : goal.invariant-loop-i

@@ -1,9 +1,4 @@
-use Rattle.std.proofs.Common.{◌≡◌, ◌*◌, ◌-◌, ◌^◌, ◌<◌, ◌≤◌, pos, ◌-ℤ◌, ℕ, to_z, of_z, sym, ◌∙◌, arith, inl, inr}
-use Rattle.std.specs.Int.{w128}
-use Rattle.std.proofs.lemmas.Bool.{cases_lt}
-use Rattle.std.proofs.lemmas.Int.{ints}
-use Rattle.std.proofs.lemmas.Nat.{one_shl}
-use Rattle.std.proofs.Math.Pow.{pow_mono}
+use Rattle.leb_bytes.proofs.Common.{◌≡◌, ℕ, ◌-◌, ◌*◌, ◌^◌, ◌<◌, ◌≤◌, pos, ◌-ℤ◌, sym, ◌∙◌, inl, inr, arith, pow_mono, to_z, of_z, cases_lt, ints, one_shl, w128}
 use Rattle.leb_bytes.proofs.Fits.{below-div_zero, signed_sum-high}
 use Rattle.leb_bytes.proofs.window.signed.Goals as goal
 

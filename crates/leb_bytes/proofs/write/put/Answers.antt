@@ -1,8 +1,4 @@
-use Rattle.std.proofs.Common.{◌≡◌, suc, ◌+◌, ◌*◌, ◌-◌, ◌/◌, ◌^◌, ◌<◌, ◌∙◌, set, take, subst, arith}
-use Rattle.std.proofs.Math.ListN.{length-set}
-use Rattle.std.proofs.lemmas.List.{drop-set-lt}
-use Rattle.std.proofs.lemmas.Nat.{shr_below}
-use Rattle.leb_bytes.specs.Run.{IsRunOf}
+use Rattle.leb_bytes.proofs.Common.{◌≡◌, suc, ◌+◌, ◌-◌, ◌*◌, ◌/◌, ◌^◌, ◌<◌, take, set, ◌∙◌, subst, arith, length-set, drop-set-lt, shr_below, IsRunOf}
 use Rattle.leb_bytes.proofs.Written.{Holds, Holds-last, Holds-more}
 use Rattle.leb_bytes.proofs.write.put.Goals as goal
 

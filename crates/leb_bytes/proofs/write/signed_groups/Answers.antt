@@ -1,5 +1,4 @@
-use Rattle.std.proofs.Common.{◌*◌, ◌%◌, ◌^◌, ◌<◌, arith}
-use Rattle.std.proofs.lemmas.Int.{ints}
+use Rattle.leb_bytes.proofs.Common.{◌*◌, ◌%◌, ◌^◌, ◌<◌, arith, ints}
 use Rattle.leb_bytes.proofs.Fits.{half}
 use Rattle.leb_bytes.proofs.write.signed_groups.Goals as goal
 use Rattle.leb_bytes.proofs.write.signed_groups.Goals.{then-n-lt0, else-n-lt0}

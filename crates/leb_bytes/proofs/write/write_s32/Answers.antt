@@ -1,6 +1,4 @@
-use Rattle.std.proofs.Common.{◌≡◌, ◌*◌, of_z, to_z, sym, subst, ◌∙◌, arith, w64}
-use Rattle.std.proofs.lemmas.Int.{ints}
-use Rattle.leb_bytes.specs.Run.{InRange}
+use Rattle.leb_bytes.proofs.Common.{◌≡◌, ◌*◌, sym, ◌∙◌, subst, arith, w64, to_z, of_z, ints, InRange}
 use Rattle.leb_bytes.proofs.ShortestLemmas.{signed_shortest}
 use Rattle.leb_bytes.proofs.write.write_s32.Goals as goal
 

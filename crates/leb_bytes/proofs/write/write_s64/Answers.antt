@@ -1,6 +1,4 @@
-use Rattle.std.proofs.Common.{◌*◌, sym, subst, ◌∙◌, arith, w64}
-use Rattle.std.proofs.lemmas.Int.{ints, to_z-of_z}
-use Rattle.leb_bytes.specs.Run.{InRange}
+use Rattle.leb_bytes.proofs.Common.{◌*◌, sym, ◌∙◌, subst, arith, w64, ints, to_z-of_z, InRange}
 use Rattle.leb_bytes.proofs.ShortestLemmas.{signed_shortest}
 use Rattle.leb_bytes.proofs.write.write_s64.Goals as goal
 

@@ -1,5 +1,4 @@
-use Rattle.std.proofs.Common.{subst, arith}
-use Rattle.leb_bytes.specs.Run.{IsRunOf}
+use Rattle.leb_bytes.proofs.Common.{subst, arith, IsRunOf}
 use Rattle.leb_bytes.proofs.ShortestLemmas.{unsigned_shortest}
 use Rattle.leb_bytes.proofs.write.write_u32.Goals as goal
 

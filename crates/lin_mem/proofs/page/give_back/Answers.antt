@@ -1,5 +1,4 @@
-use Rattle.std.proofs.Common.{◌≡◌, ◌<◌, ◌∙◌, None, Some, get_or, length, sym, ap, arith}
-use Rattle.lin_mem.specs.Places.{somes}
+use Rattle.lin_mem.proofs.Common.{◌≡◌, ◌<◌, length, get_or, Some, None, sym, ap, ◌∙◌, arith, somes}
 use Rattle.lin_mem.proofs.Full.{begun-more, get_or-begun, get_or-held, length-full}
 use Rattle.lin_mem.proofs.page.give_back.Goals as goal
 

@@ -1,5 +1,4 @@
-use Rattle.std.proofs.Common.{◌≡◌, ◌++◌, None, drop}
-use Rattle.std.specs.Prelude.{replicate}
+use Rattle.std.proofs.Common.{◌≡◌, ◌++◌, None, drop, replicate}
 use Rattle.lin_mem.proofs.page.give_back.Given as goal
 
 abbrev pub invariant-loop-i : goal.invariant-loop-i

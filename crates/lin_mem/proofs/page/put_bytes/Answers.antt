@@ -1,5 +1,4 @@
-use Rattle.std.proofs.Common.{length, drop, take}
-use Rattle.lin_mem.specs.Places.{somes}
+use Rattle.lin_mem.proofs.Common.{length, take, drop, somes}
 use Rattle.lin_mem.proofs.Full.{part-full}
 use Rattle.lin_mem.proofs.page.put_bytes.Goals as goal
 

@@ -1,5 +1,4 @@
-use Rattle.std.proofs.Common.{sym, ap, ◌∙◌, arith}
-use Rattle.lin_mem.specs.Places.{somes}
+use Rattle.lin_mem.proofs.Common.{sym, ap, ◌∙◌, arith, somes}
 use Rattle.lin_mem.proofs.Full.{somes-map, whole-full}
 use Rattle.lin_mem.proofs.page.whole.Goals as goal
 

@@ -1,6 +1,4 @@
-use Rattle.std.proofs.Common.{◌≡◌, ◌<◌, ◌++◌, ◌∙◌, ℕ, Option, None, Some, drop, length, subst, sym, ap, arith}
-use Rattle.std.specs.Prelude.{All, replicate}
-use Rattle.lin_mem.specs.Places.{IsFull, somes}
+use Rattle.lin_mem.proofs.Common.{◌≡◌, ℕ, ◌<◌, ◌++◌, length, drop, replicate, Some, None, All, Option, sym, ap, ◌∙◌, subst, arith, IsFull, somes}
 use Rattle.lin_mem.proofs.Full.{All-zeros, begun-all, begun-more, full-same, length-same}
 use Rattle.lin_mem.proofs.page.zeroed_block.Goals as goal
 

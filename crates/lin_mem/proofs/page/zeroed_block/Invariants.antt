@@ -1,5 +1,4 @@
-use Rattle.std.proofs.Common.{◌≡◌, ◌++◌, Some, drop}
-use Rattle.std.specs.Prelude.{replicate}
+use Rattle.std.proofs.Common.{◌≡◌, ◌++◌, Some, drop, replicate}
 use Rattle.lin_mem.proofs.page.zeroed_block.Given as goal
 
 abbrev pub invariant-loop-i : goal.invariant-loop-i

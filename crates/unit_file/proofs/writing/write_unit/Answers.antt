@@ -1,10 +1,9 @@
 use Rattle.std.proofs.Common.{◌∙◌}
 use Rattle.std.proofs.lemmas.Result.{err_from_is_err_and}
 use Rattle.w2c_io.proofs.Passed.{begun_in_vain, file_written, finished_in_vain, part_written}
-use Rattle.w2c_files.proofs.Standing.{whole_begun}
+use Rattle.w2c_files.proofs.Standing.{whole_begun, put_whole, put_part}
 use Rattle.c_tree.specs.View.{unit_of}
 use Rattle.c_print.specs.Print.{print_of}
-use Rattle.unit_file.proofs.OneFile.{put_part, put_whole}
 use Rattle.unit_file.proofs.writing.write_unit.Goals as goal
 
 pub returns-in-Err-clause-begun : goal.returns-in-Err-clause-begun

@@ -1,9 +1,5 @@
-use Rattle.std.proofs.Common.{◌≡◌, ℕ, List, [], ◌∷◌, ◌++◌, Some, None, inl, inr, codes, refl, sym, ap, ◌∙◌, arith}
-use Rattle.std.specs.FinMap.{get, insert}
-use Rattle.w2c_io.specs.Contents.{Contents, Name, Told}
-use Rattle.w2c_io.proofs.Names.{get_here, get_other}
+use Rattle.w2c_files.proofs.Common.{◌≡◌, ℕ, List, [], ◌∷◌, ◌++◌, Some, None, codes, sym, refl, ap, ◌∙◌, inl, inr, arith, get, insert, get_here, get_other, Contents, Name, Told, IsBegun, IsOneOf, file_names, written}
 use Rattle.w2c_files.specs.Samples.{two_files}
-use Rattle.w2c_files.specs.Standing.{IsBegun, IsOneOf, file_names, written}
 use Rattle.w2c_files.proofs.Standing.{is_one}
 use Rattle.w2c_files.proofs.cases.standing_cases.Goals as goal
 

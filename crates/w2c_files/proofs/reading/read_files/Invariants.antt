@@ -1,10 +1,4 @@
-use Rattle.std.proofs.Common.{◌≡◌, ◌≤◌, ◌+◌, length, take}
-use Rattle.std.specs.List.{AllByRecursion}
-use Rattle.w2c_io.specs.Passed.{Passes}
-use Rattle.w2c_io.specs.Telling.{Tells}
-use Rattle.w2c_files.specs.Passing.{ReadsAll}
-use Rattle.w2c_files.specs.Reading.{AreHeld, total}
-use Rattle.w2c_files.specs.Words.{names_of}
+use Rattle.w2c_files.proofs.Common.{◌≡◌, ◌+◌, ◌≤◌, length, take, AllByRecursion, Passes, Tells, ReadsAll, AreHeld, total, names_of}
 use Rattle.w2c_files.proofs.reading.read_files.Given as goal
 
 -- so many files are read

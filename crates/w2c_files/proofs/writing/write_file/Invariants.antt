@@ -1,6 +1,4 @@
-use Rattle.std.proofs.Common.{◌≡◌, ◌++◌, List, ℕ, Some, length}
-use Rattle.w2c_io.specs.Contents.{holding}
-use Rattle.w2c_io.specs.Passed.{Passes}
+use Rattle.w2c_files.proofs.Common.{◌≡◌, ℕ, List, ◌++◌, length, Some, holding, Passes}
 use Rattle.w2c_files.proofs.FilePassed.{Began}
 use Rattle.w2c_files.proofs.writing.write_file.Given as goal
 

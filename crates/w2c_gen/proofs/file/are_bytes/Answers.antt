@@ -1,4 +1,4 @@
-use Rattle.w2c_gen.proofs.Bytes.{slice_bytes}
+use Rattle.wasm_spelling.proofs.ByteLists.{slice_bytes}
 use Rattle.w2c_gen.proofs.file.are_bytes.Goals as goal
 
 pub returns : goal.returns

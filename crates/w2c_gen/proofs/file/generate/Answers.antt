@@ -1,7 +1,4 @@
-use Rattle.std.proofs.Common.{sym, subst}
-use Rattle.wasm_spelling.specs.Bytes.{AreBytes}
-use Rattle.wasm_spelling.specs.Places.{IsFormed, SpellsAside}
-use Rattle.wasm_writing.specs.ShortFile.{IsShortFile}
+use Rattle.w2c_gen.proofs.Common.{sym, subst, AreBytes, IsFormed, SpellsAside, IsShortFile}
 use Rattle.w2c_gen.proofs.Formed.{generated_formed}
 use Rattle.w2c_gen.proofs.Files.{generated_accepted}
 use Rattle.w2c_gen.proofs.file.generate.Goals as goal

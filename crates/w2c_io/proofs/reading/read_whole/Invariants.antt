@@ -1,5 +1,4 @@
-use Rattle.std.proofs.Common.{length, ◌-◌, ◌+◌}
-use Rattle.std.specs.Io.KnownBytes.{Consumes}
+use Rattle.w2c_io.proofs.Common.{◌+◌, ◌-◌, length, Consumes}
 use Rattle.w2c_io.proofs.reading.read_whole.Given as goal
 
 -- so many bytes are read

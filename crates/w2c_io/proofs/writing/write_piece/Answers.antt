@@ -1,6 +1,5 @@
-use Rattle.std.proofs.Common.{sym, ap, List, ℕ, ◌≡◌, ◌++◌, ◌∙◌, ◌-◌, length, take, drop, append_assoc, take-append-drop}
+use Rattle.std.proofs.Common.{sym, ap, List, ℕ, ◌≡◌, ◌++◌, ◌∙◌, ◌-◌, length, take, drop, append_assoc, take-append-drop, length-drop}
 use Rattle.std.proofs.Math.Seq.{take-length}
-use Rattle.std.proofs.lemmas.List.{length-drop}
 use Rattle.w2c_io.proofs.Passing.{appends_more}
 use Rattle.w2c_io.proofs.writing.write_piece.Goals as goal
 

@@ -1,5 +1,4 @@
-use Rattle.std.proofs.Common.{◌≡◌, ◌++◌, List, ℕ, length}
-use Rattle.std.specs.Io.KnownBytes.{Appends}
+use Rattle.w2c_io.proofs.Common.{◌≡◌, ℕ, List, ◌++◌, length, Appends}
 use Rattle.w2c_io.proofs.writing.write_piece.Given as goal
 
 -- a part of the piece is written

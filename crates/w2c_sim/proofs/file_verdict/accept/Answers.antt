@@ -1,5 +1,4 @@
-use Rattle.wasm_valid.specs.Verdict.{Accepted}
-use Rattle.wasm_valid.specs.FileVerdict.{Read, IsVerdictOn}
+use Rattle.w2c_sim.proofs.Common.{IsVerdictOn, Read, Accepted}
 use Rattle.w2c_sim.proofs.Refusing.{accepted_is_given, refused_is_given}
 use Rattle.w2c_sim.proofs.file_verdict.accept.Goals as goal
 

@@ -1,5 +1,4 @@
-use Rattle.std.proofs.lemmas.Result.{err_from_is_err_and}
-use Rattle.wasm_valid.proofs.Verdicts.{accepted}
+use Rattle.w2c_sim.proofs.Common.{err_from_is_err_and, accepted}
 use Rattle.w2c_sim.proofs.Refusing.{rule_refusal}
 use Rattle.w2c_sim.proofs.file_verdict.valid_module.Goals as goal
 

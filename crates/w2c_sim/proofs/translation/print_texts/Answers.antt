@@ -1,10 +1,6 @@
-use Rattle.std.proofs.Common.{◌≡◌, ◌∙◌, sym, subst, ap, IfOk, Result, Ok, Err}
-use Rattle.c_tree.specs.Spelled.{Formed}
-use Rattle.c_tree.specs.View.{unit_of}
-use Rattle.c_print.specs.Print.{print_of}
+use Rattle.w2c_sim.proofs.Common.{◌≡◌, IfOk, Ok, Err, Result, sym, ap, ◌∙◌, subst, Formed, unit_of, print_of, AreTextsOf}
 use Rattle.c_print.specs.Header.{header_text}
 use Rattle.w2c_sim.specs.declared.translation.Texts.{Texts}
-use Rattle.w2c_sim.specs.Translation.{AreTextsOf}
 use Rattle.w2c_sim.proofs.Spelling.{unit_is_formed}
 use Rattle.w2c_sim.proofs.translation.print_texts.Goals as goal
 

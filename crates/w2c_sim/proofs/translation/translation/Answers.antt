@@ -1,4 +1,4 @@
-use Rattle.wasm_binary.proofs.Result.{slice_bytes}
+use Rattle.wasm_spelling.proofs.ByteLists.{slice_bytes}
 use Rattle.w2c_sim.proofs.Accepting.{module_is_accepted, module_of}
 use Rattle.w2c_sim.proofs.translation.translation.Goals as goal
 

@@ -1,8 +1,4 @@
-use Rattle.std.proofs.Common.{◌≡◌, ◌∙◌, subst, Result, Ok, Err, OnOk, OnErr, inr}
-use Rattle.std.proofs.lemmas.Result.{err_from_is_err_and}
-use Rattle.w2c_io.specs.Contents.{appending, AppendsPart}
-use Rattle.w2c_io.proofs.Passed.{memory_wanted, vain_passed, whole_passed}
-use Rattle.w2c_sim.specs.Translation.{header_text_of}
+use Rattle.w2c_sim.proofs.Common.{◌≡◌, OnOk, OnErr, Ok, Err, Result, ◌∙◌, subst, inr, err_from_is_err_and, memory_wanted, vain_passed, whole_passed, AppendsPart, appending, header_text_of}
 use Rattle.w2c_sim.proofs.writing.write_header.Goals as goal
 
 pub returns-clause-written : goal.returns-clause-written

@@ -1,16 +1,9 @@
-use Rattle.std.proofs.Common.{◌≡◌, ◌∙◌, ap, sym, subst, arith, IsSome, Option, Result, Ok, Err, inr}
-use Rattle.std.proofs.lemmas.Result.{err_from_is_err_and}
-use Rattle.w2c_io.specs.Contents.{Name, appending, AppendsPart}
+use Rattle.w2c_sim.proofs.Common.{◌≡◌, IsSome, Ok, Err, Option, Result, sym, ap, ◌∙◌, subst, inr, arith, err_from_is_err_and, vain_passed, whole_passed, AppendsPart, appending, item_of, all_written, begun, fails_at_include, fails_between, fails_in, is_contained, one_more, put_all, put_include, put_more, stops_at_include, stops_between, stops_in, print_item_of, left_of}
+use Rattle.w2c_io.specs.Contents.{Name}
 use Rattle.w2c_io.specs.declared.answers.WriteAnswer.{WriteAnswer}
-use Rattle.c_tree.specs.View.{item_of}
-use Rattle.c_print.specs.Print.{print_item_of}
-use Rattle.c_unit.specs.Tails.{left_of}
 use Rattle.w2c_io.proofs.Causes.{cause_behind, memory_cause, done_cause, named_behind}
-use Rattle.w2c_io.proofs.Passed.{vain_passed, whole_passed}
 use Rattle.c_tree.specs.declared.token.Tok.TheVariants as tok
 use Rattle.c_tree.specs.Tokens.{fixed_text}
-use Rattle.c_print.proofs.ItemsWritten.{begun, is_contained, one_more, all_written, stops_at_include, stops_between, stops_in}
-use Rattle.c_print.proofs.ItemsWritten.{put_include, put_more, put_all, fails_at_include, fails_between, fails_in}
 use Rattle.w2c_sim.proofs.ItemsWritten.{given_item, none_left, shorter}
 use Rattle.w2c_sim.proofs.writing.write_items.Goals as goal
 

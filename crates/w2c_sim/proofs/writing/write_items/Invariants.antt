@@ -1,6 +1,4 @@
-use Rattle.std.proofs.Common.{◌≡◌, length}
-use Rattle.c_unit.specs.Tails.{left_of}
-use Rattle.c_print.proofs.ItemsWritten.{ArePut, IsWritten}
+use Rattle.w2c_sim.proofs.Common.{◌≡◌, length, ArePut, IsWritten, left_of}
 use Rattle.w2c_sim.proofs.writing.write_items.Given as goal
 
 abbrev pub invariant-more : goal.invariant-more

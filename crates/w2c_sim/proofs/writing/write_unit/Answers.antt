@@ -1,14 +1,6 @@
-use Rattle.std.proofs.Common.{◌≡◌, sym, subst, OnOk, OnErr, IfErr}
-use Rattle.std.proofs.lemmas.Result.{err_from_is_err_and}
-use Rattle.w2c_io.specs.Contents.{appending, AppendsPart}
+use Rattle.w2c_sim.proofs.Common.{◌≡◌, IfErr, OnOk, OnErr, sym, subst, err_from_is_err_and, memory_wanted, AppendsPart, appending, IsFormed, IsValid, Formed, print_of, text_of}
 use Rattle.w2c_io.specs.Passed.{Passes, PutsText, PutsPart}
-use Rattle.w2c_io.proofs.Passed.{memory_wanted}
-use Rattle.wasm_spelling.specs.Places.{IsFormed}
-use Rattle.wasm_valid.specs.Verdict.{IsValid}
-use Rattle.wasm_binary.proofs.Result.{slice_bytes}
-use Rattle.c_tree.specs.Spelled.{Formed}
-use Rattle.c_print.specs.Print.{print_of}
-use Rattle.w2c_sim.specs.Translation.{text_of}
+use Rattle.wasm_spelling.proofs.ByteLists.{slice_bytes}
 use Rattle.w2c_sim.proofs.Accepting.{named_is_accepted}
 use Rattle.w2c_sim.proofs.Spelling.{unit_is_formed}
 use Rattle.w2c_sim.proofs.writing.write_unit.Goals as goal

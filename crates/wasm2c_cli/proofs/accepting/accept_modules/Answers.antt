@@ -1,9 +1,5 @@
-use Rattle.std.proofs.Common.{◌≡◌, ◌<◌, rules, arith, length, subst}
-use Rattle.w2c_files.specs.Words.{names_of}
-use Rattle.wasm_spelling.specs.Bytes.{AreBytes}
-use Rattle.wasm_valid.specs.Verdict.{Accepted}
+use Rattle.wasm2c_cli.proofs.Common.{◌≡◌, ◌<◌, length, subst, arith, rules, names_of, AreBytes, Accepted, IsRefusal}
 use Rattle.wasm_valid.specs.FileVerdict.{Read, IsVerdictOn}
-use Rattle.w2c_sim.specs.Refusals.{IsRefusal}
 use Rattle.wasm2c_cli.proofs.Taken.{one_more_taken, source_at, stops_accepting}
 use Rattle.wasm2c_cli.proofs.accepting.accept_modules.Goals as goal
 

@@ -1,5 +1,4 @@
-use Rattle.std.proofs.Common.{take}
-use Rattle.wasm2c_cli.specs.Parts.{AreTaken}
+use Rattle.wasm2c_cli.proofs.Common.{take, AreTaken}
 use Rattle.wasm2c_cli.proofs.accepting.accept_modules.Given as goal
 
 -- so many are accepted

@@ -1,4 +1,4 @@
-use Rattle.wasm_binary.proofs.Result.{slice_bytes}
+use Rattle.wasm_spelling.proofs.ByteLists.{slice_bytes}
 use Rattle.wasm2c_cli.proofs.accepting.accept_one.Goals as goal
 
 pub returns-clause-bytes : goal.returns-clause-bytes

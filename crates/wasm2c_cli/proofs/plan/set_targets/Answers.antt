@@ -1,7 +1,5 @@
-use Rattle.std.proofs.Common.{◌≡◌, arith, length}
-use Rattle.w2c_files.specs.Words.{names_of}
+use Rattle.wasm2c_cli.proofs.Common.{◌≡◌, length, arith, names_of, target_in}
 use Rattle.w2c_files.proofs.Loops.{length-names}
-use Rattle.wasm2c_cli.specs.Plan.{target_in}
 use Rattle.wasm2c_cli.proofs.ModuleFiles.{all_targets, one_more_target}
 use Rattle.wasm2c_cli.proofs.plan.set_targets.Goals as goal
 

@@ -1,7 +1,4 @@
-use Rattle.std.proofs.Common.{◌≡◌, map, take}
-use Rattle.w2c_files.specs.Words.{names_of}
-use Rattle.wasm2c_cli.specs.Parts.{seen_targets}
-use Rattle.wasm2c_cli.specs.Plan.{target_in}
+use Rattle.wasm2c_cli.proofs.Common.{◌≡◌, map, take, names_of, seen_targets, target_in}
 use Rattle.wasm2c_cli.proofs.plan.set_targets.Given as goal
 
 -- the targets of so many files

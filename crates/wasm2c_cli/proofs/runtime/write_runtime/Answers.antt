@@ -1,5 +1,4 @@
-use Rattle.std.proofs.Common.{◌≡◌, ◌++◌, codes, rules}
-use Rattle.wasm2c_cli.specs.Parts.{runtime_under}
+use Rattle.wasm2c_cli.proofs.Common.{◌≡◌, ◌++◌, codes, rules, runtime_under}
 use Rattle.wasm2c_cli.proofs.LineStops.{all_kept, runtime_finished, runtime_stopped}
 use Rattle.wasm2c_cli.proofs.PassingLines.{runtime_passed, runtime_tried}
 use Rattle.wasm2c_cli.proofs.runtime.write_runtime.Goals as goal

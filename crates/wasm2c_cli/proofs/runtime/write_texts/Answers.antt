@@ -1,7 +1,4 @@
-use Rattle.std.proofs.Common.{refl, rules}
-use Rattle.w2c_files.proofs.Standing.{at_first}
-use Rattle.wasm2c_cli.specs.Parts.{runtime_under}
-use Rattle.wasm2c_cli.specs.Runtime.{runtime_header, runtime_source}
+use Rattle.wasm2c_cli.proofs.Common.{refl, rules, at_first, runtime_under, runtime_header, runtime_source}
 use Rattle.wasm2c_cli.proofs.ModuleFiles.{second_at, stops_at}
 use Rattle.wasm2c_cli.proofs.Passing.{first_ends, second_ends, two_written}
 use Rattle.wasm2c_cli.proofs.runtime.write_texts.Goals as goal

@@ -1,14 +1,7 @@
-use Rattle.std.proofs.Common.{◌≡◌, OnOk, IfErr, rules, arith, length, subst, ap}
-use Rattle.w2c_files.specs.Standing.{written}
-use Rattle.w2c_files.specs.Words.{names_of}
-use Rattle.wasm2c_cli.specs.Job.{files_of}
-use Rattle.wasm2c_cli.specs.Parts.{AreTaken, StopsAccepting, StopsWriting, seen_targets}
+use Rattle.wasm2c_cli.proofs.Common.{◌≡◌, length, IfErr, OnOk, ap, subst, arith, rules, Passes, WritesFiles, written, names_of, files_of, AreTaken, StopsAccepting, StopsWriting, seen_targets, EndsWriting}
 use Rattle.wasm2c_cli.proofs.LineStops.{all_kept}
 use Rattle.wasm2c_cli.proofs.Taken.{length-taken}
 use Rattle.wasm2c_cli.proofs.Translated.{accepting_stops, reading_stopped, translation_finished, writing_stopped}
-use Rattle.w2c_io.specs.Passed.{Passes}
-use Rattle.w2c_files.specs.Passing.{WritesFiles}
-use Rattle.wasm2c_cli.specs.PartsPassing.{EndsWriting}
 use Rattle.wasm2c_cli.proofs.PassingLines.{accepting_passed, all_passed, reading_passed, writing_passed}
 use Rattle.wasm2c_cli.proofs.translating.translate.Goals as goal
 

@@ -1,14 +1,6 @@
-use Rattle.std.proofs.Common.{◌≡◌, OnOk, IfErr, subst}
-use Rattle.w2c_files.specs.Standing.{written}
-use Rattle.wasm2c_words.specs.Seen.{seen_generation}
-use Rattle.wasm2c_cli.specs.Job.{module_files}
-use Rattle.wasm2c_cli.specs.Parts.{IsNamed, IsTakenFile, StopsWriting, seen_target}
+use Rattle.wasm2c_cli.proofs.Common.{◌≡◌, IfErr, OnOk, subst, Passes, WritesFiles, written, seen_generation, module_files, IsNamed, IsTakenFile, StopsWriting, seen_target, EndsWriting, target}
 use Rattle.wasm2c_cli.specs.Plan as plan
-use Rattle.wasm2c_cli.specs.Plan.{target}
 use Rattle.wasm2c_cli.proofs.LineStops.{all_generated, all_kept, all_stopped}
-use Rattle.w2c_io.specs.Passed.{Passes}
-use Rattle.w2c_files.specs.Passing.{WritesFiles}
-use Rattle.wasm2c_cli.specs.PartsPassing.{EndsWriting}
 use Rattle.wasm2c_cli.proofs.PassingLines.{generation_passed, generation_tried}
 use Rattle.wasm2c_cli.proofs.translating.write_generated.Goals as goal
 

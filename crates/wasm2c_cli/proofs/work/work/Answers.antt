@@ -1,7 +1,4 @@
-use Rattle.std.proofs.Common.{◌≡◌, Some}
-use Rattle.w2c_files.specs.Words.{texts}
-use Rattle.wasm2c_words.specs.CommandLine.{Line, line_of}
-use Rattle.wasm2c_words.specs.Seen.{seen_line}
+use Rattle.wasm2c_cli.proofs.Common.{◌≡◌, Some, texts, Line, line_of, seen_line}
 use Rattle.wasm2c_cli.proofs.LineStops.{work_finished, work_stopped}
 use Rattle.wasm2c_cli.proofs.Passed.{passed}
 use Rattle.wasm2c_cli.proofs.PassingLines.{work_passed, work_tried}

@@ -1,11 +1,5 @@
-use Rattle.std.proofs.Common.{◌≡◌, rules, IfErr}
-use Rattle.wasm2c_words.specs.CommandLine.{translate, set}
-use Rattle.wasm2c_words.specs.Seen.{seen_line, seen_set, seen_translation}
-use Rattle.wasm2c_cli.specs.Parts.{StopsTranslating}
-use Rattle.wasm2c_cli.specs.Plan.{inputs_of, targets_of}
+use Rattle.wasm2c_cli.proofs.Common.{◌≡◌, IfErr, rules, Passes, set, translate, seen_line, seen_set, seen_translation, StopsTranslating, TriesTranslating, inputs_of, targets_of}
 use Rattle.wasm2c_cli.proofs.LineStops.{set_stopped, translation_stopped}
-use Rattle.w2c_io.specs.Passed.{Passes}
-use Rattle.wasm2c_cli.specs.PartsPassing.{TriesTranslating}
 use Rattle.wasm2c_cli.proofs.PassingLines.{set_tried, translation_tried}
 use Rattle.wasm2c_cli.proofs.work.work_on.Goals as goal
 

@@ -1,8 +1,5 @@
-use Rattle.std.proofs.Common.{◌∙◌}
-use Rattle.w2c_files.proofs.Standing.{whole_begun}
-use Rattle.w2c_sim.specs.Translation.{header_text_of}
-use Rattle.wasm2c_cli.proofs.ModuleFiles.{in_err, in_ok, put_part, put_whole}
-use Rattle.w2c_io.proofs.Passed.{part_written}
+use Rattle.wasm2c_cli.proofs.Common.{◌∙◌, part_written, put_part, put_whole, whole_begun, header_text_of}
+use Rattle.wasm2c_cli.proofs.ModuleFiles.{in_err, in_ok}
 use Rattle.wasm2c_cli.proofs.Passing.{finished, not_finished}
 use Rattle.wasm2c_cli.proofs.writing.header_to_file.Goals as goal
 

@@ -1,8 +1,4 @@
-use Rattle.std.proofs.Common.{◌≡◌, rules}
-use Rattle.w2c_sim.specs.Translation.{text_of, header_text_of}
-use Rattle.w2c_files.proofs.Standing.{at_first}
-use Rattle.wasm2c_cli.specs.Job.{module_files}
-use Rattle.wasm2c_cli.specs.Parts.{seen_target}
+use Rattle.wasm2c_cli.proofs.Common.{◌≡◌, rules, at_first, header_text_of, text_of, module_files, seen_target}
 use Rattle.wasm2c_cli.proofs.ModuleFiles.{both_stand, second_at, stops_at}
 use Rattle.wasm2c_cli.proofs.Passing.{first_ends, second_ends, two_written}
 use Rattle.wasm2c_cli.proofs.writing.write_module.Goals as goal

@@ -1,5 +1,4 @@
-use Rattle.std.proofs.Common.{◌≡◌, ◌<◌, rules, arith, length}
-use Rattle.wasm2c_cli.specs.Parts.{HasName, seen_target, seen_targets}
+use Rattle.wasm2c_cli.proofs.Common.{◌≡◌, ◌<◌, length, arith, rules, HasName, seen_target, seen_targets}
 use Rattle.wasm2c_cli.proofs.ModuleFiles.{length-targets, module_at, named_more, one_more, stops_all, target_at, target_has, ends_all, one_more_put}
 use Rattle.wasm2c_cli.proofs.writing.write_modules.Goals as goal
 

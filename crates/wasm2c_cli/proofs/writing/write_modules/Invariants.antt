@@ -1,10 +1,4 @@
-use Rattle.std.proofs.Common.{◌≡◌, ◌≤◌, take}
-use Rattle.std.specs.List.{AllByRecursion}
-use Rattle.w2c_io.specs.Passed.{Passes}
-use Rattle.w2c_files.specs.Passing.{WritesFiles}
-use Rattle.w2c_files.specs.Standing.{written}
-use Rattle.wasm2c_cli.specs.Job.{files_of}
-use Rattle.wasm2c_cli.specs.Parts.{IsNamed, seen_targets}
+use Rattle.wasm2c_cli.proofs.Common.{◌≡◌, ◌≤◌, take, AllByRecursion, Passes, WritesFiles, written, files_of, IsNamed, seen_targets}
 use Rattle.wasm2c_cli.proofs.writing.write_modules.Given as goal
 
 -- the files of so many modules stand whole

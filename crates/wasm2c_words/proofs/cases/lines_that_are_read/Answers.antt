@@ -1,8 +1,7 @@
-use Rattle.std.proofs.Common.{refl, codes, [], ◌∷◌, ◌≡◌, Some}
+use Rattle.wasm2c_words.proofs.Common.{◌≡◌, [], ◌∷◌, Some, codes, refl, generate, line_of, runtime, set, translate}
 use Rattle.clap.proofs.OnLiterals.{clap_on_literals}
 use Rattle.program_words.specs.Command.{rows_read}
 use Rattle.wasm2c_words.specs.Command.{values_of}
-use Rattle.wasm2c_words.specs.CommandLine.{generate, line_of, runtime, set, translate}
 use Rattle.wasm2c_words.proofs.cases.lines_that_are_read.Goals as goal
 
 file_first_is : line_of (codes "in/add.wasm" ∷ codes "-o" ∷ codes "a.c" ∷ [])

@@ -1,8 +1,7 @@
-use Rattle.std.proofs.Common.{refl, codes, [], ◌∷◌, ◌≡◌, None}
+use Rattle.wasm2c_words.proofs.Common.{◌≡◌, [], ◌∷◌, None, codes, refl, line_of}
 use Rattle.clap.proofs.OnLiterals.{clap_on_literals}
 use Rattle.program_words.specs.Command.{rows_read}
 use Rattle.wasm2c_words.specs.Command.{values_of}
-use Rattle.wasm2c_words.specs.CommandLine.{line_of}
 use Rattle.wasm2c_words.proofs.cases.lines_that_are_refused.Goals as goal
 
 no_word_is : line_of [] ≡ None

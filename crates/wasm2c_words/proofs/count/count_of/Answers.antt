@@ -1,5 +1,4 @@
-use Rattle.std.proofs.Common.{rules, ◌≡◌, true}
-use Rattle.program_words.specs.Tests.{is_decimal}
+use Rattle.wasm2c_words.proofs.Common.{◌≡◌, true, rules, is_decimal}
 use Rattle.wasm2c_words.proofs.Counts.{never_refused}
 use Rattle.wasm2c_words.proofs.count.count_of.Goals as goal
 

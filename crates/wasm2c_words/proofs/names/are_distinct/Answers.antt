@@ -1,5 +1,4 @@
-use Rattle.std.proofs.Common.{rules, ◌∙◌, ◌<◌, sym, ap, length}
-use Rattle.wasm2c_words.specs.Names.{module_name_of}
+use Rattle.wasm2c_words.proofs.Common.{◌<◌, length, sym, ap, ◌∙◌, rules, module_name_of}
 use Rattle.wasm2c_words.proofs.Mapped.{first_again, first_apart}
 use Rattle.wasm2c_words.proofs.names.are_distinct.Goals as goal
 

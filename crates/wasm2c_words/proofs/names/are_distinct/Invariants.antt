@@ -1,6 +1,4 @@
-use Rattle.std.proofs.Common.{◌≡◌, map, length}
-use Rattle.wasm2c_words.specs.Names.{are_distinct, module_name_of}
-use Rattle.w2c_files.specs.Words.{names_of}
+use Rattle.wasm2c_words.proofs.Common.{◌≡◌, map, length, names_of, are_distinct, module_name_of}
 use Rattle.wasm2c_words.proofs.names.are_distinct.Given as goal
 
 -- the names that are left are distinct just where all are

@@ -1,5 +1,4 @@
-use Rattle.std.proofs.Common.{rules, ◌≡◌, ◌++◌, [], ◌∷◌, length, string_bytes}
-use Rattle.std.specs.String.{string_len}
+use Rattle.std.proofs.Common.{rules, ◌≡◌, ◌++◌, [], ◌∷◌, length, string_bytes, string_len}
 use Rattle.wasm2c_words.proofs.HeaderName.{header_name_is}
 use Rattle.wasm2c_words.proofs.names.header_name.Goals as goal
 

@@ -1,12 +1,9 @@
-use Rattle.std.proofs.Common.{rules, ◌≡◌, ◌∙◌, sym, ap, ℕ, List, Option, Some, None, Err}
-use Rattle.std.specs.Prelude.{option_and_then, option_map}
+use Rattle.wasm2c_words.proofs.Common.{◌≡◌, ℕ, List, Some, None, Err, Option, option_map, option_and_then, sym, ap, ◌∙◌, rules, texts, line_of, line_of_values}
 use Rattle.clap.specs.Words.{Row, app_of, found_of, is_simple_and_free, rows_of}
-use Rattle.w2c_files.specs.Words.{texts}
 use Rattle.program_words.specs.declared.no_line.NoLine.TheVariants as no_line
 use Rattle.program_words.specs.Command.{rows_read}
 use Rattle.program_words.proofs.Parses.{same_error, told_of_equal}
 use Rattle.wasm2c_words.specs.Command.{values_in, values_of, wasm2c}
-use Rattle.wasm2c_words.specs.CommandLine.{line_of, line_of_values}
 use Rattle.wasm2c_words.specs.declared.line.Line.{Line}
 use Rattle.wasm2c_words.specs.Seen.{seen_line}
 use Rattle.wasm2c_words.proofs.read.read_words.Goals as goal

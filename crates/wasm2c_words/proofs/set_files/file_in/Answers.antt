@@ -1,6 +1,4 @@
-use Rattle.std.proofs.Common.{rules, ◌≡◌, ◌<◌, All, ℕ, List, arith, sym, subst}
-use Rattle.std.proofs.lemmas.List.Elements.{All-from_get_or}
-use Rattle.w2c_mangle.specs.Escaping.{escaped}
+use Rattle.wasm2c_words.proofs.Common.{◌≡◌, ℕ, ◌<◌, List, All, sym, subst, arith, rules, All-from_get_or, escaped}
 use Rattle.wasm2c_words.proofs.SetFiles.{escaped_ascii}
 use Rattle.wasm2c_words.proofs.set_files.file_in.Goals as goal
 

@@ -1,11 +1,5 @@
-use Rattle.std.proofs.Common.{◌-◌, Ok, sym, ap, subst, ◌∙◌, arith}
-use Rattle.std.proofs.lemmas.Result.{err_from_is_err_and}
-use Rattle.wasm_tree.specs.Instructions.{Code}
-use Rattle.wasm_tree.specs.Views.{instr_tree}
-use Rattle.wasm_spelling.specs.Reading.{code_at}
-use Rattle.wasm_binary.specs.View.{Gives, at}
+use Rattle.wasm_binary.proofs.Common.{◌-◌, Ok, sym, ap, ◌∙◌, subst, arith, err_from_is_err_and, Code, instr_tree, code_at, as_item, as_one, ender_of, head_of_opener, item_of, Gives, at}
 use Rattle.wasm_binary.specs.declared.code.Item.{Item}
-use Rattle.wasm_binary.specs.Enders.{as_item, as_one, item_of, ender_of, head_of_opener}
 use Rattle.wasm_binary.proofs.Items.{Ahead, at_start, goes_on, stops, is_done, shorter, byte_fails, end_item, else_item, no_room, block_item, plain_item, opens_as, opens_none}
 use Rattle.wasm_binary.proofs.Blocks.{opened_is}
 use Rattle.wasm_binary.proofs.code.+instructions.Goals as goal

@@ -1,6 +1,4 @@
-use Rattle.std.proofs.Common.{◌+◌, ◌*◌, length}
-use Rattle.wasm_spelling.specs.Reading.{code_at}
-use Rattle.wasm_binary.specs.View.{at}
+use Rattle.wasm_binary.proofs.Common.{◌+◌, ◌*◌, length, code_at, at}
 use Rattle.wasm_binary.proofs.Items.{Ahead}
 use Rattle.wasm_binary.proofs.code.+instructions.Given as goal
 

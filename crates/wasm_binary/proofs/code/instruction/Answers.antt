@@ -1,13 +1,6 @@
-use Rattle.std.proofs.Common.{rules, refl, sym, ap, subst, ◌∙◌}
-use Rattle.wasm_tree.specs.InstructionTable.{row_of}
-use Rattle.wasm_tree.specs.Forms.{form_in}
-use Rattle.wasm_tree.specs.Instructions.{BrTable, CallIndirect, MemorySize, MemoryGrow, I32Const, I64Const}
-use Rattle.wasm_tree.specs.InstructionTable.{labels, a_type, a_zero, an_i32, an_i64, a_sub_opcode}
-use Rattle.wasm_tree.specs.Views.{kind_tree}
+use Rattle.wasm_binary.proofs.Common.{sym, refl, ap, ◌∙◌, subst, rules, form_in, a_sub_opcode, a_type, a_zero, an_i32, an_i64, labels, row_of, BrTable, CallIndirect, I32Const, I64Const, MemoryGrow, MemorySize, kind_tree, as_kind, Fails, at}
 use Rattle.wasm_spelling.specs.Steps.{reads}
 use Rattle.wasm_spelling.specs.Reading.{form_at}
-use Rattle.wasm_binary.specs.View.{Fails, at}
-use Rattle.wasm_binary.specs.Enders.{as_kind}
 use Rattle.wasm_binary.proofs.Instructions.{by_opcode, by_op, plain_is}
 use Rattle.wasm_binary.proofs.Kept.{viewed}
 use Rattle.wasm_binary.proofs.code.instruction.Goals as goal

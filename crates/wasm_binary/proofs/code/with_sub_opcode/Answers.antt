@@ -1,7 +1,4 @@
-use Rattle.std.proofs.Common.{sym, subst}
-use Rattle.wasm_tree.specs.Views.{kind_tree}
-use Rattle.wasm_binary.specs.View.{Gives, at}
-use Rattle.wasm_binary.specs.Enders.{as_kind}
+use Rattle.wasm_binary.proofs.Common.{sym, subst, kind_tree, as_kind, Gives, at}
 use Rattle.wasm_binary.specs.Opcodes.{prefixed_row}
 use Rattle.wasm_binary.proofs.Instructions.{by_sub_opcode}
 use Rattle.wasm_binary.proofs.Kept.{viewed}

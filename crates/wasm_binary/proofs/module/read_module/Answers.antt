@@ -1,4 +1,5 @@
-use Rattle.wasm_binary.proofs.Result.{slice_bytes, is_found, formed_of, is_only, is_first, is_first_only}
+use Rattle.wasm_spelling.proofs.ByteLists.{slice_bytes}
+use Rattle.wasm_binary.proofs.Result.{is_found, formed_of, is_only, is_first, is_first_only}
 use Rattle.wasm_binary.proofs.module.read_module.Goals as goal
 
 pub returns-clause-found : goal.returns-clause-found

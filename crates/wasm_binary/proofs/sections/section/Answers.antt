@@ -1,8 +1,6 @@
-use Rattle.std.proofs.lemmas.Result.{err_from_is_err_and}
+use Rattle.wasm_binary.proofs.Common.{err_from_is_err_and, part_is, at}
 use Rattle.wasm_spelling.specs.declared.fault.Cause.TheVariants as cause
 use Rattle.wasm_spelling.specs.Reading.{content_at, custom_content_at, custom_at, part_at}
-use Rattle.wasm_binary.specs.View.{at}
-use Rattle.wasm_binary.specs.Sections.{part_is}
 use Rattle.wasm_binary.proofs.NoWindow.{no_window}
 use Rattle.wasm_binary.proofs.sections.section.Goals as goal
 

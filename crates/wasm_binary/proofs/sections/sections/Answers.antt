@@ -1,8 +1,4 @@
-use Rattle.std.proofs.Common.{sym, ◌∙◌}
-use Rattle.std.proofs.lemmas.Result.{err_from_is_err_and}
-use Rattle.wasm_spelling.specs.Reading.{all_sections_at}
-use Rattle.wasm_binary.specs.View.{at}
-use Rattle.wasm_binary.specs.Sections.{id_of_heading}
+use Rattle.wasm_binary.proofs.Common.{sym, ◌∙◌, err_from_is_err_and, all_sections_at, id_of_heading, at}
 use Rattle.wasm_binary.proofs.SectionLoop.{goes_on, smaller, is_done, id_stops, section_stops}
 use Rattle.wasm_binary.proofs.sections.sections.Goals as goal
 

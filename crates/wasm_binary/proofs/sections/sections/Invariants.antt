@@ -1,6 +1,4 @@
-use Rattle.std.proofs.Common.{length}
-use Rattle.wasm_spelling.specs.Reading.{all_sections_at}
-use Rattle.wasm_binary.specs.View.{at}
+use Rattle.wasm_binary.proofs.Common.{length, all_sections_at, at}
 use Rattle.wasm_binary.proofs.SectionLoop.{Ahead}
 use Rattle.wasm_binary.proofs.sections.sections.Given as goal
 

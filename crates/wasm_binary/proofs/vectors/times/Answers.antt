@@ -1,7 +1,4 @@
-use Rattle.std.proofs.Common.{◌+◌, sym, subst, refl}
-use Rattle.std.proofs.lemmas.Result.{err_from_is_err_and}
-use Rattle.wasm_spelling.specs.Reading.{times_at}
-use Rattle.wasm_binary.specs.View.{at}
+use Rattle.wasm_binary.proofs.Common.{◌+◌, sym, refl, subst, err_from_is_err_and, times_at, at}
 use Rattle.wasm_binary.proofs.Loop.{Ahead, goes_on, stops, is_done}
 use Rattle.wasm_binary.proofs.vectors.times.Goals as goal
 

@@ -1,5 +1,4 @@
-use Rattle.wasm_spelling.specs.Reading.{times_at}
-use Rattle.wasm_binary.specs.View.{at}
+use Rattle.wasm_binary.proofs.Common.{times_at, at}
 use Rattle.wasm_binary.proofs.Loop.{Ahead}
 use Rattle.wasm_binary.proofs.vectors.times.Given as goal
 

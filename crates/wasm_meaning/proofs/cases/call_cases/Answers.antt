@@ -1,15 +1,6 @@
-use Rattle.std.proofs.Common.{◌≡◌, ◌∙◌, ℕ, List, [], ◌∷◌, codes, Option, Some, None, option_map, refl, ap, arith}
-use Rattle.w2c_base.specs.declared.value.ValType.{ValType}
+use Rattle.wasm_meaning.proofs.Common.{◌≡◌, ℕ, List, [], ◌∷◌, Some, None, codes, Option, option_map, refl, ap, ◌∙◌, arith, if_found, params_digits, types_of, FuncType, ValType, Value, FuncAddress, HostFunc, LinkedSet, ModuleFunc, func_type, Fits, ListedCall, called_func, alone, call_of, exports_table, host_ticks, indirect_calls}
 use Rattle.w2c_base.specs.declared.value.ValType.TheVariants as type
-use Rattle.w2c_base.specs.declared.value.Value.{Value}
 use Rattle.w2c_base.specs.declared.value.Value.TheVariants.{I32, I64}
-use Rattle.w2c_base.specs.declared.signature.FuncType.{FuncType}
-use Rattle.w2c_base.specs.Lookup.{if_found}
-use Rattle.w2c_base.specs.Signature.{params_digits}
-use Rattle.w2c_base.specs.Values.{types_of}
-use Rattle.wasm_meaning.specs.LinkedSet.{LinkedSet, FuncAddress, ModuleFunc, HostFunc, func_type}
-use Rattle.wasm_meaning.specs.Run.{ListedCall, Fits, called_func}
-use Rattle.wasm_meaning.specs.Samples.{alone, call_of, indirect_calls, host_ticks, exports_table}
 use Rattle.wasm_meaning.proofs.cases.call_cases.Goals as goal
 
 pub returns-clause-fits : goal.returns-clause-fits

@@ -1,13 +1,7 @@
-use Rattle.std.proofs.Common.{◌≡◌, ◌≢◌, ◌∙◌, ℕ, zero, suc, ◌+◌, ◌<◌, ◌≤◌, true, false, List, [], ◌∷◌, ◌++◌, map, length, get_or, bytes_eq, codes, Some, None, refl, sym, ap, subst, arith}
-use Rattle.std.specs.List.{AllByRecursion, range_with_len}
+use Rattle.wasm_meaning.proofs.Common.{◌≡◌, ℕ, zero, suc, ◌+◌, ◌<◌, ◌≤◌, true, false, ◌≢◌, List, [], ◌∷◌, ◌++◌, map, length, get_or, Some, None, codes, bytes_eq, sym, refl, ap, ◌∙◌, subst, arith, AllByRecursion, range_with_len, AreDistinct, Host, FuncType, I32, I64, HostFunc, IsLinked, LinkedSet, ModuleFunc, NamedModule, Resolves, module_at, exports_table, host_ticks, imports_func, imports_memory, imports_table}
 use Rattle.std.proofs.lemmas.Slice.Eq.{bytes_eq-Decides}
-use Rattle.w2c_base.specs.declared.value.ValType.TheVariants.{I32, I64}
-use Rattle.w2c_base.specs.declared.signature.FuncType.{FuncType}
-use Rattle.w2c_base.specs.Lookup.{AreDistinct}
-use Rattle.w2c_base.specs.Run.{Host}
 use Rattle.wasm_tree.specs.declared.tree.Module.{Module}
-use Rattle.wasm_meaning.specs.LinkedSet.{LinkedSet, NamedModule, IsLinked, Resolves, ModuleFunc, HostFunc, module_at}
-use Rattle.wasm_meaning.specs.Samples.{behind_another_host, both, empty_modules, names_up_to, env, no_module, host_ticks, hands_on_tick, imports_func, func_type, exports_global, imports_global, exports_table, imports_table, exports_memory, imports_memory}
+use Rattle.wasm_meaning.specs.Samples.{behind_another_host, both, empty_modules, names_up_to, env, no_module, hands_on_tick, func_type, exports_global, imports_global, exports_memory}
 use Rattle.wasm_meaning.proofs.cases.linking_cases.Goals as goal
 
 some_same : (m n : Module) → Some m ≡ Some n → m ≡ n

@@ -1,15 +1,5 @@
-use Rattle.std.proofs.Common.{◌≡◌, ◌∙◌, ℕ, ◌+◌, Bool, true, false, if◌then◌else◌, List, [], ◌∷◌, codes, Option, Some, None, refl, sym, ap, arith}
-use Rattle.w2c_base.specs.declared.value.ValType.{ValType}
-use Rattle.w2c_base.specs.declared.value.ValType.TheVariants.{I32, I64}
-use Rattle.w2c_base.specs.declared.signature.FuncType.{FuncType}
-use Rattle.w2c_base.specs.Lookup.{if_found}
-use Rattle.w2c_base.specs.Signature.{sig_number_of}
-use Rattle.w2c_base.specs.Values.{bits}
+use Rattle.wasm_meaning.proofs.Common.{◌≡◌, ℕ, ◌+◌, Bool, true, false, List, [], ◌∷◌, if◌then◌else◌, Some, None, codes, Option, sym, refl, ap, ◌∙◌, arith, if_found, sig_number_of, bits, FuncType, ValType, I32, I64, ImportKind, ImportFunc, ImportGlobal, External, FuncAddress, GlobalAddress, IsFunc, IsGlobal, IsLinked, IsMemory, IsTable, LinkedSet, as_func, as_global, func_type, global_type, import_at, module_at, type_at, imports_func, imports_memory, imports_one_global, imports_table}
 use Rattle.wasm_tree.specs.declared.entries.TypeEntry.{TypeEntry}
-use Rattle.wasm_tree.specs.declared.entries.ImportKind.{ImportKind}
-use Rattle.wasm_tree.specs.declared.entries.ImportKind.TheVariants.{Func as ImportFunc, Global as ImportGlobal}
-use Rattle.wasm_meaning.specs.LinkedSet.{LinkedSet, FuncAddress, GlobalAddress, External, IsFunc, IsTable, IsMemory, IsGlobal, IsLinked, module_at, type_at, import_at, as_func, as_global, func_type, global_type}
-use Rattle.wasm_meaning.specs.Samples.{imports_func, imports_one_global, imports_memory, imports_table}
 use Rattle.wasm_meaning.specs.Samples as sample
 use Rattle.wasm_meaning.proofs.cases.unlinked_import_cases.Goals as goal
 

@@ -1,6 +1,4 @@
-use Rattle.std.proofs.Common.{◌≡◌, drop}
-use Rattle.std.specs.List.{list_all}
-use Rattle.wasm_set.specs.Joining.{is_given}
+use Rattle.wasm_set.proofs.Common.{◌≡◌, drop, list_all, is_given}
 use Rattle.wasm_set.proofs.joining.gives_all.Given as goal
 
 abbrev pub invariant-loop-import : goal.invariant-loop-import

@@ -1,6 +1,4 @@
-use Rattle.std.proofs.Common.{◌≡◌, ℕ, true, List, bytes_eq, slice_get, sym, ap, ◌∙◌, subst}
-use Rattle.wasm_set.specs.declared.set_module.SetModule.{SetModule}
-use Rattle.wasm_set.specs.Joining.{module_named}
+use Rattle.wasm_set.proofs.Common.{◌≡◌, ℕ, true, List, slice_get, bytes_eq, sym, ap, ◌∙◌, subst, module_named, SetModule}
 use Rattle.wasm_set.proofs.Found.{named_here}
 use Rattle.wasm_set.proofs.joining.place_of.Goals as goal
 

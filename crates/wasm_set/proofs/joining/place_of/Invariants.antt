@@ -1,5 +1,4 @@
-use Rattle.std.proofs.Common.{◌≡◌, drop}
-use Rattle.wasm_set.specs.Joining.{module_named}
+use Rattle.wasm_set.proofs.Common.{◌≡◌, drop, module_named}
 use Rattle.wasm_set.proofs.joining.place_of.Given as goal
 
 abbrev pub invariant-loop-i : goal.invariant-loop-i

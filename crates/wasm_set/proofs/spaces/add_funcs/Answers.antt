@@ -1,7 +1,4 @@
-use Rattle.std.proofs.Common.{rules}
-use Rattle.std.proofs.lemmas.Iterator.{YieldsList-from_map, YieldsList-from_slice}
-use Rattle.std.proofs.lemmas.Iterator.Consumers.{YieldsList-at}
-use Rattle.std.proofs.lemmas.Iterator.Adapters.{items_from_extend}
+use Rattle.wasm_set.proofs.Common.{rules, YieldsList-from_map, YieldsList-from_slice, items_from_extend, YieldsList-at}
 use Rattle.wasm_set.proofs.spaces.add_funcs.Goals as goal
 
 pub returns : goal.returns

@@ -1,6 +1,5 @@
-use Rattle.std.proofs.Common.{◌∙◌}
+use Rattle.wasm_set.proofs.Common.{◌∙◌, types_of}
 use Rattle.wasm_set.proofs.Unequal.{unequal, length_of_types}
-use Rattle.w2c_base.specs.Values.{types_of}
 use Rattle.wasm_set.proofs.types.are_of_types.Goals as goal
 
 pub returns-then-types-values-clause-types : goal.returns-then-types-values-clause-types

@@ -1,6 +1,4 @@
-use Rattle.std.proofs.Common.{◌≡◌, drop, length}
-use Rattle.std.specs.List.{list_all}
-use Rattle.w2c_base.specs.Values.{equal_types, is_number, types_of}
+use Rattle.wasm_set.proofs.Common.{◌≡◌, length, drop, list_all, equal_types, is_number, types_of}
 use Rattle.wasm_set.proofs.types.are_of_types.Given as goal
 
 abbrev pub invariant-loop-i : goal.invariant-loop-i

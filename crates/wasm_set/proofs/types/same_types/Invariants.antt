@@ -1,5 +1,4 @@
-use Rattle.std.proofs.Common.{◌≡◌, drop, length}
-use Rattle.w2c_base.specs.Values.{equal_types}
+use Rattle.wasm_set.proofs.Common.{◌≡◌, length, drop, equal_types}
 use Rattle.wasm_set.proofs.types.same_types.Given as goal
 
 abbrev pub invariant-loop-i : goal.invariant-loop-i

@@ -1,6 +1,4 @@
-use Rattle.std.proofs.Common.{rules}
-use Rattle.std.proofs.lemmas.List.Sorted.{answers_always}
-use Rattle.wasm_tree.specs.Parts.{op_opcode}
+use Rattle.wasm_tree.proofs.Common.{rules, answers_always, op_opcode}
 use Rattle.wasm_tree.proofs.AllOps.{has_it, has_none}
 use Rattle.wasm_tree.proofs.opcodes.op_among.Goals as goal
 

@@ -1,5 +1,4 @@
-use Rattle.std.proofs.Common.{◌≡◌, ◌++◌, get_or, replicate, refl, ap, ◌∙◌, arith}
-use Rattle.w2c_base.specs.declared.value.ValType.TheVariants.{I32}
+use Rattle.wasm_valid.proofs.Common.{◌≡◌, ◌++◌, get_or, replicate, refl, ap, ◌∙◌, arith, I32}
 use Rattle.wasm_tree.specs.declared.entries.Run.{Run}
 use Rattle.wasm_valid.proofs.Gathered.{one_more_gathered, one_more_repeated}
 use Rattle.wasm_valid.proofs.context.locals_of.Goals as goal

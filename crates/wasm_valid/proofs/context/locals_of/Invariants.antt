@@ -1,6 +1,4 @@
-use Rattle.std.proofs.Common.{◌≡◌, ◌++◌, drop}
-use Rattle.std.specs.Prelude.{replicate}
-use Rattle.wasm_tree.specs.IndexSpaces.{declared_locals}
+use Rattle.wasm_valid.proofs.Common.{◌≡◌, ◌++◌, drop, replicate, declared_locals}
 use Rattle.wasm_valid.proofs.context.locals_of.Given as goal
 
 -- the locals so far and those that are left are all

@@ -1,7 +1,4 @@
-use Rattle.std.proofs.Common.{◌≡◌, drop}
-use Rattle.std.specs.List.{flat_map}
-use Rattle.wasm_valid.specs.Entered.{entered}
-use Rattle.wasm_valid.specs.Expressions.{element_offset, expression_fault}
+use Rattle.wasm_valid.proofs.Common.{◌≡◌, drop, flat_map, entered, element_offset, expression_fault}
 use Rattle.wasm_valid.proofs.expressions.enter_element_offsets.Given as goal
 
 abbrev pub invariant-loop-element : goal.invariant-loop-element

@@ -1,7 +1,4 @@
-use Rattle.std.proofs.Common.{◌≡◌, drop}
-use Rattle.std.specs.List.{flat_map}
-use Rattle.wasm_valid.specs.Entered.{entered}
-use Rattle.wasm_valid.specs.Expressions.{initial_of, expression_fault}
+use Rattle.wasm_valid.proofs.Common.{◌≡◌, drop, flat_map, entered, expression_fault, initial_of}
 use Rattle.wasm_valid.proofs.expressions.enter_initials.Given as goal
 
 abbrev pub invariant-loop-global : goal.invariant-loop-global

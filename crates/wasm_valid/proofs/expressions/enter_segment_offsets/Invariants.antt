@@ -1,7 +1,4 @@
-use Rattle.std.proofs.Common.{◌≡◌, drop}
-use Rattle.std.specs.List.{flat_map}
-use Rattle.wasm_valid.specs.Entered.{entered}
-use Rattle.wasm_valid.specs.Expressions.{segment_offset, expression_fault}
+use Rattle.wasm_valid.proofs.Common.{◌≡◌, drop, flat_map, entered, expression_fault, segment_offset}
 use Rattle.wasm_valid.proofs.expressions.enter_segment_offsets.Given as goal
 
 abbrev pub invariant-loop-segment : goal.invariant-loop-segment

@@ -1,8 +1,5 @@
-use Rattle.std.proofs.Common.{sym, ap, ◌∙◌}
+use Rattle.wasm_valid.proofs.Common.{sym, ap, ◌∙◌, kind_tree, needs_of, table_type}
 use Rattle.wasm_tree.specs.declared.operators.Parts.TheVariants as parts
-use Rattle.wasm_tree.specs.Views.{kind_tree}
-use Rattle.wasm_valid.specs.Typing.{table_type}
-use Rattle.wasm_valid.specs.Needs.{needs_of}
 use Rattle.wasm_valid.proofs.ByParts.{by_parts, index_needs_nothing, numeric_needs_nothing}
 use Rattle.wasm_valid.proofs.TableTypes.{index_typing}
 use Rattle.wasm_valid.proofs.numeric.fixed_type.Goals as goal

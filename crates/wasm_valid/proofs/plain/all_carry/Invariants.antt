@@ -1,6 +1,4 @@
-use Rattle.std.proofs.Common.{◌≡◌, ◌&&◌, reverse, drop}
-use Rattle.wasm_valid.specs.Checker.{all_labels}
-use Rattle.wasm_valid.specs.PlainParts.{any_missing}
+use Rattle.wasm_valid.proofs.Common.{◌≡◌, ◌&&◌, reverse, drop, all_labels, any_missing}
 use Rattle.wasm_valid.proofs.plain.all_carry.Given as goal
 
 -- what is said of the labels from here on and what was found so far are what is said of all

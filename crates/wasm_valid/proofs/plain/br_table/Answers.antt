@@ -1,5 +1,4 @@
-use Rattle.std.proofs.Common.{reverse, ◌∙◌}
-use Rattle.wasm_valid.specs.Shown.{shown}
+use Rattle.wasm_valid.proofs.Common.{reverse, ◌∙◌, shown}
 use Rattle.wasm_valid.proofs.Steps.{jumped_by_table}
 use Rattle.wasm_valid.proofs.plain.br_table.Goals as goal
 

@@ -1,8 +1,4 @@
-use Rattle.std.proofs.Common.{◌≡◌, List, ℕ, [], take, drop}
-use Rattle.std.specs.Prelude.{bytes_eq}
-use Rattle.std.specs.List.{list_any}
-use Rattle.wasm_valid.specs.Entered.{entered}
-use Rattle.wasm_valid.specs.ModuleFaults.{duplicate_exports}
+use Rattle.wasm_valid.proofs.Common.{◌≡◌, ℕ, List, [], take, drop, bytes_eq, list_any, entered, duplicate_exports}
 use Rattle.wasm_valid.proofs.rows.enter_duplicate_exports.Given as goal
 
 -- the names so far are those of the exports so far

@@ -1,9 +1,4 @@
-use Rattle.std.proofs.Common.{◌≡◌, drop}
-use Rattle.std.specs.List.{flat_map}
-use Rattle.wasm_valid.specs.Entered.{entered}
-use Rattle.std.specs.Prelude.{is_none}
-use Rattle.wasm_tree.specs.IndexSpaces.{type_in}
-use Rattle.wasm_valid.specs.ModuleFaults.{fault_if}
+use Rattle.wasm_valid.proofs.Common.{◌≡◌, drop, is_none, flat_map, type_in, entered, fault_if}
 use Rattle.wasm_valid.specs.declared.fault.ValidCause.TheVariants as causes
 use Rattle.wasm_valid.proofs.rows.enter_func_types.Given as goal
 

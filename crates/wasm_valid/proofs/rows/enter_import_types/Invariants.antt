@@ -1,7 +1,4 @@
-use Rattle.std.proofs.Common.{◌≡◌, drop}
-use Rattle.std.specs.List.{flat_map}
-use Rattle.wasm_valid.specs.Entered.{entered}
-use Rattle.wasm_valid.specs.ModuleFaults.{unknown_import_type}
+use Rattle.wasm_valid.proofs.Common.{◌≡◌, drop, flat_map, entered, unknown_import_type}
 use Rattle.wasm_valid.proofs.rows.enter_import_types.Given as goal
 
 abbrev pub invariant-loop-import : goal.invariant-loop-import

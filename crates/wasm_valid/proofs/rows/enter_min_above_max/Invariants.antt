@@ -1,7 +1,4 @@
-use Rattle.std.proofs.Common.{◌≡◌, drop}
-use Rattle.std.specs.List.{flat_map}
-use Rattle.wasm_valid.specs.Entered.{entered}
-use Rattle.wasm_valid.specs.ModuleFaults.{min_above_max}
+use Rattle.wasm_valid.proofs.Common.{◌≡◌, drop, flat_map, entered, min_above_max}
 use Rattle.wasm_valid.proofs.rows.enter_min_above_max.Given as goal
 
 abbrev pub invariant-loop-limits : goal.invariant-loop-limits

@@ -1,7 +1,4 @@
-use Rattle.std.proofs.Common.{◌≡◌, drop}
-use Rattle.std.specs.List.{flat_map}
-use Rattle.wasm_valid.specs.Entered.{entered}
-use Rattle.wasm_valid.specs.ModuleFaults.{too_many_pages}
+use Rattle.wasm_valid.proofs.Common.{◌≡◌, drop, flat_map, entered, too_many_pages}
 use Rattle.wasm_valid.proofs.rows.enter_too_many_pages.Given as goal
 
 abbrev pub invariant-loop-limits : goal.invariant-loop-limits

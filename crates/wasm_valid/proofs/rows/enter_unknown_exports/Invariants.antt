@@ -1,7 +1,4 @@
-use Rattle.std.proofs.Common.{◌≡◌, drop}
-use Rattle.std.specs.List.{flat_map}
-use Rattle.wasm_valid.specs.Entered.{entered}
-use Rattle.wasm_valid.specs.ModuleFaults.{unknown_export}
+use Rattle.wasm_valid.proofs.Common.{◌≡◌, drop, flat_map, entered, unknown_export}
 use Rattle.wasm_valid.proofs.rows.enter_unknown_exports.Given as goal
 
 abbrev pub invariant-loop-export : goal.invariant-loop-export

@@ -1,7 +1,4 @@
-use Rattle.std.proofs.Common.{◌≡◌, drop}
-use Rattle.std.specs.List.{flat_map}
-use Rattle.wasm_valid.specs.Entered.{entered}
-use Rattle.wasm_valid.specs.ModuleFaults.{fault_if, is_out}
+use Rattle.wasm_valid.proofs.Common.{◌≡◌, drop, flat_map, entered, fault_if, is_out}
 use Rattle.wasm_valid.specs.declared.fault.ValidCause.TheVariants as causes
 use Rattle.wasm_valid.proofs.rows.enter_unknown_funcs.Given as goal
 

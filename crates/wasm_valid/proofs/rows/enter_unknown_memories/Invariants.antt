@@ -1,8 +1,4 @@
-use Rattle.std.proofs.Common.{◌≡◌, drop}
-use Rattle.std.specs.List.{flat_map}
-use Rattle.wasm_valid.specs.Entered.{entered}
-use Rattle.wasm_tree.specs.IndexSpaces.{memory_space}
-use Rattle.wasm_valid.specs.ModuleFaults.{fault_if, is_no_first}
+use Rattle.wasm_valid.proofs.Common.{◌≡◌, drop, flat_map, memory_space, entered, fault_if, is_no_first}
 use Rattle.wasm_valid.specs.declared.fault.ValidCause.TheVariants as causes
 use Rattle.wasm_valid.proofs.rows.enter_unknown_memories.Given as goal
 

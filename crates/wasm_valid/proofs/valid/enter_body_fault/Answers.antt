@@ -1,7 +1,4 @@
-use Rattle.std.proofs.Common.{Option, option_map, sym, subst, ap, ◌∙◌}
-use Rattle.std.specs.Option.{option_copied}
-use Rattle.w2c_base.specs.declared.signature.FuncType.{FuncType}
-use Rattle.wasm_valid.specs.EnteredBodies.{typed_context_seen, EntersBody}
+use Rattle.wasm_valid.proofs.Common.{Option, option_map, option_copied, sym, ap, ◌∙◌, subst, FuncType, EntersBody, typed_context_seen}
 use Rattle.wasm_valid.proofs.EnteredBodies.{typed_entered, fault_entered}
 use Rattle.wasm_valid.proofs.valid.enter_body_fault.Goals as goal
 

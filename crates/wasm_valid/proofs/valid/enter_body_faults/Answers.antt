@@ -1,9 +1,5 @@
-use Rattle.std.proofs.Common.{subst}
+use Rattle.wasm_valid.proofs.Common.{subst, zip_first, zip_second, iter_rest, EntersBody, bodies_of}
 use Rattle.std.proofs.lemmas.Slice.Zip.{Zip-more, either_empty_from_Zip}
-use Rattle.std.specs.Slice.Iter.{iter_rest}
-use Rattle.std.specs.Iterator.Adapters.{zip_first, zip_second}
-use Rattle.wasm_valid.specs.Verdict.{bodies_of}
-use Rattle.wasm_valid.specs.EnteredBodies.{EntersBody}
 use Rattle.wasm_valid.proofs.EnteredBodies.{same_body_context, one_pair_entered, all_pairs_entered}
 use Rattle.wasm_valid.proofs.valid.enter_body_faults.Goals as goal
 

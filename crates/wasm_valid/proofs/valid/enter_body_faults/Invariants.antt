@@ -1,7 +1,4 @@
-use Rattle.std.specs.List.{zip}
-use Rattle.std.specs.Slice.Iter.{iter_rest}
-use Rattle.std.specs.Iterator.Adapters.{zip_first, zip_second}
-use Rattle.wasm_valid.specs.Verdict.{bodies_of}
+use Rattle.wasm_valid.proofs.Common.{zip, zip_first, zip_second, iter_rest, bodies_of}
 use Rattle.wasm_valid.proofs.EnteredBodies.{Entering}
 use Rattle.wasm_valid.proofs.valid.enter_body_faults.Given as goal
 

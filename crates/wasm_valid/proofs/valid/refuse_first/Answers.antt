@@ -1,9 +1,4 @@
-use Rattle.std.proofs.Common.{Option, sym, subst, ap, ◌∙◌}
-use Rattle.wasm_valid.specs.declared.fault.Fault.{Fault}
-use Rattle.wasm_valid.specs.Entered.{entered}
-use Rattle.wasm_valid.specs.ModuleFaults.{module_faults}
-use Rattle.wasm_valid.specs.Verdict.{Verdict, outcome_of, bodies_of}
-use Rattle.wasm_valid.specs.EnteredBodies.{EntersBodies}
+use Rattle.wasm_valid.proofs.Common.{Option, sym, ap, ◌∙◌, subst, entered, EntersBodies, module_faults, Verdict, bodies_of, outcome_of, Fault}
 use Rattle.wasm_valid.proofs.EnteredBodies.{verdict_found}
 use Rattle.wasm_valid.proofs.valid.refuse_first.Goals as goal
 

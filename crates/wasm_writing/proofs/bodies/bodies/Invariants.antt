@@ -1,6 +1,4 @@
-use Rattle.std.proofs.Common.{◌≡◌, ◌≤◌, take}
-use Rattle.wasm_spelling.specs.ModuleFields.{bodies}
-use Rattle.wasm_writing.specs.Drafts.{Puts}
+use Rattle.wasm_writing.proofs.Common.{◌≡◌, ◌≤◌, take, bodies, Puts}
 use Rattle.wasm_writing.proofs.BodyLemmas.{all_of}
 use Rattle.wasm_writing.proofs.bodies.bodies.Given as goal
 

@@ -1,9 +1,4 @@
-use Rattle.std.proofs.Common.{List, length, subst}
-use Rattle.wasm_tree.specs.declared.entries.Run.{Run}
-use Rattle.wasm_spelling.specs.Fields.{number, byte}
-use Rattle.wasm_spelling.specs.ModuleFields.{code_fields, end_byte, runs}
-use Rattle.wasm_spelling.specs.Limits.{most_blocks}
-use Rattle.wasm_writing.specs.Drafts.{Puts}
+use Rattle.wasm_writing.proofs.Common.{List, length, subst, Run, byte, number, most_blocks, code_fields, end_byte, runs, Puts}
 use Rattle.wasm_writing.proofs.Codes.{puts_here}
 use Rattle.wasm_writing.proofs.Lists.{puts_both}
 use Rattle.wasm_writing.proofs.bodies.body_content.Goals as goal

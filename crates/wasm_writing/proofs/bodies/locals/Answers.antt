@@ -1,7 +1,6 @@
-use Rattle.std.proofs.Common.{get_or, arith}
+use Rattle.wasm_writing.proofs.Common.{get_or, arith, read_again, Run}
 use Rattle.w2c_base.specs.declared.value.ValType.TheVariants.{I32}
-use Rattle.wasm_tree.specs.declared.entries.Run.{Run}
-use Rattle.wasm_writing.proofs.BodyLemmas.{any_other, locals_more, runs_more, runs_refused}
+use Rattle.wasm_writing.proofs.BodyLemmas.{locals_more, runs_more, runs_refused}
 use Rattle.wasm_writing.proofs.bodies.locals.Goals as goal
 use Rattle.wasm_writing.proofs.bodies.locals.Goals.{then-run-locals-via-then-run-locals, then-run-locals-via-else-run-locals+then-run-before}
 
@@ -14,7 +13,7 @@ returns-then-run-locals-clause-puts c =
     let l = c.loop-run in
     let runs = c.args.runs.now in
     runs_refused c.args.before l.locals runs l.run-index
-    (get_or runs l.run-index none) _ _ _ _ c.loop-run-test.true (any_other runs l.run-index none c.loop-run-test.true) l.invariant.sum
+    (get_or runs l.run-index none) _ _ _ _ c.loop-run-test.true (read_again runs l.run-index none c.loop-run-test.true) l.invariant.sum
     (λ low all. elim c.then-run-locals.branch [
       | then-run-locals-via-then-run-locals w ↦ omega (arith, low, w.if-run-locals.true)
       | then-run-locals-via-else-run-locals+then-run-before w ↦ omega (arith, all, w.if-run-before.true)
@@ -27,7 +26,7 @@ loop-run-preserved c =
     let l = c.loop-run in
     let runs = c.args.runs.now in
     let run = get_or runs l.run-index none in
-    let is = any_other runs l.run-index none c.loop-run-test.true in
+    let is = read_again runs l.run-index none c.loop-run-test.true in
     record {
       puts = runs_more c.args.before l.locals runs l.run-index run _ _ _ _ c.loop-run-test.true is l.invariant.sum
           (omega (arith, c.if-run-locals.false, l.invariant.low)) (omega (arith, c.if-run-before.false, l.invariant.all))

@@ -1,6 +1,4 @@
-use Rattle.std.proofs.Common.{◌≡◌, ◌+◌, ◌≤◌, take}
-use Rattle.wasm_spelling.specs.ModuleFields.{runs, locals_of}
-use Rattle.wasm_writing.specs.Drafts.{Puts}
+use Rattle.wasm_writing.proofs.Common.{◌≡◌, ◌+◌, ◌≤◌, take, locals_of, runs, Puts}
 use Rattle.wasm_writing.proofs.bodies.locals.Given as goal
 
 abbrev pub invariant-loop-run : goal.invariant-loop-run

@@ -1,11 +1,7 @@
-use Rattle.std.proofs.Common.{Option, ap, subst, sym, ◌∙◌}
+use Rattle.wasm_writing.proofs.Common.{Option, sym, ap, ◌∙◌, subst, kind_tree, byte, instr_fields, Puts}
 use Rattle.wasm_tree.specs.declared.code.Kind.{Kind as RustKind}
 use Rattle.wasm_tree.specs.declared.code.Kind.TheVariants as kind
 use Rattle.wasm_tree.specs.declared.code.ElsePart.{ElsePart}
-use Rattle.wasm_tree.specs.Views.{kind_tree}
-use Rattle.wasm_spelling.specs.Fields.{byte}
-use Rattle.wasm_spelling.specs.ModuleFields.{instr_fields}
-use Rattle.wasm_writing.specs.Drafts.{Puts}
 use Rattle.wasm_writing.proofs.Codes.{instrs_more, puts_access, puts_block, puts_branches, puts_index, puts_no_room, puts_numeric, puts_simple}
 use Rattle.wasm_writing.proofs.code.+code.Goals as goal
 

@@ -1,7 +1,4 @@
-use Rattle.std.proofs.Common.{◌+◌, ◌*◌, take}
-use Rattle.wasm_tree.specs.Views.{code_tree}
-use Rattle.wasm_spelling.specs.ModuleFields.{code_fields}
-use Rattle.wasm_writing.specs.Drafts.{Puts}
+use Rattle.wasm_writing.proofs.Common.{◌+◌, ◌*◌, take, code_tree, code_fields, Puts}
 use Rattle.wasm_writing.proofs.code.+code.Given as goal
 
 abbrev pub decreases-instructions : goal.decreases-instructions

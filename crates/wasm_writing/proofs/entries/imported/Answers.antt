@@ -1,8 +1,4 @@
-use Rattle.std.proofs.Common.{subst, sym}
-use Rattle.wasm_tree.specs.declared.entries.ImportKind.{ImportKind}
-use Rattle.wasm_spelling.specs.Fields.{byte, here}
-use Rattle.wasm_spelling.specs.ModuleFields.{import_kind, memory_type, mutability_code, value_type}
-use Rattle.wasm_writing.specs.Drafts.{Puts}
+use Rattle.wasm_writing.proofs.Common.{sym, subst, ImportKind, byte, here, import_kind, memory_type, mutability_code, value_type, Puts}
 use Rattle.wasm_writing.proofs.Lists.{puts_both}
 use Rattle.wasm_writing.proofs.Codes.{puts_here}
 use Rattle.wasm_writing.proofs.entries.imported.Goals as goal

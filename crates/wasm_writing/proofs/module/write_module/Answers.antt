@@ -1,8 +1,4 @@
-use Rattle.std.proofs.Common.{List, [], ℕ, subst}
-use Rattle.wasm_writing.specs.declared.draft.Draft.{Draft}
-use Rattle.wasm_writing.specs.declared.draft.Draft.TheVariants.{Written}
-use Rattle.wasm_writing.specs.Drafts.{Puts}
-use Rattle.wasm_writing.specs.ShortFile.{short_fields}
+use Rattle.wasm_writing.proofs.Common.{ℕ, List, [], subst, Puts, short_fields, Draft, Written}
 use Rattle.wasm_writing.proofs.Whole.{short_file_spells, written_is_least, written_is_short, written_is_small}
 use Rattle.wasm_writing.proofs.module.write_module.Goals as goal
 

@@ -1,7 +1,4 @@
-use Rattle.std.proofs.Common.{Option, None, subst, sym}
-use Rattle.wasm_tree.specs.declared.entries.DataCount.{DataCount}
-use Rattle.wasm_spelling.specs.ModuleFields.{data_count_content}
-use Rattle.wasm_writing.specs.Drafts.{Puts}
+use Rattle.wasm_writing.proofs.Common.{None, Option, sym, subst, DataCount, data_count_content, Puts}
 use Rattle.wasm_writing.proofs.Pieces.{does_not_hold, puts_none}
 use Rattle.wasm_writing.proofs.sections.data_count.Goals as goal
 

@@ -1,7 +1,4 @@
-use Rattle.std.proofs.Common.{get_or, None}
-use Rattle.wasm_tree.specs.declared.entries.LimitsEntry.{LimitsEntry}
-use Rattle.wasm_spelling.specs.ModuleFields.{memory_entry, memory_type}
-use Rattle.wasm_writing.proofs.BodyLemmas.{any_other}
+use Rattle.wasm_writing.proofs.Common.{get_or, None, read_again, LimitsEntry, memory_entry, memory_type}
 use Rattle.wasm_writing.proofs.Codes.{puts_here}
 use Rattle.wasm_writing.proofs.Lists.{each_more}
 use Rattle.wasm_writing.proofs.sections.each_memory.Goals as goal
@@ -16,5 +13,5 @@ loop-memory-preserved c =
     let entries = c.args.memories.now in
     let entry = get_or entries l.memory-index none in
     each_more memory_entry entries l.memory-index
-    entry _ _ _ c.loop-memory-test.true (any_other entries l.memory-index none c.loop-memory-test.true) l.invariant
+    entry _ _ _ c.loop-memory-test.true (read_again entries l.memory-index none c.loop-memory-test.true) l.invariant
     (puts_here entry.place (memory_type entry.limits) _ _ c.memory_type.ensures)

@@ -1,6 +1,4 @@
-use Rattle.std.proofs.Common.{take}
-use Rattle.wasm_spelling.specs.ModuleFields.{each, memory_entry}
-use Rattle.wasm_writing.specs.Drafts.{Puts}
+use Rattle.wasm_writing.proofs.Common.{take, each, memory_entry, Puts}
 use Rattle.wasm_writing.proofs.sections.each_memory.Given as goal
 
 abbrev pub invariant-loop-memory : goal.invariant-loop-memory

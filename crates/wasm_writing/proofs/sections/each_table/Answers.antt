@@ -1,7 +1,4 @@
-use Rattle.std.proofs.Common.{get_or, None}
-use Rattle.wasm_tree.specs.declared.entries.LimitsEntry.{LimitsEntry}
-use Rattle.wasm_spelling.specs.ModuleFields.{table_entry, table_type}
-use Rattle.wasm_writing.proofs.BodyLemmas.{any_other}
+use Rattle.wasm_writing.proofs.Common.{get_or, None, read_again, LimitsEntry, table_entry, table_type}
 use Rattle.wasm_writing.proofs.Codes.{puts_here}
 use Rattle.wasm_writing.proofs.Lists.{each_more}
 use Rattle.wasm_writing.proofs.sections.each_table.Goals as goal
@@ -16,5 +13,5 @@ loop-table-preserved c =
     let entries = c.args.tables.now in
     let entry = get_or entries l.table-index none in
     each_more table_entry entries l.table-index
-    entry _ _ _ c.loop-table-test.true (any_other entries l.table-index none c.loop-table-test.true) l.invariant
+    entry _ _ _ c.loop-table-test.true (read_again entries l.table-index none c.loop-table-test.true) l.invariant
     (puts_here entry.place (table_type entry.limits) _ _ c.table_type.ensures)

@@ -1,6 +1,4 @@
-use Rattle.std.proofs.Common.{take}
-use Rattle.wasm_spelling.specs.ModuleFields.{each, table_entry}
-use Rattle.wasm_writing.specs.Drafts.{Puts}
+use Rattle.wasm_writing.proofs.Common.{take, each, table_entry, Puts}
 use Rattle.wasm_writing.proofs.sections.each_table.Given as goal
 
 abbrev pub invariant-loop-table : goal.invariant-loop-table

@@ -1,7 +1,4 @@
-use Rattle.std.proofs.Common.{sym, subst, ◌∙◌}
-use Rattle.wasm_spelling.specs.Fields.{byte}
-use Rattle.wasm_writing.specs.Drafts.{Puts}
-use Rattle.wasm_writing.specs.Parts.{part_of}
+use Rattle.wasm_writing.proofs.Common.{sym, ◌∙◌, subst, byte, Puts, part_of}
 use Rattle.wasm_writing.proofs.PartLemmas.{puts_empty, puts_full}
 use Rattle.wasm_writing.proofs.sections.section.Goals as goal
 

@@ -1,12 +1,7 @@
-use Rattle.std.proofs.Common.{◌≡◌, ℕ, ◌≤◌, List, length, get_or, take, ap, subst, ◌∙◌, arith}
+use Rattle.wasm_writing.proofs.Common.{◌≡◌, ℕ, ◌≤◌, List, length, get_or, take, ap, ◌∙◌, subst, arith, read_again, each, Puts, part_of, filled}
 use Rattle.std.proofs.Math.Seq.{take-length}
 use Rattle.wasm_writing.specs.declared.sections.Part.TheVariants.{Types}
 use Rattle.wasm_writing.specs.declared.sections.Part.{Part}
-use Rattle.wasm_spelling.specs.ModuleFields.{each}
-use Rattle.wasm_writing.specs.Drafts.{Puts}
-use Rattle.wasm_writing.specs.Parts.{part_of}
-use Rattle.wasm_writing.specs.ShortFile.{filled}
-use Rattle.wasm_writing.proofs.BodyLemmas.{any_other}
 use Rattle.wasm_writing.proofs.Lists.{each_more}
 use Rattle.wasm_writing.proofs.sections.sections.Goals as goal
 
@@ -16,7 +11,7 @@ loop-part-preserved c =
     let parts = c.args.parts.now in
     let other : Part = Types in
     each_more (λ (part : Part). filled c.args.m.now (part_of part)) parts l.part-index
-    (get_or parts l.part-index other) _ _ _ c.loop-part-test.true (any_other parts l.part-index other c.loop-part-test.true) l.invariant
+    (get_or parts l.part-index other) _ _ _ c.loop-part-test.true (read_again parts l.part-index other c.loop-part-test.true) l.invariant
     c.section.ensures
 
 whole : {A : Type 0} (i : ℕ) (l : List A) → i ≤ length l → length l ≤ i → take i l ≡ l

@@ -1,8 +1,4 @@
-use Rattle.std.proofs.Common.{take}
-use Rattle.wasm_spelling.specs.ModuleFields.{each}
-use Rattle.wasm_writing.specs.Drafts.{Puts}
-use Rattle.wasm_writing.specs.Parts.{part_of}
-use Rattle.wasm_writing.specs.ShortFile.{filled}
+use Rattle.wasm_writing.proofs.Common.{take, each, Puts, part_of, filled}
 use Rattle.wasm_writing.proofs.sections.sections.Given as goal
 
 abbrev pub invariant-loop-part : goal.invariant-loop-part

@@ -1,5 +1,4 @@
-use Rattle.std.proofs.Common.{◌≤◌, ◌<◌, ℕ, inl, inr}
-use Rattle.std.proofs.lemmas.Bool.{cases_lt}
+use Rattle.wasm_writing.proofs.Common.{ℕ, ◌<◌, ◌≤◌, inl, inr, cases_lt}
 use Rattle.wasm_writing.proofs.Pieces.{puts_none, too_large}
 use Rattle.wasm_writing.proofs.vectors.count.Goals as goal
 

@@ -1,6 +1,4 @@
-use Rattle.std.proofs.Common.{take}
-use Rattle.wasm_spelling.specs.ModuleFields.{each}
-use Rattle.wasm_writing.specs.Drafts.{Puts}
+use Rattle.wasm_writing.proofs.Common.{take, each, Puts}
 use Rattle.wasm_writing.proofs.vectors.each.Given as goal
 
 abbrev pub invariant-loop-entry : goal.invariant-loop-entry

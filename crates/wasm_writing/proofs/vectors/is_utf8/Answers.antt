@@ -1,4 +1,4 @@
-use Rattle.wasm_writing.proofs.Utf8.{tested, failed}
+use Rattle.w2c_base.proofs.Utf8.{tested, failed}
 use Rattle.wasm_writing.proofs.vectors.is_utf8.Goals as goal
 
 pub returns-in-Ok : goal.returns-in-Ok

@@ -1,16 +1,8 @@
-use Rattle.std.proofs.Common.{◌≡◌, ℕ, List, [], ◌∷◌, ◌++◌, Option, Some, None, inl, inr, refl, sym, ap, ◌∙◌, arith}
+use Rattle.wast_run.proofs.Common.{◌≡◌, ℕ, List, [], ◌∷◌, ◌++◌, Some, None, Option, sym, refl, ap, ◌∙◌, inl, inr, arith, values_in, Value, I32, I64, LinkedSet, ModuleFunc, Fits, ListedCall, EndsWith, Where, at_first, calls_with, listed, set_at, modules_run, units_run, Word}
 use Rattle.std.specs.Fmt.{digits}
-use Rattle.w2c_base.specs.declared.value.Value.{Value}
-use Rattle.w2c_base.specs.declared.value.Value.TheVariants.{I32, I64}
 use Rattle.w2c_base.specs.declared.value.ValType.TheVariants as type
-use Rattle.w2c_base.specs.Run.{values_in}
-use Rattle.wasm_meaning.specs.LinkedSet.{LinkedSet, ModuleFunc}
-use Rattle.wasm_meaning.specs.Run.{Fits, ListedCall}
 use Rattle.c_meaning.specs.Run as c
-use Rattle.wast_run.specs.declared.word.Word.{Word}
 use Rattle.wast_run.specs.declared.word.Word.TheVariants as word
-use Rattle.wast_run.specs.Runs.{modules_run, units_run}
-use Rattle.wast_run.specs.Report.{EndsWith, Where, at_first, calls_with, listed, set_at}
 use Rattle.wast_run.specs.Samples.{sum_call, with_constants}
 use Rattle.wast_run.proofs.cases.commands_come_to_words.Goals as goal
 

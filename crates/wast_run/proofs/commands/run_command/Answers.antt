@@ -1,10 +1,4 @@
-use Rattle.std.proofs.Common.{Option, refl, string_bytes, subst, sym, ◌≡◌}
-use Rattle.w2c_io.specs.Passed.{Passes}
-use Rattle.wasm_valid.specs.FileVerdict.{FileVerdict}
-use Rattle.wast_script.specs.Seen.{seen_call, seen_command}
-use Rattle.wast_run.specs.Report.{Comes, IsFile, holds, is_malformed}
-use Rattle.wast_run.specs.Stages.{setting_of}
-use Rattle.wast_run.specs.Passing.{ComesOver}
+use Rattle.wast_run.proofs.Common.{◌≡◌, string_bytes, Option, sym, refl, subst, Passes, FileVerdict, seen_call, seen_command, ComesOver, Comes, IsFile, holds, is_malformed, setting_of}
 use Rattle.wast_run.proofs.Comings.{malformed_comes}
 use Rattle.wast_run.proofs.Passing.{call_over, trap_over}
 use Rattle.wast_run.proofs.commands.run_command.Goals as goal

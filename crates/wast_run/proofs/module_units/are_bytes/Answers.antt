@@ -1,5 +1,4 @@
-use Rattle.std.proofs.Common.{arith}
-use Rattle.std.proofs.lemmas.List.{get_or_default}
+use Rattle.wast_run.proofs.Common.{arith, get_or_default}
 use Rattle.wast_run.proofs.module_units.are_bytes.Goals as goal
 
 pub returns : goal.returns

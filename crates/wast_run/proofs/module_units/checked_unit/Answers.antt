@@ -1,8 +1,6 @@
-use Rattle.std.proofs.Common.{sym, subst}
+use Rattle.wast_run.proofs.Common.{sym, subst, NamedModule, items}
 use Rattle.c_tree.specs.FirstBroken.{KeepsRules}
 use Rattle.c_tree.specs.Spelled.{Formed}
-use Rattle.c_unit.specs.Items.{items}
-use Rattle.wasm_meaning.specs.LinkedSet.{NamedModule}
 use Rattle.wast_run.proofs.module_units.checked_unit.Goals as goal
 
 pub known-requires-clause-formed : goal.known-requires-clause-formed

@@ -1,6 +1,5 @@
-use Rattle.std.proofs.Common.{subst}
+use Rattle.wast_run.proofs.Common.{subst, IsValid}
 use Rattle.wasm_spelling.specs.Places.{IsFormed}
-use Rattle.wasm_valid.specs.Verdict.{IsValid}
 use Rattle.wast_run.proofs.module_units.is_accepted.Goals as goal
 
 pub returns : goal.returns

@@ -1,5 +1,4 @@
-use Rattle.std.proofs.Common.{map}
-use Rattle.c_tree.specs.View.{unit_of}
+use Rattle.wast_run.proofs.Common.{map, unit_of}
 use Rattle.wast_run.proofs.Units.{not_twice, not_unlike, not_unresolved}
 use Rattle.wast_run.proofs.module_units.linked_alone.Goals as goal
 

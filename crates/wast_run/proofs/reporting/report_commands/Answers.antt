@@ -1,6 +1,4 @@
-use Rattle.std.proofs.Common.{length, refl}
-use Rattle.wast_script.specs.Seen.{reason_of, seen_commands}
-use Rattle.wast_run.specs.Report.{total_line}
+use Rattle.wast_run.proofs.Common.{length, refl, reason_of, seen_commands, total_line}
 use Rattle.wast_run.proofs.PartLaws.{whole_report}
 use Rattle.wast_run.proofs.ReportStops.{many_seen, total_stops}
 use Rattle.wast_run.proofs.Passing.{no_total_over, reported_over}

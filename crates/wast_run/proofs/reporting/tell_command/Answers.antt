@@ -1,7 +1,4 @@
-use Rattle.std.proofs.Common.{◌+◌}
-use Rattle.wast_script.specs.Seen.{reason_of, seen_command}
-use Rattle.wast_run.specs.Report.{command_line}
-use Rattle.wast_run.specs.Stages.{setting_of}
+use Rattle.wast_run.proofs.Common.{◌+◌, reason_of, seen_command, command_line, setting_of}
 use Rattle.wast_run.proofs.ReportStops.{line_stops}
 use Rattle.wast_run.proofs.Passing.{line_over, no_line_over, no_word_over}
 use Rattle.wast_run.proofs.reporting.tell_command.Goals as goal

@@ -1,16 +1,9 @@
-use Rattle.std.proofs.Common.{◌≤◌, ◌+◌, ◌∙◌, length, take, drop, sym, subst, arith}
-use Rattle.std.proofs.lemmas.List.{length-map, take_all}
-use Rattle.w2c_io.specs.Contents.{Told}
-use Rattle.wast_script.specs.Seen.{reason_of, seen_command, seen_commands}
-use Rattle.wast_run.specs.Stages.{setting_of, HasModuleName}
-use Rattle.wast_run.specs.Telling.{IsBehind, StopsTelling}
-use Rattle.wast_run.specs.Report.{is_ok}
+use Rattle.wast_run.proofs.Common.{◌+◌, ◌≤◌, length, take, drop, sym, ◌∙◌, subst, arith, take_all, length-map, Told, Passes, reason_of, seen_command, seen_commands, IsBehindOver, is_ok, HasModuleName, setting_of, IsBehind, StopsTelling}
 use Rattle.wast_run.proofs.WordLines.{counted_few}
-use Rattle.wast_run.proofs.Lists.{all_mapped_at, mapped_front, mapped_next, mapped_split}
+use Rattle.wast_run.proofs.Lists.{all_mapped_at, mapped_front}
 use Rattle.wast_run.proofs.PartLaws.{behind_more}
 use Rattle.wast_run.proofs.ReportStops.{telling_stops}
-use Rattle.w2c_io.specs.Passed.{Passes}
-use Rattle.wast_run.specs.Reading.{IsBehindOver}
+use Rattle.program_words.proofs.Loops.{mapped_split, mapped_next}
 use Rattle.wast_run.proofs.Passing.{behind_more_over, stops_in}
 use Rattle.wast_run.proofs.reporting.tell_commands.Goals as goal
 

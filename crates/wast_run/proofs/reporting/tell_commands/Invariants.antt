@@ -1,10 +1,4 @@
-use Rattle.std.proofs.Common.{◌≡◌, ◌≤◌, take}
-use Rattle.w2c_io.specs.Passed.{Passes}
-use Rattle.w2c_io.specs.Telling.{Tells}
-use Rattle.wast_script.specs.Seen.{seen_commands}
-use Rattle.wast_run.specs.Stages.{setting_of, IsSound}
-use Rattle.wast_run.specs.Reading.{IsBehindOver}
-use Rattle.wast_run.specs.Telling.{IsBehind}
+use Rattle.wast_run.proofs.Common.{◌≡◌, ◌≤◌, take, Passes, Tells, seen_commands, IsBehindOver, IsSound, setting_of, IsBehind}
 use Rattle.wast_run.proofs.reporting.tell_commands.Given as goal
 
 -- the lines of so many commands are written

@@ -1,6 +1,4 @@
-use Rattle.std.proofs.Common.{[], length, ◌∙◌, subst}
-use Rattle.c_meaning.specs.Run.{c_run}
-use Rattle.wast_run.specs.Ran.{symbols_of, HasRan}
+use Rattle.wast_run.proofs.Common.{[], length, ◌∙◌, subst, c_run, HasRan, symbols_of}
 use Rattle.wast_run.proofs.Sessions.{no_hosts_left, program_is}
 use Rattle.wast_run.proofs.session_runs.run_again.Goals as goal
 

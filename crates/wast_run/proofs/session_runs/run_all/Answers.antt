@@ -1,8 +1,5 @@
-use Rattle.std.proofs.Common.{◌≡◌, true, [], ◌∷◌, ◌++◌, ◌∙◌, List, length, IfSome, sym, subst, arith}
-use Rattle.c_meaning.specs.Linking.{SymbolCall, fits}
-use Rattle.c_sound.specs.NeverStuck.{AllFit}
+use Rattle.wast_run.proofs.Common.{◌≡◌, true, List, [], ◌∷◌, ◌++◌, length, IfSome, sym, ◌∙◌, subst, arith, SymbolCall, fits, AllFit, StopsAt, run_of, symbol_of, symbols_in, symbols_of}
 use Rattle.crun.specs.Sessions.{program_of}
-use Rattle.wast_run.specs.Ran.{run_of, symbol_of, symbols_in, symbols_of, StopsAt}
 use Rattle.wast_run.proofs.Kept.{all_before, all_last}
 use Rattle.wast_run.proofs.Sessions.{last_came, of_first, runs_further, stops_later}
 use Rattle.wast_run.proofs.session_runs.run_all.Goals as goal

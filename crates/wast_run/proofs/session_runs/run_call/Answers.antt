@@ -1,7 +1,5 @@
-use Rattle.std.proofs.Common.{◌≡◌, true, sym, ◌∙◌, subst}
-use Rattle.c_meaning.specs.Linking.{fits}
+use Rattle.wast_run.proofs.Common.{◌≡◌, true, sym, ◌∙◌, subst, fits, symbol_of}
 use Rattle.crun.specs.Sessions.{program_of}
-use Rattle.wast_run.specs.Ran.{symbol_of}
 use Rattle.wast_run.proofs.Sessions.{call_behind, call_came}
 use Rattle.wast_run.proofs.session_runs.run_call.Goals as goal
 

@@ -1,7 +1,6 @@
-use Rattle.std.proofs.Common.{◌≡◌, true, take, sym, ◌∙◌, subst}
-use Rattle.c_meaning.specs.Linking.{fits}
+use Rattle.wast_run.proofs.Common.{◌≡◌, true, take, sym, ◌∙◌, subst, fits, symbol_of, symbols_in}
 use Rattle.crun.specs.Sessions.{program_of}
-use Rattle.wast_run.specs.Ran.{symbol_of, symbols_in, IsBehind}
+use Rattle.wast_run.specs.Ran.{IsBehind}
 use Rattle.wast_run.proofs.Kept.{all_at, front_next}
 use Rattle.wast_run.proofs.Sessions.{kept_stop, runs_further, seen}
 use Rattle.wast_run.proofs.session_runs.run_kept.Goals as goal

@@ -1,12 +1,5 @@
-use Rattle.std.proofs.Common.{Ok, Err}
-use Rattle.w2c_files.specs.Words.{texts}
-use Rattle.w2c_io.specs.Telling.{Says}
-use Rattle.wast_script.specs.Lines.{error_line}
-use Rattle.wast_script.specs.Seen.{reason_of}
-use Rattle.wast_run.specs.Jobs.{GivesFirst}
-use Rattle.wast_run.proofs.TopLaws.{gained_before, no_report, none_reported, not_reported, nothing_gained, report_complete, status_small}
-use Rattle.wast_run.proofs.TopLaws.{stop_always, stop_complete, stop_part, stop_refused, stop_silent, stop_unread, stop_unwritten}
-use Rattle.wast_run.proofs.TopLaws.{missing_always, part_gains, report_gains, reported_always, stop_usage}
+use Rattle.wast_run.proofs.Common.{Ok, Err, Says, texts, error_line, reason_of, GivesFirst}
+use Rattle.wast_run.proofs.TopLaws.{gained_before, no_report, none_reported, not_reported, nothing_gained, report_complete, status_small, stop_always, stop_complete, stop_part, stop_refused, stop_silent, stop_unread, stop_unwritten, missing_always, part_gains, report_gains, reported_always, stop_usage}
 use Rattle.wast_run.proofs.OnlyReads.{ends_with_reads}
 use Rattle.wast_run.proofs.Passing.{status_passes, stop_passes}
 use Rattle.wast_run.proofs.top.wast_run_top.Goals as goal

@@ -1,14 +1,4 @@
-use Rattle.std.proofs.Common.{◌∙◌, refl, subst, Err}
-use Rattle.w2c_files.specs.Words.{texts}
-use Rattle.w2c_io.specs.Contents.{Told}
-use Rattle.w2c_io.specs.Passed.{Passes}
-use Rattle.w2c_io.specs.Telling.{Tells}
-use Rattle.wast_script.specs.Seen.{reason_of, seen_commands, seen_line, seen_script}
-use Rattle.wast_run.specs.Jobs.{GivesFirst, IsJob, Reports}
-use Rattle.wast_run.specs.Passing.{StopsIn}
-use Rattle.wast_run.specs.Reading.{HasReportedOver}
-use Rattle.wast_run.specs.Stopping.{StopsReport}
-use Rattle.wast_run.specs.Telling.{HasReported}
+use Rattle.wast_run.proofs.Common.{Err, refl, ◌∙◌, subst, Told, Passes, Tells, texts, reason_of, seen_commands, seen_line, seen_script, GivesFirst, IsJob, Reports, StopsIn, HasReportedOver, StopsReport, HasReported}
 use Rattle.wast_run.proofs.WorkLaws.{job_of_text, report_stops, reports, script_stops, words_stop}
 use Rattle.wast_run.proofs.Passing.{commands_end, first_gives, report_ends, script_ends, words_end}
 use Rattle.wast_run.proofs.work.work.Goals as goal

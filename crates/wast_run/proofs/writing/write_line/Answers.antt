@@ -1,5 +1,4 @@
-use Rattle.std.proofs.Common.{ap, Err, Ok}
-use Rattle.program_words.proofs.Written.{line_cause}
+use Rattle.wast_run.proofs.Common.{Ok, Err, ap, line_cause}
 use Rattle.wast_run.proofs.writing.write_line.Goals as goal
 
 pub returns-in-Ok-clause-later : goal.returns-in-Ok-clause-later

@@ -1,9 +1,7 @@
-use Rattle.std.proofs.Common.{[], codes, length, refl}
-use Rattle.std.proofs.lemmas.Bool.{leb-true}
+use Rattle.wast_script.proofs.Common.{[], length, codes, refl, leb-true, IsFault, IsScript, most_script_bytes}
 use Rattle.serde_json.proofs.OnLiterals.{serde_json_on_literals}
 use Rattle.wast_script.specs.declared.fault.ScriptFault.TheVariants as fault
 use Rattle.wast_script.specs.Samples.{two_commands, two_commands_are}
-use Rattle.wast_script.specs.Scripts.{most_script_bytes, IsFault, IsScript}
 use Rattle.wast_script.proofs.cases.texts_of_scripts.Goals as goal
 
 two_commands_is : IsScript two_commands two_commands_are

@@ -1,6 +1,4 @@
-use Rattle.std.proofs.Common.{◌≡◌, drop, Bool}
-use Rattle.std.specs.List.{find}
-use Rattle.std.specs.Str.{bytes_eq}
+use Rattle.std.proofs.Common.{◌≡◌, drop, Bool, find, bytes_eq}
 use Rattle.w2c_base.specs.declared.trap.TrapKind.{TrapKind}
 use Rattle.w2c_base.specs.Trap.{text_of}
 use Rattle.wast_script.proofs.kind.cause_among.Given as goal

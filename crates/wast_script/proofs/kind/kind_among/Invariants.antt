@@ -1,8 +1,5 @@
-use Rattle.std.proofs.Common.{◌≡◌, drop, Bool}
-use Rattle.std.specs.List.{find}
-use Rattle.std.specs.Str.{bytes_eq}
+use Rattle.wast_script.proofs.Common.{◌≡◌, Bool, drop, find, bytes_eq, kind_text}
 use Rattle.wast_script.specs.declared.kind.Kind.{Kind}
-use Rattle.wast_script.specs.Forms.{kind_text}
 use Rattle.wast_script.proofs.kind.kind_among.Given as goal
 
 abbrev pub invariant-loop-kind : goal.invariant-loop-kind

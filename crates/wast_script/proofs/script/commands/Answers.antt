@@ -1,12 +1,4 @@
-use Rattle.std.proofs.Common.{◌∙◌, ap, map, sym}
-use Rattle.std.specs.List.{position_from}
-use Rattle.std.specs.Prelude.{option_map}
-use Rattle.std.proofs.lemmas.List.{map_push}
-use Rattle.serde_json.specs.View.{view}
-use Rattle.wast_script.specs.Forms.{command_of}
-use Rattle.wast_script.specs.Lists.{all_given}
-use Rattle.wast_script.specs.Scripts.{is_formless}
-use Rattle.wast_script.specs.Seen.{seen_command, seen_commands}
+use Rattle.wast_script.proofs.Common.{map, option_map, sym, ap, ◌∙◌, view, map_push, position_from, command_of, all_given, is_formless, seen_command, seen_commands}
 use Rattle.wast_script.proofs.Gathered.{first_is_behind, first_is_here, next_here}
 use Rattle.wast_script.proofs.script.commands.Goals as goal
 

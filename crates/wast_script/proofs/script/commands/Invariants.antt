@@ -1,10 +1,4 @@
-use Rattle.std.proofs.Common.{◌≡◌, ◌+◌, drop, map}
-use Rattle.std.specs.List.{position_from}
-use Rattle.serde_json.specs.View.{view}
-use Rattle.wast_script.specs.Forms.{command_of}
-use Rattle.wast_script.specs.Lists.{all_given}
-use Rattle.wast_script.specs.Scripts.{is_formless}
-use Rattle.wast_script.specs.Seen.{seen_commands}
+use Rattle.wast_script.proofs.Common.{◌≡◌, ◌+◌, map, drop, view, position_from, command_of, all_given, is_formless, seen_commands}
 use Rattle.wast_script.proofs.Gathered.{gathered}
 use Rattle.wast_script.proofs.script.commands.Given as goal
 

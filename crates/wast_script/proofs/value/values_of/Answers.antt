@@ -1,7 +1,4 @@
-use Rattle.std.proofs.Common.{◌∙◌, map, sym}
-use Rattle.serde_json.specs.View.{view}
-use Rattle.wast_script.specs.Lists.{all_given}
-use Rattle.wast_script.specs.Values.{value_of}
+use Rattle.wast_script.proofs.Common.{map, sym, ◌∙◌, view, all_given, value_of}
 use Rattle.wast_script.proofs.Gathered.{next_here, nothing_here}
 use Rattle.wast_script.proofs.value.values_of.Goals as goal
 

@@ -1,7 +1,4 @@
-use Rattle.std.proofs.Common.{◌≡◌, drop, map}
-use Rattle.serde_json.specs.View.{view}
-use Rattle.wast_script.specs.Lists.{all_given}
-use Rattle.wast_script.specs.Values.{value_of}
+use Rattle.wast_script.proofs.Common.{◌≡◌, map, drop, view, all_given, value_of}
 use Rattle.wast_script.proofs.Gathered.{gathered}
 use Rattle.wast_script.proofs.value.values_of.Given as goal
 

@@ -1,5 +1,4 @@
-use Rattle.std.proofs.Common.{rules, ◌≡◌, ◌∙◌, sym, ap, ℕ, List, Option, Some, None, Err}
-use Rattle.std.specs.Prelude.{option_and_then, option_map}
+use Rattle.wast_script.proofs.Common.{◌≡◌, ℕ, List, Some, None, Err, Option, option_map, option_and_then, sym, ap, ◌∙◌, rules, seen_line}
 use Rattle.clap.specs.Words.{Row, app_of, found_of, is_simple_and_free, rows_of}
 use Rattle.w2c_files.specs.Words.{texts}
 use Rattle.program_words.specs.declared.no_line.NoLine.TheVariants as no_line
@@ -7,7 +6,6 @@ use Rattle.program_words.specs.Command.{rows_read}
 use Rattle.program_words.proofs.Parses.{same_error}
 use Rattle.wast_script.specs.CommandLine.{line_in, line_of, wast_run}
 use Rattle.wast_script.specs.declared.words.Line.{Line}
-use Rattle.wast_script.specs.Seen.{seen_line}
 use Rattle.wast_script.proofs.words.read_words.Goals as goal
 
 -- the line of words that clap reads as these rows, or reads not

@@ -1,7 +1,4 @@
-use Rattle.std.proofs.Common.{List, ◌∙◌, ◌++◌, ap, sym, subst}
-use Rattle.w2c_base.specs.declared.value.ValType.{ValType}
-use Rattle.c_body.specs.Around.{context_with}
-use Rattle.c_body.specs.Ready.{BodyIsReady}
+use Rattle.c_body.proofs.Common.{List, ◌++◌, sym, ap, ◌∙◌, subst, ValType, context_with, BodyIsReady}
 use Rattle.c_body.proofs.index_spaces.IndexSpaces.content.Goals as goal
 
 pub whole_body-requires-clause-ready : goal.whole_body-requires-clause-ready

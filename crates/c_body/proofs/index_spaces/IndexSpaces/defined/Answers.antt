@@ -1,6 +1,4 @@
-use Rattle.std.proofs.Common.{◌∙◌, List, ap}
-use Rattle.w2c_base.specs.declared.value.ValType.{ValType}
-use Rattle.c_body.specs.Body.{params_of}
+use Rattle.c_body.proofs.Common.{List, ap, ◌∙◌, ValType, params_of}
 use Rattle.c_body.proofs.Whole.{same_func}
 use Rattle.c_body.proofs.index_spaces.IndexSpaces.defined.Goals as goal
 

@@ -1,14 +1,8 @@
-use Rattle.std.proofs.Common.{◌≡◌, List, map, Option, sym, ap, ◌∙◌, subst}
-use Rattle.std.specs.Prelude.{option_map}
-use Rattle.c_tree.specs.declared.tree.Item.{Item}
-use Rattle.c_tree.specs.View.{item_of}
+use Rattle.c_check.proofs.Common.{◌≡◌, List, map, Option, option_map, sym, ap, ◌∙◌, subst, item_of, Item, whole_unit, first_in_items, broken_at}
 use Rattle.c_tree.specs.FirstBroken.{BrokenRule, first_broken}
 use Rattle.c_tree.proofs.FirstBroken.{none_is_broken}
 use Rattle.c_tree.proofs.BrokenInOrder.{is_first}
 use Rattle.c_check.specs.declared.pass.Broken.{Broken}
-use Rattle.c_check.specs.Broken.{broken_at}
-use Rattle.c_rules.specs.FirstRule.{first_in_items}
-use Rattle.c_rules.proofs.Onward.{whole_unit}
 use Rattle.c_check.proofs.checked.CheckedUnitCheck.check.Goals as goal
 
 -- what was found is the first of the unit

@@ -1,12 +1,5 @@
-use Rattle.std.proofs.Common.{List, map, bytes_eq, sym, ap, ◌∙◌}
-use Rattle.std.specs.List.{list_any}
-use Rattle.std.specs.Borrow.{Bor}
-use Rattle.w2c_base.specs.Lookup.{named}
-use Rattle.c_tree.specs.declared.tree.Item.{Item}
+use Rattle.c_check.proofs.Common.{List, map, bytes_eq, sym, ap, ◌∙◌, Bor, list_any, named, item_of, Item, by_name, by_names, defined_name, defined_of, names_of, none_clash, finds_next}
 use Rattle.c_tree.specs.Tree as tree
-use Rattle.c_tree.specs.View.{item_of}
-use Rattle.c_scope.proofs.NextItem.{finds_next}
-use Rattle.c_rules.specs.UnitNames.{by_name, by_names, defined_name, defined_of, names_of, none_clash}
 use Rattle.c_check.proofs.Behind.{taken, none_clash_next}
 use Rattle.c_check.proofs.Sets.{knows_put}
 use Rattle.c_check.proofs.progress.Progress.behind_next.Goals as goal

@@ -1,8 +1,6 @@
-use Rattle.std.proofs.Common.{◌≡◌, ◌∷◌, ◌++◌, [], refl, sym, ap, ◌∙◌, subst}
-use Rattle.w2c_base.specs.Values.{types_of}
-use Rattle.c_hosts.specs.declared.host.HostReply.TheVariants as reply
+use Rattle.c_hosts.proofs.Common.{◌≡◌, [], ◌∷◌, ◌++◌, sym, refl, ap, ◌∙◌, subst, types_of, asked}
+use Rattle.c_meaning.specs.declared.reply.HostReply.TheVariants as reply
 use Rattle.c_hosts.specs.Hosts.{IsReply, TakesArgs}
-use Rattle.c_hosts.specs.Journals.{asked}
 use Rattle.c_hosts.proofs.Arguments.{types_tell}
 use Rattle.c_hosts.proofs.Called.{function_of_it, host_there, of_function}
 use Rattle.c_hosts.proofs.asking.Hosts.ask.Goals as goal

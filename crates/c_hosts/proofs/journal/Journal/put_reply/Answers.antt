@@ -1,5 +1,4 @@
-use Rattle.std.proofs.Common.{◌≡◌, ◌∷◌, ◌++◌, [], length, sym, ap, ◌∙◌}
-use Rattle.c_hosts.specs.Journals.{with_reply}
+use Rattle.c_hosts.proofs.Common.{◌≡◌, [], ◌∷◌, ◌++◌, length, sym, ap, ◌∙◌, with_reply}
 use Rattle.c_hosts.proofs.Lasts.{last_is, last_set}
 use Rattle.c_hosts.proofs.journal.Journal.put_reply.Goals as goal
 

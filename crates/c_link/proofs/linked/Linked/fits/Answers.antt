@@ -1,7 +1,4 @@
-use Rattle.std.proofs.Common.{Some, None, sym, ap, ◌∙◌}
-use Rattle.std.specs.Prelude.{option_copied, option_map}
-use Rattle.c_tree.specs.View.{func_type_of}
-use Rattle.c_link.specs.Calls.{takes_if_any}
+use Rattle.c_link.proofs.Common.{Some, None, option_map, option_copied, sym, ap, ◌∙◌, func_type_of, takes_if_any}
 use Rattle.c_link.proofs.Readers.{signature_is, fits_is}
 use Rattle.c_link.proofs.linked.Linked.fits.Goals as goal
 

@@ -1,10 +1,5 @@
-use Rattle.std.proofs.Common.{◌≡◌, List, None, map, subst}
-use Rattle.c_tree.specs.declared.tree.Item.{Item}
-use Rattle.c_tree.specs.View.{unit_of}
-use Rattle.c_link.specs.declared.host_symbol.HostSymbol.{HostSymbol}
-use Rattle.c_meaning.specs.Linking.{Program, link_refusal}
-use Rattle.c_link.specs.Programs.{AllChecked, IsProgramOf}
-use Rattle.c_link.proofs.Readers.{link_of}
+use Rattle.c_link.proofs.Common.{◌≡◌, List, map, None, subst, unit_of, Item, Program, link_refusal, AllChecked, IsProgramOf, HostSymbol}
+use Rattle.c_link.proofs.Linking.{link_of}
 use Rattle.c_link.proofs.linked.Linked.unit_count.Goals as goal
 
 pub returns-clause-checked : goal.returns-clause-checked

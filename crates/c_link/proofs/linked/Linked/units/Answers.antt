@@ -1,10 +1,4 @@
-use Rattle.std.proofs.Common.{◌≡◌, List, None, map, subst}
-use Rattle.c_tree.specs.declared.tree.Item.{Item}
-use Rattle.c_tree.specs.View.{unit_of}
-use Rattle.c_link.specs.declared.host_symbol.HostSymbol.{HostSymbol}
-use Rattle.c_link.specs.Offers.{c_symbols}
-use Rattle.c_link.specs.Programs.{AllChecked}
-use Rattle.c_link.specs.Refusals.{first_refusal}
+use Rattle.c_link.proofs.Common.{◌≡◌, List, map, None, subst, unit_of, Item, first_refusal, c_symbols, AllChecked, HostSymbol}
 use Rattle.c_link.proofs.linked.Linked.units.Goals as goal
 
 pub returns-clause-checked : goal.returns-clause-checked

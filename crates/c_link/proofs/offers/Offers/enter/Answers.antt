@@ -1,6 +1,4 @@
-use Rattle.std.proofs.Common.{bytes_eq, if◌then◌else◌, Some, None, ap, ◌∙◌}
-use Rattle.std.specs.Option.{option_or}
-use Rattle.w2c_base.specs.Lookup.{named}
+use Rattle.c_link.proofs.Common.{if◌then◌else◌, Some, None, bytes_eq, ap, ◌∙◌, option_or, named}
 use Rattle.c_link.proofs.Tables.{told_more}
 use Rattle.c_link.proofs.offers.Offers.enter.Goals as goal
 

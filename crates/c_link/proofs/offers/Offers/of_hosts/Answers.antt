@@ -1,11 +1,5 @@
-use Rattle.std.proofs.Common.{◌≡◌, ◌≤◌, [], ◌∷◌, take, length, Some, sym, ap, ◌∙◌}
-use Rattle.std.proofs.lemmas.List.{length-map, take_all}
-use Rattle.std.proofs.lemmas.Option.{slice_get-map}
-use Rattle.std.specs.Prelude.{slice_get, option_map}
-use Rattle.w2c_base.specs.Lookup.{numbered}
+use Rattle.c_link.proofs.Common.{◌≡◌, ◌≤◌, [], ◌∷◌, length, take, slice_get, Some, option_map, sym, ap, ◌∙◌, take_all, length-map, slice_get-map, numbered_at, numbered_many, mapped_at, take_next, numbered, c_symbol, c_symbols, host_offer, host_offers}
 use Rattle.c_link.specs.declared.offers.Owner.TheVariants as owner
-use Rattle.c_link.specs.Offers.{c_symbol, c_symbols, host_offer, host_offers}
-use Rattle.c_link.proofs.Walks.{mapped_at, numbered_at, numbered_many, take_next}
 use Rattle.c_link.proofs.Tables.{adds_said, holds_as, holds_more}
 use Rattle.c_link.proofs.offers.Offers.of_hosts.Goals as goal
 

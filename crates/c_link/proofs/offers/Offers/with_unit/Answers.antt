@@ -1,8 +1,4 @@
-use Rattle.std.proofs.Common.{map, take, ap, sym}
-use Rattle.std.proofs.lemmas.List.{length-map, take_all}
-use Rattle.c_tree.specs.View.{item_of}
-use Rattle.c_link.specs.Offers.{unit_offers}
-use Rattle.c_link.proofs.Walks.{mapped_at}
+use Rattle.c_link.proofs.Common.{map, take, sym, ap, take_all, length-map, mapped_at, item_of, unit_offers}
 use Rattle.c_link.proofs.Tables.{adds_none, adds_more, adds_as, item_added}
 use Rattle.c_link.proofs.offers.Offers.with_unit.Goals as goal
 

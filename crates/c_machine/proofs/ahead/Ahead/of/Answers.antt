@@ -1,5 +1,4 @@
-use Rattle.std.proofs.Common.{sym, ◌∙◌}
-use Rattle.c_tree.specs.View.{stmt_of}
+use Rattle.c_machine.proofs.Common.{sym, ◌∙◌, stmt_of}
 use Rattle.c_machine.proofs.Labels.{at_place}
 use Rattle.c_machine.proofs.ahead.Ahead.of.Goals as goal
 

@@ -1,6 +1,4 @@
-use Rattle.std.proofs.Common.{sym, ap, ◌∙◌}
-use Rattle.c_objects.specs.Views.{effect_of}
-use Rattle.c_objects.specs.Objects.{memory_of}
+use Rattle.c_objects.proofs.Common.{sym, ap, ◌∙◌, memory_of, effect_of}
 use Rattle.c_objects.proofs.Kept.{memory_kept}
 use Rattle.c_objects.proofs.memory.MemoryCell.apply.Goals as goal
 

@@ -1,7 +1,4 @@
-use Rattle.std.proofs.Common.{ap, ◌∙◌, refl}
-use Rattle.std.proofs.lemmas.Option.{slice_get_read}
-use Rattle.c_objects.specs.Views.{address_of, effect_of}
-use Rattle.c_objects.specs.Stores.{machine_of}
+use Rattle.c_objects.proofs.Common.{refl, ap, ◌∙◌, slice_get_read, machine_of, address_of, effect_of}
 use Rattle.c_objects.proofs.Kept.{keeps_on}
 use Rattle.c_objects.proofs.Machines.{no_table_slot, past_end, table_found, table_written, table_back, table_stored, table_missing}
 use Rattle.c_objects.proofs.store.Store.on_table.Goals as goal

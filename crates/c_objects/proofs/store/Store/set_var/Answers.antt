@@ -1,5 +1,4 @@
-use Rattle.std.proofs.Common.{refl}
-use Rattle.std.proofs.lemmas.Option.{slice_get_read}
+use Rattle.c_objects.proofs.Common.{refl, slice_get_read}
 use Rattle.c_objects.proofs.Kept.{set_kept}
 use Rattle.c_objects.proofs.Machines.{var_written, var_stored}
 use Rattle.c_objects.proofs.store.Store.set_var.Goals as goal

@@ -1,6 +1,4 @@
-use Rattle.std.proofs.Common.{sym, ap, ◌∙◌}
-use Rattle.c_objects.specs.Views.{effect_of}
-use Rattle.c_objects.specs.Objects.{table_of}
+use Rattle.c_objects.proofs.Common.{sym, ap, ◌∙◌, table_of, effect_of}
 use Rattle.c_objects.proofs.Kept.{table_kept}
 use Rattle.c_objects.proofs.table.TableCell.apply.Goals as goal
 

@@ -1,5 +1,4 @@
-use Rattle.std.proofs.Common.{◌≡◌, drop}
-use Rattle.c_prelude.specs.Pieces.{all_placed, made_by}
+use Rattle.c_prelude.proofs.Common.{◌≡◌, drop, all_placed, made_by}
 use Rattle.c_prelude.proofs.builder.Builder.place_all.Given as goal
 
 -- what the pieces to come make from here is what all pieces make

@@ -1,5 +1,4 @@
-use Rattle.std.proofs.Common.{◌≡◌, drop}
-use Rattle.c_prelude.specs.Pieces.{staged, made_by}
+use Rattle.c_prelude.proofs.Common.{◌≡◌, drop, made_by, staged}
 use Rattle.c_prelude.proofs.builder.Builder.place_staged.Given as goal
 
 -- what the sizes to come make from here is what all sizes make

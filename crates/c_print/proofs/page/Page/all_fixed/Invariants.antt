@@ -1,6 +1,4 @@
-use Rattle.std.proofs.Common.{◌≡◌, drop, map}
-use Rattle.c_tree.specs.Tokens.{Fixed}
-use Rattle.c_print.specs.Page.{printed_onto}
+use Rattle.c_print.proofs.Common.{◌≡◌, map, drop, Fixed, printed_onto}
 use Rattle.c_print.proofs.page.Page.all_fixed.Given as goal
 
 -- what is put, and what the tokens to come put, is the whole

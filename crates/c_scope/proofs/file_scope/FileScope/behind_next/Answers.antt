@@ -1,7 +1,5 @@
-use Rattle.std.specs.Borrow.{Bor}
+use Rattle.c_scope.proofs.Common.{Bor, array_of, func_type_of, function_of, variable_of, func_of, item_of}
 use Rattle.c_tree.specs.declared.tree.Func.{Func}
-use Rattle.c_tree.specs.View.{func_of, item_of}
-use Rattle.c_tree.specs.Scope.{variable_of, array_of, function_of, func_type_of}
 use Rattle.c_scope.proofs.NextItem.{finds_next, finds_types_next, knows_next}
 use Rattle.c_scope.proofs.file_scope.FileScope.behind_next.Goals as goal
 

@@ -1,8 +1,5 @@
-use Rattle.std.proofs.Common.{◌∙◌}
+use Rattle.c_scope.proofs.Common.{◌∙◌, found_left, found_right, declared, functions_of}
 use Rattle.c_tree.specs.Runtime.{primitives}
-use Rattle.c_scope.specs.FileItems.{declared}
-use Rattle.c_scope.specs.Tables.{functions_of}
-use Rattle.name_table.proofs.Lookups.{found_left, found_right}
 use Rattle.c_scope.proofs.scope.Scope.function.Goals as goal
 
 pub returns-in-Some : goal.returns-in-Some

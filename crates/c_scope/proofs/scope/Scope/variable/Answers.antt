@@ -1,12 +1,5 @@
-use Rattle.std.proofs.Common.{[], ◌∷◌, codes, ap, ◌∙◌}
-use Rattle.std.specs.Option.{option_or}
-use Rattle.w2c_base.specs.Lookup.{named}
+use Rattle.c_scope.proofs.Common.{[], ◌∷◌, codes, ap, ◌∙◌, option_or, named, found_of_four, local_variables, param_variables, body_of, func_of, declared, variables_of}
 use Rattle.c_tree.specs.declared.tree.CType.TheVariants.{U32}
-use Rattle.c_tree.specs.View.{func_of, body_of}
-use Rattle.c_tree.specs.Scope.{param_variables, local_variables}
-use Rattle.c_scope.specs.FileItems.{declared}
-use Rattle.c_scope.specs.Tables.{variables_of}
-use Rattle.name_table.proofs.Lookups.{found_of_four}
 use Rattle.c_scope.proofs.scope.Scope.variable.Goals as goal
 
 pub returns : goal.returns

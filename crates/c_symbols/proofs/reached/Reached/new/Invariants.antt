@@ -1,5 +1,4 @@
-use Rattle.wasm_tree.specs.IndexSpaces.{is_func_import, is_table_import, is_memory_import, is_global_import}
-use Rattle.c_symbols.specs.Named.{named_of}
+use Rattle.c_symbols.proofs.Common.{is_func_import, is_global_import, is_memory_import, is_table_import, named_of}
 use Rattle.c_symbols.proofs.Reaches.{ReachesSoFar}
 use Rattle.c_symbols.proofs.reached.Reached.new.Given as goal
 

@@ -1,8 +1,4 @@
-use Rattle.std.proofs.Common.{◌≡◌, true, false, map, sym, ◌∙◌, ap}
-use Rattle.c_tree.specs.View.{unit_of}
-use Rattle.c_meaning.specs.Step.{are_of_types, param_types}
-use Rattle.c_objects.specs.Views.{value_of}
-use Rattle.c_machine.proofs.Begins.{behind_params}
+use Rattle.c_thread.proofs.Common.{◌≡◌, true, false, map, sym, ap, ◌∙◌, unit_of, are_of_types, param_types, value_of, behind_params}
 use Rattle.c_thread.proofs.Begins.{begins, begins_without, begins_otherwise}
 use Rattle.c_thread.proofs.Units.{items_so}
 use Rattle.c_thread.proofs.linked.LinkedFrame.begin.Goals as goal

@@ -1,9 +1,4 @@
-use Rattle.std.proofs.Common.{◌≡◌, ◌<◌, length, Some, refl, sym, ap, subst, ◌∙◌}
-use Rattle.std.specs.Prelude.{slice_get}
-use Rattle.std.proofs.lemmas.Option.{slice_get-get_or}
-use Rattle.w2c_base.specs.Lookup.{if_found, named}
-use Rattle.c_thread.specs.Linked.{below_in, items_at, machine_in, running_in}
-use Rattle.c_machine.specs.Threads.{names_at}
+use Rattle.c_thread.proofs.Common.{◌≡◌, ◌<◌, length, slice_get, Some, sym, refl, ap, ◌∙◌, subst, slice_get-get_or, if_found, named, names_at, below_in, items_at, machine_in, running_in}
 use Rattle.c_thread.proofs.Assigns.{local_assigned, local_other_type, not_local}
 use Rattle.c_thread.proofs.linked.LinkedThread.assign.Goals as goal
 

@@ -1,6 +1,4 @@
-use Rattle.std.proofs.Common.{sym, ap, ◌∙◌}
-use Rattle.c_objects.specs.Views.{value_of}
-use Rattle.c_thread.specs.Linked.{below_in, machine_in, put_at, running_in}
+use Rattle.c_thread.proofs.Common.{sym, ap, ◌∙◌, value_of, below_in, machine_in, put_at, running_in}
 use Rattle.c_thread.proofs.Assigns.{named_so, unit_unassigned}
 use Rattle.c_thread.proofs.linked.LinkedThread.assign_of_unit.Goals as goal
 

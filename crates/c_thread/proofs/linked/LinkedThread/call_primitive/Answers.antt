@@ -1,9 +1,4 @@
-use Rattle.std.proofs.Common.{◌≡◌, ◌∷◌, sym, ap, subst, ◌∙◌}
-use Rattle.c_meaning.specs.State.{Stuck, Trapped, Undefined}
-use Rattle.c_meaning.specs.Step.{Stops, take_effect}
-use Rattle.c_objects.specs.Stores.{machine_of}
-use Rattle.c_objects.specs.Views.{effect_of, Keeps}
-use Rattle.c_thread.specs.Linked.{below_in, machine_in, place_in, waiting_in}
+use Rattle.c_thread.proofs.Common.{◌≡◌, ◌∷◌, sym, ap, ◌∙◌, subst, Stuck, Trapped, Undefined, Stops, take_effect, machine_of, Keeps, effect_of, below_in, machine_in, place_in, waiting_in}
 use Rattle.c_thread.proofs.linked.LinkedThread.call_primitive.Goals as goal
 
 pub returns-in-Gives : goal.returns-in-Gives

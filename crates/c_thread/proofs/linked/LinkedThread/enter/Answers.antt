@@ -1,7 +1,4 @@
-use Rattle.std.proofs.Common.{[], ◌∷◌, ◌++◌, map, sym, ◌∙◌, ap}
-use Rattle.c_meaning.specs.Step.{begin, next}
-use Rattle.c_objects.specs.Views.{value_of}
-use Rattle.c_thread.specs.Linked.{begun_in, below_in, machine_in, running_in, waiting_in}
+use Rattle.c_thread.proofs.Common.{[], ◌∷◌, ◌++◌, map, sym, ap, ◌∙◌, begin, next, value_of, begun_in, below_in, machine_in, running_in, waiting_in}
 use Rattle.c_thread.proofs.Returns.{below-push}
 use Rattle.c_thread.proofs.linked.LinkedThread.enter.Goals as goal
 

@@ -1,14 +1,7 @@
-use Rattle.std.proofs.Common.{◌≡◌, ◌-◌, ◌∷◌, true, false, drop, map, Some, sym, ◌∙◌, ap, subst}
-use Rattle.std.specs.Prelude.{option_map, slice_get}
+use Rattle.c_thread.proofs.Common.{◌≡◌, ◌-◌, true, false, ◌∷◌, map, drop, slice_get, Some, option_map, sym, ap, ◌∙◌, subst, arg_of, callee_of, expr_of, stmt_of, Is, Step, act, assign, at_rest, call_callee, evaluate_args, jump, label_of, Finds, number_in, names_at, result_at, stmts_at, target_of, assigned_to, below_in, items_at, machine_in, place_in, running_in, waiting_in, all_evaluated}
 use Rattle.c_tree.specs.declared.tree.Stmt.{Stmt}
-use Rattle.c_tree.specs.View.{arg_of, callee_of, expr_of, stmt_of}
-use Rattle.c_meaning.specs.State.{Is}
-use Rattle.c_meaning.specs.Step.{Step, act, assign, at_rest, call_callee, evaluate_args, jump, label_of, value_of}
+use Rattle.c_meaning.specs.Step.{value_of}
 use Rattle.c_objects.specs.Views.{value_of as held_of}
-use Rattle.c_thread.specs.Linked.{assigned_to, below_in, items_at, machine_in, place_in, running_in, waiting_in}
-use Rattle.c_machine.specs.Names.{number_in, Finds}
-use Rattle.c_thread.specs.Sights.{all_evaluated}
-use Rattle.c_machine.specs.Threads.{names_at, result_at, stmts_at, target_of}
 use Rattle.c_thread.proofs.Units.{items_so}
 use Rattle.c_thread.proofs.Acts.{place_is, same_fault, all_fault, acts_set, acts_set_badly, acts_return, acts_return_badly, acts_call, acts_call_badly, acts_switch, acts_switch_badly, acts_star, acts_star_badly, acts_if, acts_if_badly}
 use Rattle.c_thread.proofs.linked.LinkedThread.execute.Goals as goal

@@ -1,8 +1,4 @@
-use Rattle.std.proofs.Common.{ap, ◌∙◌}
-use Rattle.std.specs.Prelude.{option_map}
-use Rattle.c_meaning.specs.Step.{give}
-use Rattle.c_objects.specs.Views.{value_of}
-use Rattle.c_thread.specs.Linked.{below_in, machine_in}
+use Rattle.c_thread.proofs.Common.{option_map, ap, ◌∙◌, give, value_of, below_in, machine_in}
 use Rattle.c_thread.proofs.Returns.{below-push}
 use Rattle.c_thread.proofs.linked.LinkedThread.give.Goals as goal
 

@@ -1,7 +1,4 @@
-use Rattle.std.proofs.Common.{true, false, ◌∙◌}
-use Rattle.std.specs.Prelude.{option_map}
-use Rattle.c_objects.specs.Views.{value_of}
-use Rattle.c_thread.specs.Linked.{below_in, machine_in}
+use Rattle.c_thread.proofs.Common.{true, false, option_map, ◌∙◌, value_of, below_in, machine_in}
 use Rattle.c_thread.proofs.Returns.{gives_back}
 use Rattle.c_thread.proofs.linked.LinkedThread.give_back.Goals as goal
 

@@ -1,13 +1,4 @@
-use Rattle.std.proofs.Common.{◌≡◌, ◌+◌, drop, map, Option, Some, None, sym, ◌∙◌, ap, arith}
-use Rattle.std.specs.Prelude.{option_map}
-use Rattle.std.proofs.lemmas.List.{length-map}
-use Rattle.c_tree.specs.View.{stmt_of}
-use Rattle.c_meaning.specs.State.{Stuck}
-use Rattle.c_meaning.specs.Step.{Stops, next, at_rest}
-use Rattle.c_machine.specs.Names.{label_name, label_in}
-use Rattle.c_machine.specs.Threads.{stmts_at}
-use Rattle.c_thread.specs.Linked.{below_in, items_at, machine_in, running_in}
-use Rattle.c_machine.proofs.Jumps.{after_label-drop, entry_within}
+use Rattle.c_thread.proofs.Common.{◌≡◌, ◌+◌, map, drop, Some, None, Option, option_map, sym, ap, ◌∙◌, arith, length-map, stmt_of, Stuck, Stops, at_rest, next, after_label-drop, entry_within, label_in, label_name, stmts_at, below_in, items_at, machine_in, running_in}
 use Rattle.c_thread.proofs.linked.LinkedThread.go_to.Goals as goal
 
 pub overflow_add-self : goal.overflow_add-self

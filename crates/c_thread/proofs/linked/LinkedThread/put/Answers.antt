@@ -1,6 +1,4 @@
-use Rattle.std.proofs.Common.{sym, ap, ◌∙◌}
-use Rattle.std.specs.Prelude.{is_some}
-use Rattle.c_thread.specs.Linked.{below_in, running_in}
+use Rattle.c_thread.proofs.Common.{is_some, sym, ap, ◌∙◌, below_in, running_in}
 use Rattle.c_thread.proofs.Assigns.{put_nowhere, put_other_type, put_there}
 use Rattle.c_thread.proofs.linked.LinkedThread.put.Goals as goal
 

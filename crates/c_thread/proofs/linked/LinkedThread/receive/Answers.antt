@@ -1,7 +1,4 @@
-use Rattle.std.proofs.Common.{Some, None, ap, ◌∙◌}
-use Rattle.std.specs.Prelude.{option_map}
-use Rattle.c_objects.specs.Views.{value_of}
-use Rattle.c_thread.specs.Linked.{machine_in}
+use Rattle.c_thread.proofs.Common.{Some, None, option_map, ap, ◌∙◌, value_of, machine_in}
 use Rattle.c_thread.proofs.Returns.{arrives, received}
 use Rattle.c_thread.proofs.linked.LinkedThread.receive.Goals as goal
 

@@ -1,7 +1,5 @@
-use Rattle.std.proofs.Common.{ap, ◌∙◌, arith}
-use Rattle.c_meaning.specs.Run.{Going}
+use Rattle.c_thread.proofs.Common.{ap, ◌∙◌, arith, Going, state_in, step_in}
 use Rattle.c_thread.specs.declared.linked.LinkedStep.TheVariants as outcome
-use Rattle.c_thread.specs.Linked.{state_in, step_in}
 use Rattle.c_thread.proofs.Ways.{on_its_way}
 use Rattle.c_thread.proofs.linked.LinkedThread.run.Goals as goal
 

@@ -1,12 +1,4 @@
-use Rattle.std.proofs.Common.{◌-◌, ◌≤◌}
-use Rattle.w2c_base.specs.Run.{Trail}
-use Rattle.c_meaning.specs.Linking.{Program}
-use Rattle.c_meaning.specs.Run.{Going, Pending}
-use Rattle.c_meaning.specs.Reaches.{Reaches}
-use Rattle.c_objects.specs.Stores.{AreStored}
-use Rattle.c_objects.specs.Views.{Naming}
-use Rattle.c_thread.specs.FuncTypes.{AreFuncTypes}
-use Rattle.c_thread.specs.Linked.{state_in, IsLinked}
+use Rattle.c_thread.proofs.Common.{◌-◌, ◌≤◌, Trail, Program, Reaches, Going, Pending, AreStored, Naming, AreFuncTypes, IsLinked, state_in}
 use Rattle.c_thread.proofs.linked.LinkedThread.run.Given as goal
 
 abbrev pub invariant-loop-steps : goal.invariant-loop-steps

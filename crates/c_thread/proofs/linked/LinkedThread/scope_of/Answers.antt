@@ -1,10 +1,4 @@
-use Rattle.std.proofs.Common.{refl, sym, ap, ◌∙◌, subst}
-use Rattle.c_tree.specs.View.{unit_of}
-use Rattle.c_meaning.specs.Step.{at_rest}
-use Rattle.c_thread.specs.declared.scope.UnitScope.{UnitScope}
-use Rattle.c_thread.specs.Linked.{held_vars, items_at, running_in}
-use Rattle.c_machine.specs.Names.{number_in, Finds}
-use Rattle.c_machine.specs.Threads.{names_at}
+use Rattle.c_thread.proofs.Common.{sym, refl, ap, ◌∙◌, subst, unit_of, at_rest, Finds, number_in, names_at, held_vars, items_at, running_in, UnitScope}
 use Rattle.c_thread.proofs.Sights.{sees}
 use Rattle.c_thread.proofs.linked.LinkedThread.scope_of.Goals as goal
 

@@ -1,12 +1,4 @@
-use Rattle.std.proofs.Common.{◌≡◌, drop, map, sym, ◌∙◌, ap, subst, arith}
-use Rattle.std.specs.Prelude.{slice_get}
-use Rattle.std.proofs.lemmas.List.{length-map}
-use Rattle.std.proofs.lemmas.Option.{slice_get_within}
-use Rattle.c_tree.specs.View.{stmt_of}
-use Rattle.c_thread.specs.Linked.{items_at}
-use Rattle.c_machine.specs.Names.{behind_labels}
-use Rattle.c_machine.specs.Tables.{IsNext}
-use Rattle.c_machine.specs.Threads.{stmts_at}
+use Rattle.c_thread.proofs.Common.{◌≡◌, map, drop, slice_get, sym, ap, ◌∙◌, subst, arith, length-map, slice_get_within, stmt_of, behind_labels, IsNext, stmts_at, items_at}
 use Rattle.c_thread.proofs.Units.{items_so, no_items}
 use Rattle.c_thread.proofs.Acts.{ends, goes, no_item, nothing}
 use Rattle.c_thread.proofs.linked.LinkedThread.step.Goals as goal

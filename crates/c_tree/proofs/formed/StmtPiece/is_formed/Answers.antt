@@ -1,6 +1,4 @@
-use Rattle.std.proofs.Common.{rules, ◌≡◌, map, true, ap, ◌∙◌}
-use Rattle.c_tree.specs.Tests.{named_if_any, call_room, call_formed}
-use Rattle.c_tree.specs.View.{arg_of, callee_of}
+use Rattle.c_tree.proofs.Common.{◌≡◌, true, map, ap, ◌∙◌, rules, call_formed, call_room, named_if_any, arg_of, callee_of}
 use Rattle.c_tree.proofs.formed.StmtPiece.is_formed.Goals as goal
 
 pub returns-then-is_named_if_any : goal.returns-then-is_named_if_any

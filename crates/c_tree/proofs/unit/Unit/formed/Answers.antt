@@ -1,7 +1,4 @@
-use Rattle.std.proofs.Common.{◌≡◌, sym, ap, ◌∙◌}
-use Rattle.std.specs.List.{list_all}
-use Rattle.c_tree.specs.Tests.{item_formed}
-use Rattle.c_tree.specs.View.{item_of, unit_of}
+use Rattle.c_tree.proofs.Common.{◌≡◌, sym, ap, ◌∙◌, list_all, item_formed, item_of, unit_of}
 use Rattle.c_tree.proofs.Tested.{list_all_map}
 use Rattle.c_tree.proofs.TestsTell.{unit_tells, unit_passes}
 use Rattle.c_tree.proofs.WellFormedUnits.{formed, well_formed}

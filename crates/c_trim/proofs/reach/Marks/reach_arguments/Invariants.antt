@@ -1,8 +1,4 @@
-use Rattle.std.proofs.Common.{◌≡◌, map, drop}
-use Rattle.std.specs.Prelude.{flat_map}
-use Rattle.c_tree.specs.View.{arg_of}
-use Rattle.c_trim.specs.Trim.{arg_functions}
-use Rattle.c_trim.specs.Marks.{reached_by, with_names}
+use Rattle.c_trim.proofs.Common.{◌≡◌, map, drop, flat_map, arg_of, reached_by, with_names, arg_functions}
 use Rattle.c_trim.proofs.reach.Marks.reach_arguments.Given as goal
 
 abbrev pub invariant-loop-argument : goal.invariant-loop-argument

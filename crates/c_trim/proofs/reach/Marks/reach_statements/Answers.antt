@@ -1,6 +1,4 @@
-use Rattle.c_tree.specs.View.{stmt_of}
-use Rattle.c_trim.specs.Trim.{stmt_functions}
-use Rattle.c_trim.specs.Marks.{reached_by}
+use Rattle.c_trim.proofs.Common.{stmt_of, reached_by, stmt_functions}
 use Rattle.c_trim.proofs.Marking.{one_reached}
 use Rattle.c_trim.proofs.reach.Marks.reach_statements.Goals as goal
 

@@ -1,8 +1,4 @@
-use Rattle.std.proofs.Common.{◌≡◌, map, drop}
-use Rattle.std.specs.Prelude.{flat_map}
-use Rattle.c_tree.specs.View.{stmt_of}
-use Rattle.c_trim.specs.Trim.{stmt_functions}
-use Rattle.c_trim.specs.Marks.{reached_by, with_names}
+use Rattle.c_trim.proofs.Common.{◌≡◌, map, drop, flat_map, stmt_of, reached_by, with_names, stmt_functions}
 use Rattle.c_trim.proofs.reach.Marks.reach_statements.Given as goal
 
 abbrev pub invariant-loop-statement : goal.invariant-loop-statement

@@ -1,7 +1,5 @@
-use Rattle.std.proofs.Common.{◌≡◌, IfOk, subst, ap, ◌∙◌}
+use Rattle.c_unit.proofs.Common.{◌≡◌, IfOk, ap, ◌∙◌, subst, expr_of, constant_by}
 use Rattle.c_tree.specs.Tree as tree
-use Rattle.c_tree.specs.View.{expr_of}
-use Rattle.c_unit.specs.Single.{constant_by}
 use Rattle.c_unit.proofs.Constants.{by_single}
 use Rattle.c_unit.proofs.source.Source.constant.Goals as goal
 

@@ -1,11 +1,6 @@
-use Rattle.std.proofs.Common.{◌≡◌, IfOk, subst, ap, ◌∙◌}
-use Rattle.wasm_meaning.specs.LinkedSet.{NamedModule}
-use Rattle.alike.specs.Alike.{memory_name, table_name, global_name}
+use Rattle.c_unit.proofs.Common.{◌≡◌, IfOk, ap, ◌∙◌, subst, NamedModule, global_name, memory_name, table_name, named_of, pair_of, export_symbol, export_type, global_imports, memory_imports, table_imports, module_of}
 use Rattle.c_tree.specs.Tree as tree
 use Rattle.c_tree.specs.View.{func_of}
-use Rattle.c_symbols.specs.Symbols.{export_symbol, export_type, table_imports, memory_imports, global_imports}
-use Rattle.c_symbols.specs.Named.{named_of, pair_of}
-use Rattle.c_unit.specs.Sources.{module_of}
 use Rattle.c_unit.proofs.Accesses.{given_at, table_export, memory_export, global_export}
 use Rattle.c_unit.proofs.source.Source.export_func.Goals as goal
 

@@ -1,5 +1,4 @@
-use Rattle.std.proofs.Common.{◌≡◌, IfOk, subst}
-use Rattle.c_tree.specs.Scope.{Name}
+use Rattle.c_unit.proofs.Common.{◌≡◌, IfOk, subst, Name}
 use Rattle.c_unit.proofs.FuncNames.{named_import, named_own}
 use Rattle.c_unit.proofs.Standing.{read, missing}
 use Rattle.c_unit.proofs.source.Source.function_name.Goals as goal

@@ -1,7 +1,4 @@
-use Rattle.std.proofs.Common.{map, ap, ◌∙◌}
-use Rattle.c_tree.specs.View.{stmt_of}
-use Rattle.c_unit.specs.InitParts.{making, writing, ending}
-use Rattle.c_unit.specs.Sources.{module_of}
+use Rattle.c_unit.proofs.Common.{map, ap, ◌∙◌, stmt_of, ending, making, writing, module_of}
 use Rattle.c_unit.proofs.InitParts.{in_parts}
 use Rattle.c_unit.proofs.source.Source.init_stmts.Goals as goal
 

@@ -1,7 +1,4 @@
-use Rattle.std.proofs.Common.{sym, ap, ◌∙◌}
-use Rattle.wasm_tree.specs.declared.tree.Module.{Module}
-use Rattle.wasm_meaning.specs.LinkedSet.{NamedModule}
-use Rattle.c_tree.specs.Scope.{Name}
+use Rattle.c_unit.proofs.Common.{sym, ap, ◌∙◌, Module, Name, NamedModule}
 use Rattle.c_unit.proofs.Countable.{few_entries}
 use Rattle.c_unit.proofs.source.Source.new.Goals as goal
 

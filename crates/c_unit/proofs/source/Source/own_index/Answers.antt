@@ -1,6 +1,4 @@
-use Rattle.std.proofs.Common.{ap, ◌∙◌, arith}
-use Rattle.wasm_tree.specs.IndexSpaces.{imported_funcs}
-use Rattle.wasm_meaning.specs.LinkedSet.{NamedModule}
+use Rattle.c_unit.proofs.Common.{ap, ◌∙◌, arith, imported_funcs, NamedModule}
 use Rattle.c_unit.proofs.Countable.{few_funcs}
 use Rattle.c_unit.proofs.source.Source.own_index.Goals as goal
 

@@ -1,6 +1,4 @@
-use Rattle.std.proofs.Common.{map, ap, ◌+◌}
-use Rattle.c_tree.specs.View.{stmt_of}
-use Rattle.c_unit.specs.Init.{write_data}
+use Rattle.c_unit.proofs.Common.{◌+◌, map, ap, stmt_of, write_data}
 use Rattle.c_unit.proofs.Numberings.{put_numbered, put_all}
 use Rattle.c_unit.proofs.source.Source.put_bytes.Goals as goal
 

@@ -1,8 +1,4 @@
-use Rattle.std.proofs.Common.{◌≡◌, ◌++◌, drop, map}
-use Rattle.std.specs.List.{flat_map}
-use Rattle.w2c_base.specs.Lookup.{numbered}
-use Rattle.c_tree.specs.View.{stmt_of}
-use Rattle.c_unit.specs.Init.{write_data}
+use Rattle.c_unit.proofs.Common.{◌≡◌, ◌++◌, map, drop, flat_map, numbered, stmt_of, write_data}
 use Rattle.c_unit.proofs.source.Source.put_bytes.Given as goal
 
 abbrev pub invariant-loop-segment : goal.invariant-loop-segment

@@ -1,9 +1,5 @@
-use Rattle.std.proofs.Common.{◌++◌, codes, map, ap, ◌∙◌}
-use Rattle.wasm_meaning.specs.LinkedSet.{NamedModule}
+use Rattle.c_unit.proofs.Common.{◌++◌, map, codes, ap, ◌∙◌, stmt_of, NamedModule, table_arg, n64, place_expr, test_bounds, test_elements}
 use Rattle.c_tree.specs.Tree as tree
-use Rattle.c_tree.specs.View.{stmt_of}
-use Rattle.c_body.specs.Objects.{table_arg}
-use Rattle.c_unit.specs.Init.{n64, place_expr, test_bounds, test_elements}
 use Rattle.c_unit.proofs.Numberings.{put_at}
 use Rattle.c_unit.proofs.source.Source.put_element_bounds.Goals as goal
 

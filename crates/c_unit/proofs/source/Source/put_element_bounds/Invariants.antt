@@ -1,7 +1,4 @@
-use Rattle.std.proofs.Common.{◌≡◌, ◌++◌, drop, map}
-use Rattle.std.specs.List.{flat_map}
-use Rattle.c_tree.specs.View.{stmt_of}
-use Rattle.c_unit.specs.Init.{test_elements}
+use Rattle.c_unit.proofs.Common.{◌≡◌, ◌++◌, map, drop, flat_map, stmt_of, test_elements}
 use Rattle.c_unit.proofs.source.Source.put_element_bounds.Given as goal
 
 abbrev pub invariant-loop-element : goal.invariant-loop-element

@@ -1,8 +1,4 @@
-use Rattle.std.proofs.Common.{map, ap, ◌+◌, ◌∙◌}
-use Rattle.alike.specs.Alike.{global_name}
-use Rattle.wasm_tree.specs.IndexSpaces.{imported_globals}
-use Rattle.c_tree.specs.View.{expr_of, stmt_of}
-use Rattle.c_unit.specs.Init.{make_global, set}
+use Rattle.c_unit.proofs.Common.{◌+◌, map, ap, ◌∙◌, imported_globals, expr_of, stmt_of, global_name, make_global, set}
 use Rattle.c_unit.proofs.Numberings.{push_numbered, pushed_all}
 use Rattle.c_unit.proofs.source.Source.put_globals.Goals as goal
 

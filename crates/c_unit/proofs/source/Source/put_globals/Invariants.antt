@@ -1,7 +1,4 @@
-use Rattle.std.proofs.Common.{◌≡◌, ◌++◌, drop, map}
-use Rattle.w2c_base.specs.Lookup.{numbered}
-use Rattle.c_tree.specs.View.{stmt_of}
-use Rattle.c_unit.specs.Init.{make_global}
+use Rattle.c_unit.proofs.Common.{◌≡◌, ◌++◌, map, drop, numbered, stmt_of, make_global}
 use Rattle.c_unit.proofs.source.Source.put_globals.Given as goal
 
 abbrev pub invariant-loop-global : goal.invariant-loop-global

@@ -1,5 +1,4 @@
-use Rattle.c_tree.specs.View.{stmt_of}
-use Rattle.c_unit.specs.Init.{make_memory}
+use Rattle.c_unit.proofs.Common.{stmt_of, make_memory}
 use Rattle.c_unit.proofs.Numberings.{push_at}
 use Rattle.c_unit.proofs.source.Source.put_memories.Goals as goal
 

@@ -1,6 +1,4 @@
-use Rattle.std.proofs.Common.{◌≡◌, ◌++◌, drop, map}
-use Rattle.c_tree.specs.View.{stmt_of}
-use Rattle.c_unit.specs.Init.{make_memory}
+use Rattle.c_unit.proofs.Common.{◌≡◌, ◌++◌, map, drop, stmt_of, make_memory}
 use Rattle.c_unit.proofs.source.Source.put_memories.Given as goal
 
 abbrev pub invariant-loop-memory : goal.invariant-loop-memory

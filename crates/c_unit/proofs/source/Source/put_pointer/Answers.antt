@@ -1,9 +1,5 @@
-use Rattle.std.proofs.Common.{ap, ◌∙◌}
-use Rattle.wasm_meaning.specs.LinkedSet.{NamedModule}
-use Rattle.c_tree.specs.View.{stmt_of}
+use Rattle.c_unit.proofs.Common.{ap, ◌∙◌, stmt_of, NamedModule, pointer_set, module_of}
 use Rattle.c_symbols.specs.Reached.{usable_symbol}
-use Rattle.c_unit.specs.Pointers.{pointer_set}
-use Rattle.c_unit.specs.Sources.{module_of}
 use Rattle.c_unit.proofs.Numberings.{pushed}
 use Rattle.c_unit.proofs.Takes.{pointer_is_set}
 use Rattle.c_unit.proofs.source.Source.put_pointer.Goals as goal

@@ -1,8 +1,5 @@
-use Rattle.std.proofs.Common.{map, ap, ◌+◌}
-use Rattle.c_tree.specs.View.{stmt_of}
-use Rattle.c_unit.specs.Init.{write_element}
+use Rattle.c_unit.proofs.Common.{◌+◌, map, ap, stmt_of, read_again, write_element}
 use Rattle.c_unit.proofs.Numberings.{push_numbered, pushed_all}
-use Rattle.c_symbols.proofs.Grown.{read_again}
 use Rattle.c_unit.proofs.source.Source.put_segment.Goals as goal
 
 pub loop-func-preserved : goal.loop-func-preserved

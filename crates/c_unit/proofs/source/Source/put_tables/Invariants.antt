@@ -1,6 +1,4 @@
-use Rattle.std.proofs.Common.{◌≡◌, ◌++◌, drop, map}
-use Rattle.c_tree.specs.View.{stmt_of}
-use Rattle.c_unit.specs.Init.{make_table}
+use Rattle.c_unit.proofs.Common.{◌≡◌, ◌++◌, map, drop, stmt_of, make_table}
 use Rattle.c_unit.proofs.source.Source.put_tables.Given as goal
 
 abbrev pub invariant-loop-table : goal.invariant-loop-table

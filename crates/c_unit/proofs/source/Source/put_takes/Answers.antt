@@ -1,6 +1,4 @@
-use Rattle.std.proofs.Common.{map}
-use Rattle.c_tree.specs.View.{stmt_of}
-use Rattle.c_unit.specs.Sources.{module_of}
+use Rattle.c_unit.proofs.Common.{map, stmt_of, module_of}
 use Rattle.c_unit.proofs.Takes.{takes_end}
 use Rattle.c_unit.proofs.source.Source.put_takes.Goals as goal
 

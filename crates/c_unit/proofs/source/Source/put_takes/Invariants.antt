@@ -1,7 +1,4 @@
-use Rattle.std.proofs.Common.{◌≡◌, ◌≤◌, ◌++◌, drop, map}
-use Rattle.c_tree.specs.View.{stmt_of}
-use Rattle.c_unit.specs.Init.{takes_from}
-use Rattle.c_unit.specs.Sources.{module_of}
+use Rattle.c_unit.proofs.Common.{◌≡◌, ◌≤◌, ◌++◌, map, drop, stmt_of, takes_from, module_of}
 use Rattle.c_unit.proofs.source.Source.put_takes.Given as goal
 
 -- what was taken, and what the imports to come take

@@ -1,5 +1,4 @@
-use Rattle.std.proofs.Common.{subst}
-use Rattle.wasm_meaning.specs.LinkedSet.{NamedModule}
+use Rattle.c_unit.proofs.Common.{subst, NamedModule}
 use Rattle.c_symbols.specs.Usable.{AreReached}
 use Rattle.c_unit.proofs.source.Source.reached.Goals as goal
 

@@ -1,7 +1,5 @@
-use Rattle.std.proofs.Common.{ap, ◌∙◌}
+use Rattle.c_unit.proofs.Common.{ap, ◌∙◌, named_of, module_of}
 use Rattle.c_body.specs.Around as around
-use Rattle.c_symbols.specs.Named.{named_of}
-use Rattle.c_unit.specs.Sources.{module_of}
 use Rattle.c_unit.proofs.Countable.{few_params_at}
 use Rattle.c_unit.proofs.source.Source.signature.Goals as goal
 

@@ -1,6 +1,4 @@
-use Rattle.std.proofs.Common.{◌≡◌, slice_get, option_map, IfOk, subst, refl, ap, ◌∙◌}
-use Rattle.c_tree.specs.View.{item_of}
-use Rattle.c_unit.specs.Sources.{module_of}
+use Rattle.c_unit.proofs.Common.{◌≡◌, IfOk, slice_get, option_map, refl, ap, ◌∙◌, subst, item_of, module_of}
 use Rattle.c_unit.proofs.Standing.{read, missing, counted_anew, own_table_there, own_table_past}
 use Rattle.c_unit.proofs.Wholes.{all_tails}
 use Rattle.c_unit.proofs.unit_items.UnitItems.at.Goals as goal

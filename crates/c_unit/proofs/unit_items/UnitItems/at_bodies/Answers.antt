@@ -1,8 +1,4 @@
-use Rattle.std.proofs.Common.{◌≡◌, ◌-◌, ◌<◌, ◌≤◌, length, slice_get, option_map, IfOk, subst, ap, ◌∙◌, arith}
-use Rattle.c_tree.specs.Tree.{Function}
-use Rattle.c_tree.specs.View.{item_of}
-use Rattle.c_unit.specs.Sources.{module_of}
-use Rattle.c_unit.specs.Tails.{from_exports}
+use Rattle.c_unit.proofs.Common.{◌≡◌, ◌-◌, ◌<◌, ◌≤◌, length, IfOk, slice_get, option_map, ap, ◌∙◌, subst, arith, Function, item_of, module_of, from_exports}
 use Rattle.c_unit.proofs.Standing.{body_there, body_past}
 use Rattle.c_unit.proofs.unit_items.UnitItems.at_bodies.Goals as goal
 

@@ -1,6 +1,4 @@
-use Rattle.std.proofs.Common.{◌≡◌, option_map, IfOk, subst, refl}
-use Rattle.c_tree.specs.View.{item_of}
-use Rattle.c_unit.specs.Sources.{module_of}
+use Rattle.c_unit.proofs.Common.{◌≡◌, IfOk, option_map, refl, subst, item_of, module_of}
 use Rattle.c_unit.proofs.Standing.{read, missing, counted_anew, declared_there, declared_past}
 use Rattle.c_unit.proofs.unit_items.UnitItems.at_declared.Goals as goal
 

@@ -1,8 +1,4 @@
-use Rattle.std.proofs.Common.{◌≡◌, option_map, IfOk, subst, refl, ap}
-use Rattle.c_tree.specs.Tree.{Function}
-use Rattle.c_tree.specs.View.{item_of}
-use Rattle.c_unit.specs.Sources.{module_of}
-use Rattle.c_unit.specs.Tails.{from_init}
+use Rattle.c_unit.proofs.Common.{◌≡◌, IfOk, option_map, refl, ap, subst, Function, item_of, module_of, from_init}
 use Rattle.c_unit.proofs.Standing.{read, missing, counted_anew, export_there, export_past}
 use Rattle.c_unit.proofs.unit_items.UnitItems.at_exports.Goals as goal
 

@@ -1,7 +1,4 @@
-use Rattle.std.proofs.Common.{◌≡◌, option_map, IfOk, subst, refl, ap}
-use Rattle.c_tree.specs.Tree.{Function}
-use Rattle.c_tree.specs.View.{item_of}
-use Rattle.c_unit.specs.Sources.{module_of}
+use Rattle.c_unit.proofs.Common.{◌≡◌, IfOk, option_map, refl, ap, subst, Function, item_of, module_of}
 use Rattle.c_unit.proofs.Standing.{read, missing, counted_anew, helper_there, helper_past}
 use Rattle.c_unit.proofs.unit_items.UnitItems.at_helpers.Goals as goal
 

@@ -1,6 +1,4 @@
-use Rattle.std.proofs.Common.{ap}
-use Rattle.c_tree.specs.Tree.{Function}
-use Rattle.c_unit.specs.Sources.{module_of}
+use Rattle.c_unit.proofs.Common.{ap, Function, module_of}
 use Rattle.c_unit.proofs.Standing.{init_there, init_past}
 use Rattle.c_unit.proofs.unit_items.UnitItems.at_init.Goals as goal
 

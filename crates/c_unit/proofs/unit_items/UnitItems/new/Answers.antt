@@ -1,5 +1,4 @@
-use Rattle.std.proofs.Common.{ap}
-use Rattle.c_unit.specs.Items.{items}
+use Rattle.c_unit.proofs.Common.{ap, items}
 use Rattle.c_unit.proofs.unit_items.UnitItems.new.Goals as goal
 
 pub returns-clause-left : goal.returns-clause-left

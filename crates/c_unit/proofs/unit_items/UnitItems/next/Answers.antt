@@ -1,7 +1,4 @@
-use Rattle.std.proofs.Common.{option_map, ◌+◌, refl, sym, ap, ◌∙◌, arith}
-use Rattle.c_tree.specs.View.{item_of}
-use Rattle.c_unit.specs.Sources.{module_of}
-use Rattle.c_unit.specs.Items.{items}
+use Rattle.c_unit.proofs.Common.{◌+◌, option_map, sym, refl, ap, ◌∙◌, arith, item_of, items, module_of}
 use Rattle.c_unit.proofs.Countable.{next_number}
 use Rattle.c_unit.proofs.Standing.{gives_next}
 use Rattle.c_unit.proofs.Wholes.{gives_none}

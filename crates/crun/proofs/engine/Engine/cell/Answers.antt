@@ -1,8 +1,4 @@
-use Rattle.std.proofs.Common.{option_map, sym, ap, ◌∙◌}
-use Rattle.std.specs.Prelude.{slice_get, option_copied}
-use Rattle.w2c_base.specs.Lookup.{if_found}
-use Rattle.c_objects.specs.Objects.{memory_of}
-use Rattle.crun.specs.Engines.{naming_in, units_at}
+use Rattle.crun.proofs.Common.{slice_get, option_map, option_copied, sym, ap, ◌∙◌, if_found, memory_of, naming_in, units_at}
 use Rattle.crun.proofs.ObjectsSeen.{memory_found}
 use Rattle.crun.proofs.engine.Engine.cell.Goals as goal
 

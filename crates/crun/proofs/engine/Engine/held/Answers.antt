@@ -1,8 +1,4 @@
-use Rattle.std.proofs.Common.{option_map, sym, ap, ◌∙◌}
-use Rattle.std.specs.Prelude.{slice_get}
-use Rattle.w2c_base.specs.Lookup.{if_found}
-use Rattle.c_objects.specs.Views.{value_of}
-use Rattle.crun.specs.Engines.{naming_in, units_at}
+use Rattle.crun.proofs.Common.{slice_get, option_map, sym, ap, ◌∙◌, if_found, value_of, naming_in, units_at}
 use Rattle.crun.proofs.ObjectsSeen.{var_found}
 use Rattle.crun.proofs.engine.Engine.held.Goals as goal
 

@@ -1,8 +1,4 @@
-use Rattle.std.proofs.Common.{map, refl}
-use Rattle.c_tree.specs.View.{unit_of}
-use Rattle.c_hosts.specs.Asking.{hosts_of}
-use Rattle.crun.specs.declared.engine.Engine.{Engine}
-use Rattle.crun.specs.Engines.{program_in}
+use Rattle.crun.proofs.Common.{map, refl, unit_of, hosts_of, program_in, Engine}
 use Rattle.crun.proofs.Beginnings.{first_typed}
 use Rattle.crun.proofs.engine.Engine.restart.Goals as goal
 

@@ -1,11 +1,4 @@
-use Rattle.std.proofs.Common.{◌-◌, [], Some, refl, sym, ap, ◌∙◌, subst}
-use Rattle.w2c_base.specs.Run.{Call}
-use Rattle.c_thread.specs.declared.linked.LinkedThread.{LinkedThread}
-use Rattle.c_objects.specs.Stores.{AreStored}
-use Rattle.c_thread.specs.Linked.{HaveUnitTables}
-use Rattle.crun.specs.declared.engine.Engine.{Engine}
-use Rattle.crun.specs.Engines.{naming_in, program_in, IsReady}
-use Rattle.c_hosts.specs.Running.{trail_before, trail_behind}
+use Rattle.crun.proofs.Common.{◌-◌, [], Some, sym, refl, ap, ◌∙◌, subst, Call, AreStored, HaveUnitTables, LinkedThread, trail_before, trail_behind, IsReady, naming_in, program_in, Engine}
 use Rattle.crun.proofs.Functions.{
   alone_in,
   asks_none,

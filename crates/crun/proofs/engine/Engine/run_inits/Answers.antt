@@ -1,13 +1,5 @@
-use Rattle.std.proofs.Common.{◌≡◌, ℕ, ◌+◌, ◌-◌, ◌≤◌, [], slice_index_or, length, refl, sym, ◌∙◌, subst, arith, map, None}
-use Rattle.w2c_base.specs.Run.{Init}
-use Rattle.c_tree.specs.View.{unit_of}
-use Rattle.c_meaning.specs.Run.{c_run, entries_of}
-use Rattle.c_objects.specs.Stores.{AreStored}
-use Rattle.crun_startup.specs.Names.{naming_of}
-use Rattle.c_hosts.specs.Journals.{events_in, replies_in}
+use Rattle.crun.proofs.Common.{◌≡◌, ℕ, ◌+◌, ◌-◌, ◌≤◌, [], map, length, slice_index_or, None, sym, refl, ◌∙◌, subst, arith, Init, unit_of, c_run, entries_of, AreStored, events_in, replies_in, naming_of, FunctionCame, IfEnded, IsReady, naming_in, program_in, units_at, BehindAt, IsOutcome}
 use Rattle.crun.specs.declared.outcome.Outcome.TheVariants as outcome
-use Rattle.crun.specs.Engines.{naming_in, program_in, units_at, FunctionCame, IfEnded, IsReady}
-use Rattle.crun.specs.Sessions.{BehindAt, IsOutcome}
 use Rattle.crun.proofs.Functions.{asks_none, if_ended}
 use Rattle.crun.proofs.InitsBehind.{
   all_behind,

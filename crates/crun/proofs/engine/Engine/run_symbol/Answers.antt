@@ -1,9 +1,4 @@
-use Rattle.std.proofs.Common.{sym, subst}
-use Rattle.w2c_base.specs.Run.{Call}
-use Rattle.c_sound.specs.Typed.{Begins}
-use Rattle.c_sound.proofs.Runs.{call_fits}
-use Rattle.crun_startup.specs.Called.{AreSymbols}
-use Rattle.crun.specs.Engines.{naming_in, program_in}
+use Rattle.crun.proofs.Common.{sym, subst, Call, call_fits, Begins, AreSymbols, naming_in, program_in}
 use Rattle.crun.proofs.engine.Engine.run_symbol.Goals as goal
 
 pub run_function-requires-clause-begins : goal.run_function-requires-clause-begins

@@ -1,9 +1,4 @@
-use Rattle.std.proofs.Common.{map, refl, sym, subst}
-use Rattle.c_tree.specs.View.{unit_of}
-use Rattle.crun_startup.specs.Entries.{HaveCounts}
-use Rattle.c_hosts.specs.Asking.{hosts_of}
-use Rattle.crun.specs.declared.engine.Engine.{Engine}
-use Rattle.crun.specs.Engines.{program_in}
+use Rattle.crun.proofs.Common.{map, sym, refl, subst, unit_of, hosts_of, HaveCounts, program_in, Engine}
 use Rattle.crun.proofs.Beginnings.{first_typed, is_program, is_typed}
 use Rattle.crun.proofs.engine.Engine.start.Goals as goal
 

@@ -1,7 +1,4 @@
-use Rattle.std.proofs.Common.{◌≡◌, ap, None, sym, ◌∙◌, subst}
-use Rattle.std.specs.Prelude.{MatchOption, slice_get}
-use Rattle.crun.specs.Engines.{naming_in, units_at}
-use Rattle.crun.specs.Shown.{AreFound}
+use Rattle.crun.proofs.Common.{◌≡◌, slice_get, None, MatchOption, sym, ap, ◌∙◌, subst, naming_in, units_at, AreFound}
 use Rattle.crun.proofs.ObjectsSeen.{are_found, no_objects, no_unit}
 use Rattle.crun.proofs.engine.Engine.unit_objects.Goals as goal
 

@@ -1,7 +1,4 @@
-use Rattle.std.proofs.Common.{Some, ap, is_some, sym, ◌∙◌}
-use Rattle.std.specs.Option.{option_or}
-use Rattle.w2c_base.specs.Lookup.{named}
-use Rattle.c_machine.specs.Names.{found_at}
+use Rattle.crun.proofs.Common.{is_some, Some, sym, ap, ◌∙◌, option_or, named, found_at}
 use Rattle.crun.proofs.HostSymbols.{known_push}
 use Rattle.crun.proofs.hosts.SymbolList.put.Goals as goal
 

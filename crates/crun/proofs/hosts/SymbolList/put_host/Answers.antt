@@ -1,7 +1,4 @@
-use Rattle.std.proofs.Common.{◌++◌, sym, ap, ◌∙◌}
-use Rattle.std.proofs.lemmas.List.{append-nil, take_all}
-use Rattle.crun.specs.HostSymbols.{symbol_in, symbols_of_host}
-use Rattle.c_hosts.specs.Asking.{function_of, host_of}
+use Rattle.crun.proofs.Common.{◌++◌, sym, ap, ◌∙◌, append-nil, take_all, function_of, host_of, symbol_in, symbols_of_host}
 use Rattle.crun.proofs.HostSymbols.{more_taken, past_all, symbol_there, twice_found}
 use Rattle.crun.proofs.hosts.SymbolList.put_host.Goals as goal
 

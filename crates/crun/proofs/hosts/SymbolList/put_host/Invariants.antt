@@ -1,6 +1,4 @@
-use Rattle.std.proofs.Common.{◌≡◌, ◌++◌, take}
-use Rattle.crun.specs.HostSymbols.{AreKnown, symbols_of_host}
-use Rattle.c_hosts.specs.Asking.{host_of}
+use Rattle.crun.proofs.Common.{◌≡◌, ◌++◌, take, host_of, AreKnown, symbols_of_host}
 use Rattle.crun.proofs.hosts.SymbolList.put_host.Given as goal
 
 abbrev pub invariant-loop-i : goal.invariant-loop-i

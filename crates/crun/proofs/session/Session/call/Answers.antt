@@ -1,15 +1,5 @@
-use Rattle.std.proofs.Common.{◌≡◌, List, ◌∷◌, ◌++◌, length, map, refl, sym, ap, ◌∙◌, subst, arith}
-use Rattle.w2c_base.specs.Run.{Ask, Call, asks_in}
-use Rattle.c_tree.specs.View.{unit_of}
-use Rattle.c_meaning.specs.Run.{c_run}
-use Rattle.c_hosts.specs.Asking.{hosts_of}
-use Rattle.c_hosts.specs.Journals.{ask_of, replies_in}
-use Rattle.c_hosts.specs.Running.{Asks}
-use Rattle.c_objects.specs.Stores.{AreStored}
-use Rattle.crun_startup.specs.Names.{naming_of}
+use Rattle.crun.proofs.Common.{◌≡◌, List, ◌∷◌, ◌++◌, map, length, sym, refl, ap, ◌∙◌, subst, arith, Ask, Call, asks_in, unit_of, c_run, AreStored, hosts_of, ask_of, replies_in, Asks, naming_of, units_at, IsOutcome, Stands, program_of, told_by}
 use Rattle.crun.specs.declared.outcome.Kept.TheVariants as kept
-use Rattle.crun.specs.Engines.{units_at}
-use Rattle.crun.specs.Sessions.{program_of, told_by, IsOutcome, Stands}
 use Rattle.crun.proofs.CallsBehind.{call_asked, call_ran, call_stands}
 use Rattle.crun.proofs.Functions.{still_started}
 use Rattle.crun.proofs.Keeping.{keeps_behind, keeps_over, not_over}

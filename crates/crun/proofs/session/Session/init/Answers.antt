@@ -1,11 +1,5 @@
-use Rattle.std.proofs.Common.{◌≡◌, ◌-◌, ◌≤◌, List, ◌++◌, [], length, map, refl, sym, ap, ◌∙◌, subst, arith}
-use Rattle.w2c_base.specs.Run.{Ask, Init, asks_in}
-use Rattle.c_meaning.specs.Run.{c_run, entries_of}
-use Rattle.crun_startup.specs.Inits.{address_in}
-use Rattle.c_hosts.specs.Journals.{ask_of, events_in, replies_in}
+use Rattle.crun.proofs.Common.{◌≡◌, ◌-◌, ◌≤◌, List, [], ◌++◌, map, length, sym, refl, ap, ◌∙◌, subst, arith, Ask, Init, asks_in, c_run, entries_of, ask_of, events_in, replies_in, address_in, machine_with, naming_in, program_in, units_at, BehindAt, init_count, phase_of, program_of, trail_of}
 use Rattle.crun.specs.declared.outcome.Kept.TheVariants as kept
-use Rattle.crun.specs.Engines.{machine_with, naming_in, program_in, units_at}
-use Rattle.crun.specs.Sessions.{init_count, phase_of, program_of, trail_of, BehindAt}
 use Rattle.crun.proofs.Functions.{same_program, still_started}
 use Rattle.crun.proofs.History.{no_values_told}
 use Rattle.crun.proofs.Keeping.{is_fresh, keeps_behind, keeps_over, ready_ended}

@@ -1,6 +1,4 @@
-use Rattle.std.proofs.Common.{[], refl, sym, ap, ◌∙◌, arith}
-use Rattle.crun.specs.Engines.{machine_with, units_at}
-use Rattle.crun.specs.Sessions.{trail_of}
+use Rattle.crun.proofs.Common.{[], sym, refl, ap, ◌∙◌, arith, machine_with, units_at, trail_of}
 use Rattle.crun.proofs.session.Session.restart.Goals as goal
 
 pub invariant_of-result : goal.invariant_of-result

@@ -1,14 +1,5 @@
-use Rattle.std.proofs.Common.{length, map, refl, sym, ap, ◌∙◌, subst}
+use Rattle.crun_job.proofs.Common.{map, length, sym, refl, ap, ◌∙◌, subst, unit_of, c_symbols, call_lines_of, seen_run, AreCalls, IsFirstRefusedLine, AreLinked, IsWithin, RefusesUnits, calls_seen, reason_of, StopsUnit}
 use Rattle.w2c_files.specs.Words.{names_of}
-use Rattle.c_tree.specs.View.{unit_of}
-use Rattle.c_link.specs.Offers.{c_symbols}
-use Rattle.crun_words.specs.CallsFile.{call_lines_of}
-use Rattle.crun_words.specs.Seen.{seen_run}
-use Rattle.crun_job.specs.Calls.{AreCalls, IsFirstRefusedLine}
-use Rattle.crun_job.specs.Links.{AreLinked}
-use Rattle.crun_job.specs.Refusals.{IsWithin, RefusesUnits}
-use Rattle.crun_job.specs.Seen.{calls_seen, reason_of}
-use Rattle.crun_job.specs.Stopping.{StopsUnit}
 use Rattle.crun_job.proofs.Tasks.{unit_stops}
 use Rattle.crun_job.proofs.task.Task.of_inputs.Goals as goal
 

@@ -1,6 +1,4 @@
-use Rattle.std.proofs.Common.{◌≡◌, take}
-use Rattle.c_hosts.specs.Asking.{hosts_of}
-use Rattle.host_replay.specs.Modules.{modules_of}
+use Rattle.host_replay.proofs.Common.{◌≡◌, take, hosts_of, modules_of}
 use Rattle.host_replay.proofs.file.JournalFile.of_hosts.Given as goal
 
 -- so many hosts

@@ -1,11 +1,4 @@
-use Rattle.std.proofs.Common.{◌≡◌, ◌≤◌, ◌∙◌, ◌++◌, ap, flat_map, length, List, rules, subst}
-use Rattle.std.specs.List.{AllByRecursion}
-use Rattle.std.proofs.lemmas.List.{take_all}
-use Rattle.c_hosts.specs.declared.journal.Asked.{Asked}
-use Rattle.host_replay.specs.Modules.{modules_of}
-use Rattle.host_replay.specs.Recording.{recorded}
-use Rattle.host_replay.specs.Texts.{entry_text, module_text, journal_text}
-use Rattle.host_replay.specs.Writable.{HasNumbers}
+use Rattle.host_replay.proofs.Common.{◌≡◌, ◌≤◌, List, ◌++◌, length, flat_map, ap, ◌∙◌, subst, take_all, rules, AllByRecursion, Asked, modules_of, recorded, entry_text, journal_text, module_text, HasNumbers}
 use Rattle.host_replay.proofs.Spelled.{read_back}
 use Rattle.host_replay.proofs.file.JournalFile.text.Goals as goal
 

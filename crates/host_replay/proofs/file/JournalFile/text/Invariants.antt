@@ -1,8 +1,4 @@
-use Rattle.std.proofs.Common.{◌≡◌, ◌++◌, flat_map, take}
-use Rattle.std.specs.List.{AllByRecursion}
-use Rattle.host_replay.specs.Modules.{modules_of}
-use Rattle.host_replay.specs.Texts.{entry_text, module_text}
-use Rattle.host_replay.specs.Writable.{HasNames, HasNumbers}
+use Rattle.host_replay.proofs.Common.{◌≡◌, ◌++◌, take, flat_map, AllByRecursion, modules_of, entry_text, module_text, HasNames, HasNumbers}
 use Rattle.host_replay.proofs.file.JournalFile.text.Given as goal
 
 abbrev pub invariant-loop-module : goal.invariant-loop-module

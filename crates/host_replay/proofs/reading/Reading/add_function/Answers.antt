@@ -1,9 +1,4 @@
-use Rattle.std.proofs.Common.{◌≡◌, [], List, true, false, is_some, length, subst, rules}
-use Rattle.w2c_base.specs.Lookup.{named}
-use Rattle.host_replay.specs.declared.module.JournalModule.{JournalModule}
-use Rattle.host_replay.specs.Modules.{modules_of}
-use Rattle.host_replay.specs.NewFunctions.{IsNewIn}
-use Rattle.host_replay.specs.Recording.{recorded}
+use Rattle.host_replay.proofs.Common.{◌≡◌, true, false, List, [], length, is_some, subst, rules, named, modules_of, IsNewIn, recorded, JournalModule}
 use Rattle.host_replay.proofs.Known.{added, at_some, known_already, known_more, no_items}
 use Rattle.host_replay.proofs.reading.Reading.add_function.Goals as goal
 

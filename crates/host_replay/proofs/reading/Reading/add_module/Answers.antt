@@ -1,5 +1,4 @@
-use Rattle.std.proofs.Common.{ap}
-use Rattle.host_replay.specs.Texts.{Recorded}
+use Rattle.host_replay.proofs.Common.{ap, Recorded}
 use Rattle.host_replay.proofs.Known.{module_known}
 use Rattle.host_replay.proofs.reading.Reading.add_module.Goals as goal
 

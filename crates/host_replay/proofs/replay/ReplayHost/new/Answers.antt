@@ -1,9 +1,4 @@
-use Rattle.std.proofs.Common.{◌≡◌, ◌∙◌, true, map, slice_get, Some, refl, ap, sym, subst, List}
-use Rattle.std.specs.List.{list_all}
-use Rattle.c_hosts.specs.Asking.{function_of}
-use Rattle.c_hosts.specs.declared.journal.Asked.{Asked}
-use Rattle.host_replay.specs.Modules.{modules_of}
-use Rattle.host_replay.specs.Replaying.{calls_of, fits_own}
+use Rattle.host_replay.proofs.Common.{◌≡◌, true, List, map, slice_get, Some, sym, refl, ap, ◌∙◌, subst, list_all, function_of, Asked, modules_of, calls_of, fits_own}
 use Rattle.host_replay.proofs.Replays.{calls_fit, module_at}
 use Rattle.host_replay.proofs.replay.ReplayHost.new.Goals as goal
 

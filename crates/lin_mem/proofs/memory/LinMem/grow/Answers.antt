@@ -1,8 +1,4 @@
-use Rattle.std.proofs.Common.{◌≡◌, ◌*◌, List, ℕ, ◌++◌, length, ap, ◌∙◌, arith}
-use Rattle.std.specs.Prelude.{All, replicate}
-use Rattle.std.specs.List.{concat}
-use Rattle.std.proofs.lemmas.List.{length-append}
-use Rattle.std.proofs.lemmas.List.Elements.{All-append, All-same, All-weaker}
+use Rattle.lin_mem.proofs.Common.{◌≡◌, ℕ, ◌*◌, List, ◌++◌, length, replicate, All, ap, ◌∙◌, arith, length-append, All-append, All-same, All-weaker, concat}
 use Rattle.lin_mem.proofs.Pages.{concat-append, concat-zeros, length-concat}
 use Rattle.lin_mem.proofs.memory.LinMem.grow.Goals as goal
 

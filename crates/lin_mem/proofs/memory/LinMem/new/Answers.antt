@@ -1,6 +1,4 @@
-use Rattle.std.proofs.Common.{◌≡◌, ◌*◌, ap, ◌∙◌}
-use Rattle.std.specs.Prelude.{replicate}
-use Rattle.std.specs.List.{concat}
+use Rattle.lin_mem.proofs.Common.{◌≡◌, ◌*◌, replicate, ap, ◌∙◌, concat}
 use Rattle.lin_mem.proofs.Pages.{concat-zeros}
 use Rattle.lin_mem.proofs.memory.LinMem.new.Goals as goal
 

@@ -1,5 +1,4 @@
-use Rattle.std.proofs.Common.{◌≡◌, length, ap, arith}
-use Rattle.std.specs.List.{concat}
+use Rattle.lin_mem.proofs.Common.{◌≡◌, length, ap, arith, concat}
 use Rattle.lin_mem.proofs.Pages.{length-concat}
 use Rattle.lin_mem.proofs.memory.LinMem.pages.Goals as goal
 

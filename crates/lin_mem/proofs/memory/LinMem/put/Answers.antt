@@ -1,6 +1,4 @@
-use Rattle.std.proofs.Common.{◌≡◌, ◌+◌, ◌*◌, ◌-◌, ◌/◌, ◌%◌, ◌<◌, length, take, drop, ap, ◌∙◌, arith}
-use Rattle.std.proofs.lemmas.List.{length-drop, length-take-le, take-append-drop, take_all}
-use Rattle.w2c_base.specs.LittleEndian.{with_bytes}
+use Rattle.lin_mem.proofs.Common.{◌≡◌, ◌+◌, ◌-◌, ◌*◌, ◌/◌, ◌%◌, ◌<◌, length, take, drop, ap, ◌∙◌, arith, length-drop, take-append-drop, length-take-le, take_all, with_bytes}
 use Rattle.lin_mem.proofs.Pages.{with_bytes-twice}
 use Rattle.lin_mem.proofs.memory.LinMem.put.Goals as goal
 

@@ -1,5 +1,4 @@
-use Rattle.std.proofs.Common.{◌≡◌, ◌+◌, ◌*◌, ◌-◌, ◌<◌, [], drop, get_or, length, take, sym, ap, ◌∙◌, arith}
-use Rattle.std.specs.List.{concat}
+use Rattle.lin_mem.proofs.Common.{◌≡◌, ◌+◌, ◌-◌, ◌*◌, ◌<◌, [], length, get_or, take, drop, sym, ap, ◌∙◌, arith, concat}
 use Rattle.lin_mem.proofs.Pages.{get_or-any, length-concat, slice-concat}
 use Rattle.lin_mem.proofs.memory.LinMem.read_page.Goals as goal
 

@@ -1,6 +1,4 @@
-use Rattle.std.proofs.Common.{◌≡◌, ◌+◌, ◌*◌, ◌<◌, [], get_or, length, set, ap, ◌∙◌, arith}
-use Rattle.std.specs.List.{concat}
-use Rattle.w2c_base.specs.LittleEndian.{with_bytes}
+use Rattle.lin_mem.proofs.Common.{◌≡◌, ◌+◌, ◌*◌, ◌<◌, [], length, get_or, set, ap, ◌∙◌, arith, concat, with_bytes}
 use Rattle.lin_mem.proofs.Pages.{get_or-any, length-concat, with_bytes-concat}
 use Rattle.lin_mem.proofs.memory.LinMem.write_page.Goals as goal
 

@@ -1,6 +1,4 @@
-use Rattle.std.proofs.Common.{◌≡◌, ◌+◌, ◌≤◌, length, subst, sym, ap, ◌∙◌}
-use Rattle.w2c_base.specs.LittleEndian.{with_bytes}
-use Rattle.lin_mem.specs.Places.{somes}
+use Rattle.lin_mem.proofs.Common.{◌≡◌, ◌+◌, ◌≤◌, length, sym, ap, ◌∙◌, subst, with_bytes, somes}
 use Rattle.lin_mem.proofs.Full.{full-from_held, length-full, put-full}
 use Rattle.lin_mem.proofs.Pages.{length-with_bytes}
 use Rattle.lin_mem.proofs.page.Page.put.Goals as goal

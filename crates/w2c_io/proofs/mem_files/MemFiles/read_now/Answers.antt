@@ -1,6 +1,5 @@
-use Rattle.std.proofs.Common.{rules, IsTrue}
+use Rattle.w2c_io.proofs.Common.{IsTrue, rules, plan_of}
 use Rattle.w2c_io.specs.declared.mem_files.FileCall.TheVariants as calls
-use Rattle.w2c_io.specs.InMemory.{plan_of}
 use Rattle.w2c_io.specs.Planned.{is_planned}
 use Rattle.w2c_io.proofs.mem_files.MemFiles.read_now.Goals as goal
 

@@ -1,9 +1,4 @@
-use Rattle.std.proofs.Common.{◌≡◌, true, false, List, sym, ap, ◌∙◌, subst}
-use Rattle.std.proofs.lemmas.Bool.{false≢true}
-use Rattle.wasm_meaning.specs.LinkedSet.{IsLinked}
-use Rattle.wasm_set.specs.declared.set_module.SetModule.{SetModule}
-use Rattle.wasm_set.specs.Sets.{set_of}
-use Rattle.wasm_set.specs.Joining.{module_named, module_takes}
+use Rattle.wasm_set.proofs.Common.{◌≡◌, true, false, List, sym, ap, ◌∙◌, subst, false≢true, IsLinked, module_named, module_takes, set_of, SetModule}
 use Rattle.wasm_set.proofs.Calls.{taken_fits, fits_is_taken}
 use Rattle.wasm_set.proofs.module_set.ModuleSet.fits.Goals as goal
 

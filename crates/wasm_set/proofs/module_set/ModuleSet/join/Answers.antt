@@ -1,12 +1,4 @@
-use Rattle.std.proofs.Common.{◌≡◌, List, [], ◌∷◌, ◌++◌, sym, ap, ◌∙◌, subst}
-use Rattle.std.proofs.lemmas.Bool.{false≢true}
-use Rattle.wasm_meaning.specs.LinkedSet.{IsLinked}
-use Rattle.wasm_set.specs.declared.set_module.SetModule.{SetModule}
-use Rattle.wasm_set.specs.Sets.{set_of}
-use Rattle.w2c_base.specs.Lookup.{named}
-use Rattle.wasm_tree.specs.declared.tree.Module.{Module}
-use Rattle.wasm_set.specs.Offers.{offers}
-use Rattle.wasm_set.specs.Tables.{OfferTable, AreTables}
+use Rattle.wasm_set.proofs.Common.{◌≡◌, List, [], ◌∷◌, ◌++◌, sym, ap, ◌∙◌, subst, false≢true, named, Module, IsLinked, offers, set_of, AreTables, OfferTable, SetModule}
 use Rattle.wasm_set.proofs.Joins.{place_told, joined_is_linked, linked_is_joined}
 use Rattle.wasm_set.proofs.Found.{table_more}
 use Rattle.wasm_set.proofs.module_set.ModuleSet.join.Goals as goal

@@ -1,6 +1,4 @@
-use Rattle.std.proofs.Common.{rules, ◌<◌, ℕ, Some, sym, ap, subst, ◌∙◌, arith}
-use Rattle.wasm_tree.specs.Appended.{code_length, instr_at}
-use Rattle.wasm_tree.specs.Views.{instr_tree}
+use Rattle.wasm_tree.proofs.Common.{ℕ, ◌<◌, Some, sym, ap, ◌∙◌, subst, arith, rules, code_length, instr_at, instr_tree}
 use Rattle.wasm_tree.proofs.Lists.{code_tree-length, code_tree-at}
 use Rattle.wasm_tree.proofs.code.Code.at.Goals as goal
 

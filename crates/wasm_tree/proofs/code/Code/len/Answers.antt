@@ -1,5 +1,4 @@
-use Rattle.std.proofs.Common.{◌∙◌, sym, ap}
-use Rattle.wasm_tree.specs.Appended.{code_length}
+use Rattle.wasm_tree.proofs.Common.{sym, ap, ◌∙◌, code_length}
 use Rattle.wasm_tree.proofs.Lists.{code_tree-length}
 use Rattle.wasm_tree.proofs.code.Code.len.Goals as goal
 

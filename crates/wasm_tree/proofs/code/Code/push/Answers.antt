@@ -1,6 +1,4 @@
-use Rattle.std.proofs.Common.{ap, ◌∙◌}
-use Rattle.wasm_tree.specs.Appended.{◌+>◌}
-use Rattle.wasm_tree.specs.Views.{instr_tree, code_tree}
+use Rattle.wasm_tree.proofs.Common.{ap, ◌∙◌, ◌+>◌, code_tree, instr_tree}
 use Rattle.wasm_tree.proofs.Lists.{code_tree-push}
 use Rattle.wasm_tree.proofs.code.Code.push.Goals as goal
 

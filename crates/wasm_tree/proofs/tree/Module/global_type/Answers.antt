@@ -1,8 +1,6 @@
-use Rattle.std.proofs.Common.{length, refl, Some, None, Bool}
-use Rattle.std.proofs.lemmas.Option.{slice_get_read, slice_get_past}
+use Rattle.wasm_tree.proofs.Common.{Bool, length, Some, None, refl, slice_get_past, slice_get_read, global_of_import}
 use Rattle.w2c_base.specs.declared.value.ValType.{ValType}
 use Rattle.wasm_tree.proofs.Imports.{behind_imports}
-use Rattle.wasm_tree.specs.IndexSpaces.{global_of_import}
 use Rattle.wasm_tree.specs.declared.entries.GlobalEntry.{GlobalEntry}
 use Rattle.wasm_tree.proofs.tree.Module.global_type.Goals as goal
 

@@ -1,6 +1,4 @@
-use Rattle.std.proofs.Common.{◌≡◌, ◌++◌, drop, map, slice_get}
-use Rattle.std.specs.List.{flat_map}
-use Rattle.wasm_tree.specs.IndexSpaces.{global_of_import, global_space}
+use Rattle.wasm_tree.proofs.Common.{◌≡◌, ◌++◌, map, drop, slice_get, flat_map, global_of_import, global_space}
 use Rattle.wasm_tree.proofs.tree.Module.global_type.Given as goal
 
 abbrev pub invariant-loop-import : goal.invariant-loop-import

@@ -1,6 +1,4 @@
-use Rattle.std.proofs.Common.{◌≡◌, ◌+◌, ◌-◌, ◌^◌, ◌≤◌, min, length, drop}
-use Rattle.std.specs.Prelude.{filter}
-use Rattle.wasm_tree.specs.IndexSpaces.{is_func_import, imported_funcs}
+use Rattle.wasm_tree.proofs.Common.{◌≡◌, ◌+◌, ◌-◌, ◌^◌, ◌≤◌, min, length, drop, filter, imported_funcs, is_func_import}
 use Rattle.wasm_tree.proofs.tree.Module.imported_funcs.Given as goal
 
 abbrev pub invariant-loop-import : goal.invariant-loop-import

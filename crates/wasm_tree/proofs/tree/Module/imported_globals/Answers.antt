@@ -1,7 +1,5 @@
-use Rattle.std.proofs.Common.{length, refl}
-use Rattle.std.specs.Prelude.{filter}
+use Rattle.wasm_tree.proofs.Common.{length, filter, refl, is_global_import}
 use Rattle.wasm_tree.proofs.Imports.{all_counted}
-use Rattle.wasm_tree.specs.IndexSpaces.{is_global_import}
 use Rattle.wasm_tree.proofs.tree.Module.imported_globals.Goals as goal
 
 pub returns : goal.returns

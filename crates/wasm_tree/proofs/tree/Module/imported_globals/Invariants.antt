@@ -1,6 +1,4 @@
-use Rattle.std.proofs.Common.{◌≡◌, ◌+◌, ◌-◌, ◌^◌, ◌≤◌, min, length, drop}
-use Rattle.std.specs.Prelude.{filter}
-use Rattle.wasm_tree.specs.IndexSpaces.{is_global_import, imported_globals}
+use Rattle.wasm_tree.proofs.Common.{◌≡◌, ◌+◌, ◌-◌, ◌^◌, ◌≤◌, min, length, drop, filter, imported_globals, is_global_import}
 use Rattle.wasm_tree.proofs.tree.Module.imported_globals.Given as goal
 
 abbrev pub invariant-loop-import : goal.invariant-loop-import

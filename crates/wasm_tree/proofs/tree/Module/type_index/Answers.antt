@@ -1,7 +1,5 @@
-use Rattle.std.proofs.Common.{length, refl, Some, None}
-use Rattle.std.proofs.lemmas.Option.{slice_get_read, slice_get_past}
+use Rattle.wasm_tree.proofs.Common.{length, Some, None, refl, slice_get_past, slice_get_read, func_of_import}
 use Rattle.wasm_tree.proofs.Imports.{behind_imports}
-use Rattle.wasm_tree.specs.IndexSpaces.{func_of_import}
 use Rattle.wasm_tree.specs.declared.entries.FuncEntry.{FuncEntry}
 use Rattle.wasm_tree.proofs.tree.Module.type_index.Goals as goal
 

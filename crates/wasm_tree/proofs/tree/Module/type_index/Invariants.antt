@@ -1,6 +1,4 @@
-use Rattle.std.proofs.Common.{◌≡◌, ◌++◌, drop, map, slice_get}
-use Rattle.std.specs.List.{flat_map}
-use Rattle.wasm_tree.specs.IndexSpaces.{func_of_import, func_space}
+use Rattle.wasm_tree.proofs.Common.{◌≡◌, ◌++◌, map, drop, slice_get, flat_map, func_of_import, func_space}
 use Rattle.wasm_tree.proofs.tree.Module.type_index.Given as goal
 
 abbrev pub invariant-loop-import : goal.invariant-loop-import

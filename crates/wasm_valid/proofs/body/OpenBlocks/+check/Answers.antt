@@ -1,19 +1,6 @@
-use Rattle.std.proofs.Common.{◌≡◌, ℕ, ◌+◌, ◌≤◌, reverse, rules, ap, subst, sym, ◌∙◌, refl, List, Option, Result, Ok, Err, OnOk}
+use Rattle.wasm_valid.proofs.Common.{◌≡◌, ℕ, ◌+◌, ◌≤◌, List, reverse, OnOk, Ok, Err, Option, Result, sym, refl, ap, ◌∙◌, subst, rules, ValType, Code, If, code_size, kind_size, otherwise_size, code_tree, kind_tree, otherwise_tree, ElsePart, RustKind, cause_of, nothing, run, run_kind, step, Labels, Does, Plain, RanTo, Stays, labels_of, run_block, run_nested, seen, shown, ValidRefusal}
 use Rattle.std.proofs.lemmas.Result.{err_from_is_err_and}
-use Rattle.w2c_base.specs.declared.value.ValType.{ValType}
-use Rattle.wasm_tree.specs.declared.code.ElsePart.{ElsePart}
-use Rattle.wasm_tree.specs.declared.code.Kind.{Kind as RustKind}
-use Rattle.wasm_valid.specs.declared.fault.ValidRefusal.{ValidRefusal}
 use Rattle.wasm_valid.specs.declared.body.Block.{Block}
-use Rattle.wasm_tree.specs.Size.{code_size, kind_size, otherwise_size}
-use Rattle.wasm_tree.specs.Views.{code_tree, kind_tree, otherwise_tree}
-use Rattle.wasm_tree.specs.Instructions.{Code, If}
-use Rattle.wasm_valid.specs.Checker.{nothing, run, run_kind, step}
-use Rattle.wasm_valid.specs.Context.{Labels}
-use Rattle.wasm_valid.specs.Shown.{shown}
-use Rattle.wasm_valid.specs.RanTo.{seen, labels_of, run_block, run_nested, RanTo, Stays}
-use Rattle.wasm_valid.specs.Plain.{Plain, Does}
-use Rattle.wasm_valid.specs.BodyFault.{cause_of}
 use Rattle.wasm_valid.proofs.CodeSizes.{instr_smaller, code_below_block, block_below_nested, first_below_branches, second_below_branches, inside_below_instr, branches_below_instr, instr_below_code}
 use Rattle.wasm_valid.proofs.RunLists.{later_none, run_more, list_refused, run_all}
 use Rattle.wasm_valid.proofs.RunBlocks.{plain_ran, placed_kept, no_else_refused, else_ran}

@@ -1,9 +1,4 @@
-use Rattle.std.proofs.Common.{◌≡◌, ℕ, ◌+◌, ◌*◌, drop}
-use Rattle.wasm_tree.specs.Size.{code_size, kind_size, otherwise_size}
-use Rattle.wasm_tree.specs.Views.{code_tree, kind_tree, otherwise_tree}
-use Rattle.wasm_valid.specs.Checker.{run, later}
-use Rattle.wasm_valid.specs.Shown.{shown}
-use Rattle.wasm_valid.specs.RanTo.{seen, labels_of, Stays}
+use Rattle.wasm_valid.proofs.Common.{◌≡◌, ℕ, ◌+◌, ◌*◌, drop, code_size, kind_size, otherwise_size, code_tree, kind_tree, otherwise_tree, later, run, Stays, labels_of, seen, shown}
 use Rattle.wasm_valid.proofs.body.OpenBlocks.+check.Given as goal
 
 abbrev pub decreases-code : goal.decreases-code

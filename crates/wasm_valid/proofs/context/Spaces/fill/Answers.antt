@@ -1,5 +1,4 @@
-use Rattle.std.proofs.Common.{◌∙◌}
-use Rattle.wasm_tree.specs.IndexSpaces.{func_of_import, table_of_import, memory_of_import, global_of_import}
+use Rattle.wasm_valid.proofs.Common.{◌∙◌, func_of_import, global_of_import, memory_of_import, table_of_import}
 use Rattle.wasm_valid.proofs.Gathered.{one_more_gathered}
 use Rattle.wasm_valid.proofs.context.Spaces.fill.Goals as goal
 

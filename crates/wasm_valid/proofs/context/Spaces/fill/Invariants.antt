@@ -1,6 +1,4 @@
-use Rattle.std.proofs.Common.{◌≡◌, ◌++◌, drop}
-use Rattle.std.specs.List.{flat_map}
-use Rattle.wasm_tree.specs.IndexSpaces.{func_of_import, table_of_import, memory_of_import, global_of_import}
+use Rattle.wasm_valid.proofs.Common.{◌≡◌, ◌++◌, drop, flat_map, func_of_import, global_of_import, memory_of_import, table_of_import}
 use Rattle.wasm_valid.proofs.context.Spaces.fill.Given as goal
 
 -- what the imports so far brought, and what the others bring

@@ -1,6 +1,4 @@
-use Rattle.std.proofs.Common.{◌<◌, length, arith, refl, ap, ◌∙◌}
-use Rattle.wasm_valid.specs.Checker.{on_some, empties}
-use Rattle.wasm_valid.specs.Shown.{bottom}
+use Rattle.wasm_valid.proofs.Common.{◌<◌, length, refl, ap, ◌∙◌, arith, empties, on_some, bottom}
 use Rattle.wasm_valid.proofs.Piles.{filled_pile}
 use Rattle.wasm_valid.proofs.operands.OperandStack.close.Goals as goal
 

@@ -1,5 +1,4 @@
-use Rattle.std.proofs.Common.{◌<◌, length, arith}
-use Rattle.wasm_valid.specs.Shown.{bottom}
+use Rattle.wasm_valid.proofs.Common.{◌<◌, length, arith, bottom}
 use Rattle.wasm_valid.proofs.Piles.{shown_pop}
 use Rattle.wasm_valid.proofs.operands.OperandStack.pop.Goals as goal
 

@@ -1,7 +1,4 @@
-use Rattle.std.proofs.Common.{◌≡◌, ◌≤◌, length, take}
-use Rattle.std.specs.Prelude.{reverse}
-use Rattle.wasm_valid.specs.Checker.{pop_types}
-use Rattle.wasm_valid.specs.Shown.{shown, Keeps}
+use Rattle.wasm_valid.proofs.Common.{◌≡◌, ◌≤◌, reverse, length, take, pop_types, Keeps, shown}
 use Rattle.wasm_valid.proofs.operands.OperandStack.pop_types.Given as goal
 
 abbrev pub decreases-loop-left : goal.decreases-loop-left

@@ -1,5 +1,4 @@
-use Rattle.std.proofs.Common.{Some, sym, ap, ◌≤◌, length, arith}
-use Rattle.wasm_valid.specs.Shown.{bottom}
+use Rattle.wasm_valid.proofs.Common.{◌≤◌, length, Some, sym, ap, arith, bottom}
 use Rattle.wasm_valid.proofs.Piles.{shown_push}
 use Rattle.wasm_valid.proofs.operands.OperandStack.push.Goals as goal
 

@@ -1,9 +1,4 @@
-use Rattle.std.proofs.Common.{◌≡◌, Some, map, slice_get, option_map, reverse, sym, ap, ◌∙◌}
-use Rattle.std.specs.Option.{option_copied}
-use Rattle.std.proofs.lemmas.Option.{slice_get-map}
-use Rattle.wasm_valid.specs.Seen.{type_seen}
-use Rattle.wasm_valid.specs.Shown.{shown}
-use Rattle.wasm_valid.specs.RanTo.{seen}
+use Rattle.wasm_valid.proofs.Common.{◌≡◌, map, reverse, slice_get, Some, option_map, option_copied, sym, ap, ◌∙◌, slice_get-map, seen, type_seen, shown}
 use Rattle.wasm_valid.proofs.Steps.{called}
 use Rattle.wasm_valid.proofs.plain.Surroundings.call.Goals as goal
 

@@ -1,9 +1,5 @@
-use Rattle.std.proofs.Common.{◌≡◌, Some, ◌<◌, length, map, slice_get, reverse, sym, ap, ◌∙◌, arith}
-use Rattle.std.specs.Option.{option_copied}
-use Rattle.std.proofs.lemmas.Option.{slice_get-map}
-use Rattle.wasm_valid.specs.Shown.{shown}
-use Rattle.wasm_valid.specs.RanTo.{seen}
-use Rattle.wasm_valid.proofs.Steps.{called_by_index, first_there}
+use Rattle.wasm_valid.proofs.Common.{◌≡◌, ◌<◌, map, reverse, length, slice_get, Some, option_copied, sym, ap, ◌∙◌, arith, slice_get-map, some_first, seen, shown}
+use Rattle.wasm_valid.proofs.Steps.{called_by_index}
 use Rattle.wasm_valid.proofs.plain.Surroundings.call_indirect.Goals as goal
 
 pub returns-else-is_empty-clause-step : goal.returns-else-is_empty-clause-step
@@ -15,4 +11,4 @@ returns-else-is_empty-clause-step c labels =
     let some : 0 < length spaces.tables.items = search (arith, c.is_empty.ensures, c.if-is_empty) in
     called_by_index (seen c.args.self.now) (reverse labels) c.turn_by_index.result (shown c.args.operands.now)
     (shown c.turn_by_index.new.operands) c.args.type_index ty
-    c.as_slice.result.now there (first_there spaces.tables.items some) c.as_slice.ensures c.turn_by_index.ensures.step
+    c.as_slice.result.now there (some_first spaces.tables.items some) c.as_slice.ensures c.turn_by_index.ensures.step

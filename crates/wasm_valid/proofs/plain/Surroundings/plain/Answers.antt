@@ -1,11 +1,5 @@
-use Rattle.std.proofs.Common.{ℕ, List, ap, subst, sym, ◌∙◌}
-use Rattle.wasm_tree.specs.declared.code.Kind.{Kind as RustKind}
+use Rattle.wasm_valid.proofs.Common.{ℕ, List, reverse, sym, ap, ◌∙◌, subst, kind_tree, RustKind, Does, seen, shown}
 use Rattle.wasm_tree.specs.declared.code.Kind.TheVariants as kind
-use Rattle.wasm_tree.specs.Views.{kind_tree}
-use Rattle.wasm_valid.specs.Plain.{Does}
-use Rattle.wasm_valid.specs.RanTo.{seen}
-use Rattle.wasm_valid.specs.Shown.{shown}
-use Rattle.std.specs.Prelude.{reverse}
 use Rattle.wasm_valid.proofs.Needs.{plain_by_row}
 use Rattle.wasm_valid.proofs.plain.Surroundings.plain.Goals as goal
 

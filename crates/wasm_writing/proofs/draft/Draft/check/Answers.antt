@@ -1,5 +1,4 @@
-use Rattle.std.proofs.Common.{false}
-use Rattle.wasm_spelling.specs.Fields.{provided}
+use Rattle.wasm_writing.proofs.Common.{false, provided}
 use Rattle.wasm_writing.proofs.Pieces.{puts_nothing, puts_none, does_not_hold}
 use Rattle.wasm_writing.proofs.draft.Draft.check.Goals as goal
 

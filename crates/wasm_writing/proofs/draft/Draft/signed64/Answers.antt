@@ -1,7 +1,4 @@
-use Rattle.std.proofs.Common.{w64, subst}
-use Rattle.std.proofs.lemmas.Int.{to_z-of_z}
-use Rattle.w2c_base.specs.SpelledNumber.{SpellsSigned}
-use Rattle.leb_bytes.specs.Shortest.{IsShortest}
+use Rattle.wasm_writing.proofs.Common.{subst, w64, to_z-of_z, SpellsSigned, IsShortest}
 use Rattle.wasm_writing.proofs.Pieces.{signed_field, puts_piece}
 use Rattle.wasm_writing.proofs.draft.Draft.signed64.Goals as goal
 

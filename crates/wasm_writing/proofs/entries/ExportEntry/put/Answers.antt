@@ -1,5 +1,4 @@
-use Rattle.wasm_spelling.specs.Fields.{byte, here, number}
-use Rattle.wasm_spelling.specs.ModuleFields.{name, export_code}
+use Rattle.wasm_writing.proofs.Common.{byte, here, number, export_code, name}
 use Rattle.wasm_writing.proofs.Lists.{puts_both}
 use Rattle.wasm_writing.proofs.Codes.{puts_here}
 use Rattle.wasm_writing.proofs.entries.ExportEntry.put.Goals as goal

@@ -1,7 +1,4 @@
-use Rattle.std.proofs.Common.{List, ℕ, length, subst}
-use Rattle.wasm_spelling.specs.Fields.{here, number, text}
-use Rattle.wasm_spelling.specs.ModuleFields.{expression}
-use Rattle.wasm_writing.specs.Drafts.{Puts}
+use Rattle.wasm_writing.proofs.Common.{ℕ, List, length, subst, here, number, text, expression, Puts}
 use Rattle.wasm_writing.proofs.Lists.{puts_both}
 use Rattle.wasm_writing.proofs.Codes.{puts_here}
 use Rattle.wasm_writing.proofs.entries.SegmentEntryEntry.put.Goals as goal

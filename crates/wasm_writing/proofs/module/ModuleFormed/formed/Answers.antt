@@ -1,8 +1,4 @@
-use Rattle.std.proofs.Common.{refl, subst}
-use Rattle.wasm_writing.specs.declared.draft.Draft.{Draft}
-use Rattle.wasm_writing.specs.declared.draft.Draft.TheVariants.{Counted}
-use Rattle.wasm_writing.specs.Drafts.{Puts}
-use Rattle.wasm_writing.specs.ShortFile.{short_fields}
+use Rattle.wasm_writing.proofs.Common.{refl, subst, Puts, short_fields, Draft, Counted}
 use Rattle.wasm_writing.proofs.Whole.{counted_is_formed, formed_is_counted}
 use Rattle.wasm_writing.proofs.module.ModuleFormed.formed.Goals as goal
 

@@ -1,10 +1,4 @@
-use Rattle.std.proofs.Common.{◌≡◌, ℕ, List, [], ◌∷◌, ◌++◌, sym, ap, ◌∙◌, subst}
-use Rattle.c_tree.specs.View.{unit_of}
-use Rattle.c_unit.specs.Items.{items}
-use Rattle.c_unit.specs.Sets.{IsAccepted, IsAcceptedSet, program_of}
-use Rattle.wasm_set.specs.declared.set_module.SetModule.{SetModule}
-use Rattle.wasm_set.specs.Sets.{set_of}
-use Rattle.wast_run.specs.Joined.{units_in}
+use Rattle.wast_run.proofs.Common.{◌≡◌, ℕ, List, [], ◌∷◌, ◌++◌, sym, ap, ◌∙◌, subst, unit_of, set_of, SetModule, items, IsAccepted, IsAcceptedSet, program_of, units_in}
 use Rattle.wast_run.proofs.JoinedUnits.{links_more, set_more, units_more}
 use Rattle.wast_run.proofs.linked_modules.LinkedModules.join.Goals as goal
 

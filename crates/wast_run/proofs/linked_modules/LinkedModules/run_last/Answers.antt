@@ -1,12 +1,5 @@
-use Rattle.std.proofs.Common.{[], ◌∷◌, ◌++◌, length, sym, ap, ◌∙◌, subst}
-use Rattle.c_sound.specs.NeverStuck.{AllFit}
-use Rattle.c_unit.specs.Sets.{program_of}
-use Rattle.wasm_meaning.specs.Run.{Fits}
-use Rattle.wasm_set.specs.Sets.{set_of}
+use Rattle.wast_run.proofs.Common.{[], ◌∷◌, ◌++◌, length, sym, ap, ◌∙◌, subst, Fits, set_of, AllFit, program_of, HasNoHosts, units_in, alone, symbols_of, listed_call, listed_calls}
 use Rattle.w2c_sim.proofs.Wiring.{calls_fit}
-use Rattle.wast_run.specs.Joined.{HasNoHosts, units_in}
-use Rattle.wast_run.specs.Ran.{alone, symbols_of}
-use Rattle.wast_run.specs.Runs.{listed_call, listed_calls}
 use Rattle.wast_run.proofs.Comes.{all_fit, came_to_something, count_is, has_come, is_long, ran_by_set, symbols_are}
 use Rattle.wast_run.proofs.JoinedUnits.{none_fits}
 use Rattle.wast_run.proofs.Kept.{all_last}

@@ -1,6 +1,4 @@
-use Rattle.std.proofs.Common.{subst}
-use Rattle.wast_script.specs.Seen.{seen_call}
-use Rattle.wast_run.specs.Stages.{HasRun, setting_of}
+use Rattle.wast_run.proofs.Common.{subst, seen_call, HasRun, setting_of}
 use Rattle.wast_run.proofs.Assertions.{asserts_trap}
 use Rattle.wast_run.proofs.stage.Stage.assert_trap.Goals as goal
 

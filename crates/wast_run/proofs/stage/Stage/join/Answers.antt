@@ -1,5 +1,4 @@
-use Rattle.std.proofs.Common.{◌≡◌, ◌++◌, ◌∙◌, ap}
-use Rattle.wast_run.specs.Runs.{listed_calls}
+use Rattle.wast_run.proofs.Common.{◌≡◌, ◌++◌, ap, ◌∙◌, listed_calls}
 use Rattle.wast_run.proofs.StageLaws.{joins_set, joins_not, ready_more}
 use Rattle.wast_run.proofs.stage.Stage.join.Goals as goal
 

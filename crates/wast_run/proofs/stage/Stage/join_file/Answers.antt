@@ -1,5 +1,4 @@
-use Rattle.wast_script.specs.Seen.{seen_module}
-use Rattle.wast_run.specs.Stages.{setting_of}
+use Rattle.wast_run.proofs.Common.{seen_module, setting_of}
 use Rattle.wast_run.proofs.Comings.{file_accepted}
 use Rattle.wast_run.proofs.Passing.{accepted_over}
 use Rattle.wast_run.proofs.stage.Stage.join_file.Goals as goal

@@ -1,6 +1,4 @@
-use Rattle.std.proofs.Common.{sym, ap, subst}
-use Rattle.wast_run.specs.Runs.{listed_calls}
-use Rattle.wast_run.specs.Stages.{IsReady}
+use Rattle.wast_run.proofs.Common.{sym, ap, subst, listed_calls, IsReady}
 use Rattle.wast_run.proofs.StageLaws.{at_with}
 use Rattle.wast_run.proofs.stage.Stage.run.Goals as goal
 
